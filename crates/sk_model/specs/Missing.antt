@@ -1,0 +1,10 @@
+-- How far one list is behind another.
+use Rattle.std.specs.Prelude.{◌≡◌, ℕ, ◌-◌, List, ◌++◌, length, take}
+
+-- ys begins with xs
+abbrev pub Begins : {A : Type 0} → List A → List A → Type 0
+Begins {A} xs ys = (rest : List A) × (ys ≡ xs ++ rest)
+
+-- xs without its last r members is a prefix of ys
+abbrev pub LacksAtMost : {A : Type 0} → List A → List A → ℕ → Type 0
+LacksAtMost xs ys r = Begins (take (length xs - r) xs) ys

@@ -1,0 +1,6 @@
+//! Laws of the definitions. Each function is empty: its contract is the law.
+
+pub mod entries;
+pub mod lines;
+pub mod missing;
+pub mod sketch;

@@ -1,0 +1,4 @@
+//! What the contracts of the other crates speak of: definitions in `specs/`, and the laws that hold of them.
+#![tactic(auto)]
+
+pub mod laws;
