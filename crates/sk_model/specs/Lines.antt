@@ -1,6 +1,6 @@
 -- Lines of a text, and the items that they stand for. LF ends a line, a CR directly before it is
 -- dropped, and a last piece without LF is a line if it is not empty.
-use Rattle.std.specs.Prelude.{◌≡◌, ℕ, ◌+◌, ◌≤◌, ◌<◌, nat_lt, List, [], ◌∷◌, ◌++◌, length, take, map, filter, All, slice_index_or}
+use Rattle.std.specs.Prelude.{ℕ, ◌≤◌, ◌<◌, nat_lt, List, [], ◌∷◌, ◌++◌, length, take, map, filter, All, slice_index_or}
 use Rattle.std.specs.Str.Lines.{lines}
 use Rattle.sk_model.specs.Sketch.{estimate_of}
 

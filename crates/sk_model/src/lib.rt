@@ -2,3 +2,6 @@
 #![tactic(auto)]
 
 pub mod laws;
+mod memory;
+
+pub use memory::OutOfMemory;
