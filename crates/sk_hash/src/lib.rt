@@ -112,17 +112,15 @@ fn mix_tail(h: (u64, u64), tail: &[u8]) -> (u64, u64)
     requires { length tail.now < 16 }
     ensures { result ≡ with_tail h tail.now }
 {
-    if tail.is_empty() {
-        return h;
+    match tail.len() {
+        0 => h,
+        1..=7 => (h.0 ^ scramble_first(read_below_8(tail)), h.1),
+        8 => (h.0 ^ scramble_first(read_word(tail, 0)), h.1),
+        _ => (
+            h.0 ^ scramble_first(read_word(tail, 0)),
+            h.1 ^ scramble_second(read_below_8(&tail[8..])),
+        ),
     }
-    let Some((_, back)) = tail.split_first_chunk::<8>() else {
-        return (h.0 ^ scramble_first(read_below_8(tail)), h.1);
-    };
-    let h1 = h.0 ^ scramble_first(read_word(tail, 0));
-    if back.is_empty() {
-        return (h1, h.1);
-    }
-    (h1, h.1 ^ scramble_second(read_below_8(back)))
 }
 
 #[inline(always)]
