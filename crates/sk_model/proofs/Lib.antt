@@ -1,4 +1,5 @@
 pub mod Entries
 pub mod Lines
 pub mod Missing
+pub mod Rising
 pub mod Sketch
