@@ -2,4 +2,5 @@ pub mod Entries
 pub mod Lines
 pub mod Missing
 pub mod Murmur
+pub mod Rising
 pub mod Sketch

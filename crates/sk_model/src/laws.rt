@@ -6,3 +6,4 @@ pub mod lines;
 pub mod missing;
 pub mod sketch;
 pub mod worked;
+pub mod worked_sketch;
