@@ -4,3 +4,4 @@ pub mod entries;
 pub mod lines;
 pub mod missing;
 pub mod sketch;
+pub mod worked_lines;
