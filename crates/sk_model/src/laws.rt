@@ -7,3 +7,4 @@ pub mod missing;
 pub mod sketch;
 pub mod worked;
 pub mod worked_sketch;
+pub mod worked_lines;
