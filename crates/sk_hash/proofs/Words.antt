@@ -3,7 +3,7 @@ use Rattle.std.proofs.Common.{◌≡◌, ℕ, ◌+◌, ◌*◌, ◌<◌, ◌≤�
 use Rattle.std.proofs.lemmas.List.{get_or-take, get_or-drop, get_or_past}
 use Rattle.std.specs.Int.{w16, w32, from_le_bytes}
 use Rattle.std.specs.Int.Bits.{xor_zero_r}
-use Rattle.std.specs.Prelude.{slice_index, bit_xor}
+use Rattle.std.specs.Prelude.{bit_xor}
 use Rattle.sk_model.specs.Murmur.{word_at, scrambled_first, scrambled_second, with_tail}
 
 pub word_of_pair : (xs : List ℕ) → length xs < 4 → 2 ≤ length xs → word_at xs 0 ≡ from_le_bytes w16 (take 2 xs) + word_at (drop 2 xs) 0 * 2 ^ 16
