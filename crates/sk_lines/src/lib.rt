@@ -2,7 +2,9 @@
 #![tactic(auto)]
 
 mod cutter;
+mod decimals;
 mod errors;
 
 pub use cutter::{Ending, Lines, Next};
+pub use decimals::{push_fraction, put_fraction, read_number};
 pub use errors::OutOfMemory;
