@@ -5,6 +5,7 @@ use Rattle.std.proofs.lemmas.List.{drop_more, take_more, take_all, take_rest, ge
 use Rattle.std.proofs.lemmas.Bool.{cases_lt}
 use Rattle.memchr.specs.Find.{IsFirstByte, is_byte}
 use Rattle.sk_model.specs.Lines.{lines_of, open_lines_of, AreWithin, IsFirstLong}
+use Rattle.sk_model.specs.Missing.{Begins}
 use Rattle.sk_model.proofs.Lines.{lines_of_nothing, after_whole_lines, first_line, a_line_alone, a_last_piece, within_append, within_one, long_after_front, long_stays_long, length-strip}
 use Rattle.sk_lines.specs.declared.cutter.Ending.{Ending}
 use Rattle.sk_lines.specs.declared.cutter.Ending.TheVariants.{Lf, CrLf, Nothing}
@@ -189,6 +190,7 @@ gives_line old new place lf limit rest number line fits ends =
       number = number;
       bytes = lf.split ∙ bytes_of piece new.line (drop (place + 1) old.rest) new.ending s e ∙ ap (λ (l : List ℕ). new.line ++ end_bytes new.ending ++ l) (sym rest);
       ending = not_nothing (length new.line) place new.ending ends;
+      shorter = omega (arith, ap length rest, length-drop (place + 1) old.rest, lf.within);
     }
 
 lf_stands : (text : List ℕ) (place : ℕ) → HasLfAt text place → ¬ HasNoLf text
@@ -288,3 +290,12 @@ taken_line rest line place is =
     let short : length line ≤ length piece = omega (arith, ap length is, length-strip piece) in
     let less : length line ≤ place = omega (arith, length-take place rest) in
     sym (take-take (length line) place rest less) ∙ front_of piece line is
+
+pub given_lines_stay : (c : Cutter) (given : List (List ℕ)) (text more : List ℕ) → Follows c given text → Begins given (lines_of (text ++ more))
+given_lines_stay c given text more f = (lines_of (c.rest ++ more), lines_behind c given text more f)
+
+pub long_after_stays : (limit n : ℕ) (given : List (List ℕ)) (text more : List ℕ) → IsLongAfter limit n given (open_lines_of text) → IsLongAfter limit n given (lines_of (text ++ more))
+long_after_stays limit n given text more long = record {
+  number = long.number;
+  first = long_stays_long limit (length given) text more long.first;
+}

@@ -1,4 +1,4 @@
-use std::alloc::AllocError;
+use std::alloc::{AllocError, AllocFailed};
 
 /// There was no memory.
 #[derive(Clone, Copy, Debug, PartialEq, Eq)]
@@ -6,6 +6,12 @@ pub struct OutOfMemory;
 
 impl From<AllocError> for OutOfMemory {
     fn from(_: AllocError) -> Self {
+        OutOfMemory
+    }
+}
+
+impl<T: Drop> From<AllocFailed<T>> for OutOfMemory {
+    fn from(_: AllocFailed<T>) -> Self {
         OutOfMemory
     }
 }

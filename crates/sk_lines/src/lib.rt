@@ -4,6 +4,8 @@
 mod cutter;
 mod decimals;
 mod errors;
+pub mod laws;
+mod tests;
 
 pub use cutter::{Ending, Lines, Next};
 pub use decimals::{push_fraction, put_fraction, read_number};
