@@ -1,5 +1,5 @@
 // Lines cut out of pieces of a text.
-ghost use Rattle.std.specs.Prelude.{◌≡◌, ◌↔◌, ◌+◌, ◌≤◌, ℕ, List, [], ◌++◌, length, take, IfOk, true, false};
+ghost use Rattle.std.specs.Prelude.{◌≡◌, ◌≢◌, ◌↔◌, ◌+◌, ◌≤◌, ℕ, List, [], ◌++◌, length, take, IfOk, true, false};
 ghost use Rattle.std.specs.Str.Lines.{strip_carriage_return};
 ghost use Rattle.sk_model.specs.Lines.{lines_of, open_lines_of, IsFirstLong};
 ghost use Rattle.sk_lines.specs.Cutter.{Follows, GivesLine, GivesLast, Waits, IsLongAfter, HasNoLf, HasLfAt, counted, is_long};
@@ -16,6 +16,7 @@ pub const MOST_LIMIT: usize = 1_048_576;
 pub const MOST_PIECE: usize = 65_536;
 
 const LF: u8 = b'\n';
+
 const CR: u8 = b'\r';
 
 /// What a call of `next` or `end` found.
@@ -133,6 +134,7 @@ impl Lines {
 
         // What was too long stays so, and behind the end there is nothing.
         ensures again { is_long self.old.last ≡ true → result ≡ self.old.last }
+        ensures rest { result ≢ Next.Line → self.new.rest ≡ self.old.rest }
         ensures after_end { self.old.ended ≡ true → is_long self.old.last ≡ false → result ≡ Next.More }
 
         ensures last { self.new.last ≡ result }
@@ -174,7 +176,11 @@ impl Lines {
         ensures limit { self.new.limit ≡ self.old.limit }
         ensures ended { self.new.ended ≡ self.old.ended }
     {
-        self.ending = if len < place { Ending::CrLf } else { Ending::Lf };
+        self.ending = if len < place {
+            Ending::CrLf
+        } else {
+            Ending::Lf
+        };
         self.line_start = self.at;
         self.line_end = self.at + len;
         self.at += place + 1;
@@ -195,6 +201,7 @@ impl Lines {
         ensures hungry { self.new.hungry ≡ true }
         ensures limit { self.new.limit ≡ self.old.limit }
         ensures ended { self.new.ended ≡ self.old.ended }
+        ensures rest { self.new.rest ≡ self.old.rest }
     {
         self.hungry = true;
         self.last = Next::More;
@@ -213,6 +220,7 @@ impl Lines {
         ensures last { self.new.last ≡ result }
         ensures limit { self.new.limit ≡ self.old.limit }
         ensures ended { self.new.ended ≡ self.old.ended }
+        ensures rest { self.new.rest ≡ self.old.rest }
     {
         self.last = Next::Long(self.number.saturating_add(1));
         self.last
