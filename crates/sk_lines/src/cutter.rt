@@ -80,6 +80,7 @@ impl Lines {
         ensures limit { IfOk result (λ lines. lines.limit ≡ limit) }
         ensures follows { IfOk result (λ lines. Follows lines [] []) }
         ensures hungry { IfOk result (λ lines. lines.hungry ≡ true) }
+        ensures last { IfOk result (λ lines. lines.last ≡ Next.More) }
         ensures not_ended { IfOk result (λ lines. lines.ended ≡ false) }
     {
         Ok(Lines {
