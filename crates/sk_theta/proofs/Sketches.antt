@@ -1,12 +1,12 @@
 -- What one more hash makes of a sketch.
-use Rattle.std.proofs.Common.{◌≡◌, ◌≢◌, ◌↔◌, ℕ, zero, suc, ◌+◌, ◌<◌, ◌≤◌, Bool, IsTrue, List, [], ◌∷◌, ◌++◌, length, take, get_or, All, ⊎_elim, refl, sym, ap, ◌∙◌, arith, length-take, append_assoc, append-nil}
+use Rattle.std.proofs.Common.{◌≡◌, ◌≢◌, ◌↔◌, ℕ, ◌+◌, ◌<◌, ◌≤◌, Bool, IsTrue, List, [], ◌∷◌, ◌++◌, length, take, get_or, ⊎_elim, sym, ap, ◌∙◌, arith, length-take, append_assoc}
 use Rattle.std.proofs.lemmas.List.{take_more}
 use Rattle.std.proofs.lemmas.List.Elements.{All-contains, All-contains_itself, All-weaker}
 use Rattle.sk_model.specs.Sketch.{placed, k_smallest}
 use Rattle.sk_model.specs.Width.{item_end, AreItems}
 use Rattle.sk_model.proofs.Rising.{Has, Has-from_Contains, Contains-from_Has, Has-take, Has-placed, RisesFrom-increasing, RisesFrom-placed, RisesFrom-take, increasing_from_RisesFrom}
 use Rattle.sk_model.proofs.Sketch.{one_more, idle_once}
-use Rattle.sk_theta.specs.Kept.{Sketch, StandsFor, IsWhole, theta_kept}
+use Rattle.sk_theta.specs.Kept.{IsWhole, theta_kept}
 
 -- the hashes that are kept after one more are kept ones or that one
 items_placed : (k h : ℕ) (kept : List ℕ) → h < item_end → AreItems kept → AreItems (take k (placed h kept))
@@ -21,7 +21,7 @@ IsWhole-placed k h kept new is small whole =
       most = whole.most;
       rises = increasing_from_RisesFrom 0 (take k (placed h kept)) (RisesFrom-take 0 k (placed h kept) (RisesFrom-placed 0 h kept (RisesFrom-increasing kept (whole.rises)) (omega arith)));
       within = omega (arith, length-take k (placed h kept));
-      items = items_placed k h kept small (whole.items)
+      items = items_placed k h kept small (whole.items);
     })
 
 pub idle_unchanged : (k h : ℕ) (kept hashes : List ℕ) → h < item_end → theta_kept k kept ≤ h → kept ≡ k_smallest k hashes → k_smallest k (hashes ++ h ∷ []) ≡ k_smallest k hashes

@@ -86,6 +86,14 @@ impl Theta {
         }
     }
 
+    /// How many hashes it keeps at most.
+    pub fn k(&self) -> u32
+        ensures value { result ≡ self.now.k }
+        ensures whole { IsWhole self.now }
+    {
+        self.k
+    }
+
     /// How many hashes are kept.
     pub fn count(&self) -> u32
         ensures kept { result ≡ length self.now.kept }
@@ -136,5 +144,9 @@ fn theta_among(kept: &[u64], k: usize) -> u64
     requires { 1 ≤ k }
     ensures { result ≡ theta_kept k kept.now }
 {
-    if kept.len() < k { ITEM_END } else { kept[k - 1] }
+    if kept.len() < k {
+        ITEM_END
+    } else {
+        kept[k - 1]
+    }
 }
