@@ -1,12 +1,11 @@
 -- What one more hash makes of a sketch.
-use Rattle.std.proofs.Common.{◌≡◌, ◌≢◌, ◌↔◌, ℕ, ◌+◌, ◌<◌, ◌≤◌, Bool, IsTrue, List, [], ◌∷◌, ◌++◌, length, take, get_or, ⊎_elim, sym, ap, ◌∙◌, arith, length-take, append_assoc}
-use Rattle.std.proofs.lemmas.List.{take_more}
+use Rattle.std.proofs.Common.{◌≡◌, ◌≢◌, ◌↔◌, ℕ, ◌<◌, ◌≤◌, Bool, IsTrue, List, [], ◌∷◌, ◌++◌, take, get_or, ⊎_elim, sym, ap, ◌∙◌, arith, length-take, take_all}
 use Rattle.std.proofs.lemmas.List.Elements.{All-contains, All-contains_itself, All-weaker}
 use Rattle.sk_model.specs.Sketch.{placed, k_smallest}
 use Rattle.sk_model.specs.Width.{item_end, AreItems}
 use Rattle.sk_model.proofs.Rising.{Has, Has-from_Contains, Contains-from_Has, Has-take, Has-placed, RisesFrom-increasing, RisesFrom-placed, RisesFrom-take, increasing_from_RisesFrom}
-use Rattle.sk_model.proofs.Sketch.{one_more, idle_once}
-use Rattle.sk_theta.specs.Kept.{IsWhole, theta_kept}
+use Rattle.sk_model.proofs.Sketch.{one_more, idle_once, rising_of_increasing}
+use Rattle.sk_theta.specs.Kept.{Sketch, StandsFor, IsWhole, theta_kept}
 
 -- the hashes that are kept after one more are kept ones or that one
 items_placed : (k h : ℕ) (kept : List ℕ) → h < item_end → AreItems kept → AreItems (take k (placed h kept))
@@ -39,7 +38,7 @@ placed_changed k h kept new hashes result is changed stands =
     let more = placed_stands k h kept new hashes is stands in
     (λ true same. changed.0 true (more ∙ same ∙ sym stands), λ other. changed.1 (λ same. other (sym more ∙ same ∙ stands)))
 
--- one more of a batch
-pub batch_more : (k : ℕ) (kept hashes batch : List ℕ) (i : ℕ) → i < length batch → kept ≡ k_smallest k ((hashes ++ take i batch) ++ get_or batch i 0 ∷ []) → kept ≡ k_smallest k (hashes ++ take (i + 1) batch)
-batch_more k kept hashes batch i inside stands =
-    stands ∙ ap (λ (l : List ℕ). k_smallest k l) (append_assoc hashes (take i batch) (get_or batch i 0 ∷ []) ∙ ap (λ (l : List ℕ). hashes ++ l) (sym (take_more batch i 0 inside)))
+-- a sketch stands for the list that it keeps
+pub stands_for_kept : (sketch : Sketch) → IsWhole sketch → StandsFor sketch (sketch.kept)
+unfolding k_smallest
+stands_for_kept sketch whole = sym (ap (λ (l : List ℕ). take sketch.k l) (rising_of_increasing sketch.kept (whole.rises)) ∙ take_all sketch.k sketch.kept (whole.within))
