@@ -44,7 +44,7 @@ follows_line old new place lf limit rest number line fits given text f =
     let piece : List ℕ = take place old.rest in
     let ends : List ℕ = piece ++ 10 ∷ [] in
     let parted : old.rest ≡ ends ++ new.rest =
-        lf.split ∙ sym (append_assoc piece (10 ∷ []) (drop (place + 1) old.rest)) ∙ ap (λ (l : List ℕ). ends ++ l) (sym rest) in
+    lf.split ∙ sym (append_assoc piece (10 ∷ []) (drop (place + 1) old.rest)) ∙ ap (λ (l : List ℕ). ends ++ l) (sym rest) in
     record {
       front = f.front ++ ends;
       joined = f.joined ∙ ap (λ (l : List ℕ). f.front ++ l) parted ∙ sym (append_assoc f.front ends new.rest);
@@ -61,7 +61,7 @@ pub waits_for_more : (old new : Cutter) → HasNoLf old.rest → length (strip_c
     → (given : List (List ℕ)) (text : List ℕ) → Follows old given text → Waits new given text
 waits_for_more old new none fits limit rest number given text f =
     let lines : open_lines_of text ≡ given ++ strip_carriage_return old.rest ∷ [] =
-        lines_behind old given text (10 ∷ []) f ∙ ap (λ (ls : List (List ℕ)). given ++ ls) (a_line_alone old.rest none) in
+    lines_behind old given text (10 ∷ []) f ∙ ap (λ (ls : List (List ℕ)). given ++ ls) (a_line_alone old.rest none) in
     record {
       follows = record {
         front = f.front;
@@ -85,7 +85,7 @@ long_before_lf limit place rest lf over =
     let piece : List ℕ = take place rest in
     let after : List ℕ = drop (place + 1) rest ++ 10 ∷ [] in
     let is : open_lines_of rest ≡ strip_carriage_return piece ∷ lines_of after =
-        ap open_lines_of lf.split ∙ ap lines_of (append_assoc piece (10 ∷ drop (place + 1) rest) (10 ∷ [])) ∙ first_line piece after lf.piece in
+    ap open_lines_of lf.split ∙ ap lines_of (append_assoc piece (10 ∷ drop (place + 1) rest) (10 ∷ [])) ∙ first_line piece after lf.piece in
     subst (IsFirstLong limit 0) (sym is) (first_is_long limit (strip_carriage_return piece) (lines_of after) over)
 
 -- the piece behind the last LF is too long, whatever follows
@@ -130,7 +130,7 @@ pub last_within : (c : Cutter) → HasNoLf c.rest → 0 < length c.rest → leng
     → (given : List (List ℕ)) (text : List ℕ) → Follows c given text → AreWithin c.limit (lines_of text)
 last_within c none some fits given text f =
     subst (AreWithin c.limit) (sym (last_line c c.rest none some refl given text f))
-      (within_append c.limit given (c.rest ∷ []) f.within (within_one c.limit c.rest fits))
+    (within_append c.limit given (c.rest ∷ []) f.within (within_one c.limit c.rest fits))
 
 -- without a last piece the lines given are all
 pub no_last_line : (c : Cutter) → c.rest ≡ [] → (given : List (List ℕ)) (text : List ℕ) → Follows c given text → lines_of text ≡ given
@@ -196,7 +196,7 @@ gives_line old new place lf limit rest number line fits ends =
 lf_stands : (text : List ℕ) (place : ℕ) → HasLfAt text place → ¬ HasNoLf text
 lf_stands text place lf none =
     none place 0 lf.within
-      (ap (λ (l : List ℕ). get_or l place 0) lf.split ∙ get_or_at (take place text) 10 (drop (place + 1) text) 0 place (omega (arith, length-take place text, lf.within)))
+    (ap (λ (l : List ℕ). get_or l place 0) lf.split ∙ get_or_at (take place text) 10 (drop (place + 1) text) 0 place (omega (arith, length-take place text, lf.within)))
 
 pub sound_line : (old new : Cutter) (place : ℕ) → IsSound old → HasLfAt old.rest place → is_long old.last ≡ false → new.hungry ≡ old.hungry → new.ended ≡ old.ended → new.last ≡ Next.Line → IsSound new
 sound_line old new place sound lf going hungry ended last = record {

@@ -16,6 +16,7 @@ pub const MOST_LIMIT: usize = 1_048_576;
 pub const MOST_PIECE: usize = 65_536;
 
 const LF: u8 = b'\n';
+
 const CR: u8 = b'\r';
 
 /// What a call of `next` or `end` found.
@@ -174,7 +175,11 @@ impl Lines {
         ensures limit { self.new.limit ≡ self.old.limit }
         ensures ended { self.new.ended ≡ self.old.ended }
     {
-        self.ending = if len < place { Ending::CrLf } else { Ending::Lf };
+        self.ending = if len < place {
+            Ending::CrLf
+        } else {
+            Ending::Lf
+        };
         self.line_start = self.at;
         self.line_end = self.at + len;
         self.at += place + 1;

@@ -5,6 +5,7 @@ mod cutter;
 mod decimals;
 mod errors;
 pub mod laws;
+#[cfg(test)]
 mod tests;
 
 pub use cutter::{Ending, Lines, Next};

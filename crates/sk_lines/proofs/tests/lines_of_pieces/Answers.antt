@@ -31,17 +31,17 @@ returns-in_err-take_lines-clause-long c =
     let i = c.pieces.piece-index in
     let p = err_from_is_err_and c.from_residual-in_err-take_lines.result c.from_residual-in_err-take_lines.ensures.1 in
     λ n is.
-      let same : p.0 ≡ Stop.Long n = cc in
-      let was : c.take_lines.result ≡ Err (Stop.Long n) = c.in_err-take_lines.was ∙ ap (λ (stop : Stop). Err stop) (sym p.2 ∙ same) in
-      let text : List ℕ = text_of (take (i + 1) pieces) in
-      let given : List (List ℕ) = map (λ line. line.items) c.pieces.all.items in
-      let fed : Follows c.feed.new.self given text =
-          subst (Follows c.feed.new.self given) (sym (text_of_more pieces i _ c.pieces-test.true)) (c.feed.ensures.follows given _ c.pieces.invariant.follows) in
-      let long = c.take_lines.ensures.long n was text fed in
-      let here : IsLongAfter c.args.limit n long.0 (open_lines_of text) =
-          subst (λ (limit : ℕ). IsLongAfter limit n long.0 (open_lines_of text)) (c.feed.ensures.limit ∙ c.pieces.invariant.limit) long.1 in
-      let there = long_after_stays c.args.limit n long.0 text (text_of (drop (i + 1) pieces)) here in
-      (long.0, subst (λ (whole : List ℕ). IsLongAfter c.args.limit n long.0 (lines_of whole)) (text_of_parts pieces (i + 1)) there)
+    let same : p.0 ≡ Stop.Long n = cc in
+    let was : c.take_lines.result ≡ Err (Stop.Long n) = c.in_err-take_lines.was ∙ ap (λ (stop : Stop). Err stop) (sym p.2 ∙ same) in
+    let text : List ℕ = text_of (take (i + 1) pieces) in
+    let given : List (List ℕ) = map (λ line. line.items) c.pieces.all.items in
+    let fed : Follows c.feed.new.self given text =
+    subst (Follows c.feed.new.self given) (sym (text_of_more pieces i _ c.pieces-test.true)) (c.feed.ensures.follows given _ c.pieces.invariant.follows) in
+    let long = c.take_lines.ensures.long n was text fed in
+    let here : IsLongAfter c.args.limit n long.0 (open_lines_of text) =
+    subst (λ (limit : ℕ). IsLongAfter limit n long.0 (open_lines_of text)) (c.feed.ensures.limit ∙ c.pieces.invariant.limit) long.1 in
+    let there = long_after_stays c.args.limit n long.0 text (text_of (drop (i + 1) pieces)) here in
+    (long.0, subst (λ (whole : List ℕ). IsLongAfter c.args.limit n long.0 (lines_of whole)) (text_of_parts pieces (i + 1)) there)
 
 pub returns-in_err-take_last-clause-long : goal.returns-in_err-take_last-clause-long
 returns-in_err-take_last-clause-long c =
@@ -49,13 +49,13 @@ returns-in_err-take_last-clause-long c =
     let i = c.pieces.piece-index in
     let p = err_from_is_err_and c.from_residual-in_err-take_last.result c.from_residual-in_err-take_last.ensures.1 in
     λ n is.
-      let same : p.0 ≡ Stop.Long n = cc in
-      let was : c.take_last.result ≡ Err (Stop.Long n) = c.in_err-take_last.was ∙ ap (λ (stop : Stop). Err stop) (sym p.2 ∙ same) in
-      let text : List ℕ = text_of (take i pieces) in
-      let long = c.take_last.ensures.long n was text c.pieces.invariant.follows in
-      let here : IsLongAfter c.args.limit n long.0 (lines_of text) =
-          subst (λ (limit : ℕ). IsLongAfter limit n long.0 (lines_of text)) c.pieces.invariant.limit long.1 in
-      (long.0, subst (λ (l : List (Bor (List ℕ))). IsLongAfter c.args.limit n long.0 (lines_of (text_of l))) (take_all i pieces c.pieces-test.false) here)
+    let same : p.0 ≡ Stop.Long n = cc in
+    let was : c.take_last.result ≡ Err (Stop.Long n) = c.in_err-take_last.was ∙ ap (λ (stop : Stop). Err stop) (sym p.2 ∙ same) in
+    let text : List ℕ = text_of (take i pieces) in
+    let long = c.take_last.ensures.long n was text c.pieces.invariant.follows in
+    let here : IsLongAfter c.args.limit n long.0 (lines_of text) =
+    subst (λ (limit : ℕ). IsLongAfter limit n long.0 (lines_of text)) c.pieces.invariant.limit long.1 in
+    (long.0, subst (λ (l : List (Bor (List ℕ))). IsLongAfter c.args.limit n long.0 (lines_of (text_of l))) (take_all i pieces c.pieces-test.false) here)
 
 pub pieces-preserved : goal.pieces-preserved
 pieces-preserved c =
