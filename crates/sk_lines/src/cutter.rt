@@ -81,6 +81,7 @@ impl Lines {
         ensures follows { IfOk result (λ lines. Follows lines [] []) }
         ensures hungry { IfOk result (λ lines. lines.hungry ≡ true) }
         ensures not_ended { IfOk result (λ lines. lines.ended ≡ false) }
+        ensures last { IfOk result (λ lines. lines.last ≡ Next.More) }
     {
         Ok(Lines {
             limit,

@@ -8,6 +8,6 @@ pub mod laws;
 #[cfg(test)]
 mod tests;
 
-pub use cutter::{Ending, Lines, Next};
+pub use cutter::{Ending, Lines, MOST_LIMIT, MOST_PIECE, Next};
 pub use decimals::{push_fraction, put_fraction, read_number};
 pub use errors::OutOfMemory;

@@ -4,7 +4,6 @@ ghost use Rattle.sk_model.specs.Lines.{lines_of, open_lines_of};
 ghost use Rattle.sk_lines.specs.Cutter.{Follows, IsLongAfter};
 
 use super::*;
-use crate::cutter::{MOST_LIMIT, MOST_PIECE};
 use std::alloc::Global;
 use std::test::Fail;
 
