@@ -82,6 +82,7 @@ impl Lines {
         ensures hungry { IfOk result (λ lines. lines.hungry ≡ true) }
         ensures last { IfOk result (λ lines. lines.last ≡ Next.More) }
         ensures not_ended { IfOk result (λ lines. lines.ended ≡ false) }
+        ensures last { IfOk result (λ lines. lines.last ≡ Next.More) }
     {
         Ok(Lines {
             limit,
