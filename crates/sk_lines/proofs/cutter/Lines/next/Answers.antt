@@ -99,3 +99,12 @@ returns-then-without_cr-self-clause-rest c = λ no_line. c.stop-then-without_cr-
 
 pub returns-else-without_cr-self-clause-rest : goal.returns-else-without_cr-self-clause-rest
 returns-else-without_cr-self-clause-rest c = λ no_line. c.wait.ensures.rest
+
+pub returns-then-len-self-clause-number : goal.returns-then-len-self-clause-number
+returns-then-len-self-clause-number c = λ no_line. c.stop.ensures.number
+
+pub returns-then-without_cr-self-clause-number : goal.returns-then-without_cr-self-clause-number
+returns-then-without_cr-self-clause-number c = λ no_line. c.stop-then-without_cr-self.ensures.number
+
+pub returns-else-without_cr-self-clause-number : goal.returns-else-without_cr-self-clause-number
+returns-else-without_cr-self-clause-number c = λ no_line. c.wait.ensures.number
