@@ -1,0 +1,4 @@
+//! The program without its edge: what it does over any source and any sinks.
+#![tactic(auto)]
+
+mod options;
