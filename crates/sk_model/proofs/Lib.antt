@@ -1,4 +1,6 @@
 pub mod Entries
 pub mod Lines
 pub mod Missing
+pub mod Murmur
+pub mod Rising
 pub mod Sketch

@@ -1,0 +1,37 @@
+-- Words that are read in parts, and the halves of a tail that are left out.
+use Rattle.std.proofs.Common.{◌≡◌, ℕ, ◌+◌, ◌*◌, ◌<◌, ◌≤◌, ◌^◌, List, length, take, drop, ap, ◌∙◌, arith}
+use Rattle.std.proofs.lemmas.List.{get_or-take, get_or-drop, get_or_past}
+use Rattle.std.specs.Int.{w16, w32, from_le_bytes}
+use Rattle.std.specs.Int.Bits.{xor_zero_r}
+use Rattle.std.specs.Prelude.{slice_index, bit_xor}
+use Rattle.sk_model.specs.Murmur.{word_at, scrambled_first, scrambled_second, with_tail}
+
+pub word_of_pair : (xs : List ℕ) → length xs < 4 → 2 ≤ length xs → word_at xs 0 ≡ from_le_bytes w16 (take 2 xs) + word_at (drop 2 xs) 0 * 2 ^ 16
+word_of_pair xs below long = simp get_or-drop (omega (arith, get_or-take 2 xs 0 0, get_or-take 2 xs 1 0, get_or_past xs 8 0, get_or_past xs 9 0))
+
+pub word_of_four : (xs : List ℕ) → length xs < 8 → 4 ≤ length xs → word_at xs 0 ≡ from_le_bytes w32 (take 4 xs) + word_at (drop 4 xs) 0 * 2 ^ 32
+word_of_four xs below long = simp get_or-drop
+    (omega (arith, get_or-take 4 xs 0 0, get_or-take 4 xs 1 0, get_or-take 4 xs 2 0, get_or-take 4 xs 3 0, get_or_past xs 8 0, get_or_past xs 9 0, get_or_past xs 10 0, get_or_past xs 11 0))
+
+word_past : (xs : List ℕ) (i : ℕ) → length xs ≤ i → word_at xs i ≡ 0
+word_past xs i past = omega (arith, get_or_past xs i 0, get_or_past xs (i + 1) 0, get_or_past xs (i + 2) 0, get_or_past xs (i + 3) 0, get_or_past xs (i + 4) 0, get_or_past xs (i + 5) 0, get_or_past xs (i + 6) 0, get_or_past xs (i + 7) 0)
+
+xor_first_zero : (h : ℕ) → bit_xor h (scrambled_first 0) ≡ h
+unfolding scrambled_first
+xor_first_zero h = xor_zero_r h
+
+xor_second_zero : (h : ℕ) → bit_xor h (scrambled_second 0) ≡ h
+unfolding scrambled_second
+xor_second_zero h = xor_zero_r h
+
+pub without_second : (h : ℕ × ℕ) (tail : List ℕ) → length tail ≤ 8 → with_tail h tail ≡ (bit_xor h.0 (scrambled_first (word_at tail 0)), h.1)
+unfolding with_tail
+without_second h tail short =
+    ap (λ k. (bit_xor h.0 (scrambled_first (word_at tail 0)), bit_xor h.1 (scrambled_second k))) (word_past tail 8 short)
+    ∙ ap (λ h2. (bit_xor h.0 (scrambled_first (word_at tail 0)), h2)) (xor_second_zero h.1)
+
+pub without_tail : (h : ℕ × ℕ) (tail : List ℕ) → length tail ≡ 0 → with_tail h tail ≡ h
+without_tail h tail none =
+    without_second h tail (omega arith)
+    ∙ ap (λ k. (bit_xor h.0 (scrambled_first k), h.1)) (word_past tail 0 (omega arith))
+    ∙ ap (λ h1. (h1, h.1)) (xor_first_zero h.0)

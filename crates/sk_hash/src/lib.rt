@@ -1,0 +1,174 @@
+//! MurmurHash3_x64_128, and the 48 bits of it that stand for an item.
+#![tactic(auto)]
+
+ghost use Rattle.std.specs.Prelude.{◌≡◌, ◌+◌, ◌<◌, ◌≤◌, ◌^◌, length};
+ghost use Rattle.sk_model.specs.Murmur.{word_at, scrambled_first, scrambled_second, after_block, with_tail, finished_word, finished, murmur128_of, hash_of};
+ghost use Rattle.sk_model.specs.Width.{item_end};
+
+#[cfg(test)]
+mod tests;
+
+// The constants of the reference code.
+const C1: u64 = 0x87c3_7b91_1142_53d5;
+
+const C2: u64 = 0x4cf5_ad43_2745_937f;
+
+const BLOCK_LEN: usize = 16;
+
+#[inline(always)]
+#[tactic(auto, unfolding(sk_model::specs::Murmur::scrambled_first))]
+fn scramble_first(k: u64) -> u64
+    ensures { result ≡ scrambled_first k }
+{
+    k.wrapping_mul(C1).rotate_left(31).wrapping_mul(C2)
+}
+
+#[inline(always)]
+#[tactic(auto, unfolding(sk_model::specs::Murmur::scrambled_second))]
+fn scramble_second(k: u64) -> u64
+    ensures { result ≡ scrambled_second k }
+{
+    k.wrapping_mul(C2).rotate_left(33).wrapping_mul(C1)
+}
+
+// The word at byte `i`, low byte first. LLVM makes one load of the eight.
+#[inline(always)]
+fn read_word(bytes: &[u8], i: usize) -> u64
+    requires { i + 8 ≤ length bytes.now }
+    ensures { result ≡ word_at bytes.now i }
+{
+    u64::from_le_bytes([
+        bytes[i],
+        bytes[i + 1],
+        bytes[i + 2],
+        bytes[i + 3],
+        bytes[i + 4],
+        bytes[i + 5],
+        bytes[i + 6],
+        bytes[i + 7],
+    ])
+}
+
+#[inline(always)]
+#[tactic(auto, unfolding(sk_model::specs::Murmur::after_block))]
+fn mix_block(h: (u64, u64), k1: u64, k2: u64) -> (u64, u64)
+    ensures { result ≡ after_block h k1 k2 }
+{
+    let h1 = (h.0 ^ scramble_first(k1))
+        .rotate_left(27)
+        .wrapping_add(h.1)
+        .wrapping_mul(5)
+        .wrapping_add(0x52dc_e729);
+    let h2 = (h.1 ^ scramble_second(k2))
+        .rotate_left(31)
+        .wrapping_add(h1)
+        .wrapping_mul(5)
+        .wrapping_add(0x3849_5ab5);
+    (h1, h2)
+}
+
+// The word of at most one byte.
+#[inline(always)]
+fn read_below_2(tail: &[u8]) -> u64
+    requires { length tail.now < 2 }
+    ensures { result ≡ word_at tail.now 0 }
+{
+    match tail.first() {
+        Some(byte) => u64::from(*byte),
+        None => 0,
+    }
+}
+
+// The word of at most three bytes.
+#[inline(always)]
+#[tactic(auto, using(crate::proofs::Words::word_of_pair))]
+fn read_below_4(tail: &[u8]) -> u64
+    requires { length tail.now < 4 }
+    ensures { result ≡ word_at tail.now 0 }
+{
+    match tail.split_first_chunk::<2>() {
+        Some((front, back)) => u64::from(u16::from_le_bytes(*front)) | (read_below_2(back) << 16),
+        None => read_below_2(tail),
+    }
+}
+
+// The word of at most seven bytes: by parts, as a loop over the bytes costs most of a short hash.
+#[inline(always)]
+#[tactic(auto, using(crate::proofs::Words::word_of_four))]
+fn read_below_8(tail: &[u8]) -> u64
+    requires { length tail.now < 8 }
+    ensures { result ≡ word_at tail.now 0 }
+{
+    match tail.split_first_chunk::<4>() {
+        Some((front, back)) => u64::from(u32::from_le_bytes(*front)) | (read_below_4(back) << 32),
+        None => read_below_4(tail),
+    }
+}
+
+// An empty half changes nothing, and is left out.
+#[inline(always)]
+#[tactic(auto, using(crate::proofs::Words::without_second, crate::proofs::Words::without_tail), unfolding(sk_model::specs::Murmur::with_tail))]
+fn mix_tail(h: (u64, u64), tail: &[u8]) -> (u64, u64)
+    requires { length tail.now < 16 }
+    ensures { result ≡ with_tail h tail.now }
+{
+    match tail.len() {
+        0 => h,
+        1..=7 => (h.0 ^ scramble_first(read_below_8(tail)), h.1),
+        8 => (h.0 ^ scramble_first(read_word(tail, 0)), h.1),
+        _ => (
+            h.0 ^ scramble_first(read_word(tail, 0)),
+            h.1 ^ scramble_second(read_below_8(&tail[8..])),
+        ),
+    }
+}
+
+#[inline(always)]
+#[tactic(auto, unfolding(sk_model::specs::Murmur::finished_word))]
+fn finish_word(k: u64) -> u64
+    ensures { result ≡ finished_word k }
+{
+    let k = (k ^ (k >> 33)).wrapping_mul(0xff51_afd7_ed55_8ccd);
+    let k = (k ^ (k >> 33)).wrapping_mul(0xc4ce_b9fe_1a85_ec53);
+    k ^ (k >> 33)
+}
+
+#[inline(always)]
+#[tactic(auto, unfolding(sk_model::specs::Murmur::finished))]
+fn finish(h: (u64, u64), len: u64) -> (u64, u64)
+    ensures { result ≡ finished h len }
+{
+    let h1 = (h.0 ^ len).wrapping_add(h.1 ^ len);
+    let h2 = (h.1 ^ len).wrapping_add(h1);
+    let h1 = finish_word(h1);
+    let h2 = finish_word(h2);
+    let h1 = h1.wrapping_add(h2);
+    (h1, h2.wrapping_add(h1))
+}
+
+/// The two halves of the MurmurHash3_x64_128 of `bytes` (reference: Appleby, SMHasher, MurmurHash3.cpp).
+#[tactic(auto, unfolding(sk_model::specs::Murmur::murmur128_of, sk_model::specs::Murmur::after_blocks))]
+pub fn murmur128(seed: u32, bytes: &[u8]) -> (u64, u64)
+    ensures { result ≡ murmur128_of seed bytes.now }
+{
+    let blocks = bytes.len() / BLOCK_LEN;
+    let mut h = (u64::from(seed), u64::from(seed));
+    'mix: for i in 0..blocks {
+        h = mix_block(
+            h,
+            read_word(bytes, BLOCK_LEN * i),
+            read_word(bytes, BLOCK_LEN * i + 8),
+        );
+    }
+    let h = mix_tail(h, &bytes[BLOCK_LEN * blocks..]);
+    finish(h, bytes.len() as u64)
+}
+
+/// An item's hash: the upper 48 bits of the first half.
+#[tactic(auto, unfolding(sk_model::specs::Murmur::hash_of))]
+pub fn hash48(seed: u32, bytes: &[u8]) -> u64
+    ensures value { result ≡ hash_of seed bytes.now }
+    ensures item { result < item_end }
+{
+    murmur128(seed, bytes).0 >> 16
+}

@@ -1,0 +1,5 @@
+use Rattle.sk_model.proofs.Sketch as laws
+use Rattle.sk_model.proofs.laws.sketch.idle_changes_nothing.Goals as goal
+
+pub returns : goal.returns
+returns c = laws.idle_changes_nothing
