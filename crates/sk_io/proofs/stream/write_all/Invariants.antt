@@ -1,0 +1,12 @@
+use Rattle.std.proofs.Common.{ℕ, ◌≤◌, ◌-◌, length, take}
+use Rattle.std.specs.Io.KnownBytes.{Appends}
+use Rattle.sk_io.proofs.stream.write_all.Given as goal
+
+abbrev pub invariant-write : goal.invariant-write
+invariant-write g l =
+    (l.at ≤ length l.bytes) ×
+    Appends (g.O.Sink.written l.initial.out) (g.O.Sink.written l.out) (take l.at l.bytes) ×
+    (g.O.Sink.faults l.initial.out ≤ g.O.Sink.faults l.out)
+
+abbrev pub decreases-write : goal.decreases-write
+decreases-write g l = length l.bytes - l.at

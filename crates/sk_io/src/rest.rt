@@ -1,0 +1,42 @@
+// The bytes of which a source in memory has given a front.
+ghost use Rattle.std.specs.Prelude.{◌≡◌, ◌<◌, [], ◌++◌, min, length, take, drop};
+
+use std::marker::Model;
+
+/// Bytes that are given from their front on. Contracts see those that are left.
+#[derive(Drop)]
+pub struct Rest {
+    bytes: Vec<u8>,
+    at: usize,
+}
+
+impl Model for Rest {
+    ghost use Rattle.std.specs.Prelude.{ℕ, List, ◌≤◌, drop, vec_len};
+
+    ghost Value = { List ℕ };
+
+    ghost view = { λ r. drop r.at r.bytes.items };
+
+    ghost invariant = { λ r. r.at ≤ vec_len r.bytes };
+}
+
+impl Rest {
+    pub fn new(bytes: Vec<u8>) -> Self
+        ensures { result ≡ bytes.items }
+    {
+        Rest { bytes, at: 0 }
+    }
+
+    /// Moves as many bytes to the front of `buf` as there are, fit and are wanted.
+    pub fn give(&mut self, buf: &mut [u8], most: usize) -> usize
+        ensures count { result ≡ min (min (length buf.old) most) (length self.old) }
+        ensures bytes { self.old ≡ take result buf.new ++ self.new }
+        ensures rest { self.new ≡ drop result self.old }
+        ensures end { result ≡ 0 → 0 < length buf.old → 0 < most → self.new ≡ [] }
+    {
+        let n = buf.len().min(most).min(self.bytes.len() - self.at);
+        buf[..n].copy_from_slice(&self.bytes[self.at..self.at + n]);
+        self.at += n;
+        n
+    }
+}

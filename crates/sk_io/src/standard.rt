@@ -1,0 +1,88 @@
+ghost use Rattle.std.specs.Prelude.{◌≡◌, ◌<◌, None, IfOk, length, take};
+ghost use Rattle.std.specs.Io.{WritesAtMost};
+ghost use Rattle.std.specs.Io.KnownBytes.{Appends, WriteAppends};
+ghost use Rattle.sk_model.specs.Causes.{HasCause};
+ghost use Rattle.sk_io.specs.Base.{nothing};
+ghost use Rattle.sk_io.specs.Standard.{writer_of};
+
+use crate::stream::{Failed, Sink, Source};
+use std::io::{Read, Write};
+
+/// A reader of std as a source, which counts the reader's errors.
+#[derive(Drop)]
+pub struct StdSource<R> {
+    inner: R,
+    faults: u64,
+}
+
+impl<R: Read> StdSource<R> {
+    /// A source of what `inner` gives.
+    pub fn new(inner: R) -> Self
+        ensures left { ⟦<StdSource<R> as Source>⟧.left result ≡ R.remaining inner }
+        ensures faults { ⟦<StdSource<R> as Source>⟧.faults result ≡ 0 }
+    {
+        StdSource { inner, faults: 0 }
+    }
+}
+
+impl<R: Read> Source for StdSource<R> {
+    ghost left = { λ s. R.remaining s.inner };
+
+    ghost faults = { λ s. s.faults };
+
+    ghost stands_on = { λ _. nothing };
+
+    fn read(&mut self, buf: &mut [u8]) -> Result<usize, Failed> {
+        match self.inner.read(buf) {
+            Ok(n) => Ok(n),
+            Err(_) => {
+                self.faults = self.faults.saturating_add(1);
+                Err(Failed)
+            }
+        }
+    }
+}
+
+/// A writer of std as a sink, flushed after each write, which counts the writer's errors. A write
+/// that takes no byte is an error too. What a flush that fails has done to the bytes is unknown,
+/// so the sink tells none.
+#[derive(Drop)]
+pub struct StdSink<W> {
+    inner: W,
+    faults: u64,
+}
+
+impl<W: Write> StdSink<W> {
+    /// A sink that hands all to `inner`.
+    pub fn new(inner: W) -> Self
+        ensures writer { writer_of result ≡ inner }
+        ensures faults { ⟦<StdSink<W> as Sink>⟧.faults result ≡ 0 }
+    {
+        StdSink { inner, faults: 0 }
+    }
+}
+
+impl<W: Write> Sink for StdSink<W> {
+    ghost written = { λ _. None };
+
+    ghost faults = { λ s. s.faults };
+
+    fn write(&mut self, bytes: &[u8]) -> Result<usize, Failed>
+        requires { 0 < length bytes.now }
+        ensures bound { WritesAtMost result bytes.now }
+        ensures some { IfOk result (λ n. 0 < n) }
+        ensures bytes { WriteAppends None None result bytes.now }
+        ensures cause { let faults = ⟦<StdSink<W> as Sink>⟧.faults in
+            HasCause (faults self.old) (faults self.new) result }
+        ensures writer { IfOk result (λ n.
+            Appends (W.contents (writer_of self.old)) (W.contents (writer_of self.new)) (take n bytes.now)) }
+    {
+        if let Ok(n) = self.inner.write(bytes) {
+            if n > 0 && self.inner.flush().is_ok() {
+                return Ok(n);
+            }
+        }
+        self.faults = self.faults.saturating_add(1);
+        Err(Failed)
+    }
+}

@@ -1,0 +1,1 @@
+-- What a step of the reader does to the lines given.

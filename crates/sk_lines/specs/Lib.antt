@@ -1,0 +1,4 @@
+pub use Rattle.sk_model.specs.Lines
+pub use Rattle.sk_model.specs.Numbers
+pub mod Cutter
+pub mod Inside

@@ -1,0 +1,243 @@
+// Lines cut out of pieces of a text.
+ghost use Rattle.std.specs.Prelude.{◌≡◌, ◌≢◌, ◌↔◌, ◌≤◌, ◌<◌, ℕ, List, [], ◌∷◌, ◌++◌, length, IfOk, true, false};
+ghost use Rattle.std.specs.Str.Lines.{strip_carriage_return};
+ghost use Rattle.sk_model.specs.Lines.{lines_of, open_lines_of, AreWithin};
+ghost use Rattle.sk_lines.specs.Cutter.{Follows, GivesLine, GivesLast, Waits, IsLongAfter, is_long};
+
+use crate::errors::OutOfMemory;
+use memchr::memchr;
+use std::alloc::Global;
+use std::marker::Model;
+
+/// The most bytes of a limit.
+pub const MOST_LIMIT: usize = 1_048_576;
+
+/// The most bytes of a piece.
+pub const MOST_PIECE: usize = 65_536;
+
+const LF: u8 = b'\n';
+const CR: u8 = b'\r';
+
+/// What a call of `next` or `end` found.
+#[derive(Clone, Copy, Debug, PartialEq, Eq)]
+pub enum Next {
+    /// The next line is complete.
+    Line,
+    /// No complete line is held.
+    More,
+    /// The line of this number, counted from 1, is too long.
+    Long(u64),
+}
+
+/// How a line ended.
+#[derive(Clone, Copy, Debug, PartialEq, Eq)]
+pub enum Ending {
+    /// By LF.
+    Lf,
+    /// By CR and LF.
+    CrLf,
+    /// By the end of the text.
+    Nothing,
+}
+
+/// A reader of the lines of a text that comes in pieces. LF ends a line, and one CR directly before
+/// it is dropped. A last piece without LF is a line if it is not empty, and its CR stays.
+#[derive(Drop)]
+pub struct Lines {
+    limit: usize,
+    buffer: Vec<u8>,
+    at: usize,
+    line_start: usize,
+    line_end: usize,
+    ending: Ending,
+    number: u64,
+    last: Next,
+    hungry: bool,
+    ended: bool,
+}
+
+impl Model for Lines {
+    ghost use Rattle.std.specs.Prelude.{◌+◌, ◌-◌, ◌≤◌, ℕ, drop, take, vec_len, vec_capacity};
+    ghost use Rattle.sk_lines.specs.Cutter.{Cutter, IsSound};
+
+    ghost Value = { Cutter };
+
+    ghost use Rattle.sk_lines.specs.Inside.{cutter_of, IsKept};
+
+    ghost view = { cutter_of };
+
+    ghost invariant = { IsKept };
+}
+
+impl Lines {
+    #[tactic(auto, unfolding(sk_model::specs::Lines::lines_of))]
+    /// A reader whose lines have at most `limit` bytes, which are 1 to `MOST_LIMIT`. It takes all
+    /// the memory that it will need.
+    pub fn new(alloc: Global, limit: usize) -> Result<Lines, OutOfMemory>
+        requires some { 1 ≤ limit }
+        requires most { limit ≤ MOST_LIMIT }
+        ensures limit { IfOk result (λ lines. lines.limit ≡ limit) }
+        ensures follows { IfOk result (λ lines. Follows lines [] []) }
+        ensures hungry { IfOk result (λ lines. lines.hungry ≡ true) }
+        ensures open { IfOk result (λ lines. lines.ended ≡ false) }
+    {
+        Ok(Lines {
+            limit,
+            buffer: Vec::with_capacity(alloc, limit + 1 + MOST_PIECE)?,
+            at: 0,
+            line_start: 0,
+            line_end: 0,
+            ending: Ending::Nothing,
+            number: 0,
+            last: Next::More,
+            hungry: true,
+            ended: false,
+        })
+    }
+
+    /// Takes the next piece of the text, at most `MOST_PIECE` bytes.
+    pub fn feed(&mut self, piece: &[u8])
+        requires size { length piece.now ≤ MOST_PIECE }
+        requires hungry { self.old.hungry ≡ true }
+        requires open { self.old.ended ≡ false }
+        ensures follows { (given : List (List ℕ)) (text : List ℕ)
+            → Follows self.old given text → Follows self.new given (text ++ piece.now) }
+        ensures rest { self.new.rest ≡ self.old.rest ++ piece.now }
+        ensures number { self.new.number ≡ self.old.number }
+        ensures last { self.new.last ≡ Next.More }
+        ensures limit { self.new.limit ≡ self.old.limit }
+        ensures fed { self.new.hungry ≡ false }
+        ensures ended { self.new.ended ≡ false }
+    {
+        let len = self.buffer.len();
+        self.buffer.copy_within(self.at..len, 0);
+        self.buffer.truncate(len - self.at);
+        self.buffer.extend_from_slice(piece).unwrap();
+        self.at = 0;
+        self.line_start = 0;
+        self.line_end = 0;
+        self.last = Next::More;
+        self.hungry = false;
+    }
+
+    /// The next line. It is `Long` as soon as the bytes fed tell it, and from then on always.
+    #[inline(always)]
+    pub fn next(&mut self) -> Next
+        ensures line { result ≡ Next.Line → GivesLine self.old self.new }
+        ensures more { result ≡ Next.More → (given : List (List ℕ)) (text : List ℕ)
+            → Follows self.old given text → Waits self.new given text }
+        ensures hungry { result ≡ Next.More → self.new.hungry ≡ true }
+        ensures long { (n : ℕ) → result ≡ Next.Long n → self.old.ended ≡ false
+            → (given : List (List ℕ)) (text : List ℕ) → Follows self.old given text
+            → IsLongAfter self.old.limit n given (open_lines_of text) }
+
+        // What was too long stays so, and behind the end there is nothing.
+        ensures again { is_long self.old.last ≡ true → result ≡ self.old.last }
+        ensures after_end { self.old.ended ≡ true → is_long self.old.last ≡ false → result ≡ Next.More }
+
+        ensures last { self.new.last ≡ result }
+        ensures limit { self.new.limit ≡ self.old.limit }
+        ensures ended { self.new.ended ≡ self.old.ended }
+    {
+        if let Next::Long(_) = self.last {
+            return self.last;
+        }
+        let rest = &self.buffer[self.at..];
+        let Some(place) = memchr(LF, rest) else {
+            if without_cr(rest).len() > self.limit {
+                self.last = Next::Long(self.number.saturating_add(1));
+            } else {
+                self.last = Next::More;
+                self.hungry = true;
+            }
+            return self.last;
+        };
+        let len = without_cr(&rest[..place]).len();
+        if len > self.limit {
+            self.last = Next::Long(self.number.saturating_add(1));
+            return self.last;
+        }
+        self.ending = if len < place {
+            Ending::CrLf
+        } else {
+            Ending::Lf
+        };
+        self.line_start = self.at;
+        self.line_end = self.at + len;
+        self.at += place + 1;
+        self.number = self.number.saturating_add(1);
+        self.last = Next::Line;
+        self.last
+    }
+
+    /// Ends the text. The last piece is a line if it is not empty.
+    pub fn end(&mut self) -> Next
+        requires { self.old.hungry ≡ true }
+        ensures line { result ≡ Next.Line → GivesLast self.old self.new }
+        ensures more { result ≡ Next.More ↔ (self.old.rest ≡ []) }
+        ensures nothing { result ≡ Next.More → (given : List (List ℕ)) (text : List ℕ)
+            → Follows self.old given text → lines_of text ≡ given }
+        ensures long { (n : ℕ) → result ≡ Next.Long n
+            → (given : List (List ℕ)) (text : List ℕ) → Follows self.old given text
+            → IsLongAfter self.old.limit n given (lines_of text) }
+        ensures again { is_long self.old.last ≡ true → result ≡ self.old.last }
+        ensures rest { is_long result ≡ false → self.new.rest ≡ [] }
+        ensures last { self.new.last ≡ result }
+        ensures limit { self.new.limit ≡ self.old.limit }
+        ensures hungry { self.new.hungry ≡ true }
+        ensures ended { self.new.ended ≡ true }
+    {
+        self.ended = true;
+        if let Next::Long(_) = self.last {
+            return self.last;
+        }
+        let len = self.buffer.len() - self.at;
+        if len > self.limit {
+            self.last = Next::Long(self.number.saturating_add(1));
+        } else if len == 0 {
+            self.last = Next::More;
+        } else {
+            self.line_start = self.at;
+            self.line_end = self.buffer.len();
+            self.at = self.buffer.len();
+            self.ending = Ending::Nothing;
+            self.number = self.number.saturating_add(1);
+            self.last = Next::Line;
+        }
+        self.last
+    }
+
+    /// The line that the last call of `next` or `end` gave.
+    #[inline(always)]
+    pub fn line(&self) -> &[u8]
+        requires { self.now.last ≡ Next.Line }
+        ensures { result.now ≡ self.now.line }
+    {
+        &self.buffer[self.line_start..self.line_end]
+    }
+
+    /// How many lines were given. The count stops at the largest `u64`.
+    pub fn number(&self) -> u64
+        ensures { result ≡ self.now.number }
+    {
+        self.number
+    }
+
+    /// How the last line given ended.
+    pub fn ending(&self) -> Ending
+        ensures { result ≡ self.now.ending }
+    {
+        self.ending
+    }
+}
+
+// A line without the CR directly before its LF.
+#[inline(always)]
+fn without_cr(line: &[u8]) -> &[u8]
+    ensures { result.now ≡ strip_carriage_return line.now }
+{
+    match line.last() {
+        Some(&CR) => &line[..line.len() - 1],
+        _ => line,
+    }
+}
