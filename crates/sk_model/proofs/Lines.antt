@@ -3,7 +3,7 @@ use Rattle.std.proofs.Common.{◌≡◌, ◌≢◌, ℕ, ◌+◌, ◌-◌, ◌<�
 use Rattle.std.specs.List.{slice_split, onto_first}
 use Rattle.std.specs.Str.Lines.{lines, lines_of_parts, strip_carriage_return}
 use Rattle.std.proofs.lemmas.Bool.{cases_lt, cases_eq}
-use Rattle.std.proofs.lemmas.List.{take-append-le, get_or_append_left, get_or_at, map-append}
+use Rattle.std.proofs.lemmas.List.{length-map, take-append-le, get_or_append_left, get_or_at, map-append}
 use Rattle.std.proofs.lemmas.List.Elements.{All-nil, All-cons, All-append, All-weaker, filter-append}
 use Rattle.std.proofs.lemmas.List.Splits.{slice_split_none}
 use Rattle.sk_model.specs.Lines.{lines_of, open_lines_of, AreWithin, IsFirstLong, filled, items_of}
@@ -306,3 +306,34 @@ one_long limit m n lines first second =
     (λ (same : m ≤ n). omega arith)
     (cases_lt n m))
     (cases_lt m n)
+
+-- one byte more makes at most one line more
+few_more : (b : Bool) (x n : ℕ) (ps : List (List ℕ)) → 0 < length ps → length (lines_of_parts ps) ≤ n → length (lines_of_parts (cond b ([] ∷ ps) (onto_first x ps))) ≤ n + 1
+few_more true x n ps some few = omega (arith, ap length (lines_of_parts-cons [] ps some))
+few_more false x n [] some few = absurd (omega arith)
+few_more false x n (p ∷ []) some few = one (length (x ∷ p) == 0)
+  where
+    one : (c : Bool) → length (cond c [] ((x ∷ p) ∷ [])) ≤ n + 1
+    one true = omega arith
+    one false = omega arith
+few_more false x n (p ∷ q ∷ more) some few = omega arith
+
+-- a text has no more lines than bytes
+pub lines_are_few : (text : List ℕ) → length (lines_of text) ≤ length text
+unfolding lines_of
+lines_are_few [] = omega arith
+lines_are_few (x ∷ xs) = omega (arith, few_more (x == 10) x (length xs) (parts xs) (length-parts xs) (lines_are_few xs))
+
+few_filled : (c : Bool) (line : List ℕ) (rest : List (List ℕ)) (n : ℕ) → length rest ≤ n → length (cond c (line ∷ rest) rest) ≤ n + 1
+few_filled true line rest n few = omega arith
+few_filled false line rest n few = omega arith
+
+-- no more lines are filled than there are
+pub filled_are_few : (lines : List (List ℕ)) → length (filled lines) ≤ length lines
+unfolding filled
+filled_are_few [] = omega arith
+filled_are_few (line ∷ lines) = omega (arith, few_filled (nat_lt 0 (length line)) line (filled lines) (length lines) (filled_are_few lines))
+
+pub items_are_few : (item : List ℕ → ℕ) (lines : List (List ℕ)) → length (items_of item lines) ≤ length lines
+unfolding items_of
+items_are_few item lines = omega (arith, length-map (filled lines) item, filled_are_few lines)

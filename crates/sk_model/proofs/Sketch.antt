@@ -3,6 +3,7 @@ use Rattle.std.proofs.Common.{◌≡◌, ℕ, zero, suc, ◌+◌, ◌-◌, ◌*�
 use Rattle.std.specs.List.Sorted.{IsStrictlyIncreasing}
 use Rattle.std.proofs.lemmas.Bool.Decides.{nat_tests}
 use Rattle.std.proofs.lemmas.List.Elements.{All-contains, Contains-get_or}
+use Rattle.std.proofs.lemmas.List.{take_more}
 use Rattle.std.proofs.lemmas.List.Sums.{fold-append}
 use Rattle.std.proofs.lemmas.Nat.{div-mul-add, mod-mul-add}
 use Rattle.sk_model.specs.Width.{item_end, AreItems}
@@ -26,6 +27,10 @@ rising-has hashes z g = all_placed-has [] hashes z g
 pub rising-append : (hashes more : List ℕ) → rising (hashes ++ more) ≡ all_placed (rising hashes) more
 unfolding rising
 rising-append hashes more = fold-append (λ kept h. placed h kept) [] hashes more
+
+-- one more of a list
+pub rising_more : (hashes : List ℕ) (i d : ℕ) → i < length hashes → rising (take (i + 1) hashes) ≡ placed (get_or hashes i d) (rising (take i hashes))
+rising_more hashes i d inside = ap rising (take_more hashes i d inside) ∙ rising-append (take i hashes) (get_or hashes i d ∷ [])
 
 -- strictly increasing lists with the same members are equal
 pub one_increasing : (xs ys : List ℕ) → IsStrictlyIncreasing xs → IsStrictlyIncreasing ys → ((x : ℕ) → Contains xs x → Contains ys x) → ((x : ℕ) → Contains ys x → Contains xs x) → xs ≡ ys

@@ -1,7 +1,9 @@
-//! What the contracts of the other crates speak of: definitions in `specs/`, and the laws that hold of them.
+//! What the contracts of the other crates speak of: definitions in `specs/`, the laws that hold of them,
+//! and a plain slow form of the sketch.
 #![tactic(auto)]
 
 pub mod laws;
 mod memory;
+pub mod plain;
 
 pub use memory::OutOfMemory;

@@ -1,6 +1,6 @@
 //! Laws of lines.
 
-ghost use Rattle.std.specs.Prelude.{◌≡◌, ◌≢◌, ◌-◌, ◌<◌, ℕ, List, [], ◌∷◌, ◌++◌, All, length, take};
+ghost use Rattle.std.specs.Prelude.{◌≡◌, ◌≢◌, ◌-◌, ◌<◌, ◌≤◌, ℕ, List, [], ◌∷◌, ◌++◌, All, length, take};
 ghost use Rattle.std.specs.Str.Lines.{strip_carriage_return};
 ghost use Rattle.sk_model.specs.Lines.{lines_of, open_lines_of, AreWithin, IsFirstLong, filled, items_of};
 
@@ -64,4 +64,10 @@ pub fn item_of_a_line()
         → 0 < length line → items_of item (line ∷ []) ≡ item line ∷ [] }
     ensures no_line { filled ([] ∷ []) ≡ [] }
     ensures no_item { (item : List ℕ → ℕ) → items_of item ([] ∷ []) ≡ [] }
+{}
+
+/// A text has no more lines than bytes, and no more items than lines.
+pub fn lines_are_few()
+    ensures lines { (text : List ℕ) → length (lines_of text) ≤ length text }
+    ensures items { (item : List ℕ → ℕ) (lines : List (List ℕ)) → length (items_of item lines) ≤ length lines }
 {}
