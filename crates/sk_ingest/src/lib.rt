@@ -3,8 +3,6 @@
 
 mod items;
 mod kind;
-mod reader;
 
 pub use items::{Fault, Intake, Taker, read_items};
 pub use kind::Kind;
-pub use reader::{LINE_LIMIT, LineFault, LineReader};

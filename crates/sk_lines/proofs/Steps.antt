@@ -1,1 +1,217 @@
 -- What a step of the reader does to the lines given.
+use Rattle.std.proofs.Common.{◌≡◌, ◌≢◌, ℕ, ◌+◌, ◌-◌, ◌<◌, ◌≤◌, ◌==◌, ◌⊎◌, inl, inr, Bool, true, false, cond, List, [], ◌∷◌, ◌++◌, length, take, drop, get_or, slice_index, Option, Some, None, All, refl, sym, ap, ◌∙◌, subst, arith, append_assoc, append-nil, length-append, length-take, length-drop, take-append-drop, get_or-take, eqb-true, eq-eqb}
+use Rattle.std.specs.Str.Lines.{strip_carriage_return}
+use Rattle.std.proofs.lemmas.List.{drop_more, take_more, take_all, get_or_default, get_or_at}
+use Rattle.memchr.specs.Find.{IsFirstByte, is_byte}
+use Rattle.sk_model.specs.Lines.{lines_of, open_lines_of, AreWithin, IsFirstLong}
+use Rattle.sk_model.proofs.Lines.{lines_of_nothing, after_whole_lines, first_line, a_line_alone, a_last_piece, within_append, within_one, long_after_front, long_stays_long}
+use Rattle.sk_lines.specs.declared.cutter.Ending.{Ending}
+use Rattle.sk_lines.specs.declared.cutter.Ending.TheVariants.{Lf, CrLf, Nothing}
+use Rattle.sk_lines.specs.declared.cutter.Next.{Next}
+use Rattle.sk_lines.specs.declared.cutter.Next.TheVariants.{Line, More, Long}
+use Rattle.sk_lines.specs.Cutter.{Cutter, IsSound, is_long, Follows, GivesLine, Waits, IsLongAfter, HasNoLf, HasLfAt, counted, end_bytes}
+
+pub lf_found : (text : List ℕ) (place : ℕ) → IsFirstByte (is_byte 10) text (Some place) → HasLfAt text place
+lf_found text place found = record {
+  piece = λ k d below is.
+      let inside : k < place = omega (arith, length-take place text) in
+      let same : get_or text k 0 ≡ 10 = get_or_default text k 0 d (omega (arith, found.0.high)) ∙ sym (get_or-take place text k d inside) ∙ is in
+      found.0.before k (omega arith) inside (eq-eqb _ 10 same);
+  within = found.0.high;
+  split = sym (take-append-drop place text) ∙ ap (λ (l : List ℕ). take place text ++ l)
+      (drop_more text place 0 found.0.high ∙ ap (λ (byte : ℕ). byte ∷ drop (place + 1) text) (eqb-true _ 10 found.1));
+}
+
+pub no_lf_found : (text : List ℕ) → IsFirstByte (is_byte 10) text None → HasNoLf text
+no_lf_found text none = λ k d below is. none k (omega arith) below (eq-eqb _ 10 (get_or_default text k 0 d below ∙ is))
+
+-- a text followed so far, of which more lines are read: the lines of the rest come behind those given
+pub lines_behind : (c : Cutter) (given : List (List ℕ)) (text more : List ℕ) → Follows c given text → lines_of (text ++ more) ≡ given ++ lines_of (c.rest ++ more)
+lines_behind c given text more f =
+    ap (λ (t : List ℕ). lines_of (t ++ more)) f.joined ∙ ap lines_of (append_assoc f.front c.rest more)
+    ∙ after_whole_lines f.front (c.rest ++ more) f.whole ∙ ap (λ (ls : List (List ℕ)). ls ++ lines_of (c.rest ++ more)) f.lines
+
+pub lines_at_end : (c : Cutter) (given : List (List ℕ)) (text : List ℕ) → Follows c given text → lines_of text ≡ given ++ lines_of c.rest
+lines_at_end c given text f =
+    ap lines_of (sym (append-nil text)) ∙ lines_behind c given text [] f ∙ ap (λ (t : List ℕ). given ++ lines_of t) (append-nil c.rest)
+
+pub follows_line : (old new : Cutter) (place : ℕ) → HasLfAt old.rest place → new.limit ≡ old.limit → new.rest ≡ drop (place + 1) old.rest
+    → new.number ≡ counted (old.number + 1) → new.line ≡ strip_carriage_return (take place old.rest) → length new.line ≤ old.limit
+    → (given : List (List ℕ)) (text : List ℕ) → Follows old given text → Follows new (given ++ new.line ∷ []) text
+follows_line old new place lf limit rest number line fits given text f =
+    let piece : List ℕ = take place old.rest in
+    let ends : List ℕ = piece ++ 10 ∷ [] in
+    let parted : old.rest ≡ ends ++ new.rest =
+        lf.split ∙ sym (append_assoc piece (10 ∷ []) (drop (place + 1) old.rest)) ∙ ap (λ (l : List ℕ). ends ++ l) (sym rest) in
+    record {
+      front = f.front ++ ends;
+      joined = f.joined ∙ ap (λ (l : List ℕ). f.front ++ l) parted ∙ sym (append_assoc f.front ends new.rest);
+      whole = inr (f.front ++ piece, sym (append_assoc f.front piece (10 ∷ [])));
+      lines = after_whole_lines f.front ends f.whole ∙ ap (λ (ls : List (List ℕ)). ls ++ lines_of ends) f.lines
+          ∙ ap (λ (ls : List (List ℕ)). given ++ ls) (a_line_alone piece lf.piece ∙ ap (λ (l : List ℕ). l ∷ []) (sym line));
+      count = omega (arith, f.count, length-append given (new.line ∷ []));
+      within = subst (λ (n : ℕ). AreWithin n (given ++ new.line ∷ [])) (sym limit)
+          (within_append old.limit given (new.line ∷ []) f.within (within_one old.limit new.line fits));
+    }
+
+pub waits_for_more : (old new : Cutter) → HasNoLf old.rest → length (strip_carriage_return old.rest) ≤ old.limit
+    → new.limit ≡ old.limit → new.rest ≡ old.rest → new.number ≡ old.number
+    → (given : List (List ℕ)) (text : List ℕ) → Follows old given text → Waits new given text
+waits_for_more old new none fits limit rest number given text f =
+    let lines : open_lines_of text ≡ given ++ strip_carriage_return old.rest ∷ [] =
+        lines_behind old given text (10 ∷ []) f ∙ ap (λ (ls : List (List ℕ)). given ++ ls) (a_line_alone old.rest none) in
+    record {
+      follows = record {
+        front = f.front;
+        joined = f.joined ∙ ap (λ (l : List ℕ). f.front ++ l) (sym rest);
+        whole = f.whole;
+        lines = f.lines;
+        count = number ∙ f.count;
+        within = subst (λ (n : ℕ). AreWithin n given) (sym limit) f.within;
+      };
+      lines = lines ∙ ap (λ (l : List ℕ). given ++ strip_carriage_return l ∷ []) (sym rest);
+      within = subst (λ (n : ℕ). AreWithin n (open_lines_of text)) (sym limit) (subst (AreWithin old.limit) (sym lines)
+          (within_append old.limit given (strip_carriage_return old.rest ∷ []) f.within (within_one old.limit _ fits)));
+    }
+
+first_is_long : (limit : ℕ) (line : List ℕ) (later : List (List ℕ)) → limit < length line → IsFirstLong limit 0 (line ∷ later)
+first_is_long limit line later over = long_after_front limit [] line later (λ k d below. absurd (omega arith)) over
+
+-- a line that an LF ends is too long
+pub long_before_lf : (limit place : ℕ) (rest : List ℕ) → HasLfAt rest place → limit < length (strip_carriage_return (take place rest)) → IsFirstLong limit 0 (open_lines_of rest)
+long_before_lf limit place rest lf over =
+    let piece : List ℕ = take place rest in
+    let after : List ℕ = drop (place + 1) rest ++ 10 ∷ [] in
+    let is : open_lines_of rest ≡ strip_carriage_return piece ∷ lines_of after =
+        ap open_lines_of lf.split ∙ ap lines_of (append_assoc piece (10 ∷ drop (place + 1) rest) (10 ∷ [])) ∙ first_line piece after lf.piece in
+    subst (IsFirstLong limit 0) (sym is) (first_is_long limit (strip_carriage_return piece) (lines_of after) over)
+
+-- the piece behind the last LF is too long, whatever follows
+pub long_so_far : (limit : ℕ) (rest : List ℕ) → HasNoLf rest → limit < length (strip_carriage_return rest) → IsFirstLong limit 0 (open_lines_of rest)
+long_so_far limit rest none over = subst (IsFirstLong limit 0) (sym (a_line_alone rest none)) (first_is_long limit (strip_carriage_return rest) [] over)
+
+-- the last piece is too long
+pub long_at_end : (limit : ℕ) (rest : List ℕ) → HasNoLf rest → limit < length rest → IsFirstLong limit 0 (lines_of rest)
+long_at_end limit rest none over = subst (IsFirstLong limit 0) (sym (a_last_piece rest none (omega arith))) (first_is_long limit rest [] over)
+
+-- what is too long at the front is so behind the lines given
+long_behind : (limit : ℕ) (given lines : List (List ℕ)) → AreWithin limit given → IsFirstLong limit 0 lines → IsFirstLong limit (length given) (given ++ lines)
+long_behind limit given [] fits long = absurd (omega (arith, long.0))
+long_behind limit given (line ∷ later) fits long = long_after_front limit given line later fits long.2
+
+pub is_long_open : (c : Cutter) (n : ℕ) → n ≡ counted (c.number + 1) → IsFirstLong c.limit 0 (open_lines_of c.rest)
+    → (given : List (List ℕ)) (text : List ℕ) → Follows c given text → IsLongAfter c.limit n given (open_lines_of text)
+is_long_open c n number long given text f = record {
+  number = omega (arith, f.count);
+  first = subst (IsFirstLong c.limit (length given)) (sym (lines_behind c given text (10 ∷ []) f))
+      (long_behind c.limit given (open_lines_of c.rest) f.within long);
+}
+
+pub is_long_ended : (c : Cutter) (n : ℕ) → n ≡ counted (c.number + 1) → IsFirstLong c.limit 0 (lines_of c.rest)
+    → (given : List (List ℕ)) (text : List ℕ) → Follows c given text → IsLongAfter c.limit n given (lines_of text)
+is_long_ended c n number long given text f = record {
+  number = omega (arith, f.count);
+  first = subst (IsFirstLong c.limit (length given)) (sym (lines_at_end c given text f))
+      (long_behind c.limit given (lines_of c.rest) f.within long);
+}
+
+pub long_stays : (limit : ℕ) (rest : List ℕ) → IsFirstLong limit 0 (open_lines_of rest) → IsFirstLong limit 0 (lines_of rest)
+long_stays limit rest long = subst (λ (l : List ℕ). IsFirstLong limit 0 (lines_of l)) (append-nil rest) (long_stays_long limit 0 rest [] long)
+
+-- the last piece is the last line
+pub last_line : (c : Cutter) (line : List ℕ) → HasNoLf c.rest → 0 < length c.rest → line ≡ c.rest
+    → (given : List (List ℕ)) (text : List ℕ) → Follows c given text → lines_of text ≡ given ++ line ∷ []
+last_line c line none some is given text f =
+    lines_at_end c given text f ∙ ap (λ (ls : List (List ℕ)). given ++ ls) (a_last_piece c.rest none some ∙ ap (λ (l : List ℕ). l ∷ []) (sym is))
+
+pub last_within : (c : Cutter) → HasNoLf c.rest → 0 < length c.rest → length c.rest ≤ c.limit
+    → (given : List (List ℕ)) (text : List ℕ) → Follows c given text → AreWithin c.limit (lines_of text)
+last_within c none some fits given text f =
+    subst (AreWithin c.limit) (sym (last_line c c.rest none some refl given text f))
+      (within_append c.limit given (c.rest ∷ []) f.within (within_one c.limit c.rest fits))
+
+-- without a last piece the lines given are all
+pub no_last_line : (c : Cutter) → c.rest ≡ [] → (given : List (List ℕ)) (text : List ℕ) → Follows c given text → lines_of text ≡ given
+no_last_line c none given text f =
+    lines_at_end c given text f ∙ ap (λ (l : List ℕ). given ++ lines_of l) none ∙ ap (λ (ls : List (List ℕ)). given ++ ls) lines_of_nothing ∙ append-nil given
+
+-- what a line loses at its end is one CR
+record Stripped (piece line : List ℕ) : Type 0 where
+  by_cr : length line < length piece → piece ≡ line ++ 13 ∷ []
+  alone : length piece ≤ length line → piece ≡ line
+
+stripped_by : (piece : List ℕ) (b : Bool) → (slice_index piece (length piece - 1) == 13) ≡ b → Stripped piece (cond b (take (length piece - 1) piece) piece)
+stripped_by piece true is = record {
+  by_cr = λ less.
+      let n = length piece - 1 in
+      let some : n < length piece = omega (arith, length-take n piece) in
+      sym (take_all (n + 1) piece (omega arith)) ∙ take_more piece n 0 some ∙ ap (λ (byte : ℕ). take n piece ++ byte ∷ []) (eqb-true _ 13 is);
+  alone = λ most.
+      let n = length piece - 1 in
+      let none : length piece ≡ 0 = omega (arith, length-take n piece) in
+      sym (take_all n piece (omega arith));
+}
+stripped_by piece false is = record {
+  by_cr = λ less. absurd (omega arith);
+  alone = λ most. refl;
+}
+
+stripped : (piece : List ℕ) → Stripped piece (strip_carriage_return piece)
+stripped piece = stripped_by piece (slice_index piece (length piece - 1) == 13) refl
+
+-- how many bytes a line keeps tells how it ended
+pub data EndsBy (len place : ℕ) (ending : Ending) : Type 0 where
+  by_cr_lf : len < place → ending ≡ Ending.CrLf → EndsBy len place ending
+  by_lf : place ≤ len → ending ≡ Ending.Lf → EndsBy len place ending
+
+bytes_of : (piece line after : List ℕ) (ending : Ending) → Stripped piece line → EndsBy (length line) (length piece) ending → piece ++ 10 ∷ after ≡ line ++ end_bytes ending ++ after
+bytes_of piece line after ending s (by_cr_lf less is) =
+    ap (λ (l : List ℕ). l ++ 10 ∷ after) (s.by_cr less) ∙ append_assoc line (13 ∷ []) (10 ∷ after)
+    ∙ sym (append_assoc line (13 ∷ 10 ∷ []) after) ∙ ap (λ (e : Ending). line ++ end_bytes e ++ after) (sym is)
+bytes_of piece line after ending s (by_lf most is) =
+    ap (λ (l : List ℕ). l ++ 10 ∷ after) (s.alone most) ∙ sym (append_assoc line (10 ∷ []) after) ∙ ap (λ (e : Ending). line ++ end_bytes e ++ after) (sym is)
+
+not_nothing : (len place : ℕ) (ending : Ending) → EndsBy len place ending → ending ≢ Ending.Nothing
+not_nothing len place ending (by_cr_lf less is) = λ none. cc
+not_nothing len place ending (by_lf most is) = λ none. cc
+
+pub gives_line : (old new : Cutter) (place : ℕ) → HasLfAt old.rest place → new.limit ≡ old.limit → new.rest ≡ drop (place + 1) old.rest
+    → new.number ≡ counted (old.number + 1) → new.line ≡ strip_carriage_return (take place old.rest) → length new.line ≤ old.limit
+    → EndsBy (length new.line) place new.ending → GivesLine old new
+gives_line old new place lf limit rest number line fits ends =
+    let piece : List ℕ = take place old.rest in
+    let size : length piece ≡ place = omega (arith, length-take place old.rest, lf.within) in
+    let s : Stripped piece new.line = subst (Stripped piece) (sym line) (stripped piece) in
+    let e : EndsBy (length new.line) (length piece) new.ending = subst (λ (n : ℕ). EndsBy (length new.line) n new.ending) (sym size) ends in
+    record {
+      follows = follows_line old new place lf limit rest number line fits;
+      number = number;
+      bytes = lf.split ∙ bytes_of piece new.line (drop (place + 1) old.rest) new.ending s e ∙ ap (λ (l : List ℕ). new.line ++ end_bytes new.ending ++ l) (sym rest);
+      ending = not_nothing (length new.line) place new.ending ends;
+    }
+
+lf_stands : (text : List ℕ) (place : ℕ) → HasLfAt text place → ¬ HasNoLf text
+lf_stands text place lf none =
+    none place 0 lf.within
+      (ap (λ (l : List ℕ). get_or l place 0) lf.split ∙ get_or_at (take place text) 10 (drop (place + 1) text) 0 place (omega (arith, length-take place text, lf.within)))
+
+pub sound_line : (old new : Cutter) (place : ℕ) → IsSound old → HasLfAt old.rest place → is_long old.last ≡ false → new.hungry ≡ old.hungry → new.ended ≡ old.ended → new.last ≡ Next.Line → IsSound new
+sound_line old new place sound lf going hungry ended last = record {
+  piece = λ h. absurd (lf_stands old.rest place lf (sound.piece (sym hungry ∙ h)));
+  fits = λ h. absurd (lf_stands old.rest place lf (sound.piece (sym hungry ∙ h)));
+  number = λ n long. absurd (cc);
+  open_long = λ n long _. absurd (cc);
+  ended_long = λ n long _. absurd (cc);
+  ended = λ over _. absurd (omega (arith, ap length (sound.ended (sym ended ∙ over) going), lf.within));
+}
+
+pub sound_more : (old new : Cutter) → HasNoLf old.rest → length (strip_carriage_return old.rest) ≤ old.limit → IsSound old → is_long old.last ≡ false
+    → new ≡ record old { last = Next.More; hungry = true } → IsSound new
+sound_more old new none fits sound going is = subst IsSound (sym is) (record {
+  piece = λ _. none;
+  fits = λ _. fits;
+  number = λ n long. absurd (cc);
+  open_long = λ n long _. absurd (cc);
+  ended_long = λ n long _. absurd (cc);
+  ended = λ over _. sound.ended over going;
+})

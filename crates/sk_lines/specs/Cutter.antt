@@ -1,5 +1,5 @@
 -- What contracts see of a reader of lines.
-use Rattle.std.specs.Prelude.{◌≡◌, ◌≢◌, ℕ, ◌+◌, ◌-◌, ◌^◌, ◌<◌, ◌≤◌, min, ◌⊎◌, ◌↔◌, Bool, true, false, List, [], ◌∷◌, ◌++◌, All, length}
+use Rattle.std.specs.Prelude.{◌≡◌, ◌≢◌, ℕ, ◌+◌, ◌-◌, ◌^◌, ◌<◌, ◌≤◌, min, ◌⊎◌, ◌↔◌, Bool, true, false, List, [], ◌∷◌, ◌++◌, All, length, take, drop}
 use Rattle.std.specs.Str.Lines.{strip_carriage_return}
 use Rattle.sk_model.specs.Lines.{lines_of, open_lines_of, AreWithin, IsFirstLong}
 use Rattle.sk_lines.specs.declared.cutter.Ending.{Ending}
@@ -42,6 +42,12 @@ is_long (Long n) = true
 -- a text that has no LF
 abbrev pub HasNoLf : List ℕ → Type 0
 HasNoLf bytes = All (λ byte. byte ≢ 10) bytes
+
+-- the first LF of a text stands at this place
+pub record HasLfAt (text : List ℕ) (place : ℕ) : Type 0 where
+  pub piece : HasNoLf (take place text)
+  pub within : place < length text
+  pub split : text ≡ take place text ++ 10 ∷ drop (place + 1) text
 
 -- a text of whole lines: it is empty or ends by LF
 abbrev pub IsOfWholeLines : List ℕ → Type 0

@@ -1,8 +1,8 @@
 // Lines cut out of pieces of a text.
-ghost use Rattle.std.specs.Prelude.{◌≡◌, ◌≢◌, ◌↔◌, ◌≤◌, ◌<◌, ℕ, List, [], ◌∷◌, ◌++◌, length, IfOk, true, false};
+ghost use Rattle.std.specs.Prelude.{◌≡◌, ◌↔◌, ◌+◌, ◌≤◌, ℕ, List, [], ◌++◌, length, take, IfOk, true, false};
 ghost use Rattle.std.specs.Str.Lines.{strip_carriage_return};
-ghost use Rattle.sk_model.specs.Lines.{lines_of, open_lines_of, AreWithin};
-ghost use Rattle.sk_lines.specs.Cutter.{Follows, GivesLine, GivesLast, Waits, IsLongAfter, is_long};
+ghost use Rattle.sk_model.specs.Lines.{lines_of, open_lines_of, IsFirstLong};
+ghost use Rattle.sk_lines.specs.Cutter.{Follows, GivesLine, GivesLast, Waits, IsLongAfter, HasNoLf, HasLfAt, counted, is_long};
 
 use crate::errors::OutOfMemory;
 use memchr::memchr;
@@ -143,30 +143,67 @@ impl Lines {
             return self.last;
         }
         let rest = &self.buffer[self.at..];
-        let Some(place) = memchr(LF, rest) else {
-            if without_cr(rest).len() > self.limit {
-                self.last = Next::Long(self.number.saturating_add(1));
-            } else {
-                self.last = Next::More;
-                self.hungry = true;
+        match memchr(LF, rest) {
+            Some(place) => {
+                let len = without_cr(&rest[..place]).len();
+                if len > self.limit {
+                    return self.stop();
+                }
+                self.give(len, place)
             }
-            return self.last;
-        };
-        let len = without_cr(&rest[..place]).len();
-        if len > self.limit {
-            self.last = Next::Long(self.number.saturating_add(1));
-            return self.last;
+            None => {
+                if without_cr(rest).len() > self.limit {
+                    return self.stop();
+                }
+                self.wait()
+            }
         }
-        self.ending = if len < place {
-            Ending::CrLf
-        } else {
-            Ending::Lf
-        };
+    }
+
+    // Gives the first `len` bytes of the rest, whose first LF is at `place`.
+    #[inline(always)]
+    fn give(&mut self, len: usize, place: usize) -> Next
+        requires found { HasLfAt self.old.rest place }
+        requires line { take len self.old.rest ≡ strip_carriage_return (take place self.old.rest) }
+        requires len { len ≡ length (strip_carriage_return (take place self.old.rest)) }
+        requires fits { len ≤ self.old.limit }
+        requires not_long { is_long self.old.last ≡ false }
+        ensures result { result ≡ Next.Line }
+        ensures line { GivesLine self.old self.new }
+        ensures last { self.new.last ≡ Next.Line }
+        ensures limit { self.new.limit ≡ self.old.limit }
+        ensures ended { self.new.ended ≡ self.old.ended }
+    {
+        self.ending = if len < place { Ending::CrLf } else { Ending::Lf };
         self.line_start = self.at;
         self.line_end = self.at + len;
         self.at += place + 1;
         self.number = self.number.saturating_add(1);
         self.last = Next::Line;
+        self.last
+    }
+
+    // Says that more is needed.
+    fn wait(&mut self) -> Next
+        requires piece { HasNoLf self.old.rest }
+        requires fits { length (strip_carriage_return self.old.rest) ≤ self.old.limit }
+        requires not_long { is_long self.old.last ≡ false }
+        ensures result { result ≡ Next.More }
+        ensures new { self.new ≡ record self.old { last = Next.More; hungry = true } }
+    {
+        self.hungry = true;
+        self.last = Next::More;
+        self.last
+    }
+
+    // Says from now on that the line which is due is too long.
+    fn stop(&mut self) -> Next
+        requires open { self.old.ended ≡ false → IsFirstLong self.old.limit 0 (open_lines_of self.old.rest) }
+        requires ended { self.old.ended ≡ true → IsFirstLong self.old.limit 0 (lines_of self.old.rest) }
+        ensures result { result ≡ Next.Long (counted (self.old.number + 1)) }
+        ensures new { self.new ≡ record self.old { last = Next.Long (counted (self.old.number + 1)) } }
+    {
+        self.last = Next::Long(self.number.saturating_add(1));
         self.last
     }
 
@@ -194,16 +231,18 @@ impl Lines {
         let len = self.buffer.len() - self.at;
         if len > self.limit {
             self.last = Next::Long(self.number.saturating_add(1));
-        } else if len == 0 {
-            self.last = Next::More;
-        } else {
-            self.line_start = self.at;
-            self.line_end = self.buffer.len();
-            self.at = self.buffer.len();
-            self.ending = Ending::Nothing;
-            self.number = self.number.saturating_add(1);
-            self.last = Next::Line;
+            return self.last;
         }
+        if len == 0 {
+            self.last = Next::More;
+            return self.last;
+        }
+        self.line_start = self.at;
+        self.line_end = self.buffer.len();
+        self.at = self.buffer.len();
+        self.ending = Ending::Nothing;
+        self.number = self.number.saturating_add(1);
+        self.last = Next::Line;
         self.last
     }
 
