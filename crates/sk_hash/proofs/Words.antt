@@ -3,9 +3,10 @@ use Rattle.std.proofs.Common.{◌≡◌, ℕ, ◌+◌, ◌*◌, ◌<◌, ◌≤�
 use Rattle.std.proofs.lemmas.List.{get_or-take, get_or-drop, get_or_past}
 use Rattle.std.specs.Int.{w16, w32, from_le_bytes}
 use Rattle.std.specs.Int.Bits.{xor_zero_r}
-use Rattle.std.specs.Prelude.{slice_index, bit_xor}
+use Rattle.std.specs.Prelude.{bit_xor}
 use Rattle.sk_model.specs.Murmur.{word_at, scrambled_first, scrambled_second, with_tail}
 
+-- a word's first bytes, and the word that the others make
 pub word_of_pair : (xs : List ℕ) → length xs < 4 → 2 ≤ length xs → word_at xs 0 ≡ from_le_bytes w16 (take 2 xs) + word_at (drop 2 xs) 0 * 2 ^ 16
 word_of_pair xs below long = simp get_or-drop (omega (arith, get_or-take 2 xs 0 0, get_or-take 2 xs 1 0, get_or_past xs 8 0, get_or_past xs 9 0))
 
@@ -13,6 +14,7 @@ pub word_of_four : (xs : List ℕ) → length xs < 8 → 4 ≤ length xs → wor
 word_of_four xs below long = simp get_or-drop
     (omega (arith, get_or-take 4 xs 0 0, get_or-take 4 xs 1 0, get_or-take 4 xs 2 0, get_or-take 4 xs 3 0, get_or_past xs 8 0, get_or_past xs 9 0, get_or_past xs 10 0, get_or_past xs 11 0))
 
+-- a word past the end is 0, and mixing it in changes nothing
 word_past : (xs : List ℕ) (i : ℕ) → length xs ≤ i → word_at xs i ≡ 0
 word_past xs i past = omega (arith, get_or_past xs i 0, get_or_past xs (i + 1) 0, get_or_past xs (i + 2) 0, get_or_past xs (i + 3) 0, get_or_past xs (i + 4) 0, get_or_past xs (i + 5) 0, get_or_past xs (i + 6) 0, get_or_past xs (i + 7) 0)
 

@@ -146,7 +146,9 @@ fn finish(h: (u64, u64), len: u64) -> (u64, u64)
     (h1, h2.wrapping_add(h1))
 }
 
-/// The two halves of the MurmurHash3_x64_128 of `bytes` (reference: Appleby, SMHasher, MurmurHash3.cpp).
+/// The two halves of the MurmurHash3_x64_128 of `bytes` (reference: Appleby, SMHasher,
+/// MurmurHash3.cpp).
+#[inline(always)]
 #[tactic(auto, unfolding(sk_model::specs::Murmur::murmur128_of, sk_model::specs::Murmur::after_blocks))]
 pub fn murmur128(seed: u32, bytes: &[u8]) -> (u64, u64)
     ensures { result ≡ murmur128_of seed bytes.now }
@@ -165,6 +167,7 @@ pub fn murmur128(seed: u32, bytes: &[u8]) -> (u64, u64)
 }
 
 /// An item's hash: the upper 48 bits of the first half.
+#[inline(always)]
 #[tactic(auto, unfolding(sk_model::specs::Murmur::hash_of))]
 pub fn hash48(seed: u32, bytes: &[u8]) -> u64
     ensures value { result ≡ hash_of seed bytes.now }

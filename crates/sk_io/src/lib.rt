@@ -11,8 +11,9 @@ mod sure_source;
 
 pub use mem_sink::MemSink;
 pub use mem_source::MemSource;
+pub use sk_model::OutOfMemory;
 pub use standard::{StdSink, StdSource};
-pub use stream::{Failed, OutOfMemory, Sink, Source, write_all};
+pub use stream::{Failed, Sink, Source, write_all};
 pub use sure_source::SureSource;
 
 #[cfg(test)]

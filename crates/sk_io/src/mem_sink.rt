@@ -5,7 +5,8 @@ ghost use Rattle.sk_model.specs.Causes.{HasCause};
 ghost use Rattle.sk_io.specs.Memory.{planned, refuses, next_taken, after_write};
 
 use crate::plan::Plan;
-use crate::stream::{Failed, OutOfMemory, Sink};
+use crate::stream::{Failed, Sink};
+use sk_model::OutOfMemory;
 use std::alloc::Global;
 use std::marker::Model;
 

@@ -5,27 +5,9 @@ ghost use Rattle.std.specs.Io.KnownBytes.{Appends, ReadConsumes, WriteAppends};
 ghost use Rattle.sk_model.specs.Causes.{HasCause, AppendsFront};
 ghost use Rattle.sk_io.specs.Base.{Base};
 
-use std::alloc::{AllocError, AllocFailed};
-
 /// A call on a stream failed, and raised its count of faults.
 #[derive(Clone, Copy, Debug, PartialEq, Eq)]
 pub struct Failed;
-
-/// No memory was left.
-#[derive(Clone, Copy, Debug, PartialEq, Eq)]
-pub struct OutOfMemory;
-
-impl From<AllocError> for OutOfMemory {
-    fn from(_: AllocError) -> Self {
-        OutOfMemory
-    }
-}
-
-impl<T: Drop> From<AllocFailed<T>> for OutOfMemory {
-    fn from(_: AllocFailed<T>) -> Self {
-        OutOfMemory
-    }
-}
 
 /// Where bytes come from.
 pub trait Source {

@@ -1,6 +1,6 @@
 -- Lemmas on Murmur.
-use Rattle.std.proofs.Common.{◌≡◌, ℕ, zero, ◌+◌, ◌*◌, ◌<◌, ◌≤◌, ◌^◌, ◌/◌, ◌%◌, List, [], ◌∷◌, length, refl, arith}
-use Rattle.sk_model.specs.Murmur.{murmur128_of, hash_of, finished, crossed, add, scrambled_first, scrambled_second}
+use Rattle.std.proofs.Common.{ℕ, ◌<◌, ◌^◌, List, arith}
+use Rattle.sk_model.specs.Murmur.{murmur128_of, hash_of, finished}
 use Rattle.sk_model.specs.Width.{item_end}
 
 -- the first half of a hash fits a word
@@ -11,12 +11,3 @@ murmur128_of-lt seed bytes = omega arith
 pub hash_of-lt : (seed : ℕ) (bytes : List ℕ) → hash_of seed bytes < item_end
 unfolding hash_of
 hash_of-lt seed bytes = omega (arith, murmur128_of-lt seed bytes)
-
--- the word 0 stays 0
-pub scrambled_first-zero : scrambled_first 0 ≡ 0
-unfolding scrambled_first
-scrambled_first-zero = refl
-
-pub scrambled_second-zero : scrambled_second 0 ≡ 0
-unfolding scrambled_second
-scrambled_second-zero = refl

@@ -75,6 +75,11 @@ k_smallest_are_items k hashes items i d inside =
     All-contains (λ x. x < item_end) hashes (get_or (k_smallest k hashes) i d) items
     (k_smallest_has_members k hashes (get_or (k_smallest k hashes) i d) (Contains-get_or (k_smallest k hashes) i d inside))
 
+pub k_smallest-nil : (k : ℕ) → k_smallest k [] ≡ []
+unfolding k_smallest rising
+k_smallest-nil zero = refl
+k_smallest-nil (suc k) = refl
+
 pub one_more : (k h : ℕ) (hashes : List ℕ) → k_smallest k (hashes ++ h ∷ []) ≡ take k (placed h (k_smallest k hashes))
 unfolding k_smallest
 one_more k h hashes = ap (λ (l : List ℕ). take k l) (rising-append hashes (h ∷ [])) ∙ sym (take-placed k h (rising hashes))
@@ -173,7 +178,8 @@ idle_stays k h hashes more small idle =
     (λ p. ⊎_elim (λ q. absurd (omega (arith, q.0, stays_full k hashes more p.0))) (λ q. omega (arith, p.1, q.1, last_falls k hashes more p.0)) (theta_cases k (hashes ++ more)))
     (theta_cases k hashes)
 
-idle_once : (k h : ℕ) (hashes : List ℕ) → h < item_end → IsIdle k h hashes → k_smallest k (hashes ++ h ∷ []) ≡ k_smallest k hashes
+-- an idle item at the end of the list
+pub idle_once : (k h : ℕ) (hashes : List ℕ) → h < item_end → IsIdle k h hashes → k_smallest k (hashes ++ h ∷ []) ≡ k_smallest k hashes
 idle_once k h hashes small idle =
     let kept = k_smallest k hashes in
     let all = idle_all k h hashes small idle in

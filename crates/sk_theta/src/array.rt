@@ -4,9 +4,9 @@ ghost use Rattle.sk_model.specs.Sketch.{placed, k_smallest, count_of, theta_of, 
 ghost use Rattle.sk_model.specs.Width.{item_end, AreItems};
 ghost use Rattle.sk_theta.specs.Kept.{Sketch, StandsFor, IsWhole, theta_kept};
 
-use crate::memory::OutOfMemory;
 use crate::place::put_among;
 use crate::reply::Reply;
+use sk_model::OutOfMemory;
 use std::alloc::Global;
 use std::marker::Model;
 
@@ -136,5 +136,9 @@ fn theta_among(kept: &[u64], k: usize) -> u64
     requires { 1 ≤ k }
     ensures { result ≡ theta_kept k kept.now }
 {
-    if kept.len() < k { ITEM_END } else { kept[k - 1] }
+    if kept.len() < k {
+        ITEM_END
+    } else {
+        kept[k - 1]
+    }
 }

@@ -2,15 +2,14 @@
 #![tactic(auto)]
 
 mod array;
-mod memory;
 mod place;
 mod reply;
 mod sizes;
 
 pub use array::{ITEM_END, Theta};
-pub use memory::OutOfMemory;
 pub use reply::{Reply, unpack};
 pub use sizes::{BadShape, Shape};
+pub use sk_model::OutOfMemory;
 
 #[cfg(test)]
 mod tests;
