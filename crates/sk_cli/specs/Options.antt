@@ -1,7 +1,8 @@
 -- The options behind a command.
-use Rattle.std.specs.Prelude.{ℕ, Bool, true, false, ◌&&◌, List, [], ◌∷◌, map, codes, if◌then◌else◌, Option, Some, None, is_some, option_map, option_and_then, unwrap_or, is_none, ◌==◌, bytes_eq, string_bytes}
+use Rattle.std.specs.Prelude.{ℕ, ◌+◌, nat_le, Bool, true, false, ◌&&◌, List, [], ◌∷◌, map, codes, if◌then◌else◌, Option, Some, None, is_some, option_map, option_and_then, unwrap_or, is_none, ◌==◌, bytes_eq, string_bytes}
 use Rattle.std.specs.declared.string.String.{String}
 use Rattle.std.specs.declared.alloc.Global.{Global}
+use Rattle.sk_model.specs.Numbers.{number_of}
 use Rattle.sk_cli.specs.declared.options.Verb.{Verb}
 use Rattle.sk_cli.specs.declared.options.Verb.TheVariants.{Count, Hash}
 use Rattle.sk_cli.specs.declared.options.Name.{Name}
@@ -86,3 +87,12 @@ spelled_by verb words = option_and_then (λ given. if is_once given then Some gi
 -- the options that words spell, where they spell some
 abbrev pub given_in : Verb → List Word → List Given
 given_in verb words = unwrap_or (options_of verb words) []
+
+-- whether a name is given
+abbrev pub is_given : Name → List Given → Bool
+is_given name given = is_some (value_behind name given)
+
+-- the number in a value from low to high, or the default where there is no value
+abbrev pub number_in : ℕ → ℕ → ℕ → Option Word → Option ℕ
+number_in low high default None = Some default
+number_in low high default (Some word) = option_and_then (λ n. if nat_le low n then Some n else None) (number_of (high + 1) word)

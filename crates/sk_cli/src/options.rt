@@ -1,8 +1,9 @@
 //! The options behind a command: names with a value, and flags, in any order, each at most once.
 
-ghost use Rattle.std.specs.Prelude.{◌≡◌, ◌↔◌, IsTrue, IfSome, IfNone, Some, None, ◌<◌, ◌≤◌, length, drop, option_copied, option_map, is_some, IsSome, ◌∷◌};
-ghost use Rattle.sk_cli.specs.Options.{name_of, takes_value, allows, options_of, texts_of, is_once, value_behind, given_in, spelled_by};
+ghost use Rattle.std.specs.Prelude.{◌+◌, ◌^◌, ◌≡◌, ◌↔◌, IsTrue, IfSome, IfNone, Some, None, ◌<◌, ◌≤◌, length, drop, option_copied, option_map, is_some, IsSome, ◌∷◌};
+ghost use Rattle.sk_cli.specs.Options.{name_of, takes_value, allows, options_of, texts_of, is_once, value_behind, given_in, spelled_by, is_given, number_in};
 
+use crate::stub::read_number;
 use std::marker::Model;
 
 /// A command that takes options.
@@ -135,7 +136,7 @@ pub struct Options<'a> {
 }
 
 impl<'a> Model for Options<'a> {
-    ghost use Rattle.std.specs.Prelude.{List, ◌≡◌, Some};
+    ghost use Rattle.std.specs.Prelude.{◌+◌, ◌^◌, List, ◌≡◌, Some};
     ghost use Rattle.sk_cli.specs.Options.{Given, options_of, given_in, texts_of, is_once};
 
     ghost Value = { List Given };
@@ -163,5 +164,28 @@ impl<'a> Options<'a> {
         ensures { option_copied result ≡ value_behind name self.now }
     {
         find_value(self.verb, name, self.words)
+    }
+
+    /// Whether a name is given.
+    pub fn has(&self, name: Name) -> bool
+        ensures { result ≡ is_given name self.now }
+    {
+        self.value(name).is_some()
+    }
+
+    /// The number behind a name, or its default where it is not given. `None` where the value is no
+    /// number from `low` to `high`.
+    pub fn number(&self, name: Name, low: u64, high: u64, default: u64) -> Option<u64>
+        requires below_end { high + 1 < 2 ^ 64 }
+        requires default_low { low ≤ default }
+        requires default_high { default ≤ high }
+        ensures value { result ≡ number_in low high default (value_behind name self.now) }
+        ensures within { IfSome result (λ n. (low ≤ n) × (n ≤ high)) }
+    {
+        let Some(word) = self.value(name) else {
+            return Some(default);
+        };
+        let number = read_number(word.as_bytes(), high + 1)?;
+        if low <= number { Some(number) } else { None }
     }
 }

@@ -1,6 +1,7 @@
 //! The way from a stream of bytes to items: lines, what makes a line an item, and who takes it.
 #![tactic(auto)]
 
+mod counted;
 mod items;
 mod kind;
 
