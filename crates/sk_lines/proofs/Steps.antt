@@ -1,10 +1,11 @@
 -- What a step of the reader does to the lines given.
-use Rattle.std.proofs.Common.{◌≡◌, ◌≢◌, ℕ, ◌+◌, ◌-◌, ◌<◌, ◌≤◌, ◌==◌, ◌⊎◌, inl, inr, Bool, true, false, cond, List, [], ◌∷◌, ◌++◌, length, take, drop, get_or, slice_index, Option, Some, None, All, refl, sym, ap, ◌∙◌, subst, arith, append_assoc, append-nil, length-append, length-take, length-drop, take-append-drop, get_or-take, eqb-true, eq-eqb}
+use Rattle.std.proofs.Common.{◌≡◌, ◌≢◌, ℕ, ◌+◌, ◌-◌, ◌<◌, ◌≤◌, ◌==◌, ◌⊎◌, inl, inr, ⊎_elim, le_refl, take_at, take-take, true≢false, Bool, true, false, cond, List, [], ◌∷◌, ◌++◌, length, take, drop, get_or, slice_index, Option, Some, None, All, refl, sym, ap, ◌∙◌, subst, arith, append_assoc, append-nil, length-append, length-take, length-drop, take-append-drop, get_or-take, eqb-true, eq-eqb}
 use Rattle.std.specs.Str.Lines.{strip_carriage_return}
-use Rattle.std.proofs.lemmas.List.{drop_more, take_more, take_all, get_or_default, get_or_at}
+use Rattle.std.proofs.lemmas.List.{drop_more, take_more, take_all, take_rest, get_or_default, get_or_at}
+use Rattle.std.proofs.lemmas.Bool.{cases_lt}
 use Rattle.memchr.specs.Find.{IsFirstByte, is_byte}
 use Rattle.sk_model.specs.Lines.{lines_of, open_lines_of, AreWithin, IsFirstLong}
-use Rattle.sk_model.proofs.Lines.{lines_of_nothing, after_whole_lines, first_line, a_line_alone, a_last_piece, within_append, within_one, long_after_front, long_stays_long}
+use Rattle.sk_model.proofs.Lines.{lines_of_nothing, after_whole_lines, first_line, a_line_alone, a_last_piece, within_append, within_one, long_after_front, long_stays_long, length-strip}
 use Rattle.sk_lines.specs.declared.cutter.Ending.{Ending}
 use Rattle.sk_lines.specs.declared.cutter.Ending.TheVariants.{Lf, CrLf, Nothing}
 use Rattle.sk_lines.specs.declared.cutter.Next.{Next}
@@ -205,9 +206,9 @@ sound_line old new place sound lf going hungry ended last = record {
   ended = λ over _. absurd (omega (arith, ap length (sound.ended (sym ended ∙ over) going), lf.within));
 }
 
-pub sound_more : (old new : Cutter) → HasNoLf old.rest → length (strip_carriage_return old.rest) ≤ old.limit → IsSound old → is_long old.last ≡ false
+pub sound_more : (old new : Cutter) → IsSound old → HasNoLf old.rest → length (strip_carriage_return old.rest) ≤ old.limit → is_long old.last ≡ false
     → new ≡ record old { last = Next.More; hungry = true } → IsSound new
-sound_more old new none fits sound going is = subst IsSound (sym is) (record {
+sound_more old new sound none fits going is = subst IsSound (sym is) (record {
   piece = λ _. none;
   fits = λ _. fits;
   number = λ n long. absurd (cc);
@@ -215,3 +216,75 @@ sound_more old new none fits sound going is = subst IsSound (sym is) (record {
   ended_long = λ n long _. absurd (cc);
   ended = λ over _. sound.ended over going;
 })
+
+pub sound_stop : (c : Cutter) (n : ℕ) → n ≡ counted (c.number + 1) → IsSound c → c.ended ≡ false → IsFirstLong c.limit 0 (open_lines_of c.rest) → IsSound (record c { last = Next.Long n })
+sound_stop c n number sound going long = record {
+  piece = sound.piece;
+  fits = sound.fits;
+  number = λ m is. let same : n ≡ m = cc in sym same ∙ number;
+  open_long = λ m is _. long;
+  ended_long = λ m is over. absurd (true≢false (sym over ∙ going));
+  ended = λ over _. absurd (true≢false (sym over ∙ going));
+}
+
+-- what holds bytes is not at its end
+pub goes_on : (c : Cutter) → IsSound c → is_long c.last ≡ false → 0 < length c.rest → c.ended ≡ false
+goes_on c sound going some = elim c.ended as (λ b. c.ended ≡ b → b ≡ false) [
+  | true ↦ λ over. absurd (omega (arith, ap length (sound.ended over going)))
+  | false ↦ λ _. refl
+] refl
+
+-- what was told as too long is so, whether the text ends or goes on
+long_now_by : (c : Cutter) (n : ℕ) (ended : Bool) → c.ended ≡ ended → IsSound c → c.last ≡ Next.Long n → IsFirstLong c.limit 0 (lines_of c.rest)
+long_now_by c n true is sound long = sound.ended_long n long is
+long_now_by c n false is sound long = long_stays c.limit c.rest (sound.open_long n long is)
+
+pub long_now : (c : Cutter) (n : ℕ) → IsSound c → c.last ≡ Next.Long n → IsFirstLong c.limit 0 (lines_of c.rest)
+long_now c n sound long = long_now_by c n c.ended refl sound long
+
+pub long_is_some : (limit : ℕ) (rest : List ℕ) → IsFirstLong limit 0 (lines_of rest) → rest ≡ [] → ⊥
+long_is_some limit rest long none = omega (arith, long.0, ap length (ap lines_of none ∙ lines_of_nothing))
+
+pub sound_ended : (c : Cutter) (n : ℕ) → IsSound c → c.last ≡ Next.Long n → IsSound (record c { ended = true })
+sound_ended c n sound long = record {
+  piece = sound.piece;
+  fits = sound.fits;
+  number = sound.number;
+  open_long = λ m is going. absurd (cc);
+  ended_long = λ m is over. long_now c m sound is;
+  ended = λ over going. absurd (true≢false (sym (ap is_long long) ∙ going));
+}
+
+pub sound_end_long : (c : Cutter) (n : ℕ) → n ≡ counted (c.number + 1) → IsSound c → c.hungry ≡ true → c.limit < length c.rest → IsSound (record c { last = Next.Long n; ended = true })
+sound_end_long c n number sound hungry over = record {
+  piece = sound.piece;
+  fits = sound.fits;
+  number = λ m is. let same : n ≡ m = cc in sym same ∙ number;
+  open_long = λ m is going. absurd (cc);
+  ended_long = λ m is _. long_at_end c.limit c.rest (sound.piece hungry) over;
+  ended = λ _ going. absurd (cc);
+}
+
+-- the rest, as a slice of the buffer
+pub rest_is : (slice items rest : List ℕ) (at : ℕ) → slice ≡ items → drop at items ≡ rest → take (length slice - at) (drop at slice) ≡ rest
+rest_is slice items rest at same is = take_rest slice at ∙ ap (λ (l : List ℕ). drop at l) same ∙ is
+
+pub not_long : (last : Next) → ((n : ℕ) → last ≡ Next.Long n → ⊥) → is_long last ≡ false
+not_long Line other = refl
+not_long More other = refl
+not_long (Long n) other = absurd (other n refl)
+
+front_of : (piece line : List ℕ) → line ≡ strip_carriage_return piece → take (length line) piece ≡ line
+front_of piece line is =
+    let s : Stripped piece line = subst (Stripped piece) (sym is) (stripped piece) in
+    ⊎_elim
+    (λ less. ap (λ (l : List ℕ). take (length line) l) (s.by_cr less) ∙ take_at line (13 ∷ []) (length line) refl)
+    (λ most. ap (λ (l : List ℕ). take (length line) l) (s.alone most) ∙ take_all (length line) line (le_refl (length line)))
+    (cases_lt (length line) (length piece))
+
+pub taken_line : (rest line : List ℕ) (place : ℕ) → line ≡ strip_carriage_return (take place rest) → take (length line) rest ≡ line
+taken_line rest line place is =
+    let piece : List ℕ = take place rest in
+    let short : length line ≤ length piece = omega (arith, ap length is, length-strip piece) in
+    let less : length line ≤ place = omega (arith, length-take place rest) in
+    sym (take-take (length line) place rest less) ∙ front_of piece line is

@@ -4,8 +4,8 @@ ghost use Rattle.std.specs.Str.Lines.{strip_carriage_return};
 ghost use Rattle.sk_model.specs.Lines.{lines_of, open_lines_of, IsFirstLong};
 ghost use Rattle.sk_lines.specs.Cutter.{Follows, GivesLine, GivesLast, Waits, IsLongAfter, HasNoLf, HasLfAt, counted, is_long};
 
-use crate::errors::OutOfMemory;
 use memchr::memchr;
+use sk_model::OutOfMemory;
 use std::alloc::Global;
 use std::marker::Model;
 
@@ -79,7 +79,7 @@ impl Lines {
         ensures limit { IfOk result (λ lines. lines.limit ≡ limit) }
         ensures follows { IfOk result (λ lines. Follows lines [] []) }
         ensures hungry { IfOk result (λ lines. lines.hungry ≡ true) }
-        ensures open { IfOk result (λ lines. lines.ended ≡ false) }
+        ensures not_ended { IfOk result (λ lines. lines.ended ≡ false) }
     {
         Ok(Lines {
             limit,
@@ -99,7 +99,7 @@ impl Lines {
     pub fn feed(&mut self, piece: &[u8])
         requires size { length piece.now ≤ MOST_PIECE }
         requires hungry { self.old.hungry ≡ true }
-        requires open { self.old.ended ≡ false }
+        requires not_ended { self.old.ended ≡ false }
         ensures follows { (given : List (List ℕ)) (text : List ℕ)
             → Follows self.old given text → Follows self.new given (text ++ piece.now) }
         ensures rest { self.new.rest ≡ self.old.rest ++ piece.now }
@@ -189,7 +189,12 @@ impl Lines {
         requires fits { length (strip_carriage_return self.old.rest) ≤ self.old.limit }
         requires not_long { is_long self.old.last ≡ false }
         ensures result { result ≡ Next.More }
-        ensures new { self.new ≡ record self.old { last = Next.More; hungry = true } }
+        ensures waits { (given : List (List ℕ)) (text : List ℕ)
+            → Follows self.old given text → Waits self.new given text }
+        ensures last { self.new.last ≡ Next.More }
+        ensures hungry { self.new.hungry ≡ true }
+        ensures limit { self.new.limit ≡ self.old.limit }
+        ensures ended { self.new.ended ≡ self.old.ended }
     {
         self.hungry = true;
         self.last = Next::More;
@@ -198,10 +203,16 @@ impl Lines {
 
     // Says from now on that the line which is due is too long.
     fn stop(&mut self) -> Next
-        requires open { self.old.ended ≡ false → IsFirstLong self.old.limit 0 (open_lines_of self.old.rest) }
-        requires ended { self.old.ended ≡ true → IsFirstLong self.old.limit 0 (lines_of self.old.rest) }
+        requires going_on { self.old.ended ≡ false }
+        requires long { IsFirstLong self.old.limit 0 (open_lines_of self.old.rest) }
         ensures result { result ≡ Next.Long (counted (self.old.number + 1)) }
-        ensures new { self.new ≡ record self.old { last = Next.Long (counted (self.old.number + 1)) } }
+        ensures long { (n : ℕ) → result ≡ Next.Long n
+            → (given : List (List ℕ)) (text : List ℕ) → Follows self.old given text
+            → IsLongAfter self.old.limit n given (open_lines_of text) }
+        ensures before_end { self.old.ended ≡ false }
+        ensures last { self.new.last ≡ result }
+        ensures limit { self.new.limit ≡ self.old.limit }
+        ensures ended { self.new.ended ≡ self.old.ended }
     {
         self.last = Next::Long(self.number.saturating_add(1));
         self.last

@@ -2,7 +2,8 @@
 #![tactic(auto)]
 
 mod cutter;
-mod errors;
+mod decimals;
 
 pub use cutter::{Ending, Lines, Next};
-pub use errors::OutOfMemory;
+pub use decimals::{push_fraction, put_fraction, read_number};
+pub use sk_model::OutOfMemory;
