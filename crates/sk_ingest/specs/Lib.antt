@@ -1,3 +1,5 @@
 pub use Rattle.sk_model.specs.Causes
 pub use Rattle.sk_model.specs.Lines
+pub mod Inside
 pub mod Items
+pub mod Reading

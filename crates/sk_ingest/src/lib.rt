@@ -4,6 +4,8 @@
 mod counted;
 mod items;
 mod kind;
+mod reader;
 
 pub use items::{Fault, Intake, Taker, read_items};
 pub use kind::Kind;
+pub use reader::{LINE_LIMIT, LineFault, LineReader};

@@ -1,0 +1,57 @@
+-- What contracts see of a reader of a source's lines.
+use Rattle.std.specs.Prelude.{◌≡◌, ℕ, ◌+◌, ◌-◌, ◌<◌, Bool, true, false, List, [], ◌∷◌, ◌++◌, length, Option, IfSome}
+use Rattle.std.specs.Io.KnownBytes.{Consumes, IsAtEnd}
+use Rattle.std.specs.Str.Lines.{strip_carriage_return}
+use Rattle.sk_model.specs.Lines.{lines_of, open_lines_of, AreWithin, IsFirstLong}
+use Rattle.sk_lines.specs.Cutter.{Cutter, Follows, Waits}
+
+-- the lines that were cut, how many bytes were taken of the source and how many may be, and whether
+-- the source was read to its end
+pub record Reading : Type 0 where
+  pub cutter : Cutter
+  pub taken : ℕ
+  pub most : ℕ
+  pub ended : Bool
+
+-- how many bytes may still be given as lines
+abbrev pub remaining_of : Reading → ℕ
+remaining_of r = length r.cutter.rest + (r.most - r.taken)
+
+-- of the bytes taken, exactly these lines were given
+pub record HasGiven (r : Reading) (given : List (List ℕ)) (taken : List ℕ) : Type 0 where
+  pub follows : r.ended ≡ false → Follows r.cutter given taken
+  pub whole : r.ended ≡ true → lines_of taken ≡ given
+  pub within : AreWithin r.cutter.limit given
+  pub count : length taken ≡ r.taken
+
+-- a piece of the source was fed
+pub record Feeds (old new : Reading) (more : List ℕ) : Type 0 where
+  pub follows : (given : List (List ℕ)) (taken : List ℕ) → HasGiven old given taken → HasGiven new given (taken ++ more)
+  pub remaining : remaining_of new ≡ remaining_of old
+  pub limit : new.cutter.limit ≡ old.cutter.limit
+  pub most : new.most ≡ old.most
+  pub ended : new.ended ≡ old.ended
+
+-- one more line was given
+abbrev pub GivesNext : Reading → Reading → List ℕ → Type 0
+GivesNext old new more = (given : List (List ℕ)) (taken : List ℕ) → HasGiven old given taken → HasGiven new (given ++ new.cutter.line ∷ []) (taken ++ more)
+
+-- the source is at its end, and all its lines were given
+abbrev pub GivesNone : Reading → Reading → List ℕ → Type 0
+GivesNone old new more = (given : List (List ℕ)) (taken : List ℕ) → HasGiven old given taken →
+    (lines_of (taken ++ more) ≡ given) × HasGiven new given (taken ++ more)
+
+-- all complete lines of the bytes taken were given, and the last piece is not too long so far
+pub record Stands (new : Reading) (given : List (List ℕ)) (taken : List ℕ) : Type 0 where
+  pub given : HasGiven new given taken
+  pub lines : open_lines_of taken ≡ given ++ strip_carriage_return new.cutter.rest ∷ []
+  pub within : AreWithin new.cutter.limit (open_lines_of taken)
+
+-- it stopped behind all complete lines of the bytes taken
+abbrev pub Stops : Reading → Reading → List ℕ → Type 0
+Stops old new more = (given : List (List ℕ)) (taken : List ℕ) → HasGiven old given taken → Stands new given (taken ++ more)
+
+-- line n, counted from 1, comes next and is too long, whatever the source has left
+abbrev pub FindsLong : Reading → List ℕ → Option (List ℕ) → ℕ → Type 0
+FindsLong old more left n = (given : List (List ℕ)) (taken : List ℕ) → HasGiven old given taken →
+    (n ≡ length given + 1) × IfSome left (λ rest. IsFirstLong old.cutter.limit (length given) (lines_of ((taken ++ more) ++ rest)))

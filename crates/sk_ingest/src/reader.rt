@@ -1,0 +1,106 @@
+// The lines of a source.
+ghost use Rattle.std.specs.Prelude.{◌≡◌, ◌≤◌, ◌<◌, ◌+◌, ◌-◌, ◌^◌, ℕ, List, [], ◌∷◌, ◌++◌, Ok, Err, OnOk, OnErr, IfOk, IsErrOf, ◌≢◌, length, true, false, vec_len};
+ghost use Rattle.std.specs.Io.KnownBytes.{Consumes, IsAtEnd, Keeps};
+ghost use Rattle.sk_model.specs.Causes.{Rose};
+ghost use Rattle.sk_lines.specs.declared.cutter.Next.TheVariants as next;
+ghost use Rattle.sk_ingest.specs.Reading.{HasGiven, GivesNext, GivesNone, Stops, FindsLong, Feeds, remaining_of};
+
+use sk_io::{Failed, Source};
+use sk_lines::{Lines, Next};
+use sk_model::OutOfMemory;
+use std::alloc::Global;
+use std::marker::Model;
+
+/// The most bytes of a line.
+pub const LINE_LIMIT: usize = 65_536;
+
+// The most bytes that one read is asked for.
+const PIECE_LEN: usize = 65_536;
+
+/// Why the lines of a source end before it does.
+#[derive(Clone, Copy, Debug, PartialEq, Eq)]
+pub enum LineFault {
+    /// A read failed.
+    ReadFault,
+    /// The line of this number, counted from 1, has more than `LINE_LIMIT` bytes.
+    LongLine(u64),
+    /// As many bytes were taken as may be.
+    TooMuch,
+}
+
+impl From<Failed> for LineFault {
+    ghost use Rattle.sk_ingest.specs.declared.reader.LineFault.TheVariants as fault;
+
+    ghost from_gives = { λ _ e. e ≡ fault.ReadFault };
+
+    fn from(_: Failed) -> Self {
+        LineFault::ReadFault
+    }
+}
+
+/// The lines of a source, one after another, each as soon as the bytes read have it.
+#[derive(Drop)]
+pub struct LineReader {
+    lines: Lines,
+    piece: Vec<u8>,
+    taken: u64,
+    most: u64,
+    ended: bool,
+}
+
+impl Model for LineReader {
+    ghost use Rattle.sk_ingest.specs.Reading.{Reading};
+
+    ghost Value = { Reading };
+
+    ghost use Rattle.sk_ingest.specs.Inside.{reading_of, IsKept};
+
+    ghost view = { reading_of };
+
+    ghost invariant = { IsKept };
+}
+
+impl LineReader {
+    /// A reader that takes fewer than `most` bytes, itself at most 2^40. It takes all its memory here.
+    pub fn new(alloc: Global, most: u64) -> Result<LineReader, OutOfMemory>
+        requires { most ≤ 2 ^ 40 }
+        ensures given { IfOk result (λ reader. HasGiven reader [] []) }
+        ensures most { IfOk result (λ reader. reader.most ≡ most) }
+        ensures open { IfOk result (λ reader. reader.ended ≡ false) }
+    {
+        Ok(LineReader {
+            lines: Lines::new(alloc, LINE_LIMIT)?,
+            piece: vec![in alloc; 0u8; PIECE_LEN]?,
+            taken: 0,
+            most,
+            ended: false,
+        })
+    }
+
+    // Reads a piece and feeds it, or answers `false` at the end of the source.
+    fn refill<S: Source>(&mut self, source: &mut S) -> Result<bool, LineFault>
+        requires hungry { self.old.cutter.hungry ≡ true }
+        requires open { self.old.ended ≡ false }
+        ensures fed { IfOk result (λ fed. (more : List ℕ) × Consumes (S.left source.old) (S.left source.new) more × Feeds self.old self.new more) }
+        ensures some { result ≡ Ok true → self.old.taken < self.new.taken }
+        ensures end { result ≡ Ok false → IsAtEnd (S.left source.new) × (self.new ≡ self.old) }
+        ensures read_fault { IsErrOf result LineFault.ReadFault → Rose (S.faults source.old) (S.faults source.new) × (self.old.taken < self.old.most) }
+        ensures too_much { IsErrOf result LineFault.TooMuch → self.old.taken ≡ self.old.most }
+        ensures err { OnErr result ((self.new ≡ self.old) × Keeps (S.left source.old) (S.left source.new)) }
+        ensures no_long { (n : ℕ) → result ≢ Err (LineFault.LongLine n) }
+        ensures later { S.faults source.old ≤ S.faults source.new }
+        ensures stays { S.stands_on source.new ≡ S.stands_on source.old }
+    {
+        let room = (self.most - self.taken).min(PIECE_LEN as u64) as usize;
+        if room == 0 {
+            return Err(LineFault::TooMuch);
+        }
+        let n = source.read(&mut self.piece[..room])?;
+        if n == 0 {
+            return Ok(false);
+        }
+        self.lines.feed(&self.piece[..n]);
+        self.taken += n as u64;
+        Ok(true)
+    }
+}
