@@ -7,7 +7,6 @@ abbrev pub reading_of : Inside → Reading
 reading_of a = record { cutter = a.lines; taken = a.taken; most = a.most; ended = a.ended }
 
 pub record IsKept (a : Inside) : Type 0 where
-  pub room : vec_len a.piece ≡ 65536
   pub bound : a.taken ≤ a.most
   pub limit : a.lines.limit ≡ 65536
   pub ended : a.lines.ended ≡ a.ended

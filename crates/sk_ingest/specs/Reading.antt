@@ -3,7 +3,7 @@ use Rattle.std.specs.Prelude.{◌≡◌, ℕ, ◌+◌, ◌-◌, ◌<◌, Bool, t
 use Rattle.std.specs.Io.KnownBytes.{Consumes, IsAtEnd}
 use Rattle.std.specs.Str.Lines.{strip_carriage_return}
 use Rattle.sk_model.specs.Lines.{lines_of, open_lines_of, AreWithin, IsFirstLong}
-use Rattle.sk_lines.specs.Cutter.{Cutter, Follows, Waits}
+use Rattle.sk_lines.specs.Cutter.{Cutter, Follows, is_long}
 
 -- the lines that were cut, how many bytes were taken of the source and how many may be, and whether
 -- the source was read to its end
@@ -22,6 +22,7 @@ pub record HasGiven (r : Reading) (given : List (List ℕ)) (taken : List ℕ) :
   pub follows : r.ended ≡ false → Follows r.cutter given taken
   pub whole : r.ended ≡ true → lines_of taken ≡ given
   pub within : AreWithin r.cutter.limit given
+  pub going : is_long r.cutter.last ≡ false
   pub count : length taken ≡ r.taken
 
 -- a piece of the source was fed
@@ -32,26 +33,40 @@ pub record Feeds (old new : Reading) (more : List ℕ) : Type 0 where
   pub most : new.most ≡ old.most
   pub ended : new.ended ≡ old.ended
 
--- one more line was given
+-- one more line was given, of the bytes taken
+abbrev pub GivesLine : Reading → Reading → Type 0
+GivesLine old new = (given : List (List ℕ)) (taken : List ℕ) → HasGiven old given taken → HasGiven new (given ++ new.cutter.line ∷ []) taken
+
+-- all complete lines of the bytes taken were given, and the last piece is not too long so far
+pub record Stands (r : Reading) (given : List (List ℕ)) (taken : List ℕ) : Type 0 where
+  pub follows : HasGiven r given taken
+  pub lines : open_lines_of taken ≡ given ++ strip_carriage_return r.cutter.rest ∷ []
+  pub within : AreWithin r.cutter.limit (open_lines_of taken)
+
+-- the next line is too long, whatever follows the bytes taken
+abbrev pub IsLongNext : Reading → ℕ → Type 0
+IsLongNext r n = (given : List (List ℕ)) (taken : List ℕ) → HasGiven r given taken →
+    (n ≡ length given + 1) × ((rest : List ℕ) → IsFirstLong r.cutter.limit (length given) (lines_of (taken ++ rest)))
+
+-- the last line is too long
+abbrev pub IsLongLast : Reading → ℕ → Type 0
+IsLongLast r n = (given : List (List ℕ)) (taken : List ℕ) → HasGiven r given taken →
+    (n ≡ length given + 1) × IsFirstLong r.cutter.limit (length given) (lines_of taken)
+
+-- a call took these bytes more, and gave one more line
 abbrev pub GivesNext : Reading → Reading → List ℕ → Type 0
 GivesNext old new more = (given : List (List ℕ)) (taken : List ℕ) → HasGiven old given taken → HasGiven new (given ++ new.cutter.line ∷ []) (taken ++ more)
 
--- the source is at its end, and all its lines were given
+-- it found the source's end behind all its lines
 abbrev pub GivesNone : Reading → Reading → List ℕ → Type 0
 GivesNone old new more = (given : List (List ℕ)) (taken : List ℕ) → HasGiven old given taken →
     (lines_of (taken ++ more) ≡ given) × HasGiven new given (taken ++ more)
 
--- all complete lines of the bytes taken were given, and the last piece is not too long so far
-pub record Stands (new : Reading) (given : List (List ℕ)) (taken : List ℕ) : Type 0 where
-  pub given : HasGiven new given taken
-  pub lines : open_lines_of taken ≡ given ++ strip_carriage_return new.cutter.rest ∷ []
-  pub within : AreWithin new.cutter.limit (open_lines_of taken)
-
--- it stopped behind all complete lines of the bytes taken
+-- it stopped behind all complete lines
 abbrev pub Stops : Reading → Reading → List ℕ → Type 0
 Stops old new more = (given : List (List ℕ)) (taken : List ℕ) → HasGiven old given taken → Stands new given (taken ++ more)
 
--- line n, counted from 1, comes next and is too long, whatever the source has left
+-- it found line n, counted from 1, too long, whatever the source has left
 abbrev pub FindsLong : Reading → List ℕ → Option (List ℕ) → ℕ → Type 0
 FindsLong old more left n = (given : List (List ℕ)) (taken : List ℕ) → HasGiven old given taken →
     (n ≡ length given + 1) × IfSome left (λ rest. IsFirstLong old.cutter.limit (length given) (lines_of ((taken ++ more) ++ rest)))

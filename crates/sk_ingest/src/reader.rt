@@ -2,8 +2,9 @@
 ghost use Rattle.std.specs.Prelude.{◌≡◌, ◌≤◌, ◌<◌, ◌+◌, ◌-◌, ◌^◌, ℕ, List, [], ◌∷◌, ◌++◌, Ok, Err, OnOk, OnErr, IfOk, IsErrOf, ◌≢◌, length, true, false, vec_len};
 ghost use Rattle.std.specs.Io.KnownBytes.{Consumes, IsAtEnd, Keeps};
 ghost use Rattle.sk_model.specs.Causes.{Rose};
+ghost use Rattle.sk_model.specs.Lines.{lines_of};
 ghost use Rattle.sk_lines.specs.declared.cutter.Next.TheVariants as next;
-ghost use Rattle.sk_ingest.specs.Reading.{HasGiven, GivesNext, GivesNone, Stops, FindsLong, Feeds, remaining_of};
+ghost use Rattle.sk_ingest.specs.Reading.{HasGiven, GivesLine, GivesNext, GivesNone, Stands, Stops, IsLongNext, IsLongLast, FindsLong, Feeds, remaining_of};
 
 use sk_io::{Failed, Source};
 use sk_lines::{Lines, Next};
@@ -42,7 +43,7 @@ impl From<Failed> for LineFault {
 #[derive(Drop)]
 pub struct LineReader {
     lines: Lines,
-    piece: Vec<u8>,
+    piece: [u8; PIECE_LEN],
     taken: u64,
     most: u64,
     ended: bool,
@@ -70,7 +71,7 @@ impl LineReader {
     {
         Ok(LineReader {
             lines: Lines::new(alloc, LINE_LIMIT)?,
-            piece: vec![in alloc; 0u8; PIECE_LEN]?,
+            piece: [0; PIECE_LEN],
             taken: 0,
             most,
             ended: false,
@@ -102,5 +103,44 @@ impl LineReader {
         self.lines.feed(&self.piece[..n]);
         self.taken += n as u64;
         Ok(true)
+    }
+}
+
+impl LineReader {
+    // Cuts the next line out of the bytes read.
+    #[inline(always)]
+    fn cut(&mut self) -> Next
+        ensures line { result ≡ next.Line → GivesLine self.old self.new × (remaining_of self.new < remaining_of self.old) }
+        ensures more { result ≡ next.More → self.old.ended ≡ false → (given : List (List ℕ)) (taken : List ℕ) → HasGiven self.old given taken → Stands self.new given taken }
+        ensures after_end { result ≡ next.More → self.old.ended ≡ true → (given : List (List ℕ)) (taken : List ℕ) → HasGiven self.old given taken → HasGiven self.new given taken }
+        ensures hungry { result ≡ next.More → self.new.cutter.hungry ≡ true }
+        ensures long { (n : ℕ) → result ≡ next.Long n → IsLongNext self.old n }
+        ensures last { self.new.cutter.last ≡ result }
+        ensures limit { self.new.cutter.limit ≡ self.old.cutter.limit }
+        ensures ended { self.new.ended ≡ self.old.ended }
+        ensures most { (self.new.most ≡ self.old.most) × (self.new.taken ≡ self.old.taken) }
+        ensures remaining { remaining_of self.new ≤ remaining_of self.old }
+    {
+        self.lines.next()
+    }
+
+    // Ends the source.
+    fn end(&mut self) -> Result<bool, LineFault>
+        requires hungry { self.old.cutter.hungry ≡ true }
+        requires open { self.old.ended ≡ false }
+        ensures line { result ≡ Ok true → GivesLine self.old self.new × (self.new.cutter.last ≡ next.Line) × (remaining_of self.new < remaining_of self.old) }
+        ensures none { result ≡ Ok false → (given : List (List ℕ)) (taken : List ℕ) → HasGiven self.old given taken → (lines_of taken ≡ given) × HasGiven self.new given taken }
+        ensures long { (n : ℕ) → result ≡ Err (LineFault.LongLine n) → IsLongLast self.old n }
+        ensures only_long { (result ≢ Err LineFault.ReadFault) × (result ≢ Err LineFault.TooMuch) }
+        ensures limit { self.new.cutter.limit ≡ self.old.cutter.limit }
+        ensures most { (self.new.most ≡ self.old.most) × (self.new.taken ≡ self.old.taken) }
+        ensures ended { self.new.ended ≡ true }
+    {
+        self.ended = true;
+        match self.lines.end() {
+            Next::Line => Ok(true),
+            Next::More => Ok(false),
+            Next::Long(line) => Err(LineFault::LongLine(line)),
+        }
     }
 }

@@ -1,5 +1,5 @@
 // Lines cut out of pieces of a text.
-ghost use Rattle.std.specs.Prelude.{◌≡◌, ◌↔◌, ◌+◌, ◌≤◌, ℕ, List, [], ◌++◌, length, take, IfOk, true, false};
+ghost use Rattle.std.specs.Prelude.{◌≡◌, ◌≢◌, ◌↔◌, ◌+◌, ◌≤◌, ℕ, List, [], ◌++◌, length, take, IfOk, true, false};
 ghost use Rattle.std.specs.Str.Lines.{strip_carriage_return};
 ghost use Rattle.sk_model.specs.Lines.{lines_of, open_lines_of, IsFirstLong};
 ghost use Rattle.sk_lines.specs.Cutter.{Follows, GivesLine, GivesLast, Waits, IsLongAfter, HasNoLf, HasLfAt, counted, is_long};
@@ -133,6 +133,7 @@ impl Lines {
 
         // What was too long stays so, and behind the end there is nothing.
         ensures again { is_long self.old.last ≡ true → result ≡ self.old.last }
+        ensures rest { result ≢ Next.Line → self.new.rest ≡ self.old.rest }
         ensures after_end { self.old.ended ≡ true → is_long self.old.last ≡ false → result ≡ Next.More }
 
         ensures last { self.new.last ≡ result }

@@ -2,5 +2,6 @@ pub mod Entries
 pub mod Lines
 pub mod Missing
 pub mod Murmur
+pub mod Numbers
 pub mod Rising
 pub mod Sketch

@@ -91,3 +91,12 @@ returns-then-without_cr-self-clause-long c = λ n is going. c.stop-then-without_
 
 pub returns-then-without_cr-self-clause-after_end : goal.returns-then-without_cr-self-clause-after_end
 returns-then-without_cr-self-clause-after_end c = λ over going. absurd (true≢false (sym over ∙ c.stop-then-without_cr-self.ensures.before_end))
+
+pub returns-then-len-self-clause-rest : goal.returns-then-len-self-clause-rest
+returns-then-len-self-clause-rest c = λ no_line. ?
+
+pub returns-then-without_cr-self-clause-rest : goal.returns-then-without_cr-self-clause-rest
+returns-then-without_cr-self-clause-rest c = λ no_line. ?
+
+pub returns-else-without_cr-self-clause-rest : goal.returns-else-without_cr-self-clause-rest
+returns-else-without_cr-self-clause-rest c = λ no_line. ?
