@@ -1,5 +1,5 @@
 -- How a reader of a source's lines keeps what contracts see of it.
-use Rattle.std.specs.Prelude.{◌≡◌, ◌≤◌, ◌↔◌, true, false, vec_len}
+use Rattle.std.specs.Prelude.{◌≡◌, ◌≤◌, ◌^◌, ℕ, ◌↔◌, true, false, vec_len}
 use Rattle.sk_ingest.specs.declared.reader.LineReader.TheInside.{Inside}
 use Rattle.sk_ingest.specs.Reading.{Reading}
 
@@ -8,5 +8,6 @@ reading_of a = record { cutter = a.lines; taken = a.taken; most = a.most; ended 
 
 pub record IsKept (a : Inside) : Type 0 where
   pub bound : a.taken ≤ a.most
+  pub few : a.most ≤ 2 ^ 40
   pub limit : a.lines.limit ≡ 65536
   pub ended : a.lines.ended ≡ a.ended

@@ -144,3 +144,58 @@ impl LineReader {
         }
     }
 }
+
+impl LineReader {
+    /// Moves on to the source's next line, and answers `false` where there is none. After an error
+    /// it is not used again.
+    #[inline]
+    pub fn next<S: Source>(&mut self, source: &mut S) -> Result<bool, LineFault>
+        ensures line { result ≡ Ok true → (more : List ℕ) × Consumes (S.left source.old) (S.left source.new) more × GivesNext self.old self.new more }
+        ensures none { result ≡ Ok false → (more : List ℕ) × Consumes (S.left source.old) (S.left source.new) more × GivesNone self.old self.new more }
+        ensures holds { result ≡ Ok true → self.new.cutter.last ≡ next.Line }
+        ensures end { (self.old.ended ≡ true → IsAtEnd (S.left source.old)) → self.new.ended ≡ true → IsAtEnd (S.left source.new) }
+        ensures ended { result ≡ Ok false → self.new.ended ≡ true }
+        ensures long_line { (n : ℕ) → result ≡ Err (LineFault.LongLine n) → (more : List ℕ) × Consumes (S.left source.old) (S.left source.new) more
+            × FindsLong self.old more (S.left source.new) n }
+        ensures read_fault { IsErrOf result LineFault.ReadFault → Rose (S.faults source.old) (S.faults source.new) }
+        ensures read_fault_at { IsErrOf result LineFault.ReadFault → (more : List ℕ) × Consumes (S.left source.old) (S.left source.new) more
+            × Stops self.old self.new more × (self.new.taken < self.new.most) }
+        ensures too_much { IsErrOf result LineFault.TooMuch → (more : List ℕ) × Consumes (S.left source.old) (S.left source.new) more
+            × Stops self.old self.new more × (self.new.taken ≡ self.new.most) }
+        ensures progress { result ≡ Ok true → remaining_of self.new < remaining_of self.old }
+        ensures limit { self.new.cutter.limit ≡ self.old.cutter.limit }
+        ensures most { self.new.most ≡ self.old.most }
+        ensures later { S.faults source.old ≤ S.faults source.new }
+        ensures stays { S.stands_on source.new ≡ S.stands_on source.old }
+    {
+        'piece: loop {
+            match self.cut() {
+                Next::Line => return Ok(true),
+                Next::Long(line) => return Err(LineFault::LongLine(line)),
+                Next::More => {}
+            }
+            if self.ended {
+                return Ok(false);
+            }
+            if !self.refill(source)? {
+                return self.end();
+            }
+        }
+    }
+
+    /// The line that the last call of `next` gave.
+    #[inline(always)]
+    pub fn line(&self) -> &[u8]
+        requires { self.now.cutter.last ≡ next.Line }
+        ensures { result.now ≡ self.now.cutter.line }
+    {
+        self.lines.line()
+    }
+
+    /// How many lines were given.
+    pub fn number(&self) -> u64
+        ensures { result ≡ self.now.cutter.number }
+    {
+        self.lines.number()
+    }
+}

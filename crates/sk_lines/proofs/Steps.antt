@@ -5,6 +5,7 @@ use Rattle.std.proofs.lemmas.List.{drop_more, take_more, take_all, take_rest, ge
 use Rattle.std.proofs.lemmas.Bool.{cases_lt}
 use Rattle.memchr.specs.Find.{IsFirstByte, is_byte}
 use Rattle.sk_model.specs.Lines.{lines_of, open_lines_of, AreWithin, IsFirstLong}
+use Rattle.sk_model.specs.Missing.{Begins}
 use Rattle.sk_model.proofs.Lines.{lines_of_nothing, after_whole_lines, first_line, a_line_alone, a_last_piece, within_append, within_one, long_after_front, long_stays_long, length-strip}
 use Rattle.sk_lines.specs.declared.cutter.Ending.{Ending}
 use Rattle.sk_lines.specs.declared.cutter.Ending.TheVariants.{Lf, CrLf, Nothing}
@@ -43,7 +44,7 @@ follows_line old new place lf limit rest number line fits given text f =
     let piece : List ℕ = take place old.rest in
     let ends : List ℕ = piece ++ 10 ∷ [] in
     let parted : old.rest ≡ ends ++ new.rest =
-        lf.split ∙ sym (append_assoc piece (10 ∷ []) (drop (place + 1) old.rest)) ∙ ap (λ (l : List ℕ). ends ++ l) (sym rest) in
+    lf.split ∙ sym (append_assoc piece (10 ∷ []) (drop (place + 1) old.rest)) ∙ ap (λ (l : List ℕ). ends ++ l) (sym rest) in
     record {
       front = f.front ++ ends;
       joined = f.joined ∙ ap (λ (l : List ℕ). f.front ++ l) parted ∙ sym (append_assoc f.front ends new.rest);
@@ -60,7 +61,7 @@ pub waits_for_more : (old new : Cutter) → HasNoLf old.rest → length (strip_c
     → (given : List (List ℕ)) (text : List ℕ) → Follows old given text → Waits new given text
 waits_for_more old new none fits limit rest number given text f =
     let lines : open_lines_of text ≡ given ++ strip_carriage_return old.rest ∷ [] =
-        lines_behind old given text (10 ∷ []) f ∙ ap (λ (ls : List (List ℕ)). given ++ ls) (a_line_alone old.rest none) in
+    lines_behind old given text (10 ∷ []) f ∙ ap (λ (ls : List (List ℕ)). given ++ ls) (a_line_alone old.rest none) in
     record {
       follows = record {
         front = f.front;
@@ -84,7 +85,7 @@ long_before_lf limit place rest lf over =
     let piece : List ℕ = take place rest in
     let after : List ℕ = drop (place + 1) rest ++ 10 ∷ [] in
     let is : open_lines_of rest ≡ strip_carriage_return piece ∷ lines_of after =
-        ap open_lines_of lf.split ∙ ap lines_of (append_assoc piece (10 ∷ drop (place + 1) rest) (10 ∷ [])) ∙ first_line piece after lf.piece in
+    ap open_lines_of lf.split ∙ ap lines_of (append_assoc piece (10 ∷ drop (place + 1) rest) (10 ∷ [])) ∙ first_line piece after lf.piece in
     subst (IsFirstLong limit 0) (sym is) (first_is_long limit (strip_carriage_return piece) (lines_of after) over)
 
 -- the piece behind the last LF is too long, whatever follows
@@ -129,7 +130,7 @@ pub last_within : (c : Cutter) → HasNoLf c.rest → 0 < length c.rest → leng
     → (given : List (List ℕ)) (text : List ℕ) → Follows c given text → AreWithin c.limit (lines_of text)
 last_within c none some fits given text f =
     subst (AreWithin c.limit) (sym (last_line c c.rest none some refl given text f))
-      (within_append c.limit given (c.rest ∷ []) f.within (within_one c.limit c.rest fits))
+    (within_append c.limit given (c.rest ∷ []) f.within (within_one c.limit c.rest fits))
 
 -- without a last piece the lines given are all
 pub no_last_line : (c : Cutter) → c.rest ≡ [] → (given : List (List ℕ)) (text : List ℕ) → Follows c given text → lines_of text ≡ given
@@ -189,12 +190,13 @@ gives_line old new place lf limit rest number line fits ends =
       number = number;
       bytes = lf.split ∙ bytes_of piece new.line (drop (place + 1) old.rest) new.ending s e ∙ ap (λ (l : List ℕ). new.line ++ end_bytes new.ending ++ l) (sym rest);
       ending = not_nothing (length new.line) place new.ending ends;
+      shorter = omega (arith, ap length rest, length-drop (place + 1) old.rest, lf.within);
     }
 
 lf_stands : (text : List ℕ) (place : ℕ) → HasLfAt text place → ¬ HasNoLf text
 lf_stands text place lf none =
     none place 0 lf.within
-      (ap (λ (l : List ℕ). get_or l place 0) lf.split ∙ get_or_at (take place text) 10 (drop (place + 1) text) 0 place (omega (arith, length-take place text, lf.within)))
+    (ap (λ (l : List ℕ). get_or l place 0) lf.split ∙ get_or_at (take place text) 10 (drop (place + 1) text) 0 place (omega (arith, length-take place text, lf.within)))
 
 pub sound_line : (old new : Cutter) (place : ℕ) → IsSound old → HasLfAt old.rest place → is_long old.last ≡ false → new.hungry ≡ old.hungry → new.ended ≡ old.ended → new.last ≡ Next.Line → IsSound new
 sound_line old new place sound lf going hungry ended last = record {
@@ -288,3 +290,12 @@ taken_line rest line place is =
     let short : length line ≤ length piece = omega (arith, ap length is, length-strip piece) in
     let less : length line ≤ place = omega (arith, length-take place rest) in
     sym (take-take (length line) place rest less) ∙ front_of piece line is
+
+pub given_lines_stay : (c : Cutter) (given : List (List ℕ)) (text more : List ℕ) → Follows c given text → Begins given (lines_of (text ++ more))
+given_lines_stay c given text more f = (lines_of (c.rest ++ more), lines_behind c given text more f)
+
+pub long_after_stays : (limit n : ℕ) (given : List (List ℕ)) (text more : List ℕ) → IsLongAfter limit n given (open_lines_of text) → IsLongAfter limit n given (lines_of (text ++ more))
+long_after_stays limit n given text more long = record {
+  number = long.number;
+  first = long_stays_long limit (length given) text more long.first;
+}

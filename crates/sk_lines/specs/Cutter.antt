@@ -68,6 +68,7 @@ pub record GivesLine (old new : Cutter) : Type 0 where
   pub number : new.number ≡ counted (old.number + 1)
   pub bytes : old.rest ≡ new.line ++ end_bytes new.ending ++ new.rest
   pub ending : new.ending ≢ Ending.Nothing
+  pub shorter : length new.rest < length old.rest
 
 -- all complete lines of a text are given, and its last piece is no line that is too long
 pub record Waits (new : Cutter) (given : List (List ℕ)) (text : List ℕ) : Type 0 where

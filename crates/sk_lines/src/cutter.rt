@@ -16,6 +16,7 @@ pub const MOST_LIMIT: usize = 1_048_576;
 pub const MOST_PIECE: usize = 65_536;
 
 const LF: u8 = b'\n';
+
 const CR: u8 = b'\r';
 
 /// What a call of `next` or `end` found.
@@ -79,6 +80,7 @@ impl Lines {
         ensures limit { IfOk result (λ lines. lines.limit ≡ limit) }
         ensures follows { IfOk result (λ lines. Follows lines [] []) }
         ensures hungry { IfOk result (λ lines. lines.hungry ≡ true) }
+        ensures last { IfOk result (λ lines. lines.last ≡ Next.More) }
         ensures not_ended { IfOk result (λ lines. lines.ended ≡ false) }
     {
         Ok(Lines {
@@ -175,7 +177,11 @@ impl Lines {
         ensures limit { self.new.limit ≡ self.old.limit }
         ensures ended { self.new.ended ≡ self.old.ended }
     {
-        self.ending = if len < place { Ending::CrLf } else { Ending::Lf };
+        self.ending = if len < place {
+            Ending::CrLf
+        } else {
+            Ending::Lf
+        };
         self.line_start = self.at;
         self.line_end = self.at + len;
         self.at += place + 1;
@@ -196,6 +202,7 @@ impl Lines {
         ensures hungry { self.new.hungry ≡ true }
         ensures limit { self.new.limit ≡ self.old.limit }
         ensures ended { self.new.ended ≡ self.old.ended }
+        ensures rest { self.new.rest ≡ self.old.rest }
     {
         self.hungry = true;
         self.last = Next::More;
@@ -214,6 +221,7 @@ impl Lines {
         ensures last { self.new.last ≡ result }
         ensures limit { self.new.limit ≡ self.old.limit }
         ensures ended { self.new.ended ≡ self.old.ended }
+        ensures rest { self.new.rest ≡ self.old.rest }
     {
         self.last = Next::Long(self.number.saturating_add(1));
         self.last

@@ -20,9 +20,7 @@ pub fn read_number(bytes: &[u8], below: u64) -> Option<u64>
         if !byte.is_ascii_digit() {
             return None;
         }
-        value = value
-            .checked_mul(10)?
-            .checked_add(u64::from(*byte - b'0'))?;
+        value = value.checked_mul(10)?.checked_add(u64::from(*byte - b'0'))?;
     }
     if value < below { Some(value) } else { None }
 }

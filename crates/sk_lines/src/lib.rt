@@ -3,7 +3,11 @@
 
 mod cutter;
 mod decimals;
+pub mod laws;
 
 pub use cutter::{Ending, Lines, Next};
 pub use decimals::{push_fraction, put_fraction, read_number};
 pub use sk_model::OutOfMemory;
+
+#[cfg(test)]
+mod tests;

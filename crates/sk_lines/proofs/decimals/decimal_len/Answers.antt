@@ -6,5 +6,5 @@ use Rattle.sk_lines.proofs.decimals.decimal_len.Goals as goal
 pub returns : goal.returns
 returns c =
     digits.length_decimal c.ilog10.result c.args.n c.max.result c.ranges.n.fits
-      (⊎_elim (λ some. inl (omega (arith, c.max.ensures, some))) (λ none. inr (omega (arith, none), omega (arith, c.max.ensures, none))) (cases_lt 0 c.args.n))
-      c.ilog10.ensures.power_le c.ilog10.ensures.next_power_gt
+    (⊎_elim (λ some. inl (omega (arith, c.max.ensures, some))) (λ none. inr (omega (arith, none), omega (arith, c.max.ensures, none))) (cases_lt 0 c.args.n))
+    c.ilog10.ensures.power_le c.ilog10.ensures.next_power_gt

@@ -21,10 +21,10 @@ returns-clause-text c =
     let slash : ℕ = c.put_decimal-slash.result in
     let size : length into ≡ 64 = omega (arith, c.told-into, c.put_decimal-slash.auto.into) in
     let marked : take (slash + 1) (slice_set into slash 47) ≡ decimal c.args.n ++ 47 ∷ [] =
-        take_more_set into slash 47 (omega (arith, front.most)) ∙ ap (λ (l : List ℕ). l ++ 47 ∷ []) front.text in
+    take_more_set into slash 47 (omega (arith, front.most)) ∙ ap (λ (l : List ℕ). l ++ 47 ∷ []) front.text in
     let long : length (take (slash + 1) (slice_set into slash 47)) ≡ slash + 1 = omega (arith, ap length marked, length-append (decimal c.args.n) (47 ∷ []), front.length) in
     digits.written_behind _ c.put_decimal.new.into _ (slash + 1) c.put_decimal.result long
-      (omega (arith, ap length back.text, back.length, length-take c.put_decimal.result c.put_decimal.new.into))
+    (omega (arith, ap length back.text, back.length, length-take c.put_decimal.result c.put_decimal.new.into))
     ∙ ap (λ (l : List ℕ). l ++ take c.put_decimal.result c.put_decimal.new.into) marked
     ∙ ap (λ (l : List ℕ). (decimal c.args.n ++ 47 ∷ []) ++ l) back.text
     ∙ digits.fraction_parts c.args.n c.args.d

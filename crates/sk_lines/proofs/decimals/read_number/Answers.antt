@@ -18,20 +18,20 @@ digits-init c = record { digits = refl; value = sym digits.value_of_none }
 pub returns-then-not-is_ascii_digit : goal.returns-then-not-is_ascii_digit
 returns-then-not-is_ascii_digit c =
     digits.number_by_no_digit c.args.below c.args.bytes.now
-      (digits.not_all_digits c.args.bytes.now c.digits.byte-index c.digits-test.true (sym c.is_ascii_digit.ensures.value ∙ c.if-not-is_ascii_digit.true))
+    (digits.not_all_digits c.args.bytes.now c.digits.byte-index c.digits-test.true (sym c.is_ascii_digit.ensures.value ∙ c.if-not-is_ascii_digit.true))
 
 pub returns-in_err-checked_mul : goal.returns-in_err-checked_mul
 returns-in_err-checked_mul c =
     let past : 2 ^ 64 ≤ c.digits.value * 10 = omega (arith, c.in_err-checked_mul.ensures) in
     c.from_residual.ensures ∙ digits.number_by_too_large c.args.below c.args.bytes.now
-      (digits.too_large_at c.args.bytes.now c.digits.byte-index c.digits.value c.args.below c.digits-test.true c.digits.invariant.value (omega (arith, c.ranges.below.fits)))
+    (digits.too_large_at c.args.bytes.now c.digits.byte-index c.digits.value c.args.below c.digits-test.true c.digits.invariant.value (omega (arith, c.ranges.below.fits)))
 
 pub returns-in_err-value : goal.returns-in_err-value
 returns-in_err-value c =
     let past : 2 ^ 64 ≤ 10 * c.digits.value + (slice_index c.args.bytes.now c.digits.byte-index - 48) =
-        omega (arith, c.in_err-value.ensures, c.from.ensures, c.in_ok-checked_mul.ensures) in
+    omega (arith, c.in_err-value.ensures, c.from.ensures, c.in_ok-checked_mul.ensures) in
     c.from_residual-in_err-value.ensures ∙ digits.number_by_too_large c.args.below c.args.bytes.now
-      (digits.too_large_at c.args.bytes.now c.digits.byte-index c.digits.value c.args.below c.digits-test.true c.digits.invariant.value (omega (arith, c.ranges.below.fits)))
+    (digits.too_large_at c.args.bytes.now c.digits.byte-index c.digits.value c.args.below c.digits-test.true c.digits.invariant.value (omega (arith, c.ranges.below.fits)))
 
 pub digits-preserved : goal.digits-preserved
 digits-preserved c = record {
@@ -46,10 +46,10 @@ returns-then-value-below c =
     let is : c.digits.value ≡ value_of bytes = c.digits.invariant.value ∙ ap value_of whole in
     let some : length bytes ≢ 0 = λ none. true≢false (sym (eq-eqb _ 0 none) ∙ sym c.is_empty.ensures ∙ c.if-is_empty.false) in
     ap (λ (n : ℕ). Some n) is ∙ digits.number_by_digits c.args.below bytes (ap (list_all is_ascii_digit) (sym whole) ∙ c.digits.invariant.digits) (omega (arith, some))
-      (omega (arith, c.if-bytes-decimal_len.false, c.decimal_len.ensures)) (omega (arith, is, c.if-value-below.true))
+    (omega (arith, c.if-bytes-decimal_len.false, c.decimal_len.ensures)) (omega (arith, is, c.if-value-below.true))
 
 pub returns-else-value-below : goal.returns-else-value-below
 returns-else-value-below c =
     let bytes = c.args.bytes.now in
     digits.number_by_too_large c.args.below bytes
-      (omega (arith, c.digits.invariant.value ∙ ap value_of (take_all c.digits.byte-index bytes c.digits-test.false), c.if-value-below.false))
+    (omega (arith, c.digits.invariant.value ∙ ap value_of (take_all c.digits.byte-index bytes c.digits-test.false), c.if-value-below.false))

@@ -61,10 +61,10 @@ returns-then-len-self-clause-long c =
     let is = c.self.view_is in
     let sound = subst IsSound is c.self.invariant.sound in
     let over : old.limit < length old.rest =
-        omega (arith, ap (λ (x : Cutter). length x.rest) is, ap (λ (x : Cutter). x.limit) is, c.if-len-self.true, c.len.ensures, length-drop a.at a.buffer.items, a.buffer.ok.0) in
+    omega (arith, ap (λ (x : Cutter). length x.rest) is, ap (λ (x : Cutter). x.limit) is, c.if-len-self.true, c.len.ensures, length-drop a.at a.buffer.items, a.buffer.ok.0) in
     λ n same. let value : c.saturating_add.result ≡ n = cc in
     steps.is_long_ended old n (omega (arith, value, c.saturating_add.ensures, ap (λ (x : Cutter). x.number) is))
-      (steps.long_at_end old.limit old.rest (sound.piece c.requires) over)
+    (steps.long_at_end old.limit old.rest (sound.piece c.requires) over)
 
 pub returns-clause-line : goal.returns-clause-line
 returns-clause-line c =
@@ -78,7 +78,7 @@ returns-clause-line c =
     let some : 0 < length old.rest = omega arith in
     let fits : length old.rest ≤ old.limit = omega (arith, c.if-len-self.false, ap (λ (x : Cutter). x.limit) is) in
     let line : take (c.len-self-inside.result - a.at) (drop a.at a.buffer.items) ≡ old.rest =
-        take_all _ _ (omega (arith, size, c.len-self-inside.ensures, a.buffer.ok.0)) ∙ rest in
+    take_all _ _ (omega (arith, size, c.len-self-inside.ensures, a.buffer.ok.0)) ∙ rest in
     λ _. record {
       lines = steps.last_line old _ (sound.piece c.requires) some line;
       within = steps.last_within old (sound.piece c.requires) some fits;

@@ -15,9 +15,9 @@ invariant_of-self c =
     let is : cutter_of a ≡ old = c.self.view_is in
     let whole = a.buffer.ok.0 in
     let room : c.args.place + a.at < length a.buffer.items =
-        omega (arith, c.requires.found.within, ap (λ (x : Cutter). length x.rest) is, length-drop a.at a.buffer.items) in
+    omega (arith, c.requires.found.within, ap (λ (x : Cutter). length x.rest) is, length-drop a.at a.buffer.items) in
     let short : c.args.len ≤ c.args.place =
-        omega (arith, c.requires.len, length-strip (take c.args.place old.rest), length-take c.args.place old.rest) in
+    omega (arith, c.requires.len, length-strip (take c.args.place old.rest), length-take c.args.place old.rest) in
     record {
       low = c.self.invariant.low;
       high = c.self.invariant.high;
@@ -36,15 +36,15 @@ returns-clause-line c =
     let is : cutter_of a ≡ old = c.self.view_is in
     let len : a.at + c.args.len - a.at ≡ c.args.len = omega arith in
     let line : take (a.at + c.args.len - a.at) (drop a.at a.buffer.items) ≡ strip_carriage_return (take c.args.place old.rest) =
-        ap (λ (n : ℕ). take n (drop a.at a.buffer.items)) len ∙ ap (λ (x : Cutter). take c.args.len x.rest) is ∙ c.requires.line in
+    ap (λ (n : ℕ). take n (drop a.at a.buffer.items)) len ∙ ap (λ (x : Cutter). take c.args.len x.rest) is ∙ c.requires.line in
     let long : length (take (a.at + c.args.len - a.at) (drop a.at a.buffer.items)) ≡ c.args.len = ap length line ∙ sym c.requires.len in
     steps.gives_line old _ c.args.place c.requires.found (ap (λ (x : Cutter). x.limit) is)
-      (sym (drop-drop (c.args.place + 1) a.at a.buffer.items) ∙ ap (λ (x : Cutter). drop (c.args.place + 1) x.rest) is)
-      (omega (arith, c.saturating_add-self-inside.ensures, ap (λ (x : Cutter). x.number) is))
-      line
-      (omega (arith, long, c.requires.fits))
-      (subst (λ (n : ℕ). EndsBy n c.args.place c.if-len-place.self) (sym long)
-        (elim c.if-len-place.branch [
-          | then-len-place w ↦ by_cr_lf w.if-len-place.true w.self-is
-          | else-len-place w ↦ by_lf w.if-len-place.false w.self-is
-        ]))
+    (sym (drop-drop (c.args.place + 1) a.at a.buffer.items) ∙ ap (λ (x : Cutter). drop (c.args.place + 1) x.rest) is)
+    (omega (arith, c.saturating_add-self-inside.ensures, ap (λ (x : Cutter). x.number) is))
+    line
+    (omega (arith, long, c.requires.fits))
+    (subst (λ (n : ℕ). EndsBy n c.args.place c.if-len-place.self) (sym long)
+    (elim c.if-len-place.branch [
+      | then-len-place w ↦ by_cr_lf w.if-len-place.true w.self-is
+      | else-len-place w ↦ by_lf w.if-len-place.false w.self-is
+    ]))

@@ -12,8 +12,8 @@ returns-in-Long-clause-long c =
     let old = c.args.self.now in
     let sound = subst IsSound c.self.view_is c.self.invariant.sound in
     λ n is going.
-      let last = sym (ap (λ (x : Cutter). x.last) c.self.view_is) ∙ is in
-      steps.is_long_open old n (sound.number n last) (sound.open_long n last going)
+    let last = sym (ap (λ (x : Cutter). x.last) c.self.view_is) ∙ is in
+    steps.is_long_open old n (sound.number n last) (sound.open_long n last going)
 
 pub stop-requires : goal.stop-requires
 stop-requires c =
@@ -23,7 +23,7 @@ stop-requires c =
     let going : is_long old.last ≡ false = ap (λ (x : Cutter). is_long x.last) (sym c.self.view_is) ∙ steps.not_long a.last c.in_default.not-Long in
     let rest = steps.rest_is c.deref.result.now a.buffer.items old.rest a.at c.deref.ensures.value (ap (λ (x : Cutter). x.rest) c.self.view_is) in
     let found : IsFirstByte (is_byte 10) old.rest (Some c.in-Some.place) =
-        subst (λ (l : List ℕ). IsFirstByte (is_byte 10) l (Some c.in-Some.place)) rest (subst (IsFirstByte (is_byte 10) _) c.in-Some.is c.memchr.ensures) in
+    subst (λ (l : List ℕ). IsFirstByte (is_byte 10) l (Some c.in-Some.place)) rest (subst (IsFirstByte (is_byte 10) _) c.in-Some.is c.memchr.ensures) in
     let lf = steps.lf_found old.rest c.in-Some.place found in
     let line = c.without_cr-len.ensures ∙ ap (λ (l : List ℕ). strip_carriage_return (take c.in-Some.place l)) rest in
     record {
@@ -38,7 +38,7 @@ give-requires c =
     let going : is_long old.last ≡ false = ap (λ (x : Cutter). is_long x.last) (sym c.self.view_is) ∙ steps.not_long a.last c.in_default.not-Long in
     let rest = steps.rest_is c.deref.result.now a.buffer.items old.rest a.at c.deref.ensures.value (ap (λ (x : Cutter). x.rest) c.self.view_is) in
     let found : IsFirstByte (is_byte 10) old.rest (Some c.in-Some.place) =
-        subst (λ (l : List ℕ). IsFirstByte (is_byte 10) l (Some c.in-Some.place)) rest (subst (IsFirstByte (is_byte 10) _) c.in-Some.is c.memchr.ensures) in
+    subst (λ (l : List ℕ). IsFirstByte (is_byte 10) l (Some c.in-Some.place)) rest (subst (IsFirstByte (is_byte 10) _) c.in-Some.is c.memchr.ensures) in
     let line = c.without_cr-len.ensures ∙ ap (λ (l : List ℕ). strip_carriage_return (take c.in-Some.place l)) rest in
     record {
       found = steps.lf_found old.rest c.in-Some.place found;
@@ -56,10 +56,10 @@ stop-requires-then-without_cr-self c =
     let going : is_long old.last ≡ false = ap (λ (x : Cutter). is_long x.last) (sym c.self.view_is) ∙ steps.not_long a.last c.in_default.not-Long in
     let rest = steps.rest_is c.deref.result.now a.buffer.items old.rest a.at c.deref.ensures.value (ap (λ (x : Cutter). x.rest) c.self.view_is) in
     let none : IsFirstByte (is_byte 10) old.rest None =
-        subst (λ (l : List ℕ). IsFirstByte (is_byte 10) l None) rest (subst (IsFirstByte (is_byte 10) _) c.in-None.is c.memchr.ensures) in
+    subst (λ (l : List ℕ). IsFirstByte (is_byte 10) l None) rest (subst (IsFirstByte (is_byte 10) _) c.in-None.is c.memchr.ensures) in
     let line = c.without_cr.ensures ∙ ap (λ (l : List ℕ). strip_carriage_return l) rest in
     let over : old.limit < length (strip_carriage_return old.rest) =
-        omega (arith, ap length line, c.if-without_cr-self.true, ap (λ (x : Cutter). x.limit) c.self.view_is) in
+    omega (arith, ap length line, c.if-without_cr-self.true, ap (λ (x : Cutter). x.limit) c.self.view_is) in
     record {
       going_on = steps.goes_on old sound going (omega (arith, over, length-strip old.rest));
       long = steps.long_so_far old.limit old.rest (steps.no_lf_found old.rest none) over;
@@ -72,7 +72,7 @@ wait-requires c =
     let going : is_long old.last ≡ false = ap (λ (x : Cutter). is_long x.last) (sym c.self.view_is) ∙ steps.not_long a.last c.in_default.not-Long in
     let rest = steps.rest_is c.deref.result.now a.buffer.items old.rest a.at c.deref.ensures.value (ap (λ (x : Cutter). x.rest) c.self.view_is) in
     let none : IsFirstByte (is_byte 10) old.rest None =
-        subst (λ (l : List ℕ). IsFirstByte (is_byte 10) l None) rest (subst (IsFirstByte (is_byte 10) _) c.in-None.is c.memchr.ensures) in
+    subst (λ (l : List ℕ). IsFirstByte (is_byte 10) l None) rest (subst (IsFirstByte (is_byte 10) _) c.in-None.is c.memchr.ensures) in
     let line = c.without_cr.ensures ∙ ap (λ (l : List ℕ). strip_carriage_return l) rest in
     record {
       piece = steps.no_lf_found old.rest none;
@@ -93,10 +93,10 @@ pub returns-then-without_cr-self-clause-after_end : goal.returns-then-without_cr
 returns-then-without_cr-self-clause-after_end c = λ over going. absurd (true≢false (sym over ∙ c.stop-then-without_cr-self.ensures.before_end))
 
 pub returns-then-len-self-clause-rest : goal.returns-then-len-self-clause-rest
-returns-then-len-self-clause-rest c = λ no_line. ?
+returns-then-len-self-clause-rest c = λ no_line. c.stop.ensures.rest
 
 pub returns-then-without_cr-self-clause-rest : goal.returns-then-without_cr-self-clause-rest
-returns-then-without_cr-self-clause-rest c = λ no_line. ?
+returns-then-without_cr-self-clause-rest c = λ no_line. c.stop-then-without_cr-self.ensures.rest
 
 pub returns-else-without_cr-self-clause-rest : goal.returns-else-without_cr-self-clause-rest
-returns-else-without_cr-self-clause-rest c = λ no_line. ?
+returns-else-without_cr-self-clause-rest c = λ no_line. c.wait.ensures.rest
