@@ -1,11 +1,16 @@
 -- What a reader of a source's lines finds.
-use Rattle.std.proofs.Common.{◌≡◌, ℕ, ◌+◌, ◌<◌, ◌≤◌, ◌^◌, Bool, true, false, List, [], ◌∷◌, ◌++◌, length, refl, arith, length-append, sym, ap, ◌∙◌, subst}
+use Rattle.std.proofs.Common.{◌≡◌, ℕ, ◌+◌, ◌<◌, ◌≤◌, ◌^◌, Bool, true, false, List, [], ◌∷◌, ◌++◌, length, Option, Some, None, Result, Err, refl, arith, append-nil, append_assoc, length-append, sym, ap, ◌∙◌, subst}
 use Rattle.sk_model.specs.Lines.{lines_of, open_lines_of, IsFirstLong}
 use Rattle.sk_model.proofs.Lines.{long_stays_long, lines_are_few}
 use Rattle.sk_lines.specs.Cutter.{Cutter, Follows, IsLongAfter, is_long}
 use Rattle.sk_lines.specs.declared.cutter.Next.{Next}
 use Rattle.sk_lines.specs.declared.cutter.Next.TheVariants as next
-use Rattle.sk_ingest.specs.Reading.{Reading, HasGiven, IsLongNext, IsLongLast, remaining_of}
+use Rattle.sk_ingest.specs.Reading.{Reading, HasGiven, GivesLine, GivesNext, GivesNone, FindsLong, IsLongNext, IsLongLast, Feeds, Stands, Stops, remaining_of}
+use Rattle.sk_ingest.specs.declared.reader.LineFault.{LineFault}
+use Rattle.sk_ingest.specs.declared.reader.LineFault.TheVariants as fault
+use Rattle.sk_ingest.proofs.ItemLaws.{by_told}
+use Rattle.std.specs.Option.{IfSome}
+use Rattle.std.specs.Io.KnownBytes.{IsAtEnd}
 
 -- a line that is too long has its own number, since few bytes make few lines
 pub long_next : (limit n most : ℕ) (given : List (List ℕ)) (taken : List ℕ) → length taken ≤ most → most ≤ 2 ^ 40 → IsLongAfter limit n given (open_lines_of taken) →
@@ -44,3 +49,60 @@ pub record Moves (old new : Reading) (more : List ℕ) : Type 0 where
   pub remaining : remaining_of new ≤ remaining_of old
   pub limit : new.cutter.limit ≡ old.cutter.limit
   pub most : new.most ≡ old.most
+
+pub moves_none : (r : Reading) → Moves r r []
+moves_none r = record {
+  follows = λ given taken has. subst (HasGiven r given) (sym (append-nil taken)) has;
+  remaining = omega arith;
+  limit = refl;
+  most = refl;
+}
+
+-- a call in between that took nothing
+pub moves_on : (old mid new : Reading) (more : List ℕ) → Moves old mid more →
+    ((given : List (List ℕ)) (taken : List ℕ) → HasGiven mid given taken → HasGiven new given taken) →
+    remaining_of new ≤ remaining_of mid → new.cutter.limit ≡ mid.cutter.limit → new.most ≡ mid.most → Moves old new more
+moves_on old mid new more moves follows remaining limit most = record {
+  follows = λ given taken has. follows given (taken ++ more) (moves.follows given taken has);
+  remaining = omega (arith, remaining, moves.remaining);
+  limit = limit ∙ moves.limit;
+  most = most ∙ moves.most;
+}
+
+pub moves_fed : (old mid new : Reading) (more fed : List ℕ) → Moves old mid more → Feeds mid new fed → Moves old new (more ++ fed)
+moves_fed old mid new more fed moves feeds = record {
+  follows = λ given taken has. subst (HasGiven new given) (append_assoc taken more fed) (feeds.follows given (taken ++ more) (moves.follows given taken has));
+  remaining = omega (arith, feeds.remaining, moves.remaining);
+  limit = feeds.limit ∙ moves.limit;
+  most = feeds.most ∙ moves.most;
+}
+
+pub gives_next : (old mid new : Reading) (more : List ℕ) → Moves old mid more → GivesLine mid new → GivesNext old new more
+gives_next old mid new more moves line given taken has = line given (taken ++ more) (moves.follows given taken has)
+
+pub gives_none : (old mid new : Reading) (more : List ℕ) → Moves old mid more →
+    ((given : List (List ℕ)) (taken : List ℕ) → HasGiven mid given taken → (lines_of taken ≡ given) × HasGiven new given taken) → GivesNone old new more
+gives_none old mid new more moves none given taken has = none given (taken ++ more) (moves.follows given taken has)
+
+pub finds_long : (old mid : Reading) (more : List ℕ) (left : Option (List ℕ)) (n : ℕ) → Moves old mid more → IsLongNext mid n → FindsLong old more left n
+finds_long old mid more left n moves long given taken has =
+    let found = long given (taken ++ more) (moves.follows given taken has) in
+    (found.0, by_told left (λ (rest : List ℕ). IsFirstLong old.cutter.limit (length given) (lines_of ((taken ++ more) ++ rest)))
+      (λ rest. subst (λ (limit : ℕ). IsFirstLong limit (length given) (lines_of ((taken ++ more) ++ rest))) moves.limit (found.1 rest)))
+
+pub finds_long_last : (old mid : Reading) (more : List ℕ) (left : Option (List ℕ)) (n : ℕ) → Moves old mid more → IsLongLast mid n → IsAtEnd left → FindsLong old more left n
+finds_long_last old mid more left n moves long end given taken has =
+    let found = long given (taken ++ more) (moves.follows given taken has) in
+    (found.0, at_end left end (subst (λ (limit : ℕ). IsFirstLong limit (length given) (lines_of (taken ++ more))) moves.limit found.1))
+  where
+    at_end : (left : Option (List ℕ)) → IsAtEnd left → IsFirstLong old.cutter.limit (length given) (lines_of (taken ++ more)) →
+        IfSome left (λ (rest : List ℕ). IsFirstLong old.cutter.limit (length given) (lines_of ((taken ++ more) ++ rest)))
+    at_end None end long = tt
+    at_end (Some rest) end long =
+        subst (λ (l : List ℕ). IsFirstLong old.cutter.limit (length given) (lines_of l)) (sym (ap (λ (l : List ℕ). (taken ++ more) ++ l) end ∙ append-nil (taken ++ more))) long
+
+abbrev stopped : ℕ → Result Bool LineFault
+stopped n = Err (fault.LongLine n)
+
+pub same_line : (m n : ℕ) → stopped m ≡ stopped n → m ≡ n
+same_line m n same = cc

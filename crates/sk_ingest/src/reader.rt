@@ -83,7 +83,7 @@ impl LineReader {
         requires hungry { self.old.cutter.hungry ≡ true }
         requires open { self.old.ended ≡ false }
         ensures fed { IfOk result (λ fed. (more : List ℕ) × Consumes (S.left source.old) (S.left source.new) more × Feeds self.old self.new more) }
-        ensures some { result ≡ Ok true → self.old.taken < self.new.taken }
+        ensures some { result ≡ Ok true → (self.old.taken < self.new.taken) × (self.new.taken ≤ self.new.most) }
         ensures end { result ≡ Ok false → IsAtEnd (S.left source.new) × (self.new ≡ self.old) }
         ensures read_fault { IsErrOf result LineFault.ReadFault → Rose (S.faults source.old) (S.faults source.new) × (self.old.taken < self.old.most) }
         ensures too_much { IsErrOf result LineFault.TooMuch → self.old.taken ≡ self.old.most }

@@ -1,5 +1,5 @@
 -- Lemmas on the place of a hash among kept ones that rise.
-use Rattle.std.proofs.Common.{◌≡◌, ℕ, zero, suc, ◌+◌, ◌-◌, ◌<◌, ◌≤◌, List, [], ◌∷◌, ◌++◌, length, take, drop, get_or, insert, All, MatchResult, IfOk, IfErr, Result, Ok, Err, nat_cmp, ◌⊎◌, ⊎_elim, refl, sym, ap, ◌∙◌, arith, length-take, get_or-take, take_at, take_all, length-take-le, add-one}
+use Rattle.std.proofs.Common.{◌≡◌, ℕ, zero, suc, ◌-◌, ◌<◌, ◌≤◌, List, [], ◌∷◌, length, take, drop, get_or, insert, All, MatchResult, Result, Ok, Err, nat_cmp, ⊎_elim, refl, ap, ◌∙◌, arith, length-take, get_or-take, take_at, take_all, length-take-le}
 use Rattle.std.specs.List.Sorted.{IsStrictlyIncreasing, IsBinarySearchResult}
 use Rattle.std.proofs.lemmas.List.Elements.{All-from_get_or}
 use Rattle.std.proofs.lemmas.List.Kept.{AllPairs-from_increasing}
@@ -20,6 +20,7 @@ search_tells hash kept r up found = by_result r (searched kept hash r found (λ 
   where
     rises : (i j : ℕ) → i ≤ j → j < length kept → get_or kept i 0 ≤ get_or kept j 0
     rises i j le inside = ⊎_elim (λ same. omega (arith, ap (λ k. get_or kept k 0) same)) (λ apart. omega (arith, AllPairs-from_increasing kept up i j 0 (omega arith) inside)) (cases_eq i j)
+
     by_result : (r : Result ℕ ℕ) → MatchResult r (λ i. (i < length kept) × (get_or kept i 0 ≡ hash)) (λ i. (i ≤ length kept) × ((k : ℕ) → k < i → get_or kept k 0 < hash) × ((k : ℕ) → i ≤ k → k < length kept → hash < get_or kept k 0)) → MatchResult r (λ at. placed hash kept ≡ kept) (λ at. IsPlace hash kept at)
     by_result (Ok at) h = placed-there hash kept at h.0 (all_before hash kept at (omega (arith, h.0)) (λ k less. omega (arith, h.1, AllPairs-from_increasing kept up k at 0 less h.0))) h.1
     by_result (Err at) h = record { within = h.0; below = all_before hash kept at h.0 h.1; above = λ inside. h.2 at (omega arith) inside }

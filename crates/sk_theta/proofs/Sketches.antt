@@ -1,11 +1,10 @@
 -- What one more hash makes of a sketch.
-use Rattle.std.proofs.Common.{◌≡◌, ◌≢◌, ◌↔◌, ℕ, zero, suc, ◌+◌, ◌<◌, ◌≤◌, Bool, IsTrue, List, [], ◌∷◌, ◌++◌, length, take, get_or, All, ⊎_elim, refl, sym, ap, ◌∙◌, arith, length-take, append_assoc, append-nil}
-use Rattle.std.proofs.lemmas.List.{take_more}
+use Rattle.std.proofs.Common.{◌≡◌, ◌≢◌, ◌↔◌, ℕ, ◌<◌, ◌≤◌, Bool, IsTrue, List, [], ◌∷◌, ◌++◌, take, get_or, ⊎_elim, sym, ap, ◌∙◌, arith, length-take, take_all}
 use Rattle.std.proofs.lemmas.List.Elements.{All-contains, All-contains_itself, All-weaker}
 use Rattle.sk_model.specs.Sketch.{placed, k_smallest}
 use Rattle.sk_model.specs.Width.{item_end, AreItems}
 use Rattle.sk_model.proofs.Rising.{Has, Has-from_Contains, Contains-from_Has, Has-take, Has-placed, RisesFrom-increasing, RisesFrom-placed, RisesFrom-take, increasing_from_RisesFrom}
-use Rattle.sk_model.proofs.Sketch.{one_more, idle_once}
+use Rattle.sk_model.proofs.Sketch.{one_more, idle_once, rising_of_increasing}
 use Rattle.sk_theta.specs.Kept.{Sketch, StandsFor, IsWhole, theta_kept}
 
 -- the hashes that are kept after one more are kept ones or that one
@@ -21,7 +20,7 @@ IsWhole-placed k h kept new is small whole =
       most = whole.most;
       rises = increasing_from_RisesFrom 0 (take k (placed h kept)) (RisesFrom-take 0 k (placed h kept) (RisesFrom-placed 0 h kept (RisesFrom-increasing kept (whole.rises)) (omega arith)));
       within = omega (arith, length-take k (placed h kept));
-      items = items_placed k h kept small (whole.items)
+      items = items_placed k h kept small (whole.items);
     })
 
 pub idle_unchanged : (k h : ℕ) (kept hashes : List ℕ) → h < item_end → theta_kept k kept ≤ h → kept ≡ k_smallest k hashes → k_smallest k (hashes ++ h ∷ []) ≡ k_smallest k hashes
@@ -39,7 +38,7 @@ placed_changed k h kept new hashes result is changed stands =
     let more = placed_stands k h kept new hashes is stands in
     (λ true same. changed.0 true (more ∙ same ∙ sym stands), λ other. changed.1 (λ same. other (sym more ∙ same ∙ stands)))
 
--- one more of a batch
-pub batch_more : (k : ℕ) (kept hashes batch : List ℕ) (i : ℕ) → i < length batch → kept ≡ k_smallest k ((hashes ++ take i batch) ++ get_or batch i 0 ∷ []) → kept ≡ k_smallest k (hashes ++ take (i + 1) batch)
-batch_more k kept hashes batch i inside stands =
-    stands ∙ ap (λ (l : List ℕ). k_smallest k l) (append_assoc hashes (take i batch) (get_or batch i 0 ∷ []) ∙ ap (λ (l : List ℕ). hashes ++ l) (sym (take_more batch i 0 inside)))
+-- a sketch stands for the list that it keeps
+pub stands_for_kept : (sketch : Sketch) → IsWhole sketch → StandsFor sketch (sketch.kept)
+unfolding k_smallest
+stands_for_kept sketch whole = sym (ap (λ (l : List ℕ). take sketch.k l) (rising_of_increasing sketch.kept (whole.rises)) ∙ take_all sketch.k sketch.kept (whole.within))

@@ -1,6 +1,6 @@
 //! The sketch as an array of the kept hashes, rising.
 ghost use Rattle.std.specs.Prelude.{◌≡◌, ◌≢◌, ◌↔◌, ◌+◌, ◌<◌, ◌≤◌, ℕ, List, [], ◌∷◌, ◌++◌, length, take, IsTrue, IfOk};
-ghost use Rattle.sk_model.specs.Sketch.{placed, k_smallest, count_of, theta_of, estimate_of, packed_of};
+ghost use Rattle.sk_model.specs.Sketch.{placed, k_smallest, count_of, theta_of, estimate_of, packed_of, unpacked};
 ghost use Rattle.sk_model.specs.Width.{item_end, AreItems};
 ghost use Rattle.sk_theta.specs.Kept.{Sketch, StandsFor, IsWhole, theta_kept};
 
@@ -86,6 +86,14 @@ impl Theta {
         }
     }
 
+    /// How many hashes it keeps at most.
+    pub fn k(&self) -> u32
+        ensures value { result ≡ self.now.k }
+        ensures whole { IsWhole self.now }
+    {
+        self.k
+    }
+
     /// How many hashes are kept.
     pub fn count(&self) -> u32
         ensures kept { result ≡ length self.now.kept }
@@ -99,6 +107,8 @@ impl Theta {
     pub fn theta(&self) -> u64
         ensures kept { result ≡ theta_kept self.now.k self.now.kept }
         ensures value { (hashes : List ℕ) → StandsFor self.now hashes → result ≡ theta_of self.now.k hashes }
+        ensures lower { 1 ≤ result }
+        ensures upper { result ≤ item_end }
     {
         self.theta
     }
@@ -118,6 +128,7 @@ impl Theta {
     /// The count and the theta in one word, which `unpack` reads.
     pub fn packed(&self) -> u64
         ensures value { (hashes : List ℕ) → StandsFor self.now hashes → result ≡ packed_of self.now.k hashes }
+        ensures reads_back { unpacked result ≡ (length self.now.kept, theta_kept self.now.k self.now.kept) }
     {
         u64::from(self.count()) * ITEM_END + self.theta() % ITEM_END
     }

@@ -51,7 +51,13 @@ impl Shape {
         if !(1..=64).contains(&n) {
             return Err(BadShape::N);
         }
-        Ok(Shape { k, b, n, seed, eager })
+        Ok(Shape {
+            k,
+            b,
+            n,
+            seed,
+            eager,
+        })
     }
 
     /// How many hashes the sketch keeps.

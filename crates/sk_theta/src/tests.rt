@@ -26,7 +26,13 @@ fn a_word_reads_back(rt: HostRuntime) -> Result<(), Fail> {
     assert_eq!(rt; sketch.packed(), 562_949_953_421_313);
     let reply = unpack(sketch.packed());
     assert_eq!(rt; reply, Reply { count: 2, theta: 1 });
-    assert_eq!(rt; unpack(1 << 48), Reply { count: 1, theta: ITEM_END });
+    assert_eq!(rt;
+        unpack(1 << 48),
+        Reply {
+            count: 1,
+            theta: ITEM_END
+        }
+    );
     Ok(())
 }
 
@@ -50,7 +56,9 @@ fn the_first_number_out_of_its_limits_is_the_error(rt: HostRuntime) {
     assert!(rt; Shape::new(1, 0, 0, 0, true).err() == Some(BadShape::K));
     assert!(rt; Shape::new(2, 0, 0, 0, true).err() == Some(BadShape::B));
     assert!(rt; Shape::new(2, 1, 65, 0, true).err() == Some(BadShape::N));
-    let Ok(shape) = Shape::new(32_768, 4_096, 64, 7, true) else { return };
+    let Ok(shape) = Shape::new(32_768, 4_096, 64, 7, true) else {
+        return
+    };
     assert_eq!(rt; (shape.k(), shape.b(), shape.n()), (32_768, 4_096, 64));
     assert_eq!(rt; (shape.seed(), shape.eager()), (7, true));
 }
@@ -84,9 +92,11 @@ fn agrees(alloc: Global, k: u32, bound: u64, state: &mut u64) -> Result<bool, Fa
     let kept = plain::k_smallest(alloc, k as usize, &hashes)?;
     let (numerator, theta) = plain::estimate(alloc, k as usize, &hashes)?;
     let (single_numerator, single_theta) = single.fraction();
-    Ok(single.list()?.as_slice() == kept.as_slice()
-        && batched.list()?.as_slice() == kept.as_slice()
-        && (u128::from(single_numerator), single_theta) == (numerator, theta))
+    Ok(
+        single.list()?.as_slice() == kept.as_slice()
+            && batched.list()?.as_slice() == kept.as_slice()
+            && (u128::from(single_numerator), single_theta) == (numerator, theta),
+    )
 }
 
 #[test]

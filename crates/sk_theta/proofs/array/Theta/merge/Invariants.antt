@@ -5,5 +5,5 @@ use Rattle.sk_theta.proofs.array.Theta.merge.Given as goal
 abbrev pub invariant-merge : goal.invariant-merge
 invariant-merge l = record {
   numbers : l.self.k ≡ l.fn.self.k;
-  stands : (hashes : List ℕ) → StandsFor l.fn.self hashes → StandsFor l.self (hashes ++ take l.h-index l.batch)
+  stands : (hashes : List ℕ) → StandsFor l.fn.self hashes → StandsFor l.self (hashes ++ take l.h-index l.batch);
 }

@@ -1,4 +1,4 @@
-use Rattle.std.proofs.Common.{sym, ◌∙◌, arith}
+use Rattle.std.proofs.Common.{arith}
 use Rattle.sk_theta.proofs.Sketches.{IsWhole-placed}
 use Rattle.sk_theta.proofs.array.Theta.put.Goals as goal
 

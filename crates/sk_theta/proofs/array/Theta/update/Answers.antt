@@ -1,4 +1,4 @@
-use Rattle.std.proofs.Common.{sym, ◌∙◌, subst, ◌≤◌}
+use Rattle.std.proofs.Common.{subst, ◌≤◌}
 use Rattle.std.proofs.lemmas.Bool.{false≢true}
 use Rattle.sk_theta.specs.Kept.{Sketch, theta_kept}
 use Rattle.sk_theta.proofs.Sketches.{idle_stands, idle_unchanged, placed_stands, placed_changed}
