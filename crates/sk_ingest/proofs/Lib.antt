@@ -1,2 +1,3 @@
+pub mod FaultLaws
 pub mod ItemLaws
 pub mod Readings

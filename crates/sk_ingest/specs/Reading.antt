@@ -3,7 +3,8 @@ use Rattle.std.specs.Prelude.{◌≡◌, ℕ, ◌+◌, ◌-◌, ◌<◌, Bool, t
 use Rattle.std.specs.Io.KnownBytes.{Consumes, IsAtEnd}
 use Rattle.std.specs.Str.Lines.{strip_carriage_return}
 use Rattle.sk_model.specs.Lines.{lines_of, open_lines_of, AreWithin, IsFirstLong}
-use Rattle.sk_lines.specs.Cutter.{Cutter, Follows, is_long}
+use Rattle.sk_lines.specs.Cutter.{Cutter, Follows, is_long, counted}
+use Rattle.sk_model.specs.Missing.{Begins}
 
 -- the lines that were cut, how many bytes were taken of the source and how many may be, and whether
 -- the source was read to its end
@@ -23,6 +24,8 @@ pub record HasGiven (r : Reading) (given : List (List ℕ)) (taken : List ℕ) :
   pub whole : r.ended ≡ true → lines_of taken ≡ given
   pub within : AreWithin r.cutter.limit given
   pub going : is_long r.cutter.last ≡ false
+  pub number : r.cutter.number ≡ counted (length given)
+  pub size : r.ended ≡ true → r.taken < r.most
   pub count : length taken ≡ r.taken
 
 -- a piece of the source was fed
@@ -43,15 +46,20 @@ pub record Stands (r : Reading) (given : List (List ℕ)) (taken : List ℕ) : T
   pub lines : open_lines_of taken ≡ given ++ strip_carriage_return r.cutter.rest ∷ []
   pub within : AreWithin r.cutter.limit (open_lines_of taken)
 
+-- behind these lines the first comes that is too long
+pub record ComesLong (limit : ℕ) (given lines : List (List ℕ)) : Type 0 where
+  pub begins : Begins given lines
+  pub first : IsFirstLong limit (length given) lines
+
 -- the next line is too long, whatever follows the bytes taken
 abbrev pub IsLongNext : Reading → ℕ → Type 0
 IsLongNext r n = (given : List (List ℕ)) (taken : List ℕ) → HasGiven r given taken →
-    (n ≡ length given + 1) × ((rest : List ℕ) → IsFirstLong r.cutter.limit (length given) (lines_of (taken ++ rest)))
+    (n ≡ length given + 1) × ((rest : List ℕ) → ComesLong r.cutter.limit given (lines_of (taken ++ rest)))
 
 -- the last line is too long
 abbrev pub IsLongLast : Reading → ℕ → Type 0
 IsLongLast r n = (given : List (List ℕ)) (taken : List ℕ) → HasGiven r given taken →
-    (n ≡ length given + 1) × IsFirstLong r.cutter.limit (length given) (lines_of taken)
+    (n ≡ length given + 1) × ComesLong r.cutter.limit given (lines_of taken)
 
 -- a call took these bytes more, and gave one more line
 abbrev pub GivesNext : Reading → Reading → List ℕ → Type 0
@@ -69,4 +77,4 @@ Stops old new more = (given : List (List ℕ)) (taken : List ℕ) → HasGiven o
 -- it found line n, counted from 1, too long, whatever the source has left
 abbrev pub FindsLong : Reading → List ℕ → Option (List ℕ) → ℕ → Type 0
 FindsLong old more left n = (given : List (List ℕ)) (taken : List ℕ) → HasGiven old given taken →
-    (n ≡ length given + 1) × IfSome left (λ rest. IsFirstLong old.cutter.limit (length given) (lines_of ((taken ++ more) ++ rest)))
+    (n ≡ length given + 1) × IfSome left (λ rest. ComesLong old.cutter.limit given (lines_of ((taken ++ more) ++ rest)))

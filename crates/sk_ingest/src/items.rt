@@ -1,13 +1,15 @@
 // The items of a source.
-ghost use Rattle.std.specs.Prelude.{◌≡◌, ◌≢◌, ◌≤◌, ◌<◌, ◌+◌, ◌-◌, ◌^◌, ℕ, List, [], ◌∷◌, ◌++◌, Ok, Err, OnOk, IfOk, IfSome, IsErrOf, length, take};
+ghost use Rattle.std.specs.Prelude.{◌≡◌, ◌≢◌, ◌≤◌, ◌<◌, ◌+◌, ◌-◌, ◌^◌, ℕ, List, [], ◌∷◌, ◌++◌, Ok, Err, OnOk, OnErr, IfOk, IfErr, IfSome, IsErrOf, IsNone, length, take};
 ghost use Rattle.std.specs.Io.KnownBytes.{Consumes, IsAtEnd};
 ghost use Rattle.sk_model.specs.Causes.{Rose};
 ghost use Rattle.sk_model.specs.Lines.{lines_of};
 ghost use Rattle.sk_model.specs.Width.{item_end};
-ghost use Rattle.sk_ingest.specs.Items.{items_by, AreGood, IsLongAt, IsBadAt, IsGoodSoFar, complete_lines_of};
+ghost use Rattle.sk_ingest.specs.Items.{items_by, item_of, IsGood, AreGood, IsLongAt, IsBadAt, IsGoodSoFar, complete_lines_of};
 
 use crate::kind::Kind;
+use crate::reader::{LineFault, LineReader};
 use sk_io::Source;
+use sk_model::OutOfMemory;
 use std::alloc::Global;
 
 /// What is read, and how much at most.
@@ -32,6 +34,30 @@ pub enum Fault {
     BadItem(u64),
     /// As many bytes were taken as are too much.
     TooMuch,
+}
+
+impl From<OutOfMemory> for Fault {
+    ghost use Rattle.sk_ingest.specs.declared.items.Fault.TheVariants as fault;
+
+    ghost from_gives = { λ _ e. e ≡ fault.OutOfMemory };
+
+    fn from(_: OutOfMemory) -> Self {
+        Fault::OutOfMemory
+    }
+}
+
+impl From<LineFault> for Fault {
+    ghost use Rattle.sk_ingest.specs.Faults.{fault_by};
+
+    ghost from_gives = { λ stop e. e ≡ fault_by stop };
+
+    fn from(fault: LineFault) -> Self {
+        match fault {
+            LineFault::ReadFault => Fault::ReadFault,
+            LineFault::LongLine(line) => Fault::LongLine(line),
+            LineFault::TooMuch => Fault::TooMuch,
+        }
+    }
 }
 
 /// Who takes items, one after another.
@@ -81,5 +107,32 @@ pub fn read_items<S: Source, T: Taker>(alloc: Global, plan: &Intake, source: &mu
     ensures stays { S.stands_on source.new ≡ S.stands_on source.old }
     ensures numbers { T.numbers taker.new ≡ T.numbers taker.old }
 {
-    Err(Fault::OutOfMemory)
+    let mut reader = LineReader::new(alloc, plan.most)?;
+    'line: while reader.next(source)? {
+        take_line(plan.kind, reader.line(), reader.number(), taker)?;
+    }
+    Ok(reader.number())
+}
+
+// Gives the item of a line, if it has one, to the taker.
+#[inline(always)]
+fn take_line<T: Taker>(kind: Kind, line: &[u8], number: u64, taker: &mut T) -> Result<(), Fault>
+    requires room { (lines : List (List ℕ)) × (length lines < 2 ^ 40) × T.stands_for taker.old (items_by kind lines) }
+    ensures good { OnOk result (IsGood kind line.now) }
+    ensures stands { OnOk result ((lines : List (List ℕ)) → length lines < 2 ^ 40 → T.stands_for taker.old (items_by kind lines)
+        → T.stands_for taker.new (items_by kind (lines ++ line.now ∷ []))) }
+    ensures bad { OnErr result ((0 < length line.now) × IsNone (item_of kind line.now) × (taker.new ≡ taker.old)) }
+    ensures err { IfErr result (λ fault. fault ≡ Fault.BadItem number) }
+    ensures numbers { T.numbers taker.new ≡ T.numbers taker.old }
+{
+    if line.is_empty() {
+        return Ok(());
+    }
+    match kind.item(line) {
+        Some(item) => {
+            taker.take(item);
+            Ok(())
+        }
+        None => Err(Fault::BadItem(number)),
+    }
 }

@@ -68,6 +68,7 @@ impl LineReader {
         ensures given { IfOk result (λ reader. HasGiven reader [] []) }
         ensures most { IfOk result (λ reader. reader.most ≡ most) }
         ensures open { IfOk result (λ reader. reader.ended ≡ false) }
+        ensures limit { IfOk result (λ reader. reader.cutter.limit ≡ LINE_LIMIT) }
     {
         Ok(LineReader {
             lines: Lines::new(alloc, LINE_LIMIT)?,
@@ -84,7 +85,7 @@ impl LineReader {
         requires open { self.old.ended ≡ false }
         ensures fed { IfOk result (λ fed. (more : List ℕ) × Consumes (S.left source.old) (S.left source.new) more × Feeds self.old self.new more) }
         ensures some { result ≡ Ok true → (self.old.taken < self.new.taken) × (self.new.taken ≤ self.new.most) }
-        ensures end { result ≡ Ok false → IsAtEnd (S.left source.new) × (self.new ≡ self.old) }
+        ensures end { result ≡ Ok false → IsAtEnd (S.left source.new) × (self.new ≡ self.old) × (self.new.taken < self.new.most) }
         ensures read_fault { IsErrOf result LineFault.ReadFault → Rose (S.faults source.old) (S.faults source.new) × (self.old.taken < self.old.most) }
         ensures too_much { IsErrOf result LineFault.TooMuch → self.old.taken ≡ self.old.most }
         ensures err { OnErr result ((self.new ≡ self.old) × Keeps (S.left source.old) (S.left source.new)) }
@@ -120,6 +121,7 @@ impl LineReader {
         ensures ended { self.new.ended ≡ self.old.ended }
         ensures most { (self.new.most ≡ self.old.most) × (self.new.taken ≡ self.old.taken) }
         ensures remaining { remaining_of self.new ≤ remaining_of self.old }
+        ensures bound { self.new.taken ≤ self.new.most }
     {
         self.lines.next()
     }
@@ -128,6 +130,7 @@ impl LineReader {
     fn end(&mut self) -> Result<bool, LineFault>
         requires hungry { self.old.cutter.hungry ≡ true }
         requires open { self.old.ended ≡ false }
+        requires size { self.old.taken < self.old.most }
         ensures line { result ≡ Ok true → GivesLine self.old self.new × (self.new.cutter.last ≡ next.Line) × (remaining_of self.new < remaining_of self.old) }
         ensures none { result ≡ Ok false → (given : List (List ℕ)) (taken : List ℕ) → HasGiven self.old given taken → (lines_of taken ≡ given) × HasGiven self.new given taken }
         ensures long { (n : ℕ) → result ≡ Err (LineFault.LongLine n) → IsLongLast self.old n }
@@ -135,6 +138,7 @@ impl LineReader {
         ensures limit { self.new.cutter.limit ≡ self.old.cutter.limit }
         ensures most { (self.new.most ≡ self.old.most) × (self.new.taken ≡ self.old.taken) }
         ensures ended { self.new.ended ≡ true }
+        ensures bound { self.new.taken ≤ self.new.most }
     {
         self.ended = true;
         match self.lines.end() {
@@ -163,6 +167,7 @@ impl LineReader {
         ensures too_much { IsErrOf result LineFault.TooMuch → (more : List ℕ) × Consumes (S.left source.old) (S.left source.new) more
             × Stops self.old self.new more × (self.new.taken ≡ self.new.most) }
         ensures progress { result ≡ Ok true → remaining_of self.new < remaining_of self.old }
+        ensures bound { OnOk result (self.new.taken ≤ self.new.most) }
         ensures limit { self.new.cutter.limit ≡ self.old.cutter.limit }
         ensures most { self.new.most ≡ self.old.most }
         ensures later { S.faults source.old ≤ S.faults source.new }

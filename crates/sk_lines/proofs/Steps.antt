@@ -1,5 +1,5 @@
 -- What a step of the reader does to the lines given.
-use Rattle.std.proofs.Common.{◌≡◌, ◌≢◌, ℕ, ◌+◌, ◌-◌, ◌<◌, ◌≤◌, ◌==◌, ◌⊎◌, inl, inr, ⊎_elim, le_refl, take_at, take-take, true≢false, Bool, true, false, cond, List, [], ◌∷◌, ◌++◌, length, take, drop, get_or, slice_index, Option, Some, None, All, refl, sym, ap, ◌∙◌, subst, arith, append_assoc, append-nil, length-append, length-take, length-drop, take-append-drop, get_or-take, eqb-true, eq-eqb}
+use Rattle.std.proofs.Common.{◌≡◌, ◌≢◌, ℕ, ◌+◌, ◌-◌, ◌<◌, ◌≤◌, ◌==◌, inr, ⊎_elim, le_refl, take_at, take-take, true≢false, Bool, true, false, cond, List, [], ◌∷◌, ◌++◌, length, take, drop, get_or, slice_index, Some, None, refl, sym, ap, ◌∙◌, subst, arith, append_assoc, append-nil, length-append, length-take, length-drop, take-append-drop, get_or-take, eqb-true, eq-eqb}
 use Rattle.std.specs.Str.Lines.{strip_carriage_return}
 use Rattle.std.proofs.lemmas.List.{drop_more, take_more, take_all, take_rest, get_or_default, get_or_at}
 use Rattle.std.proofs.lemmas.Bool.{cases_lt}
@@ -8,7 +8,6 @@ use Rattle.sk_model.specs.Lines.{lines_of, open_lines_of, AreWithin, IsFirstLong
 use Rattle.sk_model.specs.Missing.{Begins}
 use Rattle.sk_model.proofs.Lines.{lines_of_nothing, after_whole_lines, first_line, a_line_alone, a_last_piece, within_append, within_one, long_after_front, long_stays_long, length-strip}
 use Rattle.sk_lines.specs.declared.cutter.Ending.{Ending}
-use Rattle.sk_lines.specs.declared.cutter.Ending.TheVariants.{Lf, CrLf, Nothing}
 use Rattle.sk_lines.specs.declared.cutter.Next.{Next}
 use Rattle.sk_lines.specs.declared.cutter.Next.TheVariants.{Line, More, Long}
 use Rattle.sk_lines.specs.Cutter.{Cutter, IsSound, is_long, Follows, GivesLine, Waits, IsLongAfter, HasNoLf, HasLfAt, counted, end_bytes}

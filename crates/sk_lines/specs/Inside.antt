@@ -1,5 +1,5 @@
 -- How a reader of lines keeps what contracts see of it.
-use Rattle.std.specs.Prelude.{◌≡◌, ℕ, ◌+◌, ◌-◌, ◌≤◌, take, drop, vec_len, vec_capacity}
+use Rattle.std.specs.Prelude.{◌+◌, ◌-◌, ◌≤◌, take, drop, vec_len, vec_capacity}
 use Rattle.sk_lines.specs.declared.cutter.Lines.TheInside.{Inside}
 use Rattle.sk_lines.specs.Cutter.{Cutter, IsSound}
 

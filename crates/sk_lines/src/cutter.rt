@@ -80,8 +80,8 @@ impl Lines {
         ensures limit { IfOk result (λ lines. lines.limit ≡ limit) }
         ensures follows { IfOk result (λ lines. Follows lines [] []) }
         ensures hungry { IfOk result (λ lines. lines.hungry ≡ true) }
-        ensures last { IfOk result (λ lines. lines.last ≡ Next.More) }
         ensures not_ended { IfOk result (λ lines. lines.ended ≡ false) }
+        ensures last { IfOk result (λ lines. lines.last ≡ Next.More) }
     {
         Ok(Lines {
             limit,
@@ -136,6 +136,7 @@ impl Lines {
         // What was too long stays so, and behind the end there is nothing.
         ensures again { is_long self.old.last ≡ true → result ≡ self.old.last }
         ensures rest { result ≢ Next.Line → self.new.rest ≡ self.old.rest }
+        ensures number { result ≢ Next.Line → self.new.number ≡ self.old.number }
         ensures after_end { self.old.ended ≡ true → is_long self.old.last ≡ false → result ≡ Next.More }
 
         ensures last { self.new.last ≡ result }
@@ -203,6 +204,7 @@ impl Lines {
         ensures limit { self.new.limit ≡ self.old.limit }
         ensures ended { self.new.ended ≡ self.old.ended }
         ensures rest { self.new.rest ≡ self.old.rest }
+        ensures number { self.new.number ≡ self.old.number }
     {
         self.hungry = true;
         self.last = Next::More;
@@ -222,6 +224,7 @@ impl Lines {
         ensures limit { self.new.limit ≡ self.old.limit }
         ensures ended { self.new.ended ≡ self.old.ended }
         ensures rest { self.new.rest ≡ self.old.rest }
+        ensures number { self.new.number ≡ self.old.number }
     {
         self.last = Next::Long(self.number.saturating_add(1));
         self.last
@@ -240,6 +243,7 @@ impl Lines {
         ensures again { is_long self.old.last ≡ true → result ≡ self.old.last }
         ensures rest { is_long result ≡ false → self.new.rest ≡ [] }
         ensures last { self.new.last ≡ result }
+        ensures number { result ≡ Next.More → self.new.number ≡ self.old.number }
         ensures limit { self.new.limit ≡ self.old.limit }
         ensures hungry { self.new.hungry ≡ true }
         ensures ended { self.new.ended ≡ true }

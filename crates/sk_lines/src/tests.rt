@@ -4,8 +4,8 @@ ghost use Rattle.sk_model.specs.Lines.{lines_of, open_lines_of};
 ghost use Rattle.sk_lines.specs.Cutter.{Follows, IsLongAfter};
 
 use super::*;
-use crate::cutter::{MOST_LIMIT, MOST_PIECE};
 use std::alloc::Global;
+use std::test::Fail;
 
 // Why the lines of a text are not all there.
 #[derive(Clone, Copy, Debug, PartialEq, Eq)]
@@ -89,5 +89,162 @@ fn keep_line(alloc: Global, lines: &Lines, all: &mut Vec<Vec<u8>>) -> Result<(),
         ≡ map (λ line. line.items) all.old.items ++ lines.now.line ∷ []) }
 {
     all.push(Vec::from_slice(alloc, lines.line())?)?;
+    Ok(())
+}
+
+// Each line of a text that comes in pieces, followed by `|`, or the number of the line that is too
+// long. A line of more than ten bytes is shown by its length.
+fn shown(alloc: Global, limit: usize, pieces: &[&[u8]]) -> Result<Vec<u8>, Fail>
+    requires some { 1 ≤ limit }
+    requires most { limit ≤ MOST_LIMIT }
+    requires sizes { All (λ piece. length piece.now ≤ MOST_PIECE) pieces.now }
+{
+    let mut text = Vec::new(alloc);
+    match lines_of_pieces(alloc, limit, pieces) {
+        Ok(lines) => {
+            for line in &lines {
+                if line.len() > 10 {
+                    text.extend_from_slice(format!(in alloc; "{}", line.len())?.as_bytes())?;
+                } else {
+                    text.extend_from_slice(line)?;
+                }
+                text.push(b'|')?;
+            }
+        }
+        Err(Stop::Long(n)) => text.extend_from_slice(format!(in alloc; "long {n}")?.as_bytes())?,
+        Err(Stop::OutOfMemory) => text.extend_from_slice(b"out of memory")?,
+    }
+    Ok(text)
+}
+
+#[test]
+fn every_cut_gives_the_same_lines(rt: HostRuntime) -> Result<(), Fail> {
+    let text = b"\na\r\na";
+    for cut in 0..=text.len() {
+        let (front, back) = text.split_at(cut);
+        let lines = shown(rt.alloc(), 65_536, &[front, back])?;
+        assert_eq!(rt; lines.as_slice(), b"|a|a|".as_slice(), "cut at {cut}");
+    }
+    Ok(())
+}
+
+#[test]
+fn lines_at_the_limit(rt: HostRuntime) -> Result<(), Fail> {
+    let rows: [(&[u8], &[u8]); 12] = [
+        (b"", b""),
+        (b"\n", b"|"),
+        (b"abcd\n", b"abcd|"),
+        (b"abcd\r\n", b"abcd|"),
+        (b"abcd", b"abcd|"),
+        (b"abcd\r", b"long 1"),
+        (b"abcd\r\r\n", b"long 1"),
+        (b"abcde", b"long 1"),
+        (b"a\r\r\n", b"a\r|"),
+        (b"a\rb\n", b"a\rb|"),
+        (b"a\n\r", b"a|\r|"),
+        (b"a\n\nabcde\nb", b"long 3"),
+    ];
+    for (text, want) in rows {
+        let lines = shown(rt.alloc(), 4, &[text])?;
+        assert_eq!(rt; lines.as_slice(), want);
+    }
+    Ok(())
+}
+
+// The same of `len` bytes and what comes behind them, with `len` as the limit.
+fn shown_behind(alloc: Global, len: usize, end: &[u8]) -> Result<Vec<u8>, Fail>
+    requires some { 1 ≤ len }
+    requires most { len ≤ MOST_PIECE }
+    requires end { length end.now ≤ MOST_PIECE }
+{
+    let line = vec![in alloc; b'x'; len]?;
+    shown(alloc, len, &[&line, end])
+}
+
+#[test]
+fn lines_at_the_limit_of_records(rt: HostRuntime) -> Result<(), Fail> {
+    let rows: [(&[u8], &[u8]); 7] = [
+        (b"\n", b"65536|"),
+        (b"\r\n", b"65536|"),
+        (b"", b"65536|"),
+        (b"\r", b"long 1"),
+        (b"\r\r\n", b"long 1"),
+        (b"x", b"long 1"),
+        (b"\r\nx", b"65536|x|"),
+    ];
+    for (end, want) in rows {
+        let lines = shown_behind(rt.alloc(), 65_536, end)?;
+        assert_eq!(rt; lines.as_slice(), want);
+    }
+    Ok(())
+}
+
+#[test]
+fn a_long_line_is_told_by_its_first_byte_too_many(rt: HostRuntime) -> Result<(), Fail> {
+    let mut lines = Lines::new(rt.alloc(), 4)?;
+    lines.feed(b"ab\r\nabcd");
+    assert_eq!(rt; lines.next(), Next::Line);
+    assert_eq!(rt; (lines.number(), lines.ending()), (1, Ending::CrLf));
+    let answer = lines.next();
+    assert_eq!(rt; answer, Next::More);
+    if answer == Next::More {
+        lines.feed(b"\r");
+        let answer = lines.next();
+        assert_eq!(rt; answer, Next::More);
+        if answer == Next::More {
+            lines.feed(b"x");
+            assert_eq!(rt; lines.next(), Next::Long(2));
+            assert_eq!(rt; lines.next(), Next::Long(2));
+        }
+    }
+    Ok(())
+}
+
+#[test]
+fn numbers_at_their_limits(rt: HostRuntime) -> Result<(), Fail> {
+    let rows: [(&[u8], Option<u64>); 8] = [
+        (b"281474976710655", Some(281_474_976_710_655)),
+        (b"281474976710656", None),
+        (b"000000000000007", Some(7)),
+        (b"0000000000000007", None),
+        (b"", None),
+        (b"+5", None),
+        (b"5\r", None),
+        (b"0", Some(0)),
+    ];
+    for (bytes, want) in rows {
+        assert_eq!(rt; read_number(bytes, 281_474_976_710_656), want);
+    }
+    assert_eq!(rt; read_number(b"0", 1), Some(0));
+    assert_eq!(rt; read_number(b"1", 1), None);
+    let largest = b"18446744073709551614";
+    assert_eq!(rt; read_number(largest, u64::MAX), Some(u64::MAX - 1));
+    assert_eq!(rt; read_number(b"99999999999999999999", u64::MAX), None);
+    Ok(())
+}
+
+#[test]
+fn fractions_as_text(rt: HostRuntime) -> Result<(), Fail> {
+    let rows: [(u64, u64, &[u8]); 3] = [
+        (
+            281_474_976_710_656,
+            224_131_386_917_309,
+            b"281474976710656/224131386917309",
+        ),
+        (0, 1, b"0/1"),
+        (
+            u64::MAX,
+            u64::MAX,
+            b"18446744073709551615/18446744073709551615",
+        ),
+    ];
+    for (n, d, want) in rows {
+        let mut text = b"estimate ".to_vec(rt.alloc())?;
+        push_fraction(&mut text, n, d)?;
+        assert_eq!(rt; &text[9..], want);
+        let mut into = [b' '; 64];
+        let len = put_fraction(&mut into, n, d);
+        assert_eq!(rt; &into[..len], want);
+    }
     Ok(())
 }

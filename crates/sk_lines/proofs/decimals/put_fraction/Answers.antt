@@ -1,4 +1,4 @@
-use Rattle.std.proofs.Common.{◌≡◌, ℕ, ◌+◌, ◌-◌, ◌≤◌, List, [], ◌∷◌, ◌++◌, length, take, slice_set, decimal, sym, ap, ◌∙◌, arith, length-take, length-drop, length-set, length-append}
+use Rattle.std.proofs.Common.{◌≡◌, ℕ, ◌+◌, List, [], ◌∷◌, ◌++◌, length, take, slice_set, decimal, ap, ◌∙◌, arith, length-take, length-drop, length-set, length-append}
 use Rattle.std.proofs.lemmas.List.{take_more_set}
 use Rattle.sk_lines.proofs.Digits as digits
 use Rattle.sk_lines.proofs.decimals.put_fraction.Goals as goal

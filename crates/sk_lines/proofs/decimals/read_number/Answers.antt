@@ -1,4 +1,4 @@
-use Rattle.std.proofs.Common.{◌≡◌, ◌≢◌, ℕ, ◌+◌, ◌-◌, ◌*◌, ◌^◌, ◌≤◌, length, take, slice_index, Some, true≢false, arith, refl, sym, ap, ◌∙◌, eqb-true, eq-eqb, take_all}
+use Rattle.std.proofs.Common.{◌≡◌, ◌≢◌, ℕ, ◌+◌, ◌-◌, ◌*◌, ◌^◌, ◌≤◌, length, slice_index, Some, true≢false, arith, refl, sym, ap, ◌∙◌, eqb-true, eq-eqb, take_all}
 use Rattle.std.specs.List.{list_all}
 use Rattle.std.specs.Char.{is_ascii_digit}
 use Rattle.sk_model.specs.Numbers.{value_of}

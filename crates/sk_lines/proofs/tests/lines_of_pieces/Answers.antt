@@ -1,12 +1,11 @@
-use Rattle.std.proofs.Common.{◌≡◌, ℕ, ◌+◌, ◌<◌, List, [], ◌∷◌, ◌++◌, length, map, take, drop, get_or, Result, Ok, Err, refl, sym, ap, ◌∙◌, subst, take-append-drop, append-nil, Bor, take_all}
+use Rattle.std.proofs.Common.{◌≡◌, ℕ, ◌+◌, ◌<◌, List, [], ◌∷◌, ◌++◌, length, map, take, drop, get_or, Err, sym, ap, ◌∙◌, subst, take-append-drop, append-nil, Bor, take_all}
 use Rattle.std.specs.List.{flat_map}
 use Rattle.std.proofs.lemmas.List.{take_more}
 use Rattle.std.proofs.lemmas.List.Concat.{flat_map-append}
 use Rattle.std.proofs.lemmas.Result.{err_from_is_err_and}
 use Rattle.sk_model.specs.Lines.{lines_of, open_lines_of}
 use Rattle.sk_lines.specs.declared.tests.Stop.{Stop}
-use Rattle.sk_lines.specs.declared.tests.Stop.TheVariants.{Long}
-use Rattle.sk_lines.specs.Cutter.{Cutter, Follows, IsLongAfter}
+use Rattle.sk_lines.specs.Cutter.{Follows, IsLongAfter}
 use Rattle.sk_lines.proofs.Steps.{long_after_stays}
 use Rattle.sk_lines.proofs.tests.lines_of_pieces.Goals as goal
 

@@ -9,5 +9,7 @@ returns-clause-given c = record {
   whole = λ ended. absurd (false≢true ended);
   within = λ k d below. absurd (omega arith);
   going = ap is_long c.in_ok-new.ensures.last;
+  number = c.in_ok-new.ensures.follows.count;
+  size = λ ended. absurd (false≢true ended);
   count = refl;
 }

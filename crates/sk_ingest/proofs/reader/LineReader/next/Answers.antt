@@ -71,3 +71,10 @@ piece-smaller g c =
     let more : c.cut.new.self.taken < c.refill.new.self.taken = search rules in
     let within : c.refill.new.self.taken ≤ c.refill.new.self.most = search rules in
     omega (arith, more, within, fed.2.most, c.cut.ensures.most.0, c.cut.ensures.most.1)
+
+pub returns-then-self-clause-none : goal.returns-then-self-clause-none
+returns-then-self-clause-none g c = λ is.
+    let before = c.piece.invariant.moves in
+    let over : c.piece.self.ended ≡ true = search rules in
+    (before.0, before.1, gives_none c.args.self.now c.piece.self c.cut.new.self before.0 before.2
+      (λ given taken has. (has.whole over, c.cut.ensures.after_end c.in-More.is over given taken has)))

@@ -1,5 +1,4 @@
-use Rattle.std.proofs.Common.{◌≡◌, ℕ, ◌+◌, ◌-◌, ◌<◌, ◌≤◌, length, List, [], take, drop, refl, sym, ap, ◌∙◌, subst, arith, length-drop, true≢false, take_all}
-use Rattle.std.proofs.lemmas.List.{drop_all, nil_from_length}
+use Rattle.std.proofs.Common.{◌≡◌, ◌-◌, ◌<◌, ◌≤◌, length, take, drop, refl, sym, ap, ◌∙◌, subst, arith, length-drop, take_all}
 use Rattle.sk_lines.specs.Inside.{cutter_of}
 use Rattle.sk_lines.specs.Cutter.{Cutter, IsSound}
 use Rattle.sk_lines.proofs.Steps as steps

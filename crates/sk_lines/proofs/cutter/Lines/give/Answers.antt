@@ -1,4 +1,4 @@
-use Rattle.std.proofs.Common.{◌≡◌, ℕ, ◌+◌, ◌-◌, ◌<◌, ◌≤◌, length, List, take, drop, refl, sym, ap, ◌∙◌, subst, arith, drop-drop, length-drop, length-take}
+use Rattle.std.proofs.Common.{◌≡◌, ℕ, ◌+◌, ◌-◌, ◌<◌, ◌≤◌, length, take, drop, refl, sym, ap, ◌∙◌, subst, arith, drop-drop, length-drop, length-take}
 use Rattle.std.specs.Str.Lines.{strip_carriage_return}
 use Rattle.sk_model.proofs.Lines.{length-strip}
 use Rattle.sk_lines.specs.Inside.{cutter_of}

@@ -1,9 +1,8 @@
-use Rattle.std.proofs.Common.{◌≡◌, ℕ, ◌+◌, ◌-◌, ◌<◌, ◌≤◌, length, List, [], take, drop, Some, None, Option, refl, sym, ap, ◌∙◌, subst, arith, length-drop, true≢false, false}
+use Rattle.std.proofs.Common.{◌≡◌, ℕ, ◌<◌, length, List, take, Some, None, sym, ap, ◌∙◌, subst, arith, true≢false, false}
 use Rattle.std.specs.Str.Lines.{strip_carriage_return}
 use Rattle.memchr.specs.Find.{IsFirstByte, is_byte}
 use Rattle.sk_model.proofs.Lines.{length-strip}
-use Rattle.sk_lines.specs.Inside.{cutter_of}
-use Rattle.sk_lines.specs.Cutter.{Cutter, IsSound, HasLfAt, HasNoLf, is_long}
+use Rattle.sk_lines.specs.Cutter.{Cutter, IsSound, is_long}
 use Rattle.sk_lines.proofs.Steps as steps
 use Rattle.sk_lines.proofs.cutter.Lines.next.Goals as goal
 
@@ -100,3 +99,12 @@ returns-then-without_cr-self-clause-rest c = λ no_line. c.stop-then-without_cr-
 
 pub returns-else-without_cr-self-clause-rest : goal.returns-else-without_cr-self-clause-rest
 returns-else-without_cr-self-clause-rest c = λ no_line. c.wait.ensures.rest
+
+pub returns-then-len-self-clause-number : goal.returns-then-len-self-clause-number
+returns-then-len-self-clause-number c = λ no_line. c.stop.ensures.number
+
+pub returns-then-without_cr-self-clause-number : goal.returns-then-without_cr-self-clause-number
+returns-then-without_cr-self-clause-number c = λ no_line. c.stop-then-without_cr-self.ensures.number
+
+pub returns-else-without_cr-self-clause-number : goal.returns-else-without_cr-self-clause-number
+returns-else-without_cr-self-clause-number c = λ no_line. c.wait.ensures.number

@@ -1,5 +1,5 @@
 use Rattle.std.proofs.Common.{◌≡◌, arith, ap}
-use Rattle.sk_lines.specs.Cutter.{Cutter, counted}
+use Rattle.sk_lines.specs.Cutter.{Cutter}
 use Rattle.sk_lines.proofs.Steps as steps
 use Rattle.sk_lines.proofs.cutter.Lines.stop.Goals as goal
 
