@@ -1,19 +1,21 @@
 -- What a read or a write of a piece does to the bytes as a whole. In goals `&xs[at..at + n]` is a
 -- `take` of a `drop`.
-use Rattle.std.proofs.Common.{◌≡◌, ℕ, ◌+◌, ◌-◌, ◌≤◌, List, [], ◌++◌, length, take, drop, Option, Some, refl, sym, ap, ◌∙◌, subst, arith, take-append-drop, length-drop}
-use Rattle.std.proofs.lemmas.List.{take_at, take_all, drop-drop}
+use Rattle.std.proofs.Common.{◌≡◌, ℕ, ◌+◌, ◌-◌, List, [], ◌++◌, length, take, drop, Option, sym, ap, ◌∙◌, subst, arith, length-drop}
+use Rattle.std.proofs.lemmas.List.{take_all, drop_all, drop-drop}
 use Rattle.std.proofs.Math.Seq.{take-add}
 use Rattle.std.specs.Io.KnownBytes.{Appends}
 use Rattle.std.proofs.KnownBytes.{Appends-trans}
 
--- the n bytes read at a place, whatever lies behind them in the buffer, and then those that are left
-pub read_splits : (xs front behind : List ℕ) (at n : ℕ) → length front ≡ n → front ≡ take (at + n - at) (drop at xs) → drop at xs ≡ take n (front ++ behind) ++ drop (at + n) xs
-read_splits xs front behind at n size is =
-    let exact : at + n - at ≡ n = omega arith in
-    let whole : front ≡ take n (drop at xs) = is ∙ ap (λ (k : ℕ). take k (drop at xs)) exact in
-    sym (take-append-drop n (drop at xs))
-    ∙ ap (λ (l : List ℕ). l ++ drop n (drop at xs)) (sym whole ∙ sym (take_at front behind n size))
-    ∙ ap (λ (l : List ℕ). take n (front ++ behind) ++ l) (drop-drop n at xs)
+-- the n bytes given of those behind a place, and then those that are left
+pub given : (left bytes buf : List ℕ) (at n : ℕ) → left ≡ drop at bytes → left ≡ take n buf ++ drop n left → drop at bytes ≡ take n buf ++ drop (at + n) bytes
+given left bytes buf at n is split =
+    sym is ∙ split ∙ ap (λ (l : List ℕ). take n buf ++ l) (ap (drop n) is ∙ drop-drop n at bytes)
+
+-- none is left behind a place where there was none before it
+pub none_left : (bytes : List ℕ) (at n : ℕ) → drop at bytes ≡ [] → drop (at + n) bytes ≡ []
+none_left bytes at n end =
+    let over : length (drop at bytes) ≡ 0 = ap length end in
+    drop_all (at + n) bytes (omega (arith, over, length-drop at bytes))
 
 -- a piece written behind the front that was
 pub written_more : (a b c : Option (List ℕ)) (bytes : List ℕ) (at n : ℕ) → Appends a b (take at bytes) → Appends b c (take n (take (length bytes - at) (drop at bytes))) → Appends a c (take (at + n) bytes)

@@ -1,6 +1,9 @@
--- The streams in memory as contracts see them, and what a call makes of them.
-use Rattle.std.specs.Prelude.{◌≡◌, ℕ, ◌+◌, ◌-◌, ◌^◌, ◌==◌, Bool, ◌||◌, if◌then◌else◌, min, List, [], ◌++◌, length, take, drop}
+-- The forms in memory as contracts see them, and what a call makes of them.
+use Rattle.std.specs.Prelude.{ℕ, ◌+◌, ◌-◌, ◌^◌, ◌==◌, Bool, ◌||◌, if◌then◌else◌, min, List, [], ◌++◌, length, map, take, drop, slice_get, is_none, Vec, String, string_bytes}
 use Rattle.std.specs.List.{list_any}
+use Rattle.std.specs.Option.{option_map_or}
+use Rattle.sk_io.specs.Files.{file_named}
+use Rattle.sk_io.specs.declared.mem_shelf.MemFile.{MemFile}
 
 -- the numbers of the calls that fail, and how many calls were made and failed
 pub record Calls : Type 0 where
@@ -65,3 +68,37 @@ abbrev pub after_write : SinkState → List ℕ → SinkState
 after_write s bytes = if refuses s
     then record s { calls = failed (called s.calls) }
     else record s { written = s.written ++ take (next_taken s (length bytes)) bytes; calls = called s.calls }
+
+-- a shelf: its files, and its calls of `open` and of `read`
+pub record ShelfState : Type 0 where
+  pub files : List (List ℕ × List ℕ)
+  pub opens : Calls
+  pub reads : Calls
+
+-- each file as its name beside its bytes
+abbrev pub stored : {Z Y : Type 0} → List (String Z × Vec ℕ Y) → List (List ℕ × List ℕ)
+stored {Z} {Y} files = map (λ (f : String Z × Vec ℕ Y). (string_bytes f.0, f.1.items)) files
+
+-- the bytes of the file with this number, from 0
+abbrev pub bytes_of : List (List ℕ × List ℕ) → ℕ → List ℕ
+bytes_of files number = option_map_or (λ (f : List ℕ × List ℕ). f.1) (slice_get files number) []
+
+-- the bytes that an open file has left
+abbrev pub unread : ShelfState → MemFile → List ℕ
+unread s file = drop file.at (bytes_of s.files file.number)
+
+-- whether an open of this name fails, as one that is listed or for want of the file
+abbrev pub cannot_open : ShelfState → List ℕ → Bool
+cannot_open s name = next_fails s.opens || is_none (file_named s.files name)
+
+-- after an open of this name
+abbrev pub after_open : ShelfState → List ℕ → ShelfState
+after_open s name = if cannot_open s name
+    then record s { opens = failed (called s.opens) }
+    else record s { opens = called s.opens }
+
+-- after a read
+abbrev pub after_shelf_read : ShelfState → ShelfState
+after_shelf_read s = if next_fails s.reads
+    then record s { reads = failed (called s.reads) }
+    else record s { reads = called s.reads }

@@ -34,9 +34,22 @@ impl Rest {
         ensures rest { self.new ≡ drop result self.old }
         ensures end { result ≡ 0 → 0 < length buf.old → 0 < most → self.new ≡ [] }
     {
-        let n = buf.len().min(most).min(self.bytes.len() - self.at);
-        buf[..n].copy_from_slice(&self.bytes[self.at..self.at + n]);
+        let (_, left) = self.bytes.split_at(self.at);
+        let n = give(left, buf, most);
         self.at += n;
         n
     }
+}
+
+/// Copies bytes from the front of `from` to the front of `buf`: as many as there are, fit and are
+/// wanted.
+pub fn give(from: &[u8], buf: &mut [u8], most: usize) -> usize
+    ensures count { result ≡ min (min (length buf.old) most) (length from.now) }
+    ensures bytes { from.now ≡ take result buf.new ++ drop result from.now }
+    ensures end { result ≡ 0 → 0 < length buf.old → 0 < most → from.now ≡ [] }
+{
+    let n = buf.len().min(most).min(from.len());
+    let (front, _) = from.split_at(n);
+    buf[..n].copy_from_slice(front);
+    n
 }

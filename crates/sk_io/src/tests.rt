@@ -1,3 +1,9 @@
+ghost use Rattle.std.specs.Prelude.{◌≡◌, ◌<◌, ◌≤◌, ◌⊎◌, length, take, IfOk, IfSome, IsErr, OnErr};
+ghost use Rattle.std.specs.Io.{StartsWith};
+ghost use Rattle.std.specs.Io.KnownBytes.{ReadConsumes};
+ghost use Rattle.sk_model.specs.Causes.{HasCause, Rose};
+ghost use Rattle.sk_io.specs.Files.{told_file, IsMissing};
+
 use super::*;
 use std::alloc::Global;
 use std::fs;
@@ -68,6 +74,80 @@ fn writes_fail_where_told(rt: HostRuntime) -> Result<(), Fail> {
     assert_eq!(rt; sink.write(b"imate"), Err(Failed));
     assert_eq!(rt; write_all(&mut sink, b"imate"), Ok(()));
     assert_eq!(rt; sink.written(), b"estimate".as_slice());
+    Ok(())
+}
+
+// Reads once, as a function does that knows its source by the trait alone.
+fn piece_of<S: Source>(source: &mut S, piece: &mut [u8]) -> Result<usize, Failed>
+    requires { 0 < length piece.old }
+    ensures bytes { ReadConsumes (S.left source.old) (S.left source.new) result piece.new }
+    ensures cause { HasCause (S.faults source.old) (S.faults source.new) result }
+    ensures stays { S.stands_on source.new ≡ S.stands_on source.old }
+{
+    source.read(piece)
+}
+
+fn piece_on<F: Shelf>(shelf: &mut F, file: &mut F::File, piece: &mut [u8]) -> Result<usize, Failed>
+    requires { 0 < length piece.old }
+    ensures bytes { ReadConsumes (F.left shelf.old file.old) (F.left shelf.new file.new) result piece.new }
+    ensures cause { HasCause (F.read_faults shelf.old) (F.read_faults shelf.new) result }
+    ensures opens { F.open_faults shelf.new ≡ F.open_faults shelf.old }
+    ensures files { F.files shelf.new ≡ F.files shelf.old }
+{
+    piece_of(&mut OnShelf::new(shelf, file), piece)
+}
+
+// What a caller of a shelf knows of it after a file was opened and read as a source.
+fn front_of<F: Shelf>(shelf: &mut F, name: &str, piece: &mut [u8]) -> Result<usize, Failed>
+    requires { 0 < length piece.old }
+    ensures content { IfOk result (λ n.
+        IfSome (told_file (F.files shelf.old) name.now) (λ bytes. StartsWith bytes (take n piece.new))) }
+    ensures missing { IsMissing (F.files shelf.old) name.now → IsErr result }
+    ensures opens { F.open_faults shelf.old ≤ F.open_faults shelf.new }
+    ensures reads { F.read_faults shelf.old ≤ F.read_faults shelf.new }
+    ensures cause { OnErr result (
+        Rose (F.open_faults shelf.old) (F.open_faults shelf.new)
+        ⊎ Rose (F.read_faults shelf.old) (F.read_faults shelf.new)) }
+    ensures files { F.files shelf.new ≡ F.files shelf.old }
+{
+    let mut file = shelf.open(name)?;
+    piece_on(shelf, &mut file, piece)
+}
+
+#[test]
+fn a_shelf_in_memory_opens_what_it_has(rt: HostRuntime) -> Result<(), Fail> {
+    let alloc = rt.alloc();
+    let mut files = Vec::new(alloc);
+    files.push((String::from_str(alloc, "one")?, b"first".to_vec(alloc)?))?;
+    files.push((String::from_str(alloc, "two")?, b"second".to_vec(alloc)?))?;
+    let opens = [1].to_vec(alloc)?;
+    let reads = [1].to_vec(alloc)?;
+    let mut shelf = MemShelf::new(files, opens, reads);
+    let mut piece = [0; 4];
+    assert_eq!(rt; front_of(&mut shelf, "two", &mut piece), Ok(4));
+    assert_eq!(rt; piece, *b"seco");
+    assert_eq!(rt; front_of(&mut shelf, "two", &mut piece), Err(Failed));
+    assert_eq!(rt; front_of(&mut shelf, "one", &mut piece), Err(Failed));
+    assert_eq!(rt; front_of(&mut shelf, "three", &mut piece), Err(Failed));
+    let mut file = shelf.open("one").map_err(|_| "no file")?;
+    let text = drained(alloc, &mut OnShelf::new(&mut shelf, &mut file))?;
+    assert_eq!(rt; text.as_slice(), b"first".as_slice());
+    Ok(())
+}
+
+#[test]
+fn a_shelf_of_files_opens_what_is_there(rt: HostRuntime) -> Result<(), Fail> {
+    let alloc = rt.alloc();
+    fs::write(&rt, "shelf.txt", "red fish blue fish\n")?;
+    let mut shelf = FileShelf::new(&rt);
+    let mut file = shelf.open("shelf.txt").map_err(|_| "no file")?;
+    let text = drained(alloc, &mut OnShelf::new(&mut shelf, &mut file))?;
+    assert_eq!(rt; text.as_slice(), b"red fish blue fish\n".as_slice());
+    assert_eq!(rt;
+        front_of(&mut shelf, "missing.txt", &mut [0; 1]),
+        Err(Failed)
+    );
+    fs::remove_file(&rt, "shelf.txt")?;
     Ok(())
 }
 

@@ -1,0 +1,121 @@
+ghost use Rattle.std.specs.Prelude.{◌≡◌, ◌+◌, ◌<◌, ◌≤◌, Some, IfOk, is_err, IsErr, IsNone, position, length, drop, min, bytes_eq, string_bytes};
+ghost use Rattle.std.specs.Io.{ReadsAtMost};
+ghost use Rattle.std.specs.Io.KnownBytes.{ReadConsumes};
+ghost use Rattle.sk_model.specs.Causes.{HasCause};
+ghost use Rattle.sk_io.specs.Files.{file_named};
+ghost use Rattle.sk_io.specs.Memory.{planned, next_fails, cannot_open, after_open, after_shelf_read, unread, bytes_of, stored};
+
+use crate::plan::Plan;
+use crate::rest::give;
+use crate::shelf::Shelf;
+use crate::stream::Failed;
+use std::marker::Model;
+
+/// Files in memory, which fail where they are told to and at a name that is not theirs.
+#[derive(Drop)]
+pub struct MemShelf {
+    files: Vec<(String, Vec<u8>)>,
+    opens: Plan,
+    reads: Plan,
+}
+
+impl Model for MemShelf {
+    ghost use Rattle.sk_io.specs.Memory.{ShelfState, stored};
+
+    ghost Value = { ShelfState };
+
+    ghost view = { λ s. record { files = stored s.files.items; opens = s.opens; reads = s.reads } };
+}
+
+/// An open file of a `MemShelf`: its number there, from 0, and how many bytes it has given.
+#[derive(Clone, Copy, Debug, PartialEq, Eq)]
+pub struct MemFile {
+    number: usize,
+    at: usize,
+}
+
+impl MemShelf {
+    /// A shelf of these files, each beside its name. Of two with one name the first is opened. The
+    /// calls of `open` and of `read` with the numbers in the lists, each counted from 0, fail.
+    pub fn new(files: Vec<(String, Vec<u8>)>, open_fails: Vec<u64>, read_fails: Vec<u64>) -> Self
+        ensures { result ≡ record {
+          files = stored files.items;
+          opens = planned open_fails.items;
+          reads = planned read_fails.items;
+        } }
+    {
+        MemShelf {
+            files,
+            opens: Plan::new(open_fails),
+            reads: Plan::new(read_fails),
+        }
+    }
+}
+
+impl Shelf for MemShelf {
+    type File = MemFile;
+
+    ghost open_faults = { λ s. s.opens.faults };
+
+    ghost read_faults = { λ s. s.reads.faults };
+
+    ghost files = { λ s. Some s.files };
+
+    ghost left = { λ s file. Some (unread s file) };
+
+    /// Fails exactly at the calls with the listed numbers and at a name that no file has.
+    fn open(&mut self, name: &str) -> Result<MemFile, Failed>
+        ensures content { IfOk result (λ file. Some (unread self.new file) ≡ file_named self.old.files name.now) }
+        ensures missing { IsNone (file_named self.old.files name.now) → IsErr result }
+        ensures cause { HasCause self.old.opens.faults self.new.opens.faults result }
+        ensures fails { is_err result ≡ cannot_open self.old name.now }
+        ensures shelf { self.new ≡ after_open self.old name.now }
+    {
+        if self.opens.call() {
+            return Err(self.opens.fail());
+        }
+        match number_of(&self.files, name) {
+            Some(number) => Ok(MemFile { number, at: 0 }),
+            None => Err(self.opens.fail()),
+        }
+    }
+
+    /// Fails exactly at the calls with the listed numbers, and else fills `buf` as far as the bytes
+    /// of the file go.
+    fn read(&mut self, file: &mut MemFile, buf: &mut [u8]) -> Result<usize, Failed>
+        requires { 0 < length buf.old }
+        ensures bound { ReadsAtMost result buf.new }
+        ensures bytes { ReadConsumes (Some (unread self.old file.old)) (Some (unread self.new file.new)) result buf.new }
+        ensures cause { HasCause self.old.reads.faults self.new.reads.faults result }
+        ensures fails { is_err result ≡ next_fails self.old.reads }
+        ensures count { IfOk result (λ n. n ≡ min (length buf.old) (length (unread self.old file.old))) }
+        ensures shelf { self.new ≡ after_shelf_read self.old }
+    {
+        if self.reads.call() {
+            return Err(self.reads.fail());
+        }
+        let most = buf.len();
+        let n = give(left_of(&self.files, file), buf, most);
+        file.at += n;
+        Ok(n)
+    }
+}
+
+// The number of the first file of this name.
+fn number_of(files: &[(String, Vec<u8>)], name: &str) -> Option<usize>
+    ensures { result ≡ position (λ f. bytes_eq (string_bytes f.0) name.now) files.now }
+{
+    files.iter().position(|(stored, _)| stored.as_str() == name)
+}
+
+// The bytes that an open file has left.
+fn left_of<'a>(files: &'a [(String, Vec<u8>)], file: &MemFile) -> &'a [u8]
+    ensures bytes { result.now ≡ drop file.now.at (bytes_of (stored files.now) file.now.number) }
+    ensures fits { file.now.at + length result.now ≤ usize.MAX }
+{
+    let at = file.at;
+    match files.get(file.number) {
+        Some((_, bytes)) => bytes.split_at(at.min(bytes.len())).1,
+        None => &[],
+    }
+}
