@@ -1,1 +1,2 @@
-mod OptionLaws
+pub mod OptionLaws
+pub mod Reading

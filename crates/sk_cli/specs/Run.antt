@@ -8,7 +8,7 @@ use Rattle.sk_model.specs.Sketch.{estimate_of}
 use Rattle.sk_ingest.specs.Items.{items_by, AreGood, IsLongAt, IsBadAt, IsGoodSoFar, complete_lines_of}
 use Rattle.sk_ingest.specs.declared.kind.Kind.{Kind}
 use Rattle.sk_ingest.specs.declared.kind.Kind.TheVariants as kind
-use Rattle.sk_cli.specs.declared.TheConstants.{HELP, VERSION}
+use Rattle.sk_cli.specs.declared.help.TheConstants.{HELP, VERSION}
 use Rattle.sk_cli.specs.declared.command.Command.{Command}
 use Rattle.sk_cli.specs.declared.command.Command.TheVariants.{Count, Hash, Help, Version}
 use Rattle.sk_cli.specs.declared.fault.Fault.{Fault}
@@ -62,3 +62,25 @@ pub record Stops (command : Command) (left rest old new : Option (List ℕ)) : T
   pub consumed : Consumes left rest taken
   pub good : IsGoodSoFar (kind_of command) taken
   pub written : Appends old new (output_before command (complete_lines_of taken))
+
+-- how a command went: what it read and wrote, and what each fault comes from
+pub record Executes (command : Command) (most : ℕ) (left rest : Option (List ℕ)) (read_before read_now : ℕ)
+    (old new : Option (List ℕ)) (write_before write_now : ℕ) (result : Result (Unit {0}) Fault) : Type 0 where
+  -- the whole input was read, all its lines are good, and the whole text was written
+  pub output : OnOk result (Outputs command left old new)
+  pub end : OnOk result (OnTrue (reads command) (IsAtEnd rest))
+  pub good : OnOk result (OnTrue (reads command) (IfSome left (λ text. AreGood (kind_of command) (lines_of text))))
+  pub size : OnOk result (OnTrue (reads command) (IfSome left (λ text. length text < most)))
+  -- the first line that is not good, and what was due before it
+  pub long_line : (n : ℕ) → result ≡ Err (fault.LongLine n) → IfSome left (λ text.
+      IsLongAt (kind_of command) n (lines_of text) × Appends old new (output_before command (take (n - 1) (lines_of text))))
+  pub bad_item : (n : ℕ) → result ≡ Err (fault.BadItem n) → IfSome left (λ text.
+      IsBadAt (kind_of command) n (lines_of text) × Appends old new (output_before command (take (n - 1) (lines_of text))))
+  -- the other faults, each with its cause
+  pub read_fault : IsErrOf result fault.ReadFault → Rose read_before read_now
+  pub read_fault_at : IsErrOf result fault.ReadFault → (stop : Stops command left rest old new) × (length stop.taken < most)
+  pub too_much : IsErrOf result fault.TooMuch → (stop : Stops command left rest old new) × (length stop.taken ≡ most)
+  pub write_fault : IsErrOf result fault.WriteFault → Rose write_before write_now
+  pub write_fault_at : IsErrOf result fault.WriteFault → OutputsFront command left old new
+  pub memory : IsErrOf result fault.OutOfMemory → OutputsFront command left old new
+  pub no_usage : result ≢ Err fault.Usage

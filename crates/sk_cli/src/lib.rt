@@ -2,6 +2,7 @@
 #![tactic(auto)]
 
 mod command;
+mod count;
 mod fault;
+mod help;
 mod options;
-mod stub;
