@@ -107,16 +107,16 @@ counting_ended k kind most left rest before now old faults r f gives ended = rec
   good = on_ok_of_err r (fault_by f) _ gives;
   size = on_ok_of_err r (fault_by f) _ gives;
   long_line = λ n is. with_nothing left (λ (text : List ℕ). IsLongAt kind n (lines_of text)) (λ (text : List ℕ). Appends old old []) (λ text. Appends-nil old)
-    (ended.long_line n (long_is f n (given_fault r (fault_by f) _ gives is)));
+      (ended.long_line n (long_is f n (given_fault r (fault_by f) _ gives is)));
   bad_item = λ n is. with_nothing left (λ (text : List ℕ). IsBadAt kind n (lines_of text)) (λ (text : List ℕ). Appends old old []) (λ text. Appends-nil old)
-    (ended.bad_item n (bad_is f n (given_fault r (fault_by f) _ gives is)));
+      (ended.bad_item n (bad_is f n (given_fault r (fault_by f) _ gives is)));
   read_fault = λ is. ended.read_fault (read_fault_is f (given_fault r (fault_by f) _ gives is));
   read_fault_at = λ is.
-    let at = ended.read_fault_at (read_fault_is f (given_fault r (fault_by f) _ gives is)) in
-    (record { taken = at.0; consumed = at.1; good = at.3; written = Appends-nil old }, at.2);
+      let at = ended.read_fault_at (read_fault_is f (given_fault r (fault_by f) _ gives is)) in
+      (record { taken = at.0; consumed = at.1; good = at.3; written = Appends-nil old }, at.2);
   too_much = λ is.
-    let at = ended.too_much (too_much_is f (given_fault r (fault_by f) _ gives is)) in
-    (record { taken = at.0; consumed = at.1; good = at.3; written = Appends-nil old }, at.2);
+      let at = ended.too_much (too_much_is f (given_fault r (fault_by f) _ gives is)) in
+      (record { taken = at.0; consumed = at.1; good = at.3; written = Appends-nil old }, at.2);
   write_fault = λ is. absurd (no_write_fault f (given_fault r (fault_by f) _ gives is));
   write_fault_at = λ is. absurd (no_write_fault f (given_fault r (fault_by f) _ gives is));
   memory = λ is. all_told left (λ (text : List ℕ). AppendsFront old old (output_of (Count k kind) (lines_of text))) (λ text. front_of_any old (output_of (Count k kind) (lines_of text)));

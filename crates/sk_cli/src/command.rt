@@ -1,7 +1,7 @@
 // The words of a command line as a command.
-ghost use Rattle.std.specs.Prelude.{◌≡◌};
+ghost use Rattle.std.specs.Prelude.{◌≡◌, IfSome};
 ghost use Rattle.sk_cli.specs.Options.{texts_of};
-ghost use Rattle.sk_cli.specs.Command.{command_of, count_by, hash_by, seed_by, alone};
+ghost use Rattle.sk_cli.specs.Command.{command_of, count_by, seed_by, alone, IsWithin};
 
 use crate::options::{Name, Options, Verb};
 use sk_ingest::Kind;
@@ -11,8 +11,6 @@ use sk_ingest::Kind;
 pub enum Command {
     /// Estimate how many distinct items there are, by the k smallest.
     Count { k: u32, kind: Kind },
-    /// Write the hash of each line, under a seed.
-    Hash { seed: u32 },
     Help,
     Version,
 }
@@ -20,12 +18,12 @@ pub enum Command {
 impl Command {
     /// What the words ask for, or `None` where they are no command with its options.
     pub fn of(words: &[String]) -> Option<Command>
-        ensures { result ≡ command_of (texts_of words.now) }
+        ensures value { result ≡ command_of (texts_of words.now) }
+        ensures limits { IfSome result IsWithin }
     {
         let (verb, behind) = words.split_first()?;
         match verb.as_str() {
             "count" => Command::count(&Options::new(Verb::Count, behind)?),
-            "hash" => Command::hash(&Options::new(Verb::Hash, behind)?),
             "--help" => alone(Command::Help, behind),
             "--version" => alone(Command::Version, behind),
             _ => None,
@@ -33,7 +31,8 @@ impl Command {
     }
 
     fn count(options: &Options<'_>) -> Option<Command>
-        ensures { result ≡ count_by options.now }
+        ensures value { result ≡ count_by options.now }
+        ensures limits { IfSome result IsWithin }
     {
         let k = options.number(Name::K, 2, 32_768, 4_096)? as u32;
         let seed = seed_in(options)?;
@@ -44,21 +43,18 @@ impl Command {
         };
         Some(Command::Count { k, kind })
     }
-
-    fn hash(options: &Options<'_>) -> Option<Command>
-        ensures { result ≡ hash_by options.now }
-    {
-        Some(Command::Hash {
-            seed: seed_in(options)?,
-        })
-    }
 }
 
 // The command, where no word stands behind it.
 fn alone(command: Command, behind: &[String]) -> Option<Command>
-    ensures { result ≡ alone command (texts_of behind.now) }
+    ensures value { result ≡ alone command (texts_of behind.now) }
+    ensures same { IfSome result (λ c. c ≡ command) }
 {
-    if behind.is_empty() { Some(command) } else { None }
+    if behind.is_empty() {
+        Some(command)
+    } else {
+        None
+    }
 }
 
 // The seed of the hash.

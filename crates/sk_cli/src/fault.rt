@@ -1,10 +1,14 @@
 // Why the program ends by a status other than 0.
-ghost use Rattle.std.specs.Prelude.{◌≡◌, IfOk, string_bytes};
-ghost use Rattle.sk_cli.specs.Fault.{status_of, message_of, fault_by};
+ghost use Rattle.std.specs.Prelude.{◌≡◌, OnOk, OnErr};
+ghost use Rattle.std.specs.Io.KnownBytes.{Appends};
+ghost use Rattle.sk_model.specs.Causes.{HasCause, AppendsFront};
+ghost use Rattle.sk_cli.specs.Fault.{status_of, message_of, line_message, fault_by};
 
+use itoa::Buffer;
 use sk_ingest::Fault as ReadingFault;
+use sk_io::{Failed, Sink, write_all};
 use sk_model::OutOfMemory;
-use std::alloc::{AllocError, Global};
+use std::alloc::AllocError;
 
 /// Why the program ends by a status other than 0. Lines are counted from 1.
 #[derive(Clone, Copy, Debug, PartialEq, Eq)]
@@ -70,18 +74,34 @@ impl Fault {
         }
     }
 
-    /// The line that standard error gets.
-    pub fn message(self, alloc: Global) -> Result<String, AllocError>
-        ensures { IfOk result (λ text. string_bytes text ≡ message_of self) }
+    /// Writes the line of the fault, which standard error gets.
+    pub fn tell<E: Sink>(self, err: &mut E) -> Result<(), Failed>
+        ensures ok { OnOk result (Appends (E.written err.old) (E.written err.new) (message_of self)) }
+        ensures front { OnErr result (AppendsFront (E.written err.old) (E.written err.new) (message_of self)) }
+        ensures cause { HasCause (E.faults err.old) (E.faults err.new) result }
     {
         match self {
-            Fault::OutOfMemory => format!(in alloc; "out of memory\n"),
-            Fault::Usage => format!(in alloc; "usage: sketchd count, hash, replay, image, join, quantile, serve or make\n"),
-            Fault::ReadFault => format!(in alloc; "read fault\n"),
-            Fault::WriteFault => format!(in alloc; "write fault\n"),
-            Fault::LongLine(line) => format!(in alloc; "line {line}: too long\n"),
-            Fault::BadItem(line) => format!(in alloc; "line {line}: not a number\n"),
-            Fault::TooMuch => format!(in alloc; "too much\n"),
+            Fault::OutOfMemory => write_all(err, b"out of memory\n"),
+            Fault::Usage => write_all(
+                err,
+                b"usage: sketchd count, hash, replay, image, join, quantile, serve or make\n",
+            ),
+            Fault::ReadFault => write_all(err, b"read fault\n"),
+            Fault::WriteFault => write_all(err, b"write fault\n"),
+            Fault::LongLine(line) => tell_line(err, line, b": too long\n"),
+            Fault::BadItem(line) => tell_line(err, line, b": not a number\n"),
+            Fault::TooMuch => write_all(err, b"too much\n"),
         }
     }
+}
+
+// Writes what is wrong with a line.
+fn tell_line<E: Sink>(err: &mut E, line: u64, what: &[u8]) -> Result<(), Failed>
+    ensures ok { OnOk result (Appends (E.written err.old) (E.written err.new) (line_message line what.now)) }
+    ensures front { OnErr result (AppendsFront (E.written err.old) (E.written err.new) (line_message line what.now)) }
+    ensures cause { HasCause (E.faults err.old) (E.faults err.new) result }
+{
+    write_all(err, b"line ")?;
+    write_all(err, Buffer::new().format(line).as_bytes())?;
+    write_all(err, what)
 }

@@ -6,3 +6,9 @@ mod count;
 mod fault;
 mod help;
 mod options;
+mod program;
+
+pub use program::{MOST_BYTES, run};
+
+#[cfg(test)]
+mod tests;

@@ -10,7 +10,6 @@ use std::marker::Model;
 #[derive(Clone, Copy, Debug, PartialEq, Eq)]
 pub enum Verb {
     Count,
-    Hash,
 }
 
 /// The name of an option.
@@ -50,9 +49,8 @@ impl Verb {
     fn allows(self, name: Name) -> bool
         ensures { result ≡ allows self name }
     {
-        match self {
-            Verb::Count => true,
-            Verb::Hash => name == Name::Seed,
+        match (self, name) {
+            (Verb::Count, Name::K | Name::Raw | Name::Seed) => true,
         }
     }
 }
@@ -65,7 +63,6 @@ fn first_option<'a>(verb: Verb, words: &'a [String]) -> Option<(Name, &'a str, &
         ≡ option_map (λ given. (first.0, first.1.now) ∷ given) (options_of verb (texts_of first.2.now))) }
     ensures fewer { IfSome result (λ first. length first.2.now < length words.now) }
     ensures none { IfNone result (options_of verb (texts_of words.now) ≡ None) }
-
 {
     let (word, behind) = words.split_first()?;
     let name = Name::of(word)?;

@@ -13,7 +13,7 @@ returns-in_ok-value-clause-spelled c =
     let next = c.in_ok-value.ensures.cases.0 in
     let value = c.as_str.ensures.value in
     let split : texts_of c.args.words.now ≡ string_bytes c.in_ok-word.word.now ∷ c.as_str.result.now ∷ texts_of c.in_ok-value.behind.now =
-      ap texts_of front ∙ ap (λ l. string_bytes c.in_ok-word.word.now ∷ texts_of l) next ∙ ap (λ w. string_bytes c.in_ok-word.word.now ∷ w ∷ texts_of c.in_ok-value.behind.now) (sym value) in
+    ap texts_of front ∙ ap (λ l. string_bytes c.in_ok-word.word.now ∷ texts_of l) next ∙ ap (λ w. string_bytes c.in_ok-word.word.now ∷ w ∷ texts_of c.in_ok-value.behind.now) (sym value) in
     ap (options_of c.args.verb) split ∙ valued _ _ _ _ _ named has takes
 
 pub returns-else-takes_value-clause-spelled : goal.returns-else-takes_value-clause-spelled
