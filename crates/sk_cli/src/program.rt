@@ -43,7 +43,7 @@ pub fn run<S: Source, O: Sink, E: Sink>(
     ensures good { result ≡ 0 → IfSome (command_of (texts_of words.now)) (λ command. OnTrue (reads command) (IfSome (S.left input.old) (λ text.
         AreGood (kind_of command) (lines_of text)))) }
     ensures size { result ≡ 0 → IfSome (command_of (texts_of words.now)) (λ command. OnTrue (reads command) (IfSome (S.left input.old) (λ text.
-        length text < MOST_BYTES))) }
+        length text < 2 ^ 40))) }
 
     // The first line that is not good, with its number in the message.
     ensures long_line { result ≡ 5 → (n : ℕ) × Reports (E.written err.old) (E.written err.new) (E.faults err.old) (E.faults err.new) (message_of (fault.LongLine n))
@@ -54,11 +54,11 @@ pub fn run<S: Source, O: Sink, E: Sink>(
     // The other faults have their causes, and come where no line of the bytes taken is refused.
     ensures read_fault { result ≡ 3 → Rose (S.faults input.old) (S.faults input.new) }
     ensures read_fault_at { result ≡ 3 → IfSome (command_of (texts_of words.now)) (λ command.
-        (stop : Stops command (S.left input.old) (S.left input.new) (O.written out.old) (O.written out.new)) × (length stop.taken < MOST_BYTES)) }
+        (stop : Stops command (S.left input.old) (S.left input.new) (O.written out.old) (O.written out.new)) × (length stop.taken < 2 ^ 40)) }
     ensures write_fault { result ≡ 4 → Rose (O.faults out.old) (O.faults out.new) }
     ensures write_fault_at { result ≡ 4 → IfSome (command_of (texts_of words.now)) (λ command. OutputsFront command (S.left input.old) (O.written out.old) (O.written out.new)) }
     ensures too_much { result ≡ 13 → IfSome (command_of (texts_of words.now)) (λ command.
-        (stop : Stops command (S.left input.old) (S.left input.new) (O.written out.old) (O.written out.new)) × (length stop.taken ≡ MOST_BYTES)) }
+        (stop : Stops command (S.left input.old) (S.left input.new) (O.written out.old) (O.written out.new)) × (length stop.taken ≡ 2 ^ 40)) }
     ensures memory { result ≡ 1 → IfSome (command_of (texts_of words.now)) (λ command. OutputsFront command (S.left input.old) (O.written out.old) (O.written out.new)) }
 
     // What standard error gets.

@@ -24,7 +24,7 @@ fn words_of(alloc: Global, line: &str) -> Result<Vec<String>, Fail> {
     Ok(words)
 }
 
-fn ran(alloc: Global, line: &str, mut input: MemSource, room: usize) -> Result<Ran, Fail> {
+fn run_on(alloc: Global, line: &str, mut input: MemSource, room: usize) -> Result<Ran, Fail> {
     let words = words_of(alloc, line)?;
     let mut out = MemSink::new(alloc, room, 7, Vec::new(alloc))?;
     let mut err = MemSink::new(alloc, 1000, 1000, Vec::new(alloc))?;
@@ -36,9 +36,9 @@ fn ran(alloc: Global, line: &str, mut input: MemSource, room: usize) -> Result<R
     })
 }
 
-fn ran_over(alloc: Global, line: &str, text: &[u8]) -> Result<Ran, Fail> {
+fn run_over(alloc: Global, line: &str, text: &[u8]) -> Result<Ran, Fail> {
     let input = MemSource::new(text.to_vec(alloc)?, 1, Vec::new(alloc));
-    ran(alloc, line, input, 10_000)
+    run_on(alloc, line, input, 10_000)
 }
 
 fn expect_out(rt: &impl Abort, ran: &Ran, out: &[u8]) {
@@ -94,7 +94,7 @@ fn estimates(rt: HostRuntime) -> Result<(), Fail> {
         ("count --raw", b"1\n\n01\n", b"estimate 1/1\n"),
     ];
     for (line, text, out) in cases {
-        expect_out(&rt, &ran_over(alloc, line, text)?, out);
+        expect_out(&rt, &run_over(alloc, line, text)?, out);
     }
     Ok(())
 }
@@ -106,7 +106,7 @@ fn long_lines(rt: HostRuntime) -> Result<(), Fail> {
     let fits = MemSource::new(most.clone()?, 65_536, Vec::new(alloc));
     expect_out(
         &rt,
-        &ran(alloc, "count --k 4", fits, 100)?,
+        &run_on(alloc, "count --k 4", fits, 100)?,
         b"estimate 1/1\n",
     );
     let mut over = most;
@@ -114,7 +114,7 @@ fn long_lines(rt: HostRuntime) -> Result<(), Fail> {
     let long = MemSource::new(over, 65_536, Vec::new(alloc));
     expect_fault(
         &rt,
-        &ran(alloc, "count --k 4", long, 100)?,
+        &run_on(alloc, "count --k 4", long, 100)?,
         5,
         b"line 1: too long\n",
     );
@@ -131,7 +131,7 @@ fn no_numbers(rt: HostRuntime) -> Result<(), Fail> {
         (b"0000000000000005\n", b"line 1: not a number\n"),
     ];
     for (text, err) in cases {
-        expect_fault(&rt, &ran_over(alloc, "count --raw", text)?, 6, err);
+        expect_fault(&rt, &run_over(alloc, "count --raw", text)?, 6, err);
     }
     Ok(())
 }
@@ -157,7 +157,7 @@ fn words_that_are_no_command(rt: HostRuntime) -> Result<(), Fail> {
         "--raw",
     ];
     for line in lines {
-        expect_fault(&rt, &ran_over(alloc, line, b"hello\n")?, 2, usage);
+        expect_fault(&rt, &run_over(alloc, line, b"hello\n")?, 2, usage);
     }
     Ok(())
 }
@@ -165,8 +165,8 @@ fn words_that_are_no_command(rt: HostRuntime) -> Result<(), Fail> {
 #[test]
 fn tells_of_itself(rt: HostRuntime) -> Result<(), Fail> {
     let alloc = rt.alloc();
-    expect_out(&rt, &ran_over(alloc, "--version", b"")?, b"sketchd 0.1.0\n");
-    let help = ran_over(alloc, "--help", b"")?;
+    expect_out(&rt, &run_over(alloc, "--version", b"")?, b"sketchd 0.1.0\n");
+    let help = run_over(alloc, "--help", b"")?;
     assert_eq!(rt; help.status, 0);
     assert!(rt; help.out.starts_with(b"sketchd estimates"));
     Ok(())
@@ -179,7 +179,7 @@ fn reads_that_fail(rt: HostRuntime) -> Result<(), Fail> {
     for call in 0..9u64 {
         let text = b"a\nb\nc\nd".to_vec(alloc)?;
         let input = MemSource::new(text, 1, [call].to_vec(alloc)?);
-        let ran = ran(alloc, "count", input, 100)?;
+        let ran = run_on(alloc, "count", input, 100)?;
         if call < 8 {
             expect_fault(&rt, &ran, 3, b"read fault\n");
         } else {
@@ -193,7 +193,7 @@ fn reads_that_fail(rt: HostRuntime) -> Result<(), Fail> {
 fn a_sink_that_is_full(rt: HostRuntime) -> Result<(), Fail> {
     let alloc = rt.alloc();
     let input = MemSource::new(Vec::new(alloc), 1, Vec::new(alloc));
-    let ran = ran(alloc, "count --k 4", input, 5)?;
+    let ran = run_on(alloc, "count --k 4", input, 5)?;
     assert_eq!(rt; ran.status, 4);
     assert_eq!(rt; ran.out.as_slice(), b"estim".as_slice());
     assert_eq!(rt; ran.err.as_slice(), b"write fault\n".as_slice());
