@@ -1,5 +1,5 @@
 -- How the first option of some words parts from those behind it.
-use Rattle.std.proofs.Common.{String, Global, length, arith, ◌≡◌, ℕ, Bool, true, false, List, [], ◌∷◌, Option, Some, None, refl, sym, ap, ◌∙◌, if◌then◌else◌}
+use Rattle.std.proofs.Common.{String, Global, length, arith, ◌≡◌, Bool, true, false, List, [], ◌∷◌, Some, None, refl, ap, ◌∙◌, if◌then◌else◌}
 use Rattle.std.specs.Option.{option_map}
 use Rattle.sk_cli.specs.declared.options.Verb.{Verb}
 use Rattle.sk_cli.specs.declared.options.Name.{Name}

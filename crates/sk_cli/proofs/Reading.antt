@@ -1,5 +1,5 @@
 -- How a command goes whose reading ends early.
-use Rattle.std.proofs.Common.{◌≡◌, ℕ, ◌-◌, ◌<◌, ◌≤◌, List, [], length, take, Option, Some, None, Result, Ok, Err, OnOk, IsErrAnd, refl, sym, ap, ◌∙◌, subst, arith}
+use Rattle.std.proofs.Common.{◌≡◌, ℕ, ◌<◌, List, [], length, Option, Some, None, Result, Ok, Err, OnOk, IsErrAnd, refl, sym, ◌∙◌, arith}
 use Rattle.std.specs.Option.{IfSome}
 use Rattle.std.specs.Io.KnownBytes.{Appends, Consumes}
 use Rattle.std.proofs.KnownBytes.{Appends-nil}
@@ -8,10 +8,9 @@ use Rattle.sk_model.specs.Lines.{lines_of}
 use Rattle.sk_ingest.specs.declared.kind.Kind.{Kind}
 use Rattle.sk_ingest.specs.declared.items.Fault.{Fault as ReadingFault}
 use Rattle.sk_ingest.specs.declared.items.Fault.TheVariants as reading
-use Rattle.sk_ingest.specs.Items.{IsLongAt, IsBadAt, IsGoodSoFar, complete_lines_of}
+use Rattle.sk_ingest.specs.Items.{IsLongAt, IsBadAt, IsGoodSoFar}
 use Rattle.sk_cli.specs.declared.fault.Fault.{Fault}
 use Rattle.sk_cli.specs.declared.fault.Fault.TheVariants as fault
-use Rattle.sk_cli.specs.declared.command.Command.{Command}
 use Rattle.sk_cli.specs.declared.command.Command.TheVariants.{Count}
 use Rattle.sk_cli.specs.Fault.{fault_by}
 use Rattle.sk_cli.specs.Run.{Executes, output_of}

@@ -1,5 +1,5 @@
 -- Statuses, and what standard error gets.
-use Rattle.std.specs.Prelude.{◌≡◌, ◌⊎◌, ℕ, List, [], ◌∷◌, ◌++◌, codes, decimal}
+use Rattle.std.specs.Prelude.{◌≡◌, ◌⊎◌, ℕ, List, ◌++◌, codes, decimal}
 use Rattle.sk_ingest.specs.declared.items.Fault.{Fault as ReadingFault}
 use Rattle.sk_ingest.specs.declared.items.Fault.TheVariants as reading
 use Rattle.sk_cli.specs.declared.fault.Fault.{Fault}

@@ -1,7 +1,7 @@
 -- What a command reads and writes, and why it ends.
-use Rattle.std.specs.Prelude.{◌≡◌, ◌≢◌, ℕ, ◌-◌, ◌<◌, ◌≤◌, Bool, true, false, List, [], ◌∷◌, ◌++◌, codes, decimal, length, take, Option, IfSome, Result, Ok, Err, OnOk, IsErrOf, MatchBool}
+use Rattle.std.specs.Prelude.{◌≡◌, ◌≢◌, ℕ, ◌-◌, ◌<◌, Bool, true, false, List, [], ◌++◌, codes, decimal, length, take, Option, IfSome, Result, Err, OnOk, IsErrOf, MatchBool}
 use Rattle.std.specs.Bool.{OnTrue}
-use Rattle.std.specs.Io.KnownBytes.{Appends, Consumes, IsAtEnd, Keeps}
+use Rattle.std.specs.Io.KnownBytes.{Appends, Consumes, IsAtEnd}
 use Rattle.sk_model.specs.Causes.{Rose, AppendsFront}
 use Rattle.sk_model.specs.Lines.{lines_of}
 use Rattle.sk_model.specs.Sketch.{estimate_of}

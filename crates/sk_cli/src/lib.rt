@@ -8,7 +8,7 @@ mod help;
 mod options;
 mod program;
 
-pub use program::{MOST_BYTES, run};
+pub use program::run;
 
 #[cfg(test)]
 mod tests;

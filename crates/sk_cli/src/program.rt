@@ -19,8 +19,8 @@ use crate::help::{HELP, VERSION};
 use sk_io::{Sink, Source, write_all};
 use std::alloc::Global;
 
-/// As many bytes as this of one source are too much.
-pub const MOST_BYTES: u64 = 1 << 40;
+// As many bytes as this of one source are too much.
+const MOST_BYTES: u64 = 1 << 40;
 
 /// Runs the program over the words that stand behind its name, and answers its exit status. What
 /// standard error is told is written as far as it goes, and a fault of that write changes nothing.

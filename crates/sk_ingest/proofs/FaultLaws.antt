@@ -1,5 +1,5 @@
 -- Which fault of lines a fault of reading came from.
-use Rattle.std.proofs.Common.{◌≡◌, ℕ, Result, Ok, Err, IsErrAnd, refl, sym, ap, ◌∙◌}
+use Rattle.std.proofs.Common.{◌≡◌, ℕ, Result, Ok, Err, IsErrAnd, refl, sym, ◌∙◌}
 use Rattle.sk_ingest.specs.declared.reader.LineFault.{LineFault}
 use Rattle.sk_ingest.specs.declared.reader.LineFault.TheVariants as stop
 use Rattle.sk_ingest.specs.declared.items.Fault.{Fault}

@@ -1,9 +1,7 @@
 -- Items of lines, and where a text is refused.
-use Rattle.std.proofs.Common.{◌≡◌, ℕ, ◌+◌, ◌-◌, ◌<◌, ◌≤◌, ◌^◌, List, [], ◌∷◌, ◌++◌, length, take, get_or, All, Option, Some, None, IsNone, Bool, true, false, unwrap_or, refl, sym, ap, ◌∙◌, subst, arith, length-append, append-nil, append_assoc}
-use Rattle.std.proofs.lemmas.List.{take-append-le}
+use Rattle.std.proofs.Common.{◌≡◌, ℕ, ◌+◌, ◌-◌, ◌<◌, ◌≤◌, List, [], ◌∷◌, ◌++◌, length, take, get_or, All, Option, Some, None, IsNone, Bool, true, false, unwrap_or, refl, sym, ap, ◌∙◌, subst, arith, length-append, append-nil, append_assoc}
 use Rattle.std.specs.Option.{IfSome}
 use Rattle.std.specs.Io.KnownBytes.{Consumes, IsAtEnd}
-use Rattle.std.proofs.KnownBytes.{Consumes-trans}
 use Rattle.sk_model.specs.Missing.{Begins}
 use Rattle.sk_model.specs.Lines.{lines_of, open_lines_of, items_of, filled, AreWithin, IsFirstLong}
 use Rattle.sk_model.proofs.Lines.{items_append, item_of_one, item_of_empty, items_are_few, lines_are_few, within_front}
@@ -62,12 +60,14 @@ pub long_one : (kind : Kind) (n : ℕ) (given lines : List (List ℕ)) (P : List
     ComesLong line_limit given lines → IsLongAt kind n lines × P (items_by kind (take (n - 1) lines))
 long_one kind n given lines P is good within holds long =
     let place : n - 1 ≡ length given = omega arith in
-    let front : take (n - 1) lines ≡ given = ap (λ (m : ℕ). take m lines) place ∙ front_is given lines long.begins in
-    (record {
-      from = omega arith;
-      before = subst (AreGood kind) (sym front) (record { within = within; items = good });
-      long = subst (λ (m : ℕ). IsFirstLong line_limit m lines) (sym place) long.first;
-    }, subst (λ (l : List (List ℕ)). P (items_by kind l)) (sym front) holds)
+    let front : take (n - 1) lines ≡ given = ap (λ (m : ℕ). take m lines) place ∙ front_is given lines long.begins in (
+      record {
+        from = omega arith;
+        before = subst (AreGood kind) (sym front) (record { within = within; items = good });
+        long = subst (λ (m : ℕ). IsFirstLong line_limit m lines) (sym place) long.first;
+      },
+      subst (λ (l : List (List ℕ)). P (items_by kind l)) (sym front) holds,
+    )
 
 pub long_at : (kind : Kind) (n : ℕ) (given : List (List ℕ)) (taken : List ℕ) (old left : Option (List ℕ)) (P : List ℕ → Type 0) → Consumes old left taken → n ≡ length given + 1 →
     All (IsGood kind) given → AreWithin line_limit given → P (items_by kind given) → IfSome left (λ (rest : List ℕ). ComesLong line_limit given (lines_of (taken ++ rest))) →
@@ -75,7 +75,7 @@ pub long_at : (kind : Kind) (n : ℕ) (given : List (List ℕ)) (taken : List �
 long_at kind n given taken old left P consumed is good within holds long =
     told_by old left taken (λ (text : List ℕ). IsLongAt kind n (lines_of text) × P (items_by kind (take (n - 1) (lines_of text)))) consumed
     (with_rest left (λ (rest : List ℕ). ComesLong line_limit given (lines_of (taken ++ rest))) (λ (rest : List ℕ). IsLongAt kind n (lines_of (taken ++ rest)) × P (items_by kind (take (n - 1) (lines_of (taken ++ rest)))))
-      (λ rest. long_one kind n given (lines_of (taken ++ rest)) P is good within holds) long)
+    (λ rest. long_one kind n given (lines_of (taken ++ rest)) P is good within holds) long)
 
 at_length : (xs : List (List ℕ)) (y : List ℕ) (zs : List (List ℕ)) → get_or (xs ++ y ∷ zs) (length xs) [] ≡ y
 at_length [] y zs = refl
@@ -89,15 +89,17 @@ bad_one kind n given line lines P is good within holds filled bad begins =
     let behind : lines ≡ given ++ line ∷ begins.0 = begins.1 ∙ append_assoc given (line ∷ []) begins.0 in
     let front : take (n - 1) lines ≡ given = ap (λ (m : ℕ). take m lines) place ∙ front_is given lines (line ∷ begins.0, behind) in
     let here : get_or lines (n - 1) [] ≡ line = ap (λ (m : ℕ). get_or lines m []) place ∙ ap (λ (l : List (List ℕ)). get_or l (length given) []) behind ∙ at_length given line begins.0 in
-    let short : length line ≤ line_limit = within_one_of given line within in
-    (record {
-      from = omega arith;
-      to = omega (arith, ap length behind, length-append given (line ∷ begins.0));
-      before = subst (AreGood kind) (sym front) (record { within = within_front line_limit given (line ∷ []) within; items = good });
-      filled = subst (λ (l : List ℕ). 0 < length l) (sym here) filled;
-      within = subst (λ (l : List ℕ). length l ≤ line_limit) (sym here) short;
-      bad = subst (λ (l : List ℕ). IsNone (item_of kind l)) (sym here) bad;
-    }, subst (λ (l : List (List ℕ)). P (items_by kind l)) (sym front) holds)
+    let short : length line ≤ line_limit = within_one_of given line within in (
+      record {
+        from = omega arith;
+        to = omega (arith, ap length behind, length-append given (line ∷ begins.0));
+        before = subst (AreGood kind) (sym front) (record { within = within_front line_limit given (line ∷ []) within; items = good });
+        filled = subst (λ (l : List ℕ). 0 < length l) (sym here) filled;
+        within = subst (λ (l : List ℕ). length l ≤ line_limit) (sym here) short;
+        bad = subst (λ (l : List ℕ). IsNone (item_of kind l)) (sym here) bad;
+      },
+      subst (λ (l : List (List ℕ)). P (items_by kind l)) (sym front) holds,
+    )
   where
     within_one_of : (given : List (List ℕ)) (line : List ℕ) → AreWithin line_limit (given ++ line ∷ []) → length line ≤ line_limit
     within_one_of given line within =
@@ -110,18 +112,20 @@ pub bad_at : (kind : Kind) (n : ℕ) (given : List (List ℕ)) (line taken : Lis
 bad_at kind n given line taken old left P consumed is good within holds some bad begins =
     told_by old left taken (λ (text : List ℕ). IsBadAt kind n (lines_of text) × P (items_by kind (take (n - 1) (lines_of text)))) consumed
     (with_rest left (λ (rest : List ℕ). Begins (given ++ line ∷ []) (lines_of (taken ++ rest))) (λ (rest : List ℕ). IsBadAt kind n (lines_of (taken ++ rest)) × P (items_by kind (take (n - 1) (lines_of (taken ++ rest)))))
-      (λ rest. bad_one kind n given line (lines_of (taken ++ rest)) P is good within holds some bad) begins)
+    (λ rest. bad_one kind n given line (lines_of (taken ++ rest)) P is good within holds some bad) begins)
 
 -- behind all complete lines of the bytes taken
 pub stood : (kind : Kind) (r : Reading) (given : List (List ℕ)) (taken : List ℕ) → r.cutter.limit ≡ line_limit → All (IsGood kind) given → Stands r given taken →
     IsGoodSoFar kind taken × (complete_lines_of taken ≡ given)
 stood kind r given taken limit good stands =
     let complete : complete_lines_of taken ≡ given =
-      ap (λ (l : List (List ℕ)). take (length l - 1) l) stands.lines ∙ less_one given (strip_carriage_return r.cutter.rest) in
-    (record {
-      lines = subst (AreGood kind) (sym complete) (record { within = subst (λ (m : ℕ). AreWithin m given) limit stands.follows.within; items = good });
-      piece = subst (λ (m : ℕ). AreWithin m (open_lines_of taken)) limit stands.within;
-    }, complete)
+    ap (λ (l : List (List ℕ)). take (length l - 1) l) stands.lines ∙ less_one given (strip_carriage_return r.cutter.rest) in (
+      record {
+        lines = subst (AreGood kind) (sym complete) (record { within = subst (λ (m : ℕ). AreWithin m given) limit stands.follows.within; items = good });
+        piece = subst (λ (m : ℕ). AreWithin m (open_lines_of taken)) limit stands.within;
+      },
+      complete,
+    )
   where
     less_one : (xs : List (List ℕ)) (y : List ℕ) → take (length (xs ++ y ∷ []) - 1) (xs ++ y ∷ []) ≡ xs
     less_one xs y = ap (λ (m : ℕ). take m (xs ++ y ∷ [])) (omega (arith, length-append xs (y ∷ []))) ∙ front_is xs (xs ++ y ∷ []) (y ∷ [], refl)

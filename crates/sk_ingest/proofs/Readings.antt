@@ -1,11 +1,11 @@
 -- What a reader of a source's lines finds.
-use Rattle.std.proofs.Common.{◌≡◌, ℕ, ◌+◌, ◌<◌, ◌≤◌, ◌^◌, Bool, true, false, List, [], ◌∷◌, ◌++◌, length, Option, Some, None, Result, Err, refl, arith, append-nil, append_assoc, length-append, sym, ap, ◌∙◌, subst}
-use Rattle.sk_model.specs.Lines.{lines_of, open_lines_of, IsFirstLong}
+use Rattle.std.proofs.Common.{◌≡◌, ℕ, ◌+◌, ◌≤◌, ◌^◌, Bool, true, false, List, [], ◌∷◌, ◌++◌, length, Option, Some, None, Result, Err, refl, arith, append-nil, append_assoc, length-append, sym, ap, ◌∙◌, subst}
+use Rattle.sk_model.specs.Lines.{lines_of, open_lines_of}
 use Rattle.sk_model.proofs.Lines.{long_stays_long, lines_are_few}
 use Rattle.sk_lines.specs.Cutter.{Cutter, Follows, IsLongAfter, is_long}
 use Rattle.sk_lines.specs.declared.cutter.Next.{Next}
 use Rattle.sk_lines.specs.declared.cutter.Next.TheVariants as next
-use Rattle.sk_ingest.specs.Reading.{Reading, HasGiven, ComesLong, GivesLine, GivesNext, GivesNone, FindsLong, IsLongNext, IsLongLast, Feeds, Stands, Stops, remaining_of}
+use Rattle.sk_ingest.specs.Reading.{Reading, HasGiven, ComesLong, GivesLine, GivesNext, GivesNone, FindsLong, IsLongNext, IsLongLast, Feeds, remaining_of}
 use Rattle.sk_ingest.specs.declared.reader.LineFault.{LineFault}
 use Rattle.sk_ingest.specs.declared.reader.LineFault.TheVariants as fault
 use Rattle.sk_model.specs.Missing.{Begins}
@@ -25,11 +25,13 @@ long_next limit n most c given taken within few follows long =
 pub long_last : (limit n most : ℕ) (c : Cutter) (given : List (List ℕ)) (taken : List ℕ) → length taken ≤ most → most ≤ 2 ^ 40 → Follows c given taken →
     IsLongAfter limit n given (lines_of taken) → (n ≡ length given + 1) × ComesLong limit given (lines_of taken)
 long_last limit n most c given taken within few follows long =
-    let number : n ≡ length given + 1 = omega (arith, long.number, long.first.0, lines_are_few taken) in
-    (number, record {
-      begins = subst (λ (l : List ℕ). Begins given (lines_of l)) (append-nil taken) (given_lines_stay c given taken [] follows);
-      first = long.first;
-    })
+    let number : n ≡ length given + 1 = omega (arith, long.number, long.first.0, lines_are_few taken) in (
+      number,
+      record {
+        begins = subst (λ (l : List ℕ). Begins given (lines_of l)) (append-nil taken) (given_lines_stay c given taken [] follows);
+        first = long.first;
+      },
+    )
 
 more_is_not_long : (n : ℕ) → next.More ≡ next.Long n → ⊥
 more_is_not_long n same = cc
@@ -91,9 +93,11 @@ gives_none old mid new more moves none given taken has = none given (taken ++ mo
 
 pub finds_long : (old mid : Reading) (more : List ℕ) (left : Option (List ℕ)) (n : ℕ) → Moves old mid more → IsLongNext mid n → FindsLong old more left n
 finds_long old mid more left n moves long given taken has =
-    let found = long given (taken ++ more) (moves.follows given taken has) in
-    (found.0, by_told left (λ (rest : List ℕ). ComesLong old.cutter.limit given (lines_of ((taken ++ more) ++ rest)))
-      (λ rest. subst (λ (limit : ℕ). ComesLong limit given (lines_of ((taken ++ more) ++ rest))) moves.limit (found.1 rest)))
+    let found = long given (taken ++ more) (moves.follows given taken has) in (
+      found.0,
+      by_told left (λ (rest : List ℕ). ComesLong old.cutter.limit given (lines_of ((taken ++ more) ++ rest)))
+          (λ rest. subst (λ (limit : ℕ). ComesLong limit given (lines_of ((taken ++ more) ++ rest))) moves.limit (found.1 rest)),
+    )
 
 pub finds_long_last : (old mid : Reading) (more : List ℕ) (left : Option (List ℕ)) (n : ℕ) → Moves old mid more → IsLongLast mid n → IsAtEnd left → FindsLong old more left n
 finds_long_last old mid more left n moves long end given taken has =

@@ -1,5 +1,5 @@
 -- How a reader of a source's lines keeps what contracts see of it.
-use Rattle.std.specs.Prelude.{◌≡◌, ◌≤◌, ◌^◌, ℕ, ◌↔◌, true, false, vec_len}
+use Rattle.std.specs.Prelude.{◌≡◌, ◌≤◌, ◌^◌}
 use Rattle.sk_ingest.specs.declared.reader.LineReader.TheInside.{Inside}
 use Rattle.sk_ingest.specs.Reading.{Reading}
 

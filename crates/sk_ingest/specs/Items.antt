@@ -1,9 +1,9 @@
 -- How lines become items, and where a text is refused.
-use Rattle.std.specs.Prelude.{◌≡◌, ℕ, ◌+◌, ◌-◌, ◌<◌, ◌≤◌, List, length, take, All, Option, Some, IsSome, IsNone, unwrap_or, slice_index_or, []}
+use Rattle.std.specs.Prelude.{ℕ, ◌-◌, ◌<◌, ◌≤◌, List, length, take, All, Option, Some, IsSome, IsNone, unwrap_or, slice_index_or, []}
 use Rattle.sk_model.specs.Width.{item_end}
 use Rattle.sk_model.specs.Murmur.{hash_of}
 use Rattle.sk_model.specs.Numbers.{number_of}
-use Rattle.sk_model.specs.Lines.{lines_of, open_lines_of, items_of, AreWithin, IsFirstLong}
+use Rattle.sk_model.specs.Lines.{open_lines_of, items_of, AreWithin, IsFirstLong}
 use Rattle.sk_ingest.specs.declared.kind.Kind.{Kind}
 use Rattle.sk_ingest.specs.declared.kind.Kind.TheVariants.{Hash, Raw}
 

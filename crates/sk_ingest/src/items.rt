@@ -77,7 +77,12 @@ pub trait Taker {
 }
 
 /// Gives the items of a source to the taker, in order, and answers how many lines there were.
-pub fn read_items<S: Source, T: Taker>(alloc: Global, plan: &Intake, source: &mut S, taker: &mut T) -> Result<u64, Fault>
+pub fn read_items<S: Source, T: Taker>(
+    alloc: Global,
+    plan: &Intake,
+    source: &mut S,
+    taker: &mut T,
+) -> Result<u64, Fault>
     requires bound { plan.now.most ≤ 2 ^ 40 }
     requires empty { T.stands_for taker.old [] }
 

@@ -20,9 +20,7 @@ fn word_at(rt: &impl Env, alloc: Global, place: usize) -> Result<Option<String>,
         match rt.arg(place, &mut bytes) {
             Ok(len) => {
                 bytes.truncate(len);
-                return Ok(Some(
-                    String::from_utf8(bytes).unwrap_or(String::new(alloc)),
-                ));
+                return Ok(Some(String::from_utf8(bytes).unwrap_or(String::new(alloc))));
             }
             Err(FillError::NotPresent) => return Ok(None),
             Err(FillError::TooLong) => room = room.saturating_mul(2),

@@ -1,7 +1,7 @@
-use Rattle.std.proofs.Common.{◌≡◌, ℕ, List, Result, Err, ap, ◌∙◌, take, ◌-◌}
+use Rattle.std.proofs.Common.{ℕ, List, Err, ap, ◌∙◌}
 use Rattle.sk_model.specs.Lines.{lines_of}
 use Rattle.sk_ingest.specs.declared.items.Fault.{Fault as ReadingFault}
-use Rattle.sk_ingest.specs.Items.{IsLongAt, IsBadAt, items_by}
+use Rattle.sk_ingest.specs.Items.{IsLongAt, IsBadAt}
 use Rattle.sk_cli.proofs.Reading.{Ended, counting_ended, without_items}
 use Rattle.sk_cli.proofs.count.count.Goals as goal
 

@@ -1,5 +1,4 @@
 use Rattle.std.proofs.Common.{append_assoc, rules}
-use Rattle.std.proofs.lemmas.Grind.{common_steps}
 use Rattle.sk_cli.proofs.count.line_of.Goals as goal
 
 pub returns : goal.returns

@@ -1,5 +1,5 @@
-use Rattle.std.proofs.Common.{◌≡◌, ◌∙◌, sym, ap, arith, length, is_some, unwrap_or, []}
-use Rattle.sk_cli.specs.Options.{value_behind, is_once}
+use Rattle.std.proofs.Common.{◌≡◌, ◌∙◌, sym, ap, arith, length, unwrap_or, []}
+use Rattle.sk_cli.specs.Options.{is_once}
 use Rattle.sk_cli.proofs.OptionLaws.{none_left}
 use Rattle.sk_cli.proofs.options.are_once.Goals as goal
 

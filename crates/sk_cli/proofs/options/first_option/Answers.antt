@@ -1,6 +1,5 @@
-use Rattle.std.proofs.Common.{arith, rules, ◌≡◌, ◌∙◌, ap, ◌∷◌, List, true, false, Some, string_bytes, sym, not}
-use Rattle.std.proofs.lemmas.Grind.{common_steps}
-use Rattle.sk_cli.specs.Options.{texts_of, options_of, allows, takes_value, name_of, Word}
+use Rattle.std.proofs.Common.{rules, ◌≡◌, ◌∙◌, ap, ◌∷◌, true, false, Some, string_bytes, sym}
+use Rattle.sk_cli.specs.Options.{texts_of, options_of, allows, takes_value, name_of}
 use Rattle.sk_cli.proofs.OptionLaws.{valued, flagged}
 use Rattle.sk_cli.proofs.options.first_option.Goals as goal
 

@@ -1,4 +1,4 @@
-use Rattle.std.proofs.Common.{◌≡◌, ◌≤◌, List, ℕ, true, All, length}
+use Rattle.std.proofs.Common.{◌≡◌, ◌≤◌, List, ℕ, true, All}
 use Rattle.std.specs.Io.KnownBytes.{Consumes, IsAtEnd}
 use Rattle.sk_ingest.specs.Items.{items_by, IsGood}
 use Rattle.sk_ingest.specs.Reading.{HasGiven, remaining_of}

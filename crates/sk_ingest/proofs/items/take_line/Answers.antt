@@ -1,4 +1,4 @@
-use Rattle.std.proofs.Common.{◌≡◌, ◌<◌, ◌^◌, ℕ, List, ◌++◌, ◌∷◌, [], length, Some, sym, ap, ◌∙◌, subst, arith, rules}
+use Rattle.std.proofs.Common.{◌≡◌, ◌<◌, ℕ, List, length, Some, sym, subst, arith, rules}
 use Rattle.sk_ingest.specs.Items.{items_by, item_of}
 use Rattle.sk_ingest.proofs.ItemLaws.{items_are_fewer, items_of_more, items_of_empty}
 use Rattle.sk_ingest.proofs.items.take_line.Goals as goal

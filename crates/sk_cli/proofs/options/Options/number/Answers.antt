@@ -1,4 +1,4 @@
-use Rattle.std.proofs.Common.{◌≡◌, ◌≤◌, ◌+◌, ◌<◌, ℕ, Option, Some, sym, subst, arith, ◌∙◌}
+use Rattle.std.proofs.Common.{◌+◌, ◌<◌, ℕ, Option, sym, subst, arith, ◌∙◌}
 use Rattle.std.specs.Option.{IfSome}
 use Rattle.sk_model.proofs.Numbers.{number_below}
 use Rattle.sk_cli.proofs.options.Options.number.Goals as goal

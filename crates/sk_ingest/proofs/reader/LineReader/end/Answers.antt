@@ -1,4 +1,4 @@
-use Rattle.std.proofs.Common.{◌≡◌, ◌≤◌, ◌^◌, ℕ, false, Ok, Err, Result, Bool, sym, ap, ◌∙◌, subst, arith, true}
+use Rattle.std.proofs.Common.{◌≡◌, ℕ, false, Ok, Err, Result, Bool, ap, ◌∙◌, subst, arith, true}
 use Rattle.sk_ingest.specs.declared.reader.LineFault.{LineFault}
 use Rattle.sk_ingest.specs.declared.reader.LineFault.TheVariants as fault
 use Rattle.sk_ingest.specs.Reading.{Reading, IsLongLast}
@@ -21,6 +21,6 @@ returns-clause-long c = λ n is. elim c.match-end.branch [
       let number : w.in-Long.line ≡ n = same_line _ _ n w.result-is is in
       subst (λ (m : ℕ). IsLongLast c.args.self.now m) number
       (subst (λ (r : Reading). IsLongLast r w.in-Long.line) c.self.view_is
-        (long_end (reading_of c.self.inside) w.in-Long.line (ap (λ (r : Reading). r.ended) c.self.view_is ∙ c.requires.open) (omega (arith, c.self.invariant.bound, c.self.invariant.few))
-          (c.end.ensures.long w.in-Long.line w.in-Long.is)))
+      (long_end (reading_of c.self.inside) w.in-Long.line (ap (λ (r : Reading). r.ended) c.self.view_is ∙ c.requires.open) (omega (arith, c.self.invariant.bound, c.self.invariant.few))
+      (c.end.ensures.long w.in-Long.line w.in-Long.is)))
 ]

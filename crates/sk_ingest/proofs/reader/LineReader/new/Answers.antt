@@ -1,4 +1,4 @@
-use Rattle.std.proofs.Common.{refl, arith, ap, ◌≡◌, sym, ◌∙◌}
+use Rattle.std.proofs.Common.{refl, arith, ap}
 use Rattle.std.proofs.lemmas.Bool.{false≢true}
 use Rattle.sk_lines.specs.Cutter.{is_long}
 use Rattle.sk_ingest.proofs.reader.LineReader.new.Goals as goal

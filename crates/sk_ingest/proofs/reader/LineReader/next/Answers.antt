@@ -1,10 +1,8 @@
-use Rattle.std.proofs.Common.{◌≡◌, ◌≤◌, ◌<◌, ◌-◌, ◌++◌, ℕ, List, [], Bool, true, false, Ok, Err, Result, refl, sym, ap, ◌∙◌, subst, arith, rules}
+use Rattle.std.proofs.Common.{◌≡◌, ◌≤◌, ◌<◌, ◌++◌, ℕ, List, true, false, sym, ◌∙◌, subst, arith, rules}
 use Rattle.std.proofs.lemmas.Bool.{false≢true}
 use Rattle.std.specs.Io.KnownBytes.{Consumes, IsAtEnd}
 use Rattle.std.proofs.KnownBytes.{Consumes-trans}
-use Rattle.sk_ingest.specs.declared.reader.LineFault.{LineFault}
-use Rattle.sk_ingest.specs.declared.reader.LineFault.TheVariants as fault
-use Rattle.sk_ingest.specs.Reading.{Reading, HasGiven, FindsLong, remaining_of}
+use Rattle.sk_ingest.specs.Reading.{FindsLong}
 use Rattle.sk_ingest.proofs.Readings.{Moves, moves_on, moves_fed, gives_next, gives_none, finds_long, finds_long_last, same_line}
 use Rattle.sk_ingest.proofs.reader.LineReader.next.Goals as goal
 
@@ -21,8 +19,8 @@ returns-then-not-branch-clause-line g c = λ is.
     let fed = c.in_ok-refill.ensures.fed in
     let open_still : c.piece.self.ended ≡ false = search rules in
     let cut_moves : Moves c.args.self.now c.cut.new.self before.0 =
-      moves_on c.args.self.now c.piece.self c.cut.new.self before.0 before.2
-        (λ given taken has. (c.cut.ensures.more c.in-More.is open_still given taken has).follows) c.cut.ensures.remaining c.cut.ensures.limit c.cut.ensures.most.0 in
+    moves_on c.args.self.now c.piece.self c.cut.new.self before.0 before.2
+    (λ given taken has. (c.cut.ensures.more c.in-More.is open_still given taken has).follows) c.cut.ensures.remaining c.cut.ensures.limit c.cut.ensures.most.0 in
     let moves = moves_fed c.args.self.now c.cut.new.self c.refill.new.self before.0 fed.0 cut_moves fed.2 in
     (before.0 ++ fed.0, Consumes-trans _ _ _ _ _ before.1 fed.1, gives_next c.args.self.now c.refill.new.self c.end.new.self _ moves (c.end.ensures.line is).0)
 
@@ -32,8 +30,8 @@ returns-then-not-branch-clause-none g c = λ is.
     let fed = c.in_ok-refill.ensures.fed in
     let open_still : c.piece.self.ended ≡ false = search rules in
     let cut_moves : Moves c.args.self.now c.cut.new.self before.0 =
-      moves_on c.args.self.now c.piece.self c.cut.new.self before.0 before.2
-        (λ given taken has. (c.cut.ensures.more c.in-More.is open_still given taken has).follows) c.cut.ensures.remaining c.cut.ensures.limit c.cut.ensures.most.0 in
+    moves_on c.args.self.now c.piece.self c.cut.new.self before.0 before.2
+    (λ given taken has. (c.cut.ensures.more c.in-More.is open_still given taken has).follows) c.cut.ensures.remaining c.cut.ensures.limit c.cut.ensures.most.0 in
     let moves = moves_fed c.args.self.now c.cut.new.self c.refill.new.self before.0 fed.0 cut_moves fed.2 in
     (before.0 ++ fed.0, Consumes-trans _ _ _ _ _ before.1 fed.1, gives_none c.args.self.now c.refill.new.self c.end.new.self _ moves (c.end.ensures.none is))
 
@@ -44,8 +42,8 @@ returns-then-not-branch-clause-long_line g c = λ n is.
     let open_still : c.piece.self.ended ≡ false = search rules in
     let at_end : IsAtEnd (g.S.Source.left c.refill.new.source) = search rules in
     let cut_moves : Moves c.args.self.now c.cut.new.self before.0 =
-      moves_on c.args.self.now c.piece.self c.cut.new.self before.0 before.2
-        (λ given taken has. (c.cut.ensures.more c.in-More.is open_still given taken has).follows) c.cut.ensures.remaining c.cut.ensures.limit c.cut.ensures.most.0 in
+    moves_on c.args.self.now c.piece.self c.cut.new.self before.0 before.2
+    (λ given taken has. (c.cut.ensures.more c.in-More.is open_still given taken has).follows) c.cut.ensures.remaining c.cut.ensures.limit c.cut.ensures.most.0 in
     let moves = moves_fed c.args.self.now c.cut.new.self c.refill.new.self before.0 fed.0 cut_moves fed.2 in
     (before.0 ++ fed.0, Consumes-trans _ _ _ _ _ before.1 fed.1, finds_long_last c.args.self.now c.refill.new.self _ _ n moves (c.end.ensures.long n is) at_end)
 
@@ -55,8 +53,8 @@ piece-preserved g c =
     let fed = c.in_ok-refill.ensures.fed in
     let open_still : c.piece.self.ended ≡ false = search rules in
     let cut_moves : Moves c.args.self.now c.cut.new.self before.0 =
-      moves_on c.args.self.now c.piece.self c.cut.new.self before.0 before.2
-        (λ given taken has. (c.cut.ensures.more c.in-More.is open_still given taken has).follows) c.cut.ensures.remaining c.cut.ensures.limit c.cut.ensures.most.0 in
+    moves_on c.args.self.now c.piece.self c.cut.new.self before.0 before.2
+    (λ given taken has. (c.cut.ensures.more c.in-More.is open_still given taken has).follows) c.cut.ensures.remaining c.cut.ensures.limit c.cut.ensures.most.0 in
     let moves = moves_fed c.args.self.now c.cut.new.self c.refill.new.self before.0 fed.0 cut_moves fed.2 in
     record {
       moves = (before.0 ++ fed.0, Consumes-trans _ _ _ _ _ before.1 fed.1, moves);
@@ -75,6 +73,9 @@ piece-smaller g c =
 pub returns-then-self-clause-none : goal.returns-then-self-clause-none
 returns-then-self-clause-none g c = λ is.
     let before = c.piece.invariant.moves in
-    let over : c.piece.self.ended ≡ true = search rules in
-    (before.0, before.1, gives_none c.args.self.now c.piece.self c.cut.new.self before.0 before.2
-      (λ given taken has. (has.whole over, c.cut.ensures.after_end c.in-More.is over given taken has)))
+    let over : c.piece.self.ended ≡ true = search rules in (
+      before.0,
+      before.1,
+      gives_none c.args.self.now c.piece.self c.cut.new.self before.0 before.2
+          (λ given taken has. (has.whole over, c.cut.ensures.after_end c.in-More.is over given taken has)),
+    )

@@ -1,6 +1,5 @@
-use Rattle.std.proofs.Common.{◌≡◌, ◌≤◌, ◌-◌, ◌++◌, ℕ, List, true}
+use Rattle.std.proofs.Common.{◌≡◌, ◌≤◌, ◌-◌, ℕ, List, true}
 use Rattle.std.specs.Io.KnownBytes.{Consumes, IsAtEnd}
-use Rattle.sk_ingest.specs.Reading.{HasGiven, remaining_of}
 use Rattle.sk_ingest.proofs.Readings.{Moves}
 use Rattle.sk_ingest.proofs.reader.LineReader.next.Given as goal
 
