@@ -1,0 +1,34 @@
+use Rattle.std.proofs.Common.{sym, subst, OnOk, OnErr}
+use Rattle.std.specs.Io.KnownBytes.{Appends}
+use Rattle.sk_model.specs.Causes.{AppendsFront}
+use Rattle.sk_cli.specs.declared.fault.Fault.{Fault}
+use Rattle.sk_cli.specs.Fault.{message_of}
+use Rattle.sk_cli.proofs.fault.Fault.tell.Goals as goal
+
+pub returns-in-ReadFault-clause-ok : goal.returns-in-ReadFault-clause-ok
+returns-in-ReadFault-clause-ok g c =
+    subst (λ (f : Fault). OnOk c.write_all-in-ReadFault.result (Appends (g.E.Sink.written c.args.err.now) (g.E.Sink.written c.write_all-in-ReadFault.new.out) (message_of f))) (sym c.in-ReadFault.is) c.write_all-in-ReadFault.ensures.ok
+
+pub returns-in-ReadFault-clause-front : goal.returns-in-ReadFault-clause-front
+returns-in-ReadFault-clause-front g c =
+    subst (λ (f : Fault). OnErr c.write_all-in-ReadFault.result (AppendsFront (g.E.Sink.written c.args.err.now) (g.E.Sink.written c.write_all-in-ReadFault.new.out) (message_of f))) (sym c.in-ReadFault.is) c.write_all-in-ReadFault.ensures.err
+
+pub returns-in-LongLine-clause-ok : goal.returns-in-LongLine-clause-ok
+returns-in-LongLine-clause-ok g c =
+    subst (λ (f : Fault). OnOk c.tell_line.result (Appends (g.E.Sink.written c.args.err.now) (g.E.Sink.written c.tell_line.new.err) (message_of f))) (sym c.in-LongLine.is) c.tell_line.ensures.ok
+
+pub returns-in-LongLine-clause-front : goal.returns-in-LongLine-clause-front
+returns-in-LongLine-clause-front g c =
+    subst (λ (f : Fault). OnErr c.tell_line.result (AppendsFront (g.E.Sink.written c.args.err.now) (g.E.Sink.written c.tell_line.new.err) (message_of f))) (sym c.in-LongLine.is) c.tell_line.ensures.front
+
+pub returns-in-BadItem-clause-ok : goal.returns-in-BadItem-clause-ok
+returns-in-BadItem-clause-ok g c =
+    subst (λ (f : Fault). OnOk c.tell_line-in-BadItem.result (Appends (g.E.Sink.written c.args.err.now) (g.E.Sink.written c.tell_line-in-BadItem.new.err) (message_of f))) (sym c.in-BadItem.is) c.tell_line-in-BadItem.ensures.ok
+
+pub returns-in-BadItem-clause-front : goal.returns-in-BadItem-clause-front
+returns-in-BadItem-clause-front g c =
+    subst (λ (f : Fault). OnErr c.tell_line-in-BadItem.result (AppendsFront (g.E.Sink.written c.args.err.now) (g.E.Sink.written c.tell_line-in-BadItem.new.err) (message_of f))) (sym c.in-BadItem.is) c.tell_line-in-BadItem.ensures.front
+
+pub returns-in-Usage-clause-front : goal.returns-in-Usage-clause-front
+returns-in-Usage-clause-front g c =
+    subst (λ (f : Fault). OnErr c.write_all-in-Usage.result (AppendsFront (g.E.Sink.written c.args.err.now) (g.E.Sink.written c.write_all-in-Usage.new.out) (message_of f))) (sym c.in-Usage.is) c.write_all-in-Usage.ensures.err

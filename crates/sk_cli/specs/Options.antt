@@ -1,0 +1,96 @@
+-- The options behind a command.
+use Rattle.std.specs.Prelude.{ℕ, ◌+◌, nat_le, Bool, true, false, ◌&&◌, List, [], ◌∷◌, map, codes, if◌then◌else◌, Option, Some, None, is_some, option_map, option_and_then, unwrap_or, is_none, ◌==◌, bytes_eq, string_bytes}
+use Rattle.std.specs.declared.string.String.{String}
+use Rattle.std.specs.declared.alloc.Global.{Global}
+use Rattle.sk_model.specs.Numbers.{number_of}
+use Rattle.sk_cli.specs.declared.options.Verb.{Verb}
+use Rattle.sk_cli.specs.declared.options.Verb.TheVariants.{Count}
+use Rattle.sk_cli.specs.declared.options.Name.{Name}
+use Rattle.sk_cli.specs.declared.options.Name.TheVariants.{K, Raw, Seed}
+
+-- a word, as its bytes
+abbrev pub Word : Type 0
+Word = List ℕ
+
+abbrev pub texts_of : List (String Global) → List Word
+texts_of words = map string_bytes words
+
+-- the option that a word names
+abbrev pub name_of : Word → Option Name
+name_of word =
+    if bytes_eq word (codes "--k") then Some K else (
+    if bytes_eq word (codes "--raw") then Some Raw else (
+    if bytes_eq word (codes "--seed") then Some Seed else None))
+
+-- whether a value stands behind a name
+abbrev pub takes_value : Name → Bool
+takes_value K = true
+takes_value Seed = true
+takes_value Raw = false
+
+-- the options that a command has
+abbrev pub allows : Verb → Name → Bool
+allows Count name = true
+
+-- an option: its name, and the value behind it, empty for a flag
+abbrev pub Given : Type 0
+Given = Name × Word
+
+-- a number for each name, by which names are told apart
+abbrev pub place_of : Name → ℕ
+place_of K = 0
+place_of Raw = 1
+place_of Seed = 2
+
+-- the name, where the command has it
+abbrev pub allowed_by : Verb → Option Name → Option Name
+allowed_by verb None = None
+allowed_by verb (Some name) = if allows verb name then Some name else None
+
+-- the option of this command that a word names
+abbrev pub known : Verb → Word → Option Name
+known verb word = allowed_by verb (name_of word)
+
+-- the options where the last word is a name
+abbrev pub alone : Option Name → Option (List Given)
+alone None = None
+alone (Some name) = if takes_value name then None else Some ((name, []) ∷ [])
+
+-- the options where a name comes first: `behind` the next word, which is its value, or `after` the name alone
+abbrev pub led : Word → Option Name → Option (List Given) → Option (List Given) → Option (List Given)
+led next None behind after = None
+led next (Some name) behind after =
+    if takes_value name then option_map (λ given. (name, next) ∷ given) behind else option_map (λ given. (name, []) ∷ given) after
+
+-- the options that words spell, or nothing where a word is no name of this command's or a value is missing
+unfoldable pub options_of : Verb → List Word → Option (List Given)
+options_of verb [] = Some []
+options_of verb (word ∷ []) = alone (known verb word)
+options_of verb (word ∷ next ∷ words) = led next (known verb word) (options_of verb words) (options_of verb (next ∷ words))
+
+-- the value behind a name, where it is given
+abbrev pub value_behind : Name → List Given → Option Word
+value_behind name [] = None
+value_behind name (given ∷ others) = if place_of given.0 == place_of name then Some given.1 else value_behind name others
+
+-- no name stands twice
+abbrev pub is_once : List Given → Bool
+is_once [] = true
+is_once (given ∷ others) = is_none (value_behind given.0 others) && is_once others
+
+-- the options that words spell, no name twice
+abbrev pub spelled_by : Verb → List Word → Option (List Given)
+spelled_by verb words = option_and_then (λ given. if is_once given then Some given else None) (options_of verb words)
+
+-- the options that words spell, where they spell some
+abbrev pub given_in : Verb → List Word → List Given
+given_in verb words = unwrap_or (options_of verb words) []
+
+-- whether a name is given
+abbrev pub is_given : Name → List Given → Bool
+is_given name given = is_some (value_behind name given)
+
+-- the number in a value from low to high, or the default where there is no value
+abbrev pub number_in : ℕ → ℕ → ℕ → Option Word → Option ℕ
+number_in low high default None = Some default
+number_in low high default (Some word) = option_and_then (λ n. if nat_le low n then Some n else None) (number_of (high + 1) word)

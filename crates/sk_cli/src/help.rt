@@ -1,0 +1,20 @@
+// The texts of the program about itself.
+
+/// What `--help` writes.
+pub const HELP: &str = "\
+sketchd estimates how many distinct items a stream has, by a sketch of the k smallest hashes.
+
+usage:
+  sketchd count [--k K] [--raw] [--seed S]
+      reads standard input and writes the estimate of its distinct lines that are not empty
+      --k K     how many hashes are kept, 2 to 32768 (4096)
+      --raw     each line spells its item, a number from 0 to 281474976710655
+      --seed S  the seed of the hash, 0 to 4294967295 (0)
+  sketchd --help
+  sketchd --version
+
+A line has at most 65536 bytes. An option stands at most once.
+";
+
+/// What `--version` writes.
+pub const VERSION: &str = "sketchd 0.1.0\n";

@@ -1,0 +1,14 @@
+//! The program without its edge: what it does over any source and any sinks.
+#![tactic(auto)]
+
+mod command;
+mod count;
+mod fault;
+mod help;
+mod options;
+mod program;
+
+pub use program::run;
+
+#[cfg(test)]
+mod tests;

@@ -1,0 +1,223 @@
+use super::*;
+use crate::command::Command;
+use crate::fault::Fault;
+use crate::program::execute;
+use sk_ingest::Kind;
+use sk_io::{MemSink, MemSource};
+use std::alloc::Global;
+use std::process::Abort;
+use std::test::Fail;
+
+// What a run over streams in memory ended with, and what it wrote.
+#[derive(Drop)]
+struct Ran {
+    status: u8,
+    out: Vec<u8>,
+    err: Vec<u8>,
+}
+
+fn words_of(alloc: Global, line: &str) -> Result<Vec<String>, Fail> {
+    let mut words = Vec::new(alloc);
+    for word in line.split_whitespace() {
+        words.push(String::from_str(alloc, word)?)?;
+    }
+    Ok(words)
+}
+
+fn run_on(alloc: Global, line: &str, mut input: MemSource, room: usize) -> Result<Ran, Fail> {
+    let words = words_of(alloc, line)?;
+    let mut out = MemSink::new(alloc, room, 7, Vec::new(alloc))?;
+    let mut err = MemSink::new(alloc, 1000, 1000, Vec::new(alloc))?;
+    let status = run(alloc, &words, &mut input, &mut out, &mut err);
+    Ok(Ran {
+        status,
+        out: out.written().to_vec(alloc)?,
+        err: err.written().to_vec(alloc)?,
+    })
+}
+
+fn run_over(alloc: Global, line: &str, text: &[u8]) -> Result<Ran, Fail> {
+    let input = MemSource::new(text.to_vec(alloc)?, 1, Vec::new(alloc));
+    run_on(alloc, line, input, 10_000)
+}
+
+fn expect_out(rt: &impl Abort, ran: &Ran, out: &[u8]) {
+    assert_eq!(rt; ran.status, 0);
+    assert_eq!(rt; ran.out.as_slice(), out);
+    assert!(rt; ran.err.is_empty());
+}
+
+fn expect_fault(rt: &impl Abort, ran: &Ran, status: u8, err: &[u8]) {
+    assert_eq!(rt; ran.status, status);
+    assert!(rt; ran.out.is_empty());
+    assert_eq!(rt; ran.err.as_slice(), err);
+}
+
+#[test]
+fn estimates(rt: HostRuntime) -> Result<(), Fail> {
+    let alloc = rt.alloc();
+    let quick = b"hello\nhello, world\nThe quick brown fox jumps over the lazy dog.\n";
+    let cases: [(&str, &[u8], &[u8]); 10] = [
+        ("count --k 4", b"", b"estimate 0/1\n"),
+        (
+            "count --k 2",
+            quick,
+            b"estimate 281474976710656/224131386917309\n",
+        ),
+        (
+            "count --k 4",
+            b"hello\nhello, world\nhello\n",
+            b"estimate 2/1\n",
+        ),
+        ("count --k 4", b"\na\r\na", b"estimate 1/1\n"),
+        ("count", b"hello\n", b"estimate 1/1\n"),
+        (
+            "count --raw --k 2",
+            b"5\n3\n",
+            b"estimate 281474976710656/5\n",
+        ),
+        (
+            "count --k 2 --raw",
+            b"0\n1\n",
+            b"estimate 281474976710656/1\n",
+        ),
+        (
+            "count --raw --k 2",
+            b"7\n281474976710655\n",
+            b"estimate 281474976710656/281474976710655\n",
+        ),
+        (
+            "count --k 00004 --seed 4294967295",
+            b"a\nb\n",
+            b"estimate 2/1\n",
+        ),
+        ("count --raw", b"1\n\n01\n", b"estimate 1/1\n"),
+    ];
+    for (line, text, out) in cases {
+        expect_out(&rt, &run_over(alloc, line, text)?, out);
+    }
+    Ok(())
+}
+
+#[test]
+fn long_lines(rt: HostRuntime) -> Result<(), Fail> {
+    let alloc = rt.alloc();
+    let most = vec![in alloc; b'x'; 65_536]?;
+    let fits = MemSource::new(most.clone()?, 65_536, Vec::new(alloc));
+    expect_out(
+        &rt,
+        &run_on(alloc, "count --k 4", fits, 100)?,
+        b"estimate 1/1\n",
+    );
+    let mut over = most;
+    over.push(b'x')?;
+    let long = MemSource::new(over, 65_536, Vec::new(alloc));
+    expect_fault(
+        &rt,
+        &run_on(alloc, "count --k 4", long, 100)?,
+        5,
+        b"line 1: too long\n",
+    );
+    Ok(())
+}
+
+#[test]
+fn no_numbers(rt: HostRuntime) -> Result<(), Fail> {
+    let alloc = rt.alloc();
+    let cases: [(&[u8], &[u8]); 4] = [
+        (b"281474976710656\n", b"line 1: not a number\n"),
+        (b"5\n\nx\n6\n", b"line 3: not a number\n"),
+        (b"5\r", b"line 1: not a number\n"),
+        (b"0000000000000005\n", b"line 1: not a number\n"),
+    ];
+    for (text, err) in cases {
+        expect_fault(&rt, &run_over(alloc, "count --raw", text)?, 6, err);
+    }
+    Ok(())
+}
+
+#[test]
+fn words_that_are_no_command(rt: HostRuntime) -> Result<(), Fail> {
+    let alloc = rt.alloc();
+    let usage = b"usage: sketchd count, hash, replay, image, join, quantile, serve or make\n";
+    let lines = [
+        "",
+        "count --k 1",
+        "count --k 32769",
+        "count --k",
+        "count --k 4 --k 4",
+        "count --raw --raw",
+        "count --k --raw",
+        "count --seed 4294967296",
+        "count --k=4",
+        "count x",
+        "Count",
+        "--help --help",
+        "--version x",
+        "--raw",
+    ];
+    for line in lines {
+        expect_fault(&rt, &run_over(alloc, line, b"hello\n")?, 2, usage);
+    }
+    Ok(())
+}
+
+#[test]
+fn tells_of_itself(rt: HostRuntime) -> Result<(), Fail> {
+    let alloc = rt.alloc();
+    expect_out(&rt, &run_over(alloc, "--version", b"")?, b"sketchd 0.1.0\n");
+    let help = run_over(alloc, "--help", b"")?;
+    assert_eq!(rt; help.status, 0);
+    assert!(rt; help.out.starts_with(b"sketchd estimates"));
+    Ok(())
+}
+
+// A read that fails at each place in turn; the last place is behind the end.
+#[test]
+fn reads_that_fail(rt: HostRuntime) -> Result<(), Fail> {
+    let alloc = rt.alloc();
+    for call in 0..9u64 {
+        let text = b"a\nb\nc\nd".to_vec(alloc)?;
+        let input = MemSource::new(text, 1, [call].to_vec(alloc)?);
+        let ran = run_on(alloc, "count", input, 100)?;
+        if call < 8 {
+            expect_fault(&rt, &ran, 3, b"read fault\n");
+        } else {
+            expect_out(&rt, &ran, b"estimate 4/1\n");
+        }
+    }
+    Ok(())
+}
+
+#[test]
+fn a_sink_that_is_full(rt: HostRuntime) -> Result<(), Fail> {
+    let alloc = rt.alloc();
+    let input = MemSource::new(Vec::new(alloc), 1, Vec::new(alloc));
+    let ran = run_on(alloc, "count --k 4", input, 5)?;
+    assert_eq!(rt; ran.status, 4);
+    assert_eq!(rt; ran.out.as_slice(), b"estim".as_slice());
+    assert_eq!(rt; ran.err.as_slice(), b"write fault\n".as_slice());
+    Ok(())
+}
+
+// With a bound of 8 bytes: fewer are fine, as many are too much, and a refused line comes first.
+#[test]
+fn too_much(rt: HostRuntime) -> Result<(), Fail> {
+    let alloc = rt.alloc();
+    let cases: [(&[u8], Result<(), Fault>); 4] = [
+        (b"1\n2\n3\n4", Ok(())),
+        (b"1\n2\n3\n4\n", Err(Fault::TooMuch)),
+        (b"1\n2\n3\n4\nx\n", Err(Fault::TooMuch)),
+        (b"1\nx\n3\n4\n", Err(Fault::BadItem(2))),
+    ];
+    for (text, want) in cases {
+        let mut input = MemSource::new(text.to_vec(alloc)?, 3, Vec::new(alloc));
+        let mut out = MemSink::new(alloc, 100, 7, Vec::new(alloc))?;
+        let command = Command::Count {
+            k: 4,
+            kind: Kind::Raw,
+        };
+        assert_eq!(rt; execute(alloc, command, 8, &mut input, &mut out), want);
+    }
+    Ok(())
+}
