@@ -5,6 +5,7 @@ mod cutter;
 mod decimals;
 mod errors;
 pub mod laws;
+mod marks;
 #[cfg(test)]
 mod tests;
 
