@@ -1,30 +1,62 @@
 -- What a step of the reader does to the lines given.
-use Rattle.std.proofs.Common.{◌≡◌, ◌≢◌, ℕ, ◌+◌, ◌-◌, ◌<◌, ◌≤◌, ◌==◌, inr, ⊎_elim, le_refl, take_at, take-take, true≢false, Bool, true, false, cond, List, [], ◌∷◌, ◌++◌, length, take, drop, get_or, slice_index, Some, None, refl, sym, ap, ◌∙◌, subst, arith, append_assoc, append-nil, length-append, length-take, length-drop, take-append-drop, get_or-take, eqb-true, eq-eqb}
+use Rattle.std.proofs.Common.{◌≡◌, ◌≢◌, ℕ, ◌+◌, ◌-◌, ◌<◌, ◌≤◌, ◌==◌, inr, ⊎_elim, le_refl, take_at, take-take, true≢false, Bool, true, false, cond, List, [], ◌∷◌, ◌++◌, length, take, drop, get_or, slice_index, refl, sym, ap, ◌∙◌, subst, arith, append_assoc, append-nil, length-append, length-take, length-drop, take-append-drop, get_or-take, get_or-drop, drop-drop, eqb-true}
 use Rattle.std.specs.Str.Lines.{strip_carriage_return}
-use Rattle.std.proofs.lemmas.List.{drop_more, take_more, take_all, take_rest, get_or_default, get_or_at}
+use Rattle.std.proofs.lemmas.List.{drop_more, drop-take, take_more, take_all, get_or_default, get_or_at}
 use Rattle.std.proofs.lemmas.Bool.{cases_lt}
-use Rattle.memchr.specs.Find.{IsFirstByte, is_byte}
 use Rattle.sk_model.specs.Lines.{lines_of, open_lines_of, AreWithin, IsFirstLong}
 use Rattle.sk_model.specs.Missing.{Begins}
+use Rattle.sk_lines.specs.Marks.{KnowsLfs, IsFirstLf, TakesLf}
 use Rattle.sk_model.proofs.Lines.{lines_of_nothing, after_whole_lines, first_line, a_line_alone, a_last_piece, within_append, within_one, long_after_front, long_stays_long, length-strip}
 use Rattle.sk_lines.specs.declared.cutter.Ending.{Ending}
 use Rattle.sk_lines.specs.declared.cutter.Next.{Next}
 use Rattle.sk_lines.specs.declared.cutter.Next.TheVariants.{Line, More, Long}
 use Rattle.sk_lines.specs.Cutter.{Cutter, IsSound, is_long, Follows, GivesLine, Waits, IsLongAfter, HasNoLf, HasLfAt, counted, end_bytes}
 
-pub lf_found : (text : List ℕ) (place : ℕ) → IsFirstByte (is_byte 10) text (Some place) → HasLfAt text place
-lf_found text place found = record {
+-- the first LF of a text
+pub lf_at : (text : List ℕ) (place : ℕ) → place < length text → slice_index text place ≡ 10 → ((k : ℕ) → k < place → slice_index text k ≢ 10) → HasLfAt text place
+lf_at text place within lf before = record {
   piece = λ k d below is.
       let inside : k < place = omega (arith, length-take place text) in
-      let same : get_or text k 0 ≡ 10 = get_or_default text k 0 d (omega (arith, found.0.high)) ∙ sym (get_or-take place text k d inside) ∙ is in
-      found.0.before k (omega arith) inside (eq-eqb _ 10 same);
-  within = found.0.high;
+      before k inside (get_or_default text k 0 d (omega arith) ∙ sym (get_or-take place text k d inside) ∙ is);
+  within = within;
   split = sym (take-append-drop place text) ∙ ap (λ (l : List ℕ). take place text ++ l)
-      (drop_more text place 0 found.0.high ∙ ap (λ (byte : ℕ). byte ∷ drop (place + 1) text) (eqb-true _ 10 found.1));
+      (drop_more text place 0 within ∙ ap (λ (byte : ℕ). byte ∷ drop (place + 1) text) lf);
 }
 
-pub no_lf_found : (text : List ℕ) → IsFirstByte (is_byte 10) text None → HasNoLf text
-no_lf_found text none = λ k d below is. none k (omega arith) below (eq-eqb _ 10 (get_or_default text k 0 d below ∙ is))
+-- a text behind place `at` of a buffer, of which `have` bytes are text
+module _ (bytes : List ℕ) (at have : ℕ) (ordered : at ≤ have) (inside : have ≤ length bytes) where
+  abbrev rest : List ℕ
+  rest = take (have - at) (drop at bytes)
+
+  pub length_rest : length rest ≡ have - at
+  length_rest = omega (arith, length-take (have - at) (drop at bytes), length-drop at bytes)
+
+  pub rest_byte : (k : ℕ) → k < have - at → slice_index rest k ≡ slice_index bytes (at + k)
+  rest_byte k below = get_or-take (have - at) (drop at bytes) k 0 below ∙ get_or-drop at bytes k 0
+
+  pub front_of_rest : (n : ℕ) → n ≤ have - at → take n rest ≡ take n (drop at bytes)
+  front_of_rest n fits = take-take n (have - at) (drop at bytes) fits
+
+  pub rest_behind : (n : ℕ) → at + n ≤ have → take (have - (at + n)) (drop (at + n) bytes) ≡ drop n rest
+  rest_behind n fits =
+      let m = have - (at + n) in
+      let size : have - at ≡ n + m = omega arith in
+      sym (ap (λ (k : ℕ). drop n (take k (drop at bytes))) size ∙ drop-take n m (drop at bytes) ∙ ap (take m) (drop-drop n at bytes))
+
+  -- a byte that is no padding is text
+  pub lf_in_rest : (end : ℕ) → IsFirstLf bytes at end → ((i : ℕ) → have ≤ i → slice_index bytes i ≡ 0) → HasLfAt rest (end - at)
+  lf_in_rest end first zeros =
+      let from : at ≤ end = first.from in
+      let text : end < have = ⊎_elim (λ (below : end < have). below) (λ (past : have ≤ end). absurd (omega (arith, zeros end past, first.lf))) (cases_lt end have) in
+      let place : at + (end - at) ≡ end = omega arith in
+      lf_at rest (end - at) (omega (arith, length_rest))
+      (rest_byte (end - at) (omega arith) ∙ ap (slice_index bytes) place ∙ first.lf)
+      (λ k below is. first.before (at + k) (omega arith) (omega arith) (sym (rest_byte k (omega arith)) ∙ is))
+
+  pub no_lf_in_rest : ((i : ℕ) → at ≤ i → i < have → slice_index bytes i ≢ 10) → HasNoLf rest
+  no_lf_in_rest none = λ k d below is.
+      let text : k < have - at = omega (arith, length_rest) in
+      none (at + k) (omega arith) (omega arith) (sym (rest_byte k text) ∙ get_or_default rest k 0 d below ∙ is)
 
 -- a text followed so far, of which more lines are read: the lines of the rest come behind those given
 pub lines_behind : (c : Cutter) (given : List (List ℕ)) (text more : List ℕ) → Follows c given text → lines_of (text ++ more) ≡ given ++ lines_of (c.rest ++ more)
@@ -266,10 +298,6 @@ sound_end_long c n number sound hungry over = record {
   ended = λ _ going. absurd (cc);
 }
 
--- the rest, as a slice of the buffer
-pub rest_is : (slice items rest : List ℕ) (at : ℕ) → slice ≡ items → drop at items ≡ rest → take (length slice - at) (drop at slice) ≡ rest
-rest_is slice items rest at same is = take_rest slice at ∙ ap (λ (l : List ℕ). drop at l) same ∙ is
-
 pub not_long : (last : Next) → ((n : ℕ) → last ≡ Next.Long n → ⊥) → is_long last ≡ false
 not_long Line other = refl
 not_long More other = refl
@@ -298,3 +326,62 @@ long_after_stays limit n given text more long = record {
   number = long.number;
   first = long_stays_long limit (length given) text more long.first;
 }
+
+-- the rest, as a slice of the buffer
+pub same_rest : (slice bytes : List ℕ) (at n m : ℕ) → n ≡ m → slice ≡ bytes → take (n - 64 - at) (drop at slice) ≡ take (m - 64 - at) (drop at bytes)
+same_rest slice bytes at n m size same = ap (λ (k : ℕ). take (k - 64 - at) (drop at slice)) size ∙ ap (λ (l : List ℕ). take (m - 64 - at) (drop at l)) same
+
+-- nothing is left
+pub sound_over : (c : Cutter) → c.rest ≡ [] → is_long c.last ≡ false → IsSound c
+sound_over c none last =
+    let empty : length c.rest ≡ 0 = ap length none in
+    record {
+      piece = λ _ k d below. absurd (omega arith);
+      fits = λ _. omega (arith, length-strip c.rest);
+      number = λ n long. absurd (true≢false (sym (ap is_long long) ∙ last));
+      open_long = λ n long _. absurd (true≢false (sym (ap is_long long) ∙ last));
+      ended_long = λ n long _. absurd (true≢false (sym (ap is_long long) ∙ last));
+      ended = λ _ _. none;
+    }
+
+pub sound_fed : (c : Cutter) → c.hungry ≡ false → c.last ≡ Next.More → c.ended ≡ false → IsSound c
+sound_fed c fed last going = record {
+  piece = λ hungry. absurd (true≢false (sym hungry ∙ fed));
+  fits = λ hungry. absurd (true≢false (sym hungry ∙ fed));
+  number = λ n long. absurd (cc);
+  open_long = λ n long _. absurd (cc);
+  ended_long = λ n long _. absurd (cc);
+  ended = λ over _. absurd (true≢false (sym over ∙ going));
+}
+
+-- an LF lies in the text and not in the block behind it
+pub lf_in_text : (bytes : List ℕ) (end n : ℕ) → slice_index bytes end ≡ 10 → ((i : ℕ) → n ≤ i + 64 → slice_index bytes i ≡ 0) → end + 64 < n
+lf_in_text bytes end n lf zeros =
+    ⊎_elim (λ (text : end + 64 < n). text) (λ (past : n ≤ end + 64). absurd (omega (arith, lf, zeros end past))) (cases_lt (end + 64) n)
+
+-- what the first LF tells of the text that lies in a buffer of n bytes from a place on
+pub record FoundLine (bytes : List ℕ) (at n end scanned marks : ℕ) : Type 0 where
+  pub from : at ≤ end
+  pub text : end + 64 < n
+  pub lf : HasLfAt (take (n - 64 - at) (drop at bytes)) (end - at)
+  pub piece : take (end - at) (take (n - 64 - at) (drop at bytes)) ≡ take (end - at) (drop at bytes)
+  pub behind : take (n - 64 - (end + 1)) (drop (end + 1) bytes) ≡ drop (end - at + 1) (take (n - 64 - at) (drop at bytes))
+  pub known : KnowsLfs bytes (end + 1) scanned marks
+
+pub found_line : (bytes : List ℕ) (at n end scanned marks : ℕ) → at + 64 ≤ n → n ≡ length bytes → ((i : ℕ) → n ≤ i + 64 → slice_index bytes i ≡ 0) → TakesLf bytes at scanned end marks → FoundLine bytes at n end scanned marks
+found_line bytes at n end scanned marks fits whole zeros takes =
+    let text : end + 64 < n = lf_in_text bytes end n takes.first.lf zeros in
+    let from : at ≤ end = takes.first.from in
+    let have = n - 64 in
+    let ordered : at ≤ have = omega arith in
+    let inside : have ≤ length bytes = omega arith in
+    let place : at + (end - at + 1) ≡ end + 1 = omega arith in
+    record {
+      from = from;
+      text = text;
+      lf = lf_in_rest bytes at have ordered inside end takes.first (λ i past. zeros i (omega arith));
+      piece = front_of_rest bytes at have ordered inside (end - at) (omega arith);
+      behind = subst (λ (k : ℕ). take (have - k) (drop k bytes) ≡ drop (end - at + 1) (take (have - at) (drop at bytes))) place
+          (rest_behind bytes at have ordered inside (end - at + 1) (omega arith));
+      known = takes.known;
+    }

@@ -1,12 +1,13 @@
 -- How a reader of lines keeps what contracts see of it.
-use Rattle.std.specs.Prelude.{◌+◌, ◌-◌, ◌≤◌, take, drop, vec_len, vec_capacity}
+use Rattle.std.specs.Prelude.{◌≡◌, ◌≢◌, ℕ, ◌+◌, ◌-◌, ◌≤◌, slice_index, take, drop, vec_len, vec_capacity}
 use Rattle.sk_lines.specs.declared.cutter.Lines.TheInside.{Inside}
 use Rattle.sk_lines.specs.Cutter.{Cutter, IsSound}
+use Rattle.sk_lines.specs.Marks.{KnowsLfs}
 
 abbrev pub cutter_of : Inside → Cutter
 cutter_of a = record {
   limit = a.limit;
-  rest = drop a.at a.buffer.items;
+  rest = take (vec_len a.buffer - 64 - a.at) (drop a.at a.buffer.items);
   number = a.number;
   line = take (a.line_end - a.line_start) (drop a.line_start a.buffer.items);
   ending = a.ending;
@@ -15,12 +16,18 @@ cutter_of a = record {
   ended = a.ended;
 }
 
--- what the fields keep: the places lie in the buffer, and it has room for a piece behind the longest rest
+-- what the fields keep
 pub record IsKept (a : Inside) : Type 0 where
   pub low : 1 ≤ a.limit
   pub high : a.limit ≤ 1048576
-  pub room : a.limit + 1 + 65536 ≤ vec_capacity a.buffer
-  pub at : a.at ≤ vec_len a.buffer
+  -- there is room for a piece and a block behind the longest rest
+  pub room : a.limit + 1 + 65536 + 64 ≤ vec_capacity a.buffer
+  -- a block of zeros lies behind the text
+  pub at : a.at + 64 ≤ vec_len a.buffer
+  pub zeros : (i : ℕ) → vec_len a.buffer ≤ i + 64 → slice_index a.buffer.items i ≡ 0
   pub line_start : a.line_start ≤ a.line_end
   pub line_end : a.line_end ≤ vec_len a.buffer
+  pub scanned : a.scanned ≤ vec_len a.buffer
+  pub block : a.marks ≢ 0 → 64 ≤ a.scanned
+  pub marks : KnowsLfs a.buffer.items a.at a.scanned a.marks
   pub sound : IsSound (cutter_of a)

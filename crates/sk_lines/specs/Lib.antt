@@ -3,3 +3,4 @@ pub use Rattle.sk_model.specs.Numbers
 pub mod Cutter
 pub mod Fractions
 pub mod Inside
+pub mod Marks

@@ -1,10 +1,10 @@
 // Lines cut out of pieces of a text.
-ghost use Rattle.std.specs.Prelude.{◌≡◌, ◌≢◌, ◌↔◌, ◌+◌, ◌≤◌, ℕ, List, [], ◌++◌, length, take, IfOk, true, false};
+ghost use Rattle.std.specs.Prelude.{◌≡◌, ◌≢◌, ◌↔◌, ◌+◌, ◌-◌, ◌^◌, ◌≤◌, ℕ, List, [], ◌++◌, length, replicate, slice_range, vec_len, vec_capacity, IfOk, true, false};
 ghost use Rattle.std.specs.Str.Lines.{strip_carriage_return};
 ghost use Rattle.sk_model.specs.Lines.{lines_of, open_lines_of, IsFirstLong};
-ghost use Rattle.sk_lines.specs.Cutter.{Follows, GivesLine, GivesLast, Waits, IsLongAfter, HasNoLf, HasLfAt, counted, is_long};
+ghost use Rattle.sk_lines.specs.Cutter.{Follows, GivesLine, GivesLast, Waits, IsLongAfter, HasNoLf, counted, is_long};
 
-use memchr::memchr;
+use crate::marks::{BLOCK, seek, take_lf};
 use sk_model::OutOfMemory;
 use std::alloc::Global;
 use std::marker::Model;
@@ -14,8 +14,6 @@ pub const MOST_LIMIT: usize = 1_048_576;
 
 /// The most bytes of a piece.
 pub const MOST_PIECE: usize = 65_536;
-
-const LF: u8 = b'\n';
 
 const CR: u8 = b'\r';
 
@@ -46,8 +44,13 @@ pub enum Ending {
 #[derive(Drop)]
 pub struct Lines {
     limit: usize,
+    // The text that is held, and a block of zeros, so that each block of the text may be read.
     buffer: Vec<u8>,
+    // Where the bytes begin that no line given has.
     at: usize,
+    // How far LFs were sought, and those of the block before that place which lie behind `at`.
+    scanned: usize,
+    marks: u64,
     line_start: usize,
     line_end: usize,
     ending: Ending,
@@ -71,9 +74,9 @@ impl Model for Lines {
 }
 
 impl Lines {
-    #[tactic(auto, unfolding(sk_model::specs::Lines::lines_of))]
     /// A reader whose lines have at most `limit` bytes, which are 1 to `MOST_LIMIT`. It takes all
     /// the memory that it will need.
+    #[tactic(auto, unfolding(sk_model::specs::Lines::lines_of))]
     pub fn new(alloc: Global, limit: usize) -> Result<Lines, OutOfMemory>
         requires some { 1 ≤ limit }
         requires most { limit ≤ MOST_LIMIT }
@@ -85,8 +88,10 @@ impl Lines {
     {
         Ok(Lines {
             limit,
-            buffer: Vec::with_capacity(alloc, limit + 1 + MOST_PIECE)?,
+            buffer: empty_buffer(alloc, limit + 1 + MOST_PIECE)?,
             at: 0,
+            scanned: 0,
+            marks: 0,
             line_start: 0,
             line_end: 0,
             ending: Ending::Nothing,
@@ -111,10 +116,9 @@ impl Lines {
         ensures fed { self.new.hungry ≡ false }
         ensures ended { self.new.ended ≡ false }
     {
-        let len = self.buffer.len();
-        self.buffer.copy_within(self.at..len, 0);
-        self.buffer.truncate(len - self.at);
-        self.buffer.extend_from_slice(piece).unwrap();
+        self.scanned = self.buffer.len() - BLOCK - self.at;
+        self.marks = 0;
+        refill(&mut self.buffer, self.at, piece);
         self.at = 0;
         self.line_start = 0;
         self.line_end = 0;
@@ -146,66 +150,54 @@ impl Lines {
         if let Next::Long(_) = self.last {
             return self.last;
         }
-        let rest = &self.buffer[self.at..];
-        match memchr(LF, rest) {
-            Some(place) => {
-                let len = without_cr(&rest[..place]).len();
-                if len > self.limit {
-                    return self.stop();
-                }
-                self.give(len, place)
-            }
-            None => {
-                if without_cr(rest).len() > self.limit {
-                    return self.stop();
-                }
-                self.wait()
-            }
+        let (scanned, marks) = seek(&self.buffer, self.scanned, self.marks);
+        if marks == 0 {
+            self.scanned = scanned;
+            self.marks = 0;
+            return self.rest_is_open();
         }
-    }
-
-    // Gives the first `len` bytes of the rest, whose first LF is at `place`.
-    #[inline(always)]
-    fn give(&mut self, len: usize, place: usize) -> Next
-        requires found { HasLfAt self.old.rest place }
-        requires line { take len self.old.rest ≡ strip_carriage_return (take place self.old.rest) }
-        requires len { len ≡ length (strip_carriage_return (take place self.old.rest)) }
-        requires fits { len ≤ self.old.limit }
-        requires not_long { is_long self.old.last ≡ false }
-        ensures result { result ≡ Next.Line }
-        ensures line { GivesLine self.old self.new }
-        ensures last { self.new.last ≡ Next.Line }
-        ensures limit { self.new.limit ≡ self.old.limit }
-        ensures ended { self.new.ended ≡ self.old.ended }
-    {
-        self.ending = if len < place {
+        let (end, marks) = take_lf(scanned, marks);
+        let len = line_len(&self.buffer, self.at, end);
+        if len > self.limit {
+            return self.stop();
+        }
+        self.ending = if len < end - self.at {
             Ending::CrLf
         } else {
             Ending::Lf
         };
         self.line_start = self.at;
         self.line_end = self.at + len;
-        self.at += place + 1;
+        self.at = end + 1;
+        self.scanned = scanned;
+        self.marks = marks;
         self.number = self.number.saturating_add(1);
         self.last = Next::Line;
         self.last
     }
 
-    // Says that more is needed.
-    fn wait(&mut self) -> Next
+    // Answers where no LF is held.
+    fn rest_is_open(&mut self) -> Next
         requires piece { HasNoLf self.old.rest }
-        requires fits { length (strip_carriage_return self.old.rest) ≤ self.old.limit }
         requires not_long { is_long self.old.last ≡ false }
-        ensures result { result ≡ Next.More }
-        ensures waits { (given : List (List ℕ)) (text : List ℕ)
+        ensures not_line { result ≢ Next.Line }
+        ensures more { result ≡ Next.More → (given : List (List ℕ)) (text : List ℕ)
             → Follows self.old given text → Waits self.new given text }
-        ensures last { self.new.last ≡ Next.More }
-        ensures hungry { self.new.hungry ≡ true }
+        ensures hungry { result ≡ Next.More → self.new.hungry ≡ true }
+        ensures long { (n : ℕ) → result ≡ Next.Long n
+            → (given : List (List ℕ)) (text : List ℕ) → Follows self.old given text
+            → IsLongAfter self.old.limit n given (open_lines_of text) }
+        ensures after_end { self.old.ended ≡ true → result ≡ Next.More }
+        ensures last { self.new.last ≡ result }
         ensures limit { self.new.limit ≡ self.old.limit }
         ensures ended { self.new.ended ≡ self.old.ended }
         ensures rest { self.new.rest ≡ self.old.rest }
         ensures number { self.new.number ≡ self.old.number }
     {
+        let text_end = self.buffer.len() - BLOCK;
+        if line_len(&self.buffer, self.at, text_end) > self.limit {
+            return self.stop();
+        }
         self.hungry = true;
         self.last = Next::More;
         self.last
@@ -252,7 +244,8 @@ impl Lines {
         if let Next::Long(_) = self.last {
             return self.last;
         }
-        let len = self.buffer.len() - self.at;
+        let text_end = self.buffer.len() - BLOCK;
+        let len = text_end - self.at;
         if len > self.limit {
             self.last = Next::Long(self.number.saturating_add(1));
             return self.last;
@@ -262,8 +255,10 @@ impl Lines {
             return self.last;
         }
         self.line_start = self.at;
-        self.line_end = self.buffer.len();
-        self.at = self.buffer.len();
+        self.line_end = text_end;
+        self.at = text_end;
+        self.scanned = text_end;
+        self.marks = 0;
         self.ending = Ending::Nothing;
         self.number = self.number.saturating_add(1);
         self.last = Next::Line;
@@ -294,13 +289,43 @@ impl Lines {
     }
 }
 
-// A line without the CR directly before its LF.
-#[inline(always)]
-fn without_cr(line: &[u8]) -> &[u8]
-    ensures { result.now ≡ strip_carriage_return line.now }
+// A buffer without a text, and with room for one of `room` bytes.
+fn empty_buffer(alloc: Global, room: usize) -> Result<Vec<u8>, OutOfMemory>
+    requires { room ≤ 2 ^ 32 }
+    ensures capacity { IfOk result (λ buffer. room + BLOCK ≤ vec_capacity buffer) }
+    ensures items { IfOk result (λ buffer. buffer.items ≡ replicate 64 0) }
+    ensures len { IfOk result (λ buffer. vec_len buffer ≡ BLOCK) }
 {
+    let mut buffer = Vec::with_capacity(alloc, room + BLOCK)?;
+    buffer.extend_from_slice(&[0; BLOCK])?;
+    Ok(buffer)
+}
+
+// Puts a piece behind the text that a buffer holds from `at` on, and moves that to its front.
+fn refill(buffer: &mut Vec<u8>, at: usize, piece: &[u8])
+    requires padded { at + BLOCK ≤ vec_len buffer.old }
+    requires room { vec_len buffer.old + length piece.now ≤ vec_capacity buffer.old + at }
+    ensures items { buffer.new.items
+        ≡ (slice_range buffer.old.items at (vec_len buffer.old - BLOCK) ++ piece.now) ++ replicate 64 0 }
+    ensures capacity { vec_capacity buffer.old ≤ vec_capacity buffer.new }
+{
+    let len = buffer.len() - BLOCK;
+    buffer.copy_within(at..len, 0);
+    buffer.truncate(len - at);
+    buffer.extend_from_slice(piece).unwrap();
+    buffer.extend_from_slice(&[0; BLOCK]).unwrap();
+}
+
+// How many bytes the line from `at` up to `end` has without the CR at its end.
+#[inline(always)]
+fn line_len(bytes: &[u8], at: usize, end: usize) -> usize
+    requires from { at ≤ end }
+    requires within { end ≤ length bytes.now }
+    ensures { result ≡ length (strip_carriage_return (slice_range bytes.now at end)) }
+{
+    let line = &bytes[at..end];
     match line.last() {
-        Some(&CR) => &line[..line.len() - 1],
-        _ => line,
+        Some(&CR) => line.len() - 1,
+        _ => line.len(),
     }
 }

@@ -4,10 +4,10 @@
 mod cutter;
 mod decimals;
 pub mod laws;
-
-pub use cutter::{Ending, Lines, Next};
-pub use decimals::{push_fraction, put_fraction, read_number};
-pub use sk_model::OutOfMemory;
-
+mod marks;
 #[cfg(test)]
 mod tests;
+
+pub use cutter::{Ending, Lines, MOST_LIMIT, MOST_PIECE, Next};
+pub use decimals::{push_fraction, put_fraction, read_number};
+pub use sk_model::OutOfMemory;

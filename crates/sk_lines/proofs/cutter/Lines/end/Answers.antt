@@ -1,4 +1,6 @@
-use Rattle.std.proofs.Common.{◌≡◌, ◌-◌, ◌<◌, ◌≤◌, length, take, drop, refl, sym, ap, ◌∙◌, subst, arith, length-drop, take_all}
+use Rattle.std.proofs.Common.{◌≡◌, ℕ, ◌-◌, ◌<◌, ◌≤◌, length, take, drop, vec_len, refl, sym, ap, ◌∙◌, subst, arith}
+use Rattle.std.proofs.lemmas.List.{nil_from_length}
+use Rattle.sk_lines.proofs.Places as places
 use Rattle.sk_lines.specs.Inside.{cutter_of}
 use Rattle.sk_lines.specs.Cutter.{Cutter, IsSound}
 use Rattle.sk_lines.proofs.Steps as steps
@@ -12,8 +14,12 @@ invariant_of-self c =
       high = kept.high;
       room = kept.room;
       at = kept.at;
+      zeros = kept.zeros;
       line_start = kept.line_start;
       line_end = kept.line_end;
+      scanned = kept.scanned;
+      block = kept.block;
+      marks = kept.marks;
       sound = steps.sound_ended (cutter_of c.self.inside) c.in-Long.field-0 kept.sound c.in-Long.is;
     }
 
@@ -41,17 +47,21 @@ invariant_of-self-then-len-self c =
       high = kept.high;
       room = kept.room;
       at = kept.at;
+      zeros = kept.zeros;
       line_start = kept.line_start;
       line_end = kept.line_end;
+      scanned = kept.scanned;
+      block = kept.block;
+      marks = kept.marks;
       sound = steps.sound_end_long (cutter_of a) c.saturating_add.result (omega (arith, c.saturating_add.ensures)) kept.sound hungry
-          (omega (arith, c.if-len-self.true, c.len.ensures, length-drop a.at a.buffer.items, a.buffer.ok.0));
+          (omega (arith, c.if-len-self.true, c.len-text_end.ensures, steps.length_rest a.buffer.items a.at (vec_len a.buffer - 64) (omega (arith, c.self.invariant.at)) (omega (arith, a.buffer.ok.0))));
     }
 
 pub returns-then-len-self-clause-more : goal.returns-then-len-self-clause-more
 returns-then-len-self-clause-more c =
     let a = c.self.inside in
     let rest = ap (λ (x : Cutter). x.rest) c.self.view_is in
-    (λ more. absurd (cc), λ none. absurd (omega (arith, ap length (rest ∙ none), c.if-len-self.true, c.len.ensures, length-drop a.at a.buffer.items, a.buffer.ok.0)))
+    (λ more. absurd (cc), λ none. absurd (omega (arith, ap length (rest ∙ none), c.if-len-self.true, c.len-text_end.ensures, steps.length_rest a.buffer.items a.at (vec_len a.buffer - 64) (omega (arith, c.self.invariant.at)) (omega (arith, a.buffer.ok.0)))))
 
 pub returns-then-len-self-clause-long : goal.returns-then-len-self-clause-long
 returns-then-len-self-clause-long c =
@@ -60,10 +70,49 @@ returns-then-len-self-clause-long c =
     let is = c.self.view_is in
     let sound = subst IsSound is c.self.invariant.sound in
     let over : old.limit < length old.rest =
-    omega (arith, ap (λ (x : Cutter). length x.rest) is, ap (λ (x : Cutter). x.limit) is, c.if-len-self.true, c.len.ensures, length-drop a.at a.buffer.items, a.buffer.ok.0) in
+    omega (arith, ap (λ (x : Cutter). length x.rest) is, ap (λ (x : Cutter). x.limit) is, c.if-len-self.true, c.len-text_end.ensures, steps.length_rest a.buffer.items a.at (vec_len a.buffer - 64) (omega (arith, c.self.invariant.at)) (omega (arith, a.buffer.ok.0))) in
     λ n same. let value : c.saturating_add.result ≡ n = cc in
     steps.is_long_ended old n (omega (arith, value, c.saturating_add.ensures, ap (λ (x : Cutter). x.number) is))
     (steps.long_at_end old.limit old.rest (sound.piece c.requires) over)
+
+pub invariant_of-self-then-len-eq0 : goal.invariant_of-self-then-len-eq0
+invariant_of-self-then-len-eq0 c =
+    let a = c.self.inside in
+    let kept = c.self.invariant in
+    let size = steps.length_rest a.buffer.items a.at (vec_len a.buffer - 64) (omega (arith, kept.at)) (omega (arith, a.buffer.ok.0)) in
+    record {
+      low = kept.low;
+      high = kept.high;
+      room = kept.room;
+      at = kept.at;
+      zeros = kept.zeros;
+      line_start = kept.line_start;
+      line_end = kept.line_end;
+      scanned = kept.scanned;
+      block = kept.block;
+      marks = kept.marks;
+      sound = steps.sound_over _ (nil_from_length _ (omega (arith, size, c.if-len-eq0.true, c.len-text_end.ensures))) refl;
+    }
+
+pub invariant_of-self-2 : goal.invariant_of-self-2
+invariant_of-self-2 c =
+    let a = c.self.inside in
+    let kept = c.self.invariant in
+    let end : ℕ = c.len-text_end.result - 64 in
+    let size = steps.length_rest a.buffer.items end (vec_len a.buffer - 64) (omega (arith, c.len-text_end.ensures)) (omega (arith, a.buffer.ok.0)) in
+    record {
+      low = kept.low;
+      high = kept.high;
+      room = kept.room;
+      at = omega (arith, kept.at, c.len-text_end.ensures);
+      zeros = kept.zeros;
+      line_start = omega (arith, kept.at, c.len-text_end.ensures);
+      line_end = omega (arith, c.len-text_end.ensures);
+      scanned = omega (arith, c.len-text_end.ensures);
+      block = λ some. absurd (some refl);
+      marks = places.known_none a.buffer.items end end (omega arith) (λ i from before. absurd (omega arith));
+      sound = steps.sound_over _ (nil_from_length _ (omega (arith, size, c.len-text_end.ensures))) refl;
+    }
 
 pub returns-clause-line : goal.returns-clause-line
 returns-clause-line c =
@@ -71,13 +120,14 @@ returns-clause-line c =
     let old = c.args.self.now in
     let is = c.self.view_is in
     let sound = subst IsSound is c.self.invariant.sound in
-    let rest : drop a.at a.buffer.items ≡ old.rest = ap (λ (x : Cutter). x.rest) is in
-    let size = length-drop a.at a.buffer.items in
-    let long : length old.rest ≡ c.len.result - a.at = omega (arith, ap length rest, size, c.len.ensures, a.buffer.ok.0) in
-    let some : 0 < length old.rest = omega arith in
+    let end = c.len-text_end.ensures in
+    let rest = ap (λ (x : Cutter). x.rest) is in
+    let size = steps.length_rest a.buffer.items a.at (vec_len a.buffer - 64) (omega (arith, c.self.invariant.at)) (omega (arith, a.buffer.ok.0)) in
+    let long : length old.rest ≡ c.len-text_end.result - 64 - a.at = omega (arith, ap length rest, size, end) in
+    let some : 0 < length old.rest = omega (arith, c.if-len-eq0.false) in
     let fits : length old.rest ≤ old.limit = omega (arith, c.if-len-self.false, ap (λ (x : Cutter). x.limit) is) in
-    let line : take (c.len-self-inside.result - a.at) (drop a.at a.buffer.items) ≡ old.rest =
-    take_all _ _ (omega (arith, size, c.len-self-inside.ensures, a.buffer.ok.0)) ∙ rest in
+    let line : take (c.len-text_end.result - 64 - a.at) (drop a.at a.buffer.items) ≡ old.rest =
+    ap (λ (n : ℕ). take (n - 64 - a.at) (drop a.at a.buffer.items)) end ∙ rest in
     λ _. record {
       lines = steps.last_line old _ (sound.piece c.requires) some line;
       within = steps.last_within old (sound.piece c.requires) some fits;
@@ -90,4 +140,5 @@ pub returns-clause-more : goal.returns-clause-more
 returns-clause-more c =
     let a = c.self.inside in
     let rest = ap (λ (x : Cutter). x.rest) c.self.view_is in
-    (λ more. absurd (cc), λ none. absurd (omega (arith, ap length (rest ∙ none), c.if-len-eq0.false, c.len.ensures, length-drop a.at a.buffer.items, a.buffer.ok.0)))
+    let size = steps.length_rest a.buffer.items a.at (vec_len a.buffer - 64) (omega (arith, c.self.invariant.at)) (omega (arith, a.buffer.ok.0)) in
+    (λ more. absurd (cc), λ none. absurd (omega (arith, ap length (rest ∙ none), c.if-len-eq0.false, c.len-text_end.ensures, size)))
