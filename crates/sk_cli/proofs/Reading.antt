@@ -26,7 +26,7 @@ pub given_fault : (r : Result (Unit {0}) Fault) (f e : Fault) → IsErrAnd r (λ
 given_fault (Ok n) f e given is = absurd given
 given_fault (Err x) f e given is = sym given ∙ one_fault x e is
 
-on_ok_of_err : (r : Result (Unit {0}) Fault) (f : Fault) (P : Type 0) → IsErrAnd r (λ x. x ≡ f) → OnOk r P
+pub on_ok_of_err : (r : Result (Unit {0}) Fault) (f : Fault) (P : Type 0) → IsErrAnd r (λ x. x ≡ f) → OnOk r P
 on_ok_of_err (Ok n) f P given = absurd given
 on_ok_of_err (Err x) f P given = tt
 

@@ -2,6 +2,8 @@
 use Rattle.std.specs.Prelude.{◌≡◌, ◌⊎◌, ℕ, List, ◌++◌, codes, decimal}
 use Rattle.sk_ingest.specs.declared.items.Fault.{Fault as ReadingFault}
 use Rattle.sk_ingest.specs.declared.items.Fault.TheVariants as reading
+use Rattle.sk_ingest.specs.declared.reader.LineFault.{LineFault}
+use Rattle.sk_ingest.specs.declared.reader.LineFault.TheVariants as stop
 use Rattle.sk_cli.specs.declared.fault.Fault.{Fault}
 use Rattle.sk_cli.specs.declared.fault.Fault.TheVariants.{OutOfMemory, Usage, ReadFault, WriteFault, LongLine, BadItem, TooMuch}
 
@@ -45,3 +47,9 @@ abbrev pub HasNoLine : Fault → Type 0
 HasNoLine (LongLine line) = ⊥
 HasNoLine (BadItem line) = ⊥
 HasNoLine fault = Unit {0}
+
+-- the fault that a fault of lines makes
+abbrev pub fault_by_line : LineFault → Fault
+fault_by_line stop.ReadFault = ReadFault
+fault_by_line (stop.LongLine line) = LongLine line
+fault_by_line stop.TooMuch = TooMuch

@@ -1,16 +1,17 @@
 -- What a command reads and writes, and why it ends.
-use Rattle.std.specs.Prelude.{◌≡◌, ◌≢◌, ℕ, ◌-◌, ◌<◌, Bool, true, false, List, [], ◌++◌, codes, decimal, length, take, Option, IfSome, Result, Err, OnOk, IsErrOf, MatchBool}
+use Rattle.std.specs.Prelude.{◌≡◌, ◌≢◌, ℕ, zero, suc, ◌+◌, ◌/◌, ◌%◌, nat_lt, if◌then◌else◌, flat_map, ◌∷◌, ◌-◌, ◌<◌, Bool, true, false, List, [], ◌++◌, codes, decimal, length, take, Option, IfSome, Result, Err, OnOk, IsErrOf, MatchBool}
 use Rattle.std.specs.Bool.{OnTrue}
 use Rattle.std.specs.Io.KnownBytes.{Appends, Consumes, IsAtEnd}
 use Rattle.sk_model.specs.Causes.{Rose, AppendsFront}
-use Rattle.sk_model.specs.Lines.{lines_of}
+use Rattle.sk_model.specs.Lines.{lines_of, filled}
+use Rattle.sk_model.specs.Murmur.{hash_of}
 use Rattle.sk_model.specs.Sketch.{estimate_of}
 use Rattle.sk_ingest.specs.Items.{items_by, AreGood, IsLongAt, IsBadAt, IsGoodSoFar, complete_lines_of}
 use Rattle.sk_ingest.specs.declared.kind.Kind.{Kind}
 use Rattle.sk_ingest.specs.declared.kind.Kind.TheVariants as kind
 use Rattle.sk_cli.specs.declared.help.TheConstants.{HELP, VERSION}
 use Rattle.sk_cli.specs.declared.command.Command.{Command}
-use Rattle.sk_cli.specs.declared.command.Command.TheVariants.{Count, Help, Version}
+use Rattle.sk_cli.specs.declared.command.Command.TheVariants.{Count, Hash, Help, Version}
 use Rattle.sk_cli.specs.declared.fault.Fault.{Fault}
 use Rattle.sk_cli.specs.declared.fault.Fault.TheVariants as fault
 
@@ -18,27 +19,48 @@ use Rattle.sk_cli.specs.declared.fault.Fault.TheVariants as fault
 abbrev pub estimate_line : ℕ × ℕ → List ℕ
 estimate_line estimate = codes "estimate " ++ decimal estimate.0 ++ codes "/" ++ decimal estimate.1 ++ codes "\n"
 
+-- a hexadecimal digit, lower case
+abbrev pub hex_digit : ℕ → ℕ
+hex_digit digit = if nat_lt digit 10 then 48 + digit else 87 + digit
+
+-- the last digits of a number in base 16, so many
+unfoldable pub hex : ℕ → ℕ → List ℕ
+hex zero n = []
+hex (suc width) n = hex width (n / 16) ++ hex_digit (n % 16) ∷ []
+
+-- the line of a hash
+abbrev pub hash_line : ℕ → List ℕ
+hash_line hash = hex 12 hash ++ 10 ∷ []
+
+-- the hash of each line that is not empty, a line each
+unfoldable pub hash_text : ℕ → List (List ℕ) → List ℕ
+hash_text seed lines = flat_map (λ line. hash_line (hash_of seed line)) (filled lines)
+
 -- whether a command reads its input
 abbrev pub reads : Command → Bool
 reads (Count k kind) = true
+reads (Hash seed) = true
 reads Help = false
 reads Version = false
 
 -- how its lines become items
 abbrev pub kind_of : Command → Kind
 kind_of (Count k kind) = kind
+kind_of (Hash seed) = kind.Hash seed
 kind_of Help = kind.Raw
 kind_of Version = kind.Raw
 
 -- the whole text that a command writes, from the lines of its input
 abbrev pub output_of : Command → List (List ℕ) → List ℕ
 output_of (Count k kind) lines = estimate_line (estimate_of k (items_by kind lines))
+output_of (Hash seed) lines = hash_text seed lines
 output_of Help lines = HELP.now
 output_of Version lines = VERSION.now
 
 -- what of it is written before the input's end, behind these lines
 abbrev pub output_before : Command → List (List ℕ) → List ℕ
 output_before (Count k kind) lines = []
+output_before (Hash seed) lines = hash_text seed lines
 output_before Help lines = []
 output_before Version lines = []
 

@@ -1,7 +1,7 @@
 // The words of a command line as a command.
 ghost use Rattle.std.specs.Prelude.{◌≡◌, IfSome};
 ghost use Rattle.sk_cli.specs.Options.{texts_of};
-ghost use Rattle.sk_cli.specs.Command.{command_of, count_by, seed_by, alone, IsWithin};
+ghost use Rattle.sk_cli.specs.Command.{command_of, count_by, hash_by, seed_by, alone, IsWithin};
 
 use crate::options::{Name, Options, Verb};
 use sk_ingest::Kind;
@@ -11,6 +11,8 @@ use sk_ingest::Kind;
 pub enum Command {
     /// Estimate how many distinct items there are, by the k smallest.
     Count { k: u32, kind: Kind },
+    /// Write the hash of each line that is not empty, under a seed.
+    Hash { seed: u32 },
     Help,
     Version,
 }
@@ -24,6 +26,7 @@ impl Command {
         let (verb, behind) = words.split_first()?;
         match verb.as_str() {
             "count" => Command::count(&Options::new(Verb::Count, behind)?),
+            "hash" => Command::hash(&Options::new(Verb::Hash, behind)?),
             "--help" => alone(Command::Help, behind),
             "--version" => alone(Command::Version, behind),
             _ => None,
@@ -42,6 +45,15 @@ impl Command {
             Kind::Hash(seed)
         };
         Some(Command::Count { k, kind })
+    }
+
+    fn hash(options: &Options<'_>) -> Option<Command>
+        ensures value { result ≡ hash_by options.now }
+        ensures limits { IfSome result IsWithin }
+    {
+        Some(Command::Hash {
+            seed: seed_in(options)?,
+        })
     }
 }
 

@@ -5,7 +5,7 @@ ghost use Rattle.sk_model.specs.Causes.{HasCause, AppendsFront};
 ghost use Rattle.sk_cli.specs.Fault.{status_of, message_of, line_message, fault_by};
 
 use itoa::Buffer;
-use sk_ingest::Fault as ReadingFault;
+use sk_ingest::{Fault as ReadingFault, LineFault};
 use sk_io::{Failed, Sink, write_all};
 use sk_model::OutOfMemory;
 use std::alloc::AllocError;
@@ -39,6 +39,20 @@ impl From<AllocError> for Fault {
 
     fn from(_: AllocError) -> Self {
         Fault::OutOfMemory
+    }
+}
+
+impl From<LineFault> for Fault {
+    ghost use Rattle.sk_cli.specs.Fault.{fault_by_line};
+
+    ghost from_gives = { λ stop e. e ≡ fault_by_line stop };
+
+    fn from(fault: LineFault) -> Self {
+        match fault {
+            LineFault::ReadFault => Fault::ReadFault,
+            LineFault::LongLine(line) => Fault::LongLine(line),
+            LineFault::TooMuch => Fault::TooMuch,
+        }
     }
 }
 

@@ -10,6 +10,9 @@ usage:
       --k K     how many hashes are kept, 2 to 32768 (4096)
       --raw     each line spells its item, a number from 0 to 281474976710655
       --seed S  the seed of the hash, 0 to 4294967295 (0)
+  sketchd hash [--seed S]
+      reads standard input and writes the hash of each line that is not empty, 12 digits in base 16
+      --seed S  the seed of the hash, 0 to 4294967295 (0)
   sketchd --help
   sketchd --version
 

@@ -4,6 +4,7 @@
 mod command;
 mod count;
 mod fault;
+mod hash;
 mod help;
 mod options;
 mod program;

@@ -10,6 +10,7 @@ use std::marker::Model;
 #[derive(Clone, Copy, Debug, PartialEq, Eq)]
 pub enum Verb {
     Count,
+    Hash,
 }
 
 /// The name of an option.
@@ -49,8 +50,9 @@ impl Verb {
     fn allows(self, name: Name) -> bool
         ensures { result ≡ allows self name }
     {
-        match (self, name) {
-            (Verb::Count, Name::K | Name::Raw | Name::Seed) => true,
+        match self {
+            Verb::Count => true,
+            Verb::Hash => name == Name::Seed,
         }
     }
 }

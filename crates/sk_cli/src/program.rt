@@ -15,6 +15,7 @@ ghost use Rattle.sk_cli.specs.declared.fault.Fault.TheVariants as fault;
 use crate::command::Command;
 use crate::count::count;
 use crate::fault::Fault;
+use crate::hash::hash;
 use crate::help::{HELP, VERSION};
 use sk_io::{Sink, Source, write_all};
 use std::alloc::Global;
@@ -90,6 +91,7 @@ pub(crate) fn execute<S: Source, O: Sink>(
 {
     match command {
         Command::Count { k, kind } => count(alloc, k, kind, most, input, out),
+        Command::Hash { seed } => hash(alloc, seed, most, input, out),
         Command::Help => write_all(out, HELP.as_bytes()).map_err(|_| Fault::WriteFault),
         Command::Version => write_all(out, VERSION.as_bytes()).map_err(|_| Fault::WriteFault),
     }

@@ -100,6 +100,46 @@ fn estimates(rt: HostRuntime) -> Result<(), Fail> {
 }
 
 #[test]
+fn hashes(rt: HostRuntime) -> Result<(), Fail> {
+    let alloc = rt.alloc();
+    let cases: [(&str, &[u8], &[u8]); 3] = [
+        (
+            "hash",
+            b"hello\n\nhello, world\n",
+            b"cbd8a7b341bd\n342fac623a5e\n",
+        ),
+        (
+            "hash --seed 0",
+            b"The quick brown fox jumps over the lazy dog.",
+            b"cd99481f9ee9\n",
+        ),
+        ("hash", b"", b""),
+    ];
+    for (line, text, out) in cases {
+        expect_out(&rt, &run_over(alloc, line, text)?, out);
+    }
+    Ok(())
+}
+
+// What was due before a refusal or a fault stands.
+#[test]
+fn hashes_before_a_fault(rt: HostRuntime) -> Result<(), Fail> {
+    let alloc = rt.alloc();
+    let text = b"hello\nhello, world\n".to_vec(alloc)?;
+    let input = MemSource::new(text, 1, [8].to_vec(alloc)?);
+    let ran = run_on(alloc, "hash", input, 100)?;
+    assert_eq!(rt; ran.status, 3);
+    assert_eq!(rt; ran.out.as_slice(), b"cbd8a7b341bd\n".as_slice());
+    let text = b"hello\nhello, world\n".to_vec(alloc)?;
+    let input = MemSource::new(text, 100, Vec::new(alloc));
+    let ran = run_on(alloc, "hash", input, 20)?;
+    assert_eq!(rt; ran.status, 4);
+    assert_eq!(rt; ran.out.as_slice(), b"cbd8a7b341bd\n342fac6".as_slice());
+    assert_eq!(rt; ran.err.as_slice(), b"write fault\n".as_slice());
+    Ok(())
+}
+
+#[test]
 fn long_lines(rt: HostRuntime) -> Result<(), Fail> {
     let alloc = rt.alloc();
     let most = vec![in alloc; b'x'; 65_536]?;
@@ -149,6 +189,8 @@ fn words_that_are_no_command(rt: HostRuntime) -> Result<(), Fail> {
         "count --raw --raw",
         "count --k --raw",
         "count --seed 4294967296",
+        "hash --k 4",
+        "hash --seed",
         "count --k=4",
         "count x",
         "Count",

@@ -1,0 +1,76 @@
+// The command that writes the hash of each line.
+ghost use Rattle.std.specs.Prelude.{◌≡◌, ◌≤◌, ◌<◌, ◌^◌, ◌∷◌, [], OnOk, OnErr, IfErr};
+ghost use Rattle.std.specs.Io.KnownBytes.{Appends};
+ghost use Rattle.sk_model.specs.Causes.{Rose, AppendsFront};
+ghost use Rattle.sk_cli.specs.Run.{Executes, hash_line, hash_text, hex_digit};
+ghost use Rattle.sk_cli.specs.declared.command.Command.TheVariants as command;
+
+use crate::fault::Fault;
+use sk_hash::hash48;
+use sk_ingest::LineReader;
+use sk_io::{Sink, Source, write_all};
+use std::alloc::Global;
+
+// A hash has so many digits.
+const DIGITS: usize = 12;
+
+const LINE_LEN: usize = 13;
+
+fn hex_digit(digit: u8) -> u8
+    requires { digit < 16 }
+    ensures { result ≡ hex_digit digit }
+{
+    if digit < 10 {
+        b'0' + digit
+    } else {
+        b'a' - 10 + digit
+    }
+}
+
+// The line of a hash: its digits in base 16, and LF.
+fn line_of(hash: u64) -> [u8; LINE_LEN]
+    ensures { result ≡ hash_line hash }
+{
+    let mut line = [b'\n'; LINE_LEN];
+    let mut place = DIGITS;
+    let mut rest = hash;
+    'digit: while place > 0 {
+        place -= 1;
+        line[place] = hex_digit((rest % 16) as u8);
+        rest /= 16;
+    }
+    line
+}
+
+// Writes the hash of a line, if it is not empty.
+fn put_hash<O: Sink>(seed: u32, line: &[u8], out: &mut O) -> Result<(), Fault>
+    ensures ok { OnOk result (Appends (O.written out.old) (O.written out.new) (hash_text seed (line.now ∷ []))) }
+    ensures front { OnErr result (AppendsFront (O.written out.old) (O.written out.new) (hash_text seed (line.now ∷ []))) }
+    ensures rose { OnErr result (Rose (O.faults out.old) (O.faults out.new)) }
+    ensures err { IfErr result (λ fault. fault ≡ Fault.WriteFault) }
+    ensures later { O.faults out.old ≤ O.faults out.new }
+{
+    if line.is_empty() {
+        return Ok(());
+    }
+    write_all(out, &line_of(hash48(seed, line))).map_err(|_| Fault::WriteFault)
+}
+
+/// Writes the hash of each line that is not empty, before the next line is examined.
+pub fn hash<S: Source, O: Sink>(
+    alloc: Global,
+    seed: u32,
+    most: u64,
+    input: &mut S,
+    out: &mut O,
+) -> Result<(), Fault>
+    requires bound { most ≤ 2 ^ 40 }
+    ensures { Executes (command.Hash seed) most (S.left input.old) (S.left input.new) (S.faults input.old) (S.faults input.new)
+        (O.written out.old) (O.written out.new) (O.faults out.old) (O.faults out.new) result }
+{
+    let mut reader = LineReader::new(alloc, most)?;
+    'line: while reader.next(input)? {
+        put_hash(seed, reader.line(), out)?;
+    }
+    Ok(())
+}
