@@ -1,13 +1,12 @@
-// A library with one function.
+//! The sequential sketch of the k smallest hashes, as a heap beside a probing table.
 #![tactic(auto)]
 
-ghost use Rattle.std.specs.Prelude.{◌≡◌};
-ghost use Rattle.sk_heap.specs.Echo.{echo_of};
+mod heap_theta;
+mod kind;
+mod table;
 
-// The `ensures` clause is the contract: what `echo` returns is `echo_of` of its argument, a definition
-// in `specs/Echo.antt`, which a caller's clause can cite too.
-pub fn echo(x: usize) -> usize
-    ensures { result ≡ echo_of x }
-{
-    x
-}
+pub use heap_theta::HeapTheta;
+pub use sk_model::OutOfMemory;
+
+#[cfg(test)]
+mod tests;

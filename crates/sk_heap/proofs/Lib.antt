@@ -1,0 +1,4 @@
+pub mod Round
+pub mod Counts
+pub mod Probes
+pub mod Gaps

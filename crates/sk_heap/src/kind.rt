@@ -1,0 +1,1 @@
+//! The heap as a sketch of a kind.
