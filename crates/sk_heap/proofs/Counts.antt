@@ -35,10 +35,10 @@ same_moved xs i j v w inside inside' apart at_i at_j x =
       ap (λ (w : ℕ). once x w) there,
     )
 
-once-same : (x : ℕ) → once x x ≡ 1
+pub once-same : (x : ℕ) → once x x ≡ 1
 once-same x = ap (λ (b : Bool). cond b 1 0) (eq-eqb x x refl)
 
-once-other : (x y : ℕ) → y ≢ x → once x y ≡ 0
+pub once-other : (x y : ℕ) → y ≢ x → once x y ≡ 0
 once-other x y apart = ap (λ (b : Bool). cond b 1 0) (ne_eqb y x apart)
 
 -- the same of their successors

@@ -7,7 +7,7 @@ ghost use Rattle.sk_theta.specs.Kept.{Sketch, StandsFor, IsWhole, theta_kept};
 ghost use Rattle.sk_heap.specs.Heap.{HasSame, IsMaxHeap};
 ghost use Rattle.sk_heap.specs.Table.{IsProbed, HoldsEach};
 
-use crate::table::{find, remove};
+use crate::held::{put_in, theta_of};
 use sk_model::OutOfMemory;
 use sk_theta::{ITEM_END, Reply};
 use std::alloc::Global;
@@ -47,18 +47,9 @@ impl HeapTheta {
     // The rest of `update`, for a hash that most often changes something.
     #[inline(never)]
     fn put(&mut self, h: u64) -> bool {
-        let Err(at) = find(self.table.as_slice(), h) else {
-            return false;
-        };
-        self.table[at] = h + 1;
-        if self.heap.len() < self.k as usize {
-            self.heap.push(h).unwrap();
-        } else {
-            let greatest = replace_greatest(&mut self.heap, h);
-            remove(self.table.as_mut_slice(), greatest);
-        }
-        self.theta = theta_among(&self.heap, self.k as usize);
-        true
+        let changed = put_in(&mut self.heap, self.table.as_mut_slice(), self.k as usize, h);
+        self.theta = theta_of(&self.heap, self.k as usize);
+        changed
     }
 
     /// Puts a batch to the end of the list.
@@ -113,22 +104,5 @@ impl HeapTheta {
     /// two that is at least 2k, and a hash is looked for from h modulo that length on, going round.
     pub fn table(&self) -> &[u64] {
         self.table.as_slice()
-    }
-}
-
-// Puts a hash in the place of the greatest, which it returns.
-fn replace_greatest(heap: &mut BinaryHeap<u64>, hash: u64) -> u64 {
-    let mut top = heap.peek_mut().unwrap();
-    let greatest = *top;
-    *top = hash;
-    greatest
-}
-
-// Theta as the kept hashes give it.
-fn theta_among(heap: &BinaryHeap<u64>, k: usize) -> u64 {
-    if heap.len() < k {
-        ITEM_END
-    } else {
-        *heap.peek().unwrap()
     }
 }

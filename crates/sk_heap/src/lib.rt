@@ -1,6 +1,7 @@
 //! The sequential sketch of the k smallest hashes, as a heap beside a probing table.
 #![tactic(auto)]
 
+mod held;
 mod heap_theta;
 mod kind;
 mod table;
