@@ -5,3 +5,4 @@ pub mod Gaps
 pub mod Distinct
 pub mod Kept
 pub mod Both
+pub mod Shown

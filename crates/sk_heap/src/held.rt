@@ -1,9 +1,8 @@
 //! The heap and the table together.
-ghost use Rattle.std.specs.Prelude.{◌≡◌, ◌≢◌, ◌↔◌, ◌<◌, ◌≤◌, ℕ, ◌∷◌, length, take, All, IsTrue, IsPermutation};
+ghost use Rattle.std.specs.Prelude.{◌≡◌, ◌≢◌, ◌↔◌, ◌<◌, ◌≤◌, ℕ, ◌∷◌, length, take, All, IsTrue, IfOk, IsPermutation, nat_eq};
 ghost use Rattle.std.specs.BinaryHeap.{IsHeap, heap_items, heap_len, heap_capacity};
 ghost use Rattle.std.specs.List.{IsDistinct};
 ghost use Rattle.std.specs.Ordering.{nat_cmp};
-ghost use Rattle.std.specs.Prelude.{nat_eq};
 ghost use Rattle.sk_model.specs.Sketch.{placed, rising};
 ghost use Rattle.sk_model.specs.Width.{item_end};
 ghost use Rattle.sk_theta.specs.Kept.{theta_kept};
@@ -11,6 +10,7 @@ ghost use Rattle.sk_heap.specs.Held.{IsHeld, IsExchanged};
 ghost use Rattle.sk_heap.specs.Table.{IsFirstEmpty};
 
 use crate::table::{find, remove};
+use sk_model::OutOfMemory;
 use sk_theta::ITEM_END;
 use std::collections::BinaryHeap;
 
@@ -95,4 +95,14 @@ pub fn theta_of(heap: &BinaryHeap<u64>, k: usize) -> u64
     } else {
         *heap.peek().unwrap()
     }
+}
+
+// The hashes, rising.
+pub fn sorted(heap: &BinaryHeap<u64>) -> Result<Vec<u64>, OutOfMemory>
+    requires { IsDistinct nat_eq (heap_items heap.now) }
+    ensures { IfOk result (λ v. v.items ≡ rising (heap_items heap.now)) }
+{
+    let mut hashes = heap.clone()?.into_vec();
+    hashes.sort_unstable();
+    Ok(hashes)
 }
