@@ -1,7 +1,6 @@
 -- The heap and the table hold the same hashes, and go on to.
-use Rattle.std.proofs.Common.{◌≡◌, ◌≢◌, ℕ, ◌+◌, ◌*◌, ◌%◌, ◌<◌, ◌≤◌, nat_eq, List, [], ◌∷◌, length, set, get_or, All, Contains, ◌⊎◌, inl, inr, ⊎_elim, refl, sym, ap, ◌∙◌, subst, arith, length-set}
+use Rattle.std.proofs.Common.{◌≡◌, ℕ, ◌+◌, ◌*◌, ◌<◌, ◌≤◌, nat_eq, List, ◌∷◌, length, set, get_or, Contains, inl, inr, refl, sym, ◌∙◌, subst, arith, length-set}
 use Rattle.std.specs.BinaryHeap.{IsHeap}
-use Rattle.std.specs.List.{IsDistinct}
 use Rattle.std.specs.List.Sorted.{IsPermutation}
 use Rattle.std.specs.Ordering.{nat_cmp}
 use Rattle.std.proofs.lemmas.List.{get_or_default}
@@ -15,7 +14,7 @@ use Rattle.sk_heap.specs.Heap.{times, HasSame}
 use Rattle.sk_heap.specs.Table.{IsProbed, IsProbedOver, IsFirstEmpty}
 use Rattle.sk_heap.specs.Held.{IsHeld, IsExchanged}
 use Rattle.sk_heap.proofs.Counts.{once, once-suc, once-other, once-same, times-cons, same_set, same_permutation, times_from_at, at_from_times}
-use Rattle.sk_heap.proofs.Distinct.{Has-permutation, distinct_more, distinct_moved, head_once}
+use Rattle.sk_heap.proofs.Distinct.{Has-permutation, distinct_more, distinct_moved}
 use Rattle.sk_heap.proofs.Probes.{is_absent, one_more_probed}
 
 pub contains_from_times : (xs : List ℕ) (x : ℕ) → 1 ≤ times x xs → Contains xs x
@@ -54,8 +53,7 @@ module _ (k : ℕ) (heap table : List ℕ) (held : IsHeld k heap table) where
 
     marked_has : (h : ℕ) → times (h + 1) marked ≡ once h hash + times h heap
     marked_has h =
-        omega
-        (
+        omega (
           arith,
           same_set table at (hash + 1) 0 inside (first.empty) (h + 1),
           times-cons (h + 1) 0 marked,
@@ -67,8 +65,7 @@ module _ (k : ℕ) (heap table : List ℕ) (held : IsHeld k heap table) where
 
     marked_zero : times 0 marked + 1 ≡ times 0 table
     marked_zero =
-        omega
-        (
+        omega (
           arith,
           same_set table at (hash + 1) 0 inside (first.empty) 0,
           times-cons 0 0 marked,
@@ -135,8 +132,7 @@ module _ (k : ℕ) (heap table : List ℕ) (held : IsHeld k heap table) where
             size = subst (λ (len : ℕ). IsNextPowerOfTwo (2 * k) len) (sym (as_long ∙ long)) (held.size);
             probed = probed;
             entries = λ h.
-                omega
-                (
+                omega (
                   arith,
                   same (h + 1),
                   times-cons (h + 1) (greatest + 1) left,
@@ -150,17 +146,16 @@ module _ (k : ℕ) (heap table : List ℕ) (held : IsHeld k heap table) where
                   times-cons h hash rest,
                 );
             vacant =
-              omega
-              (
-                arith,
-                held.vacant,
-                marked_zero,
-                long,
-                as_long,
-                same 0,
-                times-cons 0 (greatest + 1) left,
-                times-cons 0 0 marked,
-                once-same 0,
-                once-other 0 (greatest + 1) (λ e. absurd (omega arith)),
-              );
+                omega (
+                  arith,
+                  held.vacant,
+                  marked_zero,
+                  long,
+                  as_long,
+                  same 0,
+                  times-cons 0 (greatest + 1) left,
+                  times-cons 0 0 marked,
+                  once-same 0,
+                  once-other 0 (greatest + 1) (λ e. absurd (omega arith)),
+                );
           }

@@ -1,5 +1,5 @@
 -- Lists with the same members, each as often.
-use Rattle.std.proofs.Common.{◌≡◌, ◌≢◌, ℕ, zero, suc, ◌+◌, ◌<◌, ◌≤◌, Bool, true, false, cond, eqb, List, [], ◌∷◌, length, set, get_or, length-set, Contains, ◌⊎◌, inl, inr, ⊎_elim, refl, sym, ap, ◌∙◌, arith, eq-eqb, ne_eqb}
+use Rattle.std.proofs.Common.{◌≡◌, ◌≢◌, ℕ, zero, suc, ◌+◌, ◌<◌, ◌≤◌, Bool, cond, eqb, List, [], ◌∷◌, length, set, get_or, length-set, ⊎_elim, refl, sym, ap, ◌∙◌, arith, eq-eqb, ne_eqb}
 use Rattle.std.specs.List.Sorted.{IsPermutation}
 use Rattle.std.proofs.lemmas.Bool.{cases_eq}
 use Rattle.std.proofs.lemmas.List.Sums.{sum_by-cons, sum_by-set}
@@ -26,8 +26,7 @@ same_set xs i v w inside is x =
 pub same_moved : (xs : List ℕ) (i j v w : ℕ) → i < length xs → j < length xs → i ≢ j → get_or xs i 0 ≡ w → get_or xs j 0 ≡ v → HasSame (set (set xs i v) j w) xs
 same_moved xs i j v w inside inside' apart at_i at_j x =
     let there : get_or (set xs i v) j 0 ≡ v = get_or-set_other xs i j v 0 (λ same. apart (sym same)) ∙ at_j in
-    omega
-    (
+    omega (
       arith,
       sum_by-set (λ y. once x y) xs i v 0 inside,
       sum_by-set (λ y. once x y) (set xs i v) j w 0 (omega (arith, length-set xs i v)),

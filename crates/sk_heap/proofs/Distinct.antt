@@ -1,5 +1,5 @@
 -- Lists in which no number stands twice.
-use Rattle.std.proofs.Common.{◌≡◌, ◌≢◌, ℕ, ◌<◌, ◌≤◌, Bool, true, false, eqb, nat_eq, List, [], ◌∷◌, ◌++◌, length, All, Contains, ◌⊎◌, inl, inr, ⊎_elim, refl, sym, ap, ◌∙◌, arith, eq-eqb, ne_eqb, append-nil}
+use Rattle.std.proofs.Common.{◌≡◌, ℕ, true, false, eqb, nat_eq, List, [], ◌∷◌, ◌++◌, All, inl, inr, ⊎_elim, refl, sym, ◌∙◌, arith, eq-eqb, ne_eqb, append-nil}
 use Rattle.std.specs.List.{IsDistinct, AllByRecursion}
 use Rattle.std.specs.List.Sorted.{IsPermutation}
 use Rattle.std.proofs.lemmas.Bool.Decides.{nat_tests}
@@ -50,7 +50,7 @@ all_placed_moves kept (h ∷ xs) distinct apart =
     IsPermutation-trans (all_placed (placed h kept) xs) (placed h kept ++ xs) (kept ++ h ∷ xs)
     (all_placed_moves (placed h kept) xs (IsDistinct-tail eqb h xs distinct) (λ z g p. ⊎_elim (λ same. head_once h xs distinct (rw same g)) (λ p'. apart z (inr g) p') (Has-placed h kept z p)))
     (IsPermutation-trans (placed h kept ++ xs) (h ∷ (kept ++ xs)) (kept ++ h ∷ xs) (IsPermutation-append_left xs (placed h kept) (h ∷ kept) (placed_moves h kept new))
-      (IsPermutation-sym (kept ++ h ∷ xs) (h ∷ (kept ++ xs)) (IsPermutation-middle kept h xs)))
+    (IsPermutation-sym (kept ++ h ∷ xs) (h ∷ (kept ++ xs)) (IsPermutation-middle kept h xs)))
 
 pub rising_moves : (xs : List ℕ) → IsDistinct nat_eq xs → IsPermutation (rising xs) xs
 unfolding rising

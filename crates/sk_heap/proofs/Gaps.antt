@@ -1,8 +1,8 @@
 -- An empty place that is closed: what stands behind it moves back.
-use Rattle.std.proofs.Common.{◌≡◌, ◌≢◌, ℕ, ◌+◌, ◌-◌, ◌%◌, ◌<◌, ◌≤◌, List, length, set, get_or, ◌⊎◌, inl, inr, ⊎_elim, refl, sym, ap, ◌∙◌, arith, length-set}
+use Rattle.std.proofs.Common.{◌≡◌, ◌≢◌, ℕ, ◌+◌, ◌-◌, ◌%◌, ◌<◌, ◌≤◌, List, length, set, get_or, ⊎_elim, refl, sym, ap, ◌∙◌, arith, length-set}
 use Rattle.std.proofs.lemmas.Bool.{cases_eq, cases_order}
 use Rattle.std.proofs.Math.Nat.{mod-eq_of_lt}
-use Rattle.sk_heap.specs.Table.{going_round, IsProbedOver, IsProbedButGap, IsEmptyAhead, IsGap}
+use Rattle.sk_heap.specs.Table.{going_round, IsProbedOver, IsProbedButGap, IsGap}
 use Rattle.sk_heap.proofs.Round.{steps_on, steps_back, one_round, steps_reach}
 use Rattle.sk_heap.proofs.Probes.{round_at, round_off}
 
@@ -11,8 +11,7 @@ pub gap_opens : (len : ℕ) (t : List ℕ) (at : ℕ) → len ≡ length t → a
 gap_opens len t at long inside probed h n e under found less empty =
     let none : at + 0 ≡ at = omega arith in
     let off : (h + n) % len ≢ at = λ same. absurd (omega (arith, sym (round_at len t at 0 (h + n) (omega arith) same) ∙ found)) in
-    let found' : going_round len t (h + n) ≡ h + 1 = sym (round_off len t at 0 (h + n) off) ∙ found in
-    (
+    let found' : going_round len t (h + n) ≡ h + 1 = sym (round_off len t at 0 (h + n) off) ∙ found in (
       ⊎_elim (λ same. same ∙ sym (ap (λ (p : ℕ). p % len) none ∙ mod-eq_of_lt inside)) (λ apart. absurd (probed h n e under found' less (sym (round_off len t at 0 (h + e) apart) ∙ empty))) (cases_eq ((h + e) % len) at),
       λ c above below. absurd (omega arith),
     )
@@ -27,14 +26,14 @@ module _ (len : ℕ) (t : List ℕ) (start gap step : ℕ) (long : len ≡ lengt
       ⊎_elim
       (λ same. absurd (omega (arith, sym found ∙ ap (λ (q : ℕ). get_or t q 0) (meets ∙ ap (λ (c : ℕ). (start + c) % len) same) ∙ ends)))
       (λ apart.
-          ⊎_elim (λ below. p.1 c (omega arith) below meets)
-          (λ past.
-              let f : ℕ = e + (step - gap) in
-              let meets' : (h + f) % len ≡ (start + step) % len = steps_on len h e start gap (step - gap) f step p.0 refl (omega arith) in
-              let empty' : going_round len t (h + f) ≡ 0 = ap (λ (q : ℕ). get_or t q 0) meets' ∙ ends in
-              let same : step ≡ gap = one_round len start step gap within (omega arith) (sym meets' ∙ (but h n f under found (omega arith) empty').0) in
-              absurd (omega arith))
-          apart)
+      ⊎_elim (λ below. p.1 c (omega arith) below meets)
+      (λ past.
+      let f : ℕ = e + (step - gap) in
+      let meets' : (h + f) % len ≡ (start + step) % len = steps_on len h e start gap (step - gap) f step p.0 refl (omega arith) in
+      let empty' : going_round len t (h + f) ≡ 0 = ap (λ (q : ℕ). get_or t q 0) meets' ∙ ends in
+      let same : step ≡ gap = one_round len start step gap within (omega arith) (sym meets' ∙ (but h n f under found (omega arith) empty').0) in
+      absurd (omega arith))
+      apart)
       (cases_order c step)
 
   module _ (y d : ℕ) (under_d : d < len) (reaches : (y + d) % len ≡ (start + step) % len) (entry : going_round len t (start + step) ≡ y + 1) where
@@ -49,12 +48,12 @@ module _ (len : ℕ) (t : List ℕ) (start gap step : ℕ) (long : len ≡ lengt
           λ c above below same.
               ⊎_elim
               (λ last.
-                  let at : (h + n) % len ≡ (start + step) % len = same ∙ ap (λ (c : ℕ). (start + c) % len) last in
-                  let hashes : h ≡ y = at_step h n at found in
-                  let way : n ≡ d = one_round len y n d under under_d (ap (λ (g : ℕ). (g + n) % len) (sym hashes) ∙ at ∙ sym reaches) in
-                  let meets : (h + n) % len ≡ (start + (gap + (n - e))) % len = steps_on len h e start gap (n - e) n (gap + (n - e)) p.0 (omega arith) refl in
-                  let steps : gap + (n - e) ≡ step = one_round len start (gap + (n - e)) step (omega arith) within (sym meets ∙ at) in
-                  absurd (omega arith))
+              let at : (h + n) % len ≡ (start + step) % len = same ∙ ap (λ (c : ℕ). (start + c) % len) last in
+              let hashes : h ≡ y = at_step h n at found in
+              let way : n ≡ d = one_round len y n d under under_d (ap (λ (g : ℕ). (g + n) % len) (sym hashes) ∙ at ∙ sym reaches) in
+              let meets : (h + n) % len ≡ (start + (gap + (n - e))) % len = steps_on len h e start gap (n - e) n (gap + (n - e)) p.0 (omega arith) refl in
+              let steps : gap + (n - e) ≡ step = one_round len start (gap + (n - e)) step (omega arith) within (sym meets ∙ at) in
+              absurd (omega arith))
               (λ other. p.1 c above (omega arith) same)
               (cases_eq c step),
         )
@@ -76,23 +75,22 @@ module _ (len : ℕ) (t : List ℕ) (start gap step : ℕ) (long : len ≡ lengt
           let inside : gap_at < length t = omega arith in
           let inside' : at < length filled = omega (arith, length-set t gap_at (y + 1)) in
           let off_at : (h + n) % len ≢ at = λ same. absurd (omega (arith, sym (round_at len filled at 0 (h + n) inside' same) ∙ found)) in
-          let found' : going_round len filled (h + n) ≡ h + 1 = sym (round_off len filled at 0 (h + n) off_at) ∙ found in
-          (
+          let found' : going_round len filled (h + n) ≡ h + 1 = sym (round_off len filled at 0 (h + n) off_at) ∙ found in (
             ⊎_elim (λ same. same)
-            (λ off.
+                (λ off.
                 let empty' : going_round len filled (h + e) ≡ 0 = sym (round_off len filled at 0 (h + e) off) ∙ empty in
                 let off_gap : (h + e) % len ≢ gap_at = λ same. absurd (omega (arith, sym (round_at len t gap_at (y + 1) (h + e) inside same) ∙ empty')) in
                 let empty'' : going_round len t (h + e) ≡ 0 = sym (round_off len t gap_at (y + 1) (h + e) off_gap) ∙ empty' in
                 ⊎_elim
                 (λ same.
-                    let hashes : h ≡ y = omega (arith, sym (round_at len t gap_at (y + 1) (h + n) inside same) ∙ found') in
-                    let way : n ≡ d - (step - gap) = one_round len y n (d - (step - gap)) under (omega arith) (ap (λ (g : ℕ). (g + n) % len) (sym hashes) ∙ same ∙ sym on_the_way) in
-                    let there : going_round len t (y + d) ≡ y + 1 = ap (λ (q : ℕ). get_or t q 0) reaches ∙ entry in
-                    let empty_y : going_round len t (y + e) ≡ 0 = ap (λ (g : ℕ). going_round len t (g + e)) (sym hashes) ∙ empty'' in
-                    absurd (off_gap (ap (λ (g : ℕ). (g + e) % len) hashes ∙ (but y d e under_d there (omega arith) empty_y).0)))
+                let hashes : h ≡ y = omega (arith, sym (round_at len t gap_at (y + 1) (h + n) inside same) ∙ found') in
+                let way : n ≡ d - (step - gap) = one_round len y n (d - (step - gap)) under (omega arith) (ap (λ (g : ℕ). (g + n) % len) (sym hashes) ∙ same ∙ sym on_the_way) in
+                let there : going_round len t (y + d) ≡ y + 1 = ap (λ (q : ℕ). get_or t q 0) reaches ∙ entry in
+                let empty_y : going_round len t (y + e) ≡ 0 = ap (λ (g : ℕ). going_round len t (g + e)) (sym hashes) ∙ empty'' in
+                absurd (off_gap (ap (λ (g : ℕ). (g + e) % len) hashes ∙ (but y d e under_d there (omega arith) empty_y).0)))
                 (λ apart. absurd (off_gap (but h n e under (sym (round_off len t gap_at (y + 1) (h + n) apart) ∙ found') less empty'').0))
                 (cases_eq ((h + n) % len) gap_at))
-            (cases_eq ((h + e) % len) at),
+                (cases_eq ((h + e) % len) at),
             λ c above below. absurd (omega arith),
           )
 

@@ -1,5 +1,5 @@
 -- What one more hash makes of the kept ones, as a heap has them.
-use Rattle.std.proofs.Common.{◌≡◌, ◌≢◌, ◌↔◌, ℕ, zero, suc, ◌+◌, ◌-◌, ◌<◌, ◌≤◌, Bool, true, false, cond, ltb, nat_eq, List, [], ◌∷◌, ◌++◌, length, take, get_or, All, Contains, IsTrue, ◌⊎◌, inl, inr, ⊎_elim, refl, sym, ap, ◌∙◌, subst, arith, take_all}
+use Rattle.std.proofs.Common.{◌≡◌, ◌≢◌, ℕ, ◌-◌, ◌<◌, ◌≤◌, Bool, true, false, cond, ltb, nat_eq, List, [], ◌∷◌, ◌++◌, length, take, get_or, All, Contains, ◌⊎◌, inl, inr, ⊎_elim, refl, sym, ap, ◌∙◌, subst, arith, take_all}
 use Rattle.std.specs.List.{IsDistinct}
 use Rattle.std.specs.List.Sorted.{IsPermutation, IsStrictlyIncreasing}
 use Rattle.std.proofs.lemmas.Bool.{cases_order}
@@ -33,8 +33,8 @@ kept_more : (k h : ℕ) (xs ys : List ℕ) → length (rising xs) ≤ k → leng
     → rising ys ≡ take k (placed h (rising xs))
 kept_more k h xs ys within within' to from =
     sym (k_smallest_is k (rising ys) (xs ++ h ∷ []) (rises ys) within'
-      (λ z c. ⊎_elim (λ same. subst (λ (z : ℕ). Contains (xs ++ h ∷ []) z) same (Contains-push xs h)) (λ g. Contains-append_left xs (h ∷ []) z (Contains-from_Has xs z g)) (to z (Has-rising ys z (Has-from_Contains (rising ys) z c))))
-      (λ z c. ⊎_elim (λ g. inl (Contains-from_Has (rising ys) z (rising-has ys z g))) (λ p. inr p) (from z (⊎_elim (λ c'. inr (Has-from_Contains xs z c')) (λ same. inl same) (Contains-push_cases xs h z c)))))
+    (λ z c. ⊎_elim (λ same. subst (λ (z : ℕ). Contains (xs ++ h ∷ []) z) same (Contains-push xs h)) (λ g. Contains-append_left xs (h ∷ []) z (Contains-from_Has xs z g)) (to z (Has-rising ys z (Has-from_Contains (rising ys) z c))))
+    (λ z c. ⊎_elim (λ g. inl (Contains-from_Has (rising ys) z (rising-has ys z g))) (λ p. inr p) (from z (⊎_elim (λ c'. inr (Has-from_Contains xs z c')) (λ same. inl same) (Contains-push_cases xs h z c)))))
     ∙ one_more k h xs
     ∙ ap (λ (l : List ℕ). take k (placed h l)) (all_kept k xs within)
 
@@ -61,22 +61,22 @@ kept_exchanged k h greatest xs ys distinct distinct' full e less =
     let full' : length (rising ys) ≡ k = omega (arith, length_rising ys distinct') in
     let apart = head_once greatest rest (distinct_moved xs (greatest ∷ rest) (e.out) distinct) in
     let below : (z : ℕ) → Has (h ∷ rest) z → z < greatest = λ z g.
-        ⊎_elim (λ same. omega arith)
-        (λ g'.
-            let most : z ≤ greatest = All-contains (λ y. y ≤ greatest) xs z (e.most) (Contains-from_Has xs z (Has-permutation (greatest ∷ rest) xs z (IsPermutation-sym xs (greatest ∷ rest) (e.out)) (inr g'))) in
-            ⊎_elim (λ same. absurd (apart (rw (← same) g'))) (λ other. ⊎_elim (λ l. l) (λ l. absurd (omega arith)) other) (cases_order z greatest))
-        g in
+    ⊎_elim (λ same. omega arith)
+    (λ g'.
+    let most : z ≤ greatest = All-contains (λ y. y ≤ greatest) xs z (e.most) (Contains-from_Has xs z (Has-permutation (greatest ∷ rest) xs z (IsPermutation-sym xs (greatest ∷ rest) (e.out)) (inr g'))) in
+    ⊎_elim (λ same. absurd (apart (rw (← same) g'))) (λ other. ⊎_elim (λ l. l) (λ l. absurd (omega arith)) other) (cases_order z greatest))
+    g in
     let back : (z : ℕ) → Has ys z → Has (h ∷ rest) z = λ z g. Has-permutation ys (h ∷ rest) z (IsPermutation-sym (h ∷ rest) ys (e.put)) g in
     kept_more k h xs ys (omega (arith, length_rising xs distinct)) (omega arith)
     (λ z g. ⊎_elim (λ same. inl same) (λ g'. inr (Has-permutation (greatest ∷ rest) xs z (IsPermutation-sym xs (greatest ∷ rest) (e.out)) (inr g'))) (back z g))
     (λ z g.
-        ⊎_elim (λ same. inl (Has-permutation (h ∷ rest) ys z (e.put) (inl same)))
-        (λ g'.
-            ⊎_elim
-            (λ same. inr (full', All-from_Has (λ y. y < z) (rising ys) (λ y p. rw (← same) (below y (back y (Has-rising ys y p))))))
-            (λ g''. inl (Has-permutation (h ∷ rest) ys z (e.put) (inr g'')))
-            (Has-permutation xs (greatest ∷ rest) z (e.out) g'))
-        g)
+    ⊎_elim (λ same. inl (Has-permutation (h ∷ rest) ys z (e.put) (inl same)))
+    (λ g'.
+    ⊎_elim
+    (λ same. inr (full', All-from_Has (λ y. y < z) (rising ys) (λ y p. rw (← same) (below y (back y (Has-rising ys y p))))))
+    (λ g''. inl (Has-permutation (h ∷ rest) ys z (e.put) (inr g'')))
+    (Has-permutation xs (greatest ∷ rest) z (e.out) g'))
+    g)
 
 -- a hash that is new
 pub kept_changed : (h : ℕ) (xs ys : List ℕ) → (Has xs h → ⊥) → Has ys h → rising ys ≢ rising xs

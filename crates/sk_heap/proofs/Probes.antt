@@ -1,5 +1,5 @@
 -- What a search along the table finds, and one more entry.
-use Rattle.std.proofs.Common.{◌≡◌, ◌≢◌, ℕ, ◌+◌, ◌-◌, ◌%◌, ◌<◌, ◌≤◌, List, length, set, get_or, Contains, ◌⊎◌, inl, inr, ⊎_elim, refl, sym, ap, ◌∙◌, arith, length-set}
+use Rattle.std.proofs.Common.{◌≡◌, ◌≢◌, ℕ, ◌+◌, ◌-◌, ◌%◌, ◌<◌, List, length, set, get_or, Contains, ⊎_elim, sym, ap, ◌∙◌, arith}
 use Rattle.std.proofs.lemmas.Bool.{cases_eq, cases_order}
 use Rattle.std.proofs.lemmas.List.{get_or_default}
 use Rattle.std.proofs.Math.Seq.{get_or-set_same, get_or-set_other}
@@ -42,10 +42,10 @@ one_more_probed len t hash at steps long probed within is passed h n e under fou
     let empty' : going_round len t (h + e) ≡ 0 = sym (round_off len t at (hash + 1) (h + e) off) ∙ empty in
     ⊎_elim
     (λ same.
-        let hashes : h ≡ hash = omega (arith, sym (round_at len t at (hash + 1) (h + n) inside same) ∙ found) in
-        let meets : (hash + n) % len ≡ (hash + steps) % len = ap (λ (g : ℕ). (g + n) % len) (sym hashes) ∙ same ∙ is in
-        let way : n ≡ steps = one_round len hash n steps under within meets in
-        passed e (omega arith) (ap (λ (g : ℕ). going_round len t (g + e)) (sym hashes) ∙ empty'))
+    let hashes : h ≡ hash = omega (arith, sym (round_at len t at (hash + 1) (h + n) inside same) ∙ found) in
+    let meets : (hash + n) % len ≡ (hash + steps) % len = ap (λ (g : ℕ). (g + n) % len) (sym hashes) ∙ same ∙ is in
+    let way : n ≡ steps = one_round len hash n steps under within meets in
+    passed e (omega arith) (ap (λ (g : ℕ). going_round len t (g + e)) (sym hashes) ∙ empty'))
     (λ apart. probed h n e under (sym (round_off len t at (hash + 1) (h + n) apart) ∙ found) less empty')
     (cases_eq ((h + n) % len) at)
 

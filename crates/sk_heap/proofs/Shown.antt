@@ -1,5 +1,5 @@
 -- What a sketch shows of its heap and its table.
-use Rattle.std.proofs.Common.{◌≡◌, ◌≢◌, ℕ, zero, suc, ◌+◌, ◌-◌, ◌*◌, ◌/◌, ◌%◌, ◌<◌, ◌≤◌, Bool, false, nat_eq, List, [], ◌∷◌, length, get_or, replicate, All, Contains, ◌⊎◌, refl, sym, ap, ◌∙◌, subst, arith}
+use Rattle.std.proofs.Common.{◌≡◌, ℕ, zero, suc, ◌+◌, ◌-◌, ◌*◌, ◌/◌, ◌%◌, ◌<◌, ◌≤◌, nat_eq, List, [], length, get_or, replicate, refl, sym, subst, arith}
 use Rattle.std.proofs.lemmas.List.{length-replicate}
 use Rattle.std.specs.BinaryHeap.{IsHeap}
 use Rattle.std.specs.Int.{IsNextPowerOfTwo}
@@ -48,7 +48,7 @@ max_heap heap order j one inside =
 pub sorted_is_rising : (heap sorted : List ℕ) → IsDistinct nat_eq heap → IsPermutation heap sorted → IsSorted nat_cmp sorted → sorted ≡ rising heap
 sorted_is_rising heap sorted distinct moved up =
     sym (rising_is sorted heap (IsStrictlyIncreasing-from_distinct sorted (IsNonDecreasingBy-from_sort (λ x. x) sorted up) (distinct_moved heap sorted moved distinct))
-      (λ x c. Contains-permutation sorted heap x (IsPermutation-sym heap sorted moved) c) (λ x c. Contains-permutation heap sorted x moved c))
+    (λ x c. Contains-permutation sorted heap x (IsPermutation-sym heap sorted moved) c) (λ x c. Contains-permutation heap sorted x moved c))
 
 -- ---- the sketch of the empty list
 
@@ -80,15 +80,15 @@ pub held_empty : (k n : ℕ) (heap table : List ℕ) → 2 ≤ k → k ≤ 32768
 held_empty k n heap table least most size none zeros order =
     subst (λ (heap : List ℕ). IsHeld k heap table) (sym none)
     (subst (λ (table : List ℕ). IsHeld k [] table) (sym zeros)
-      (record {
-        least = least;
-        most = most;
-        within = omega arith;
-        items = All-nil (λ z. z < item_end);
-        distinct = distinct_nil;
-        order = subst (λ (heap : List ℕ). IsHeap nat_cmp heap) none order;
-        size = subst (λ (len : ℕ). IsNextPowerOfTwo (2 * k) len) (sym (length-replicate {A = ℕ} n 0)) size;
-        probed = λ h m e under found less. absurd (omega (arith, found, zeros_are n ((h + m) % length (zeros_of n))));
-        entries = λ h. zeros_alone n h;
-        vacant = omega (arith, zeros_times n, length-replicate {A = ℕ} n 0);
-      }))
+    (record {
+      least = least;
+      most = most;
+      within = omega arith;
+      items = All-nil (λ z. z < item_end);
+      distinct = distinct_nil;
+      order = subst (λ (heap : List ℕ). IsHeap nat_cmp heap) none order;
+      size = subst (λ (len : ℕ). IsNextPowerOfTwo (2 * k) len) (sym (length-replicate {A = ℕ} n 0)) size;
+      probed = λ h m e under found less. absurd (omega (arith, found, zeros_are n ((h + m) % length (zeros_of n))));
+      entries = λ h. zeros_alone n h;
+      vacant = omega (arith, zeros_times n, length-replicate {A = ℕ} n 0);
+    }))

@@ -14,8 +14,8 @@ use std::alloc::Global;
 use std::collections::BinaryHeap;
 use std::marker::Model;
 
-/// The sketch of the k smallest hashes of a list, with the calls of `sk_theta::Theta`. It is quicker where
-/// much of the list is kept at some time.
+/// The sketch of the k smallest hashes of a list, with the calls of `sk_theta::Theta`, and what it keeps
+/// shown as a heap and a table.
 #[derive(Drop)]
 pub struct HeapTheta {
     heap: BinaryHeap<u64>,
@@ -78,7 +78,12 @@ impl HeapTheta {
         ensures kept { self.new.kept ≡ take self.old.k (placed h self.old.kept) }
         ensures changed { IsTrue result ↔ (self.new.kept ≢ self.old.kept) }
     {
-        let changed = put_in(&mut self.heap, self.table.as_mut_slice(), self.k as usize, h);
+        let changed = put_in(
+            &mut self.heap,
+            self.table.as_mut_slice(),
+            self.k as usize,
+            h,
+        );
         self.theta = theta_of(&self.heap, self.k as usize);
         changed
     }

@@ -1,8 +1,8 @@
 //! The sequential sketch of the k smallest hashes, as a heap beside a probing table.
 #![tactic(auto)]
 
-mod held;
 mod heap_theta;
+mod held;
 mod kind;
 mod table;
 

@@ -1,5 +1,5 @@
-use Rattle.std.proofs.Common.{arith, ◌≡◌, ℕ, ◌≤◌, false, List, ◌++◌, length, filter, sym, ap, ◌∙◌, subst}
-use Rattle.sk_model.specs.Entries.{Entry, tagged}
+use Rattle.std.proofs.Common.{arith, ◌≡◌, ℕ, false, List, ◌++◌, length, filter, sym, ap, ◌∙◌, subst}
+use Rattle.sk_model.specs.Entries.{tagged}
 use Rattle.sk_compose.proofs.Filtered.{put_in_behind, filter_within}
 use Rattle.sk_compose.proofs.round.offer.Goals as goal
 

@@ -1,5 +1,5 @@
-use Rattle.std.proofs.Common.{◌≡◌, ℕ, ◌<◌, ◌≤◌, List, length, Contains, true, inl, inr, ◌∷◌, refl, sym, ◌∙◌, arith}
-use Rattle.sk_model.proofs.Rising.{Has, Contains-from_Has}
+use Rattle.std.proofs.Common.{◌≡◌, ℕ, ◌<◌, List, length, Contains, inl, ◌∷◌, refl, arith}
+use Rattle.sk_model.proofs.Rising.{Contains-from_Has}
 use Rattle.std.specs.BinaryHeap.{heap_items}
 use Rattle.std.proofs.lemmas.List.Sorted.{IsPermutation-sym}
 use Rattle.sk_heap.proofs.Kept.{kept_there, kept_added, kept_exchanged, kept_changed, theta_full}

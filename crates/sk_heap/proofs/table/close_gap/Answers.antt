@@ -1,4 +1,4 @@
-use Rattle.std.proofs.Common.{◌≡◌, ℕ, ◌+◌, ◌<◌, List, length, get_or, ap, sym, ◌∙◌, subst, arith}
+use Rattle.std.proofs.Common.{◌≡◌, ℕ, ◌+◌, ◌<◌, List, length, ◌∙◌, subst, arith}
 use Rattle.sk_heap.specs.Table.{IsGap, going_round}
 use Rattle.sk_heap.proofs.Gaps.{gap_ends}
 use Rattle.sk_heap.proofs.table.close_gap.Goals as goal

@@ -1,4 +1,4 @@
-use Rattle.std.proofs.Common.{◌≡◌, ℕ, ◌+◌, List, length, set, get_or, length-set, sym, subst}
+use Rattle.std.proofs.Common.{ℕ, ◌+◌, List, set, length-set, sym, subst}
 use Rattle.sk_heap.specs.Table.{IsGap}
 use Rattle.sk_heap.proofs.Counts.{same_set, same_behind}
 use Rattle.sk_heap.proofs.Gaps.{gap_begins}

@@ -1,5 +1,4 @@
-use Rattle.std.proofs.Common.{◌≡◌, ◌≢◌, ℕ, ◌+◌, ◌-◌, ◌%◌, ◌<◌, ◌≤◌, List, length, set, get_or, refl, sym, ap, ◌∙◌, subst, arith}
-use Rattle.sk_heap.specs.Heap.{HasSame}
+use Rattle.std.proofs.Common.{◌≡◌, ◌≢◌, ℕ, ◌+◌, ◌-◌, ◌%◌, ◌<◌, List, length, set, get_or, refl, sym, subst, arith}
 use Rattle.sk_heap.specs.Table.{IsGap}
 use Rattle.sk_heap.proofs.Gaps.{gap_rests, gap_goes_on, apart_from_gap}
 use Rattle.sk_heap.proofs.Counts.{same_moved}
@@ -24,7 +23,7 @@ returns-clause-gap c =
     let reaches : (get_or t at 0 - 1 + c.steps_to.result) % length t ≡ at = rw c.place-at.ensures at c.steps_to.ensures.reaches in
     rw (c.place-hole.ensures, c.place-at.ensures)
     (subst (λ (w : ℕ). IsGap (length t) (set (set t hole w) at 0) c.args.start c.args.step (c.args.step + 1)) (sym entry)
-      (gap_goes_on t c.args.start c.args.gap c.args.step c.requires.within c.requires.gap (get_or t at 0 - 1) c.steps_to.result c.steps_to.ensures.within reaches entry c.if-steps_to-step.false))
+    (gap_goes_on t c.args.start c.args.gap c.args.step c.requires.within c.requires.gap (get_or t at 0 - 1) c.steps_to.result c.steps_to.ensures.within reaches entry c.if-steps_to-step.false))
 
 pub returns-clause-same : goal.returns-clause-same
 returns-clause-same c =

@@ -1,5 +1,4 @@
 use Rattle.sk_heap.proofs.Round.{steps_reach}
-use Rattle.sk_heap.proofs.Gaps.{gap_moves}
 use Rattle.sk_heap.proofs.table.steps_to.Goals as goal
 
 pub returns-clause-reaches : goal.returns-clause-reaches
