@@ -1,0 +1,155 @@
+-- An empty place that is closed: what stands behind it moves back.
+use Rattle.std.proofs.Common.{◌≡◌, ◌≢◌, ℕ, ◌+◌, ◌-◌, ◌%◌, ◌<◌, ◌≤◌, List, length, set, get_or, ⊎_elim, refl, sym, ap, ◌∙◌, arith, length-set}
+use Rattle.std.proofs.lemmas.Bool.{cases_eq, cases_order}
+use Rattle.std.proofs.Math.Nat.{mod-eq_of_lt}
+use Rattle.sk_heap.specs.Table.{going_round, IsProbedOver, IsProbedButGap, IsGap}
+use Rattle.sk_heap.proofs.Round.{steps_on, steps_back, one_round, steps_reach}
+use Rattle.sk_heap.proofs.Probes.{round_at, round_off}
+
+-- an entry is taken out
+pub gap_opens : (len : ℕ) (t : List ℕ) (at : ℕ) → len ≡ length t → at < len → IsProbedOver len t → IsProbedButGap len (set t at 0) at 0 1
+gap_opens len t at long inside probed h n e under found less empty =
+    let none : at + 0 ≡ at = omega arith in
+    let off : (h + n) % len ≢ at = λ same. absurd (omega (arith, sym (round_at len t at 0 (h + n) (omega arith) same) ∙ found)) in
+    let found' : going_round len t (h + n) ≡ h + 1 = sym (round_off len t at 0 (h + n) off) ∙ found in (
+      ⊎_elim (λ same. same ∙ sym (ap (λ (p : ℕ). p % len) none ∙ mod-eq_of_lt inside)) (λ apart. absurd (probed h n e under found' less (sym (round_off len t at 0 (h + e) apart) ∙ empty))) (cases_eq ((h + e) % len) at),
+      λ c above below. absurd (omega arith),
+    )
+
+module _ (len : ℕ) (t : List ℕ) (start gap step : ℕ) (long : len ≡ length t) (behind : gap < step) (within : step < len) (but : IsProbedButGap len t start gap step) where
+  -- the next place is empty
+  pub gap_closes : going_round len t (start + step) ≡ 0 → IsProbedOver len t
+  gap_closes ends h n e under found less empty =
+      let p = but h n e under found less empty in
+      let c : ℕ = gap + (n - e) in
+      let meets : (h + n) % len ≡ (start + c) % len = steps_on len h e start gap (n - e) n c p.0 (omega arith) refl in
+      ⊎_elim
+      (λ same. absurd (omega (arith, sym found ∙ ap (λ (q : ℕ). get_or t q 0) (meets ∙ ap (λ (c : ℕ). (start + c) % len) same) ∙ ends)))
+      (λ apart.
+      ⊎_elim (λ below. p.1 c (omega arith) below meets)
+      (λ past.
+      let f : ℕ = e + (step - gap) in
+      let meets' : (h + f) % len ≡ (start + step) % len = steps_on len h e start gap (step - gap) f step p.0 refl (omega arith) in
+      let empty' : going_round len t (h + f) ≡ 0 = ap (λ (q : ℕ). get_or t q 0) meets' ∙ ends in
+      let same : step ≡ gap = one_round len start step gap within (omega arith) (sym meets' ∙ (but h n f under found (omega arith) empty').0) in
+      absurd (omega arith))
+      apart)
+      (cases_order c step)
+
+  module _ (y d : ℕ) (under_d : d < len) (reaches : (y + d) % len ≡ (start + step) % len) (entry : going_round len t (start + step) ≡ y + 1) where
+    at_step : (h n : ℕ) → (h + n) % len ≡ (start + step) % len → going_round len t (h + n) ≡ h + 1 → h ≡ y
+    at_step h n same found = omega (arith, sym found ∙ ap (λ (q : ℕ). get_or t q 0) same ∙ entry)
+
+    -- the next place has an entry whose way does not pass the gap
+    pub gap_stays : d < step - gap → IsProbedButGap len t start gap (step + 1)
+    gap_stays short h n e under found less empty =
+        let p = but h n e under found less empty in (
+          p.0,
+          λ c above below same.
+              ⊎_elim
+              (λ last.
+              let at : (h + n) % len ≡ (start + step) % len = same ∙ ap (λ (c : ℕ). (start + c) % len) last in
+              let hashes : h ≡ y = at_step h n at found in
+              let way : n ≡ d = one_round len y n d under under_d (ap (λ (g : ℕ). (g + n) % len) (sym hashes) ∙ at ∙ sym reaches) in
+              let meets : (h + n) % len ≡ (start + (gap + (n - e))) % len = steps_on len h e start gap (n - e) n (gap + (n - e)) p.0 (omega arith) refl in
+              let steps : gap + (n - e) ≡ step = one_round len start (gap + (n - e)) step (omega arith) within (sym meets ∙ at) in
+              absurd (omega arith))
+              (λ other. p.1 c above (omega arith) same)
+              (cases_eq c step),
+        )
+
+    module _ (hole : going_round len t (start + gap) ≡ 0) (far : step - gap ≤ d) where
+      -- the gap is at the place that y's way meets so many steps before the entry
+      on_the_way : (y + (d - (step - gap))) % len ≡ (start + gap) % len
+      on_the_way = steps_back len y (d - (step - gap)) start gap (step - gap) d step (omega arith) reaches (omega arith) (omega arith)
+
+      apart_places : (start + gap) % len ≢ (start + step) % len
+      apart_places same = let steps : gap ≡ step = one_round len start gap step (omega arith) within same in absurd (omega arith)
+
+      -- the next place has an entry that moves into the gap
+      pub gap_moves : IsProbedButGap len (set (set t ((start + gap) % len) (y + 1)) ((start + step) % len) 0) start step (step + 1)
+      gap_moves h n e under found less empty =
+          let gap_at : ℕ = (start + gap) % len in
+          let at : ℕ = (start + step) % len in
+          let filled : List ℕ = set t gap_at (y + 1) in
+          let inside : gap_at < length t = omega arith in
+          let inside' : at < length filled = omega (arith, length-set t gap_at (y + 1)) in
+          let off_at : (h + n) % len ≢ at = λ same. absurd (omega (arith, sym (round_at len filled at 0 (h + n) inside' same) ∙ found)) in
+          let found' : going_round len filled (h + n) ≡ h + 1 = sym (round_off len filled at 0 (h + n) off_at) ∙ found in (
+            ⊎_elim (λ same. same)
+                (λ off.
+                let empty' : going_round len filled (h + e) ≡ 0 = sym (round_off len filled at 0 (h + e) off) ∙ empty in
+                let off_gap : (h + e) % len ≢ gap_at = λ same. absurd (omega (arith, sym (round_at len t gap_at (y + 1) (h + e) inside same) ∙ empty')) in
+                let empty'' : going_round len t (h + e) ≡ 0 = sym (round_off len t gap_at (y + 1) (h + e) off_gap) ∙ empty' in
+                ⊎_elim
+                (λ same.
+                let hashes : h ≡ y = omega (arith, sym (round_at len t gap_at (y + 1) (h + n) inside same) ∙ found') in
+                let way : n ≡ d - (step - gap) = one_round len y n (d - (step - gap)) under (omega arith) (ap (λ (g : ℕ). (g + n) % len) (sym hashes) ∙ same ∙ sym on_the_way) in
+                let there : going_round len t (y + d) ≡ y + 1 = ap (λ (q : ℕ). get_or t q 0) reaches ∙ entry in
+                let empty_y : going_round len t (y + e) ≡ 0 = ap (λ (g : ℕ). going_round len t (g + e)) (sym hashes) ∙ empty'' in
+                absurd (off_gap (ap (λ (g : ℕ). (g + e) % len) hashes ∙ (but y d e under_d there (omega arith) empty_y).0)))
+                (λ apart. absurd (off_gap (but h n e under (sym (round_off len t gap_at (y + 1) (h + n) apart) ∙ found') less empty'').0))
+                (cases_eq ((h + n) % len) gap_at))
+                (cases_eq ((h + e) % len) at),
+            λ c above below. absurd (omega arith),
+          )
+
+-- ---- the same of what the code keeps
+
+pub gap_begins : (t : List ℕ) (at p v : ℕ) → at < length t → p < length t → get_or t at 0 ≡ v + 1 → get_or t p 0 ≡ 0 → IsProbedOver (length t) t → IsGap (length t) (set t at 0) at 0 1
+gap_begins t at p v inside inside' full empty probed =
+    let len : ℕ = length t in
+    let none : at + 0 ≡ at = omega arith in
+    let steps : ℕ = (p + len - at % len) % len in
+    let reach : (at + steps) % len ≡ p = steps_reach len at p inside' in
+    let same : (at + 0) % len ≡ at = ap (λ (p : ℕ). p % len) none ∙ mod-eq_of_lt inside in
+    let away : p ≢ at = λ e. absurd (omega (arith, sym full ∙ ap (λ (q : ℕ). get_or t q 0) (sym e) ∙ empty)) in
+    let some : steps ≢ 0 = λ e. away (sym reach ∙ ap (λ (n : ℕ). (at + n) % len) e ∙ same) in
+    let off : (at + steps) % len ≢ at = λ e. away (sym reach ∙ e) in
+    record {
+      behind = omega arith;
+      empty = round_at len t at 0 (at + 0) inside same;
+      but = gap_opens len t at refl inside probed;
+      ahead = (steps, omega arith, omega arith, round_off len t at 0 (at + steps) off ∙ ap (λ (q : ℕ). get_or t q 0) reach ∙ empty);
+    }
+
+module _ (t : List ℕ) (start gap step : ℕ) (within : step < length t) (g : IsGap (length t) t start gap step) where
+  pub gap_ends : going_round (length t) t (start + step) ≡ 0 → IsProbedOver (length t) t
+  gap_ends = gap_closes (length t) t start gap step refl (g.behind) within (g.but)
+
+  module _ (y d : ℕ) (under : d < length t) (reaches : (y + d) % length t ≡ (start + step) % length t) (entry : going_round (length t) t (start + step) ≡ y + 1) where
+    past : (c : ℕ) → step ≤ c → going_round (length t) t (start + c) ≡ 0 → step + 1 ≤ c
+    past c from empty = ⊎_elim (λ same. absurd (omega (arith, sym entry ∙ ap (λ (c : ℕ). going_round (length t) t (start + c)) (sym same) ∙ empty))) (λ apart. omega arith) (cases_eq c step)
+
+    pub gap_rests : d < step - gap → IsGap (length t) t start gap (step + 1)
+    gap_rests short =
+        let a = g.ahead in
+        let behind : gap < step = g.behind in
+        record {
+          behind = omega arith;
+          empty = g.empty;
+          but = gap_stays (length t) t start gap step refl (g.behind) within (g.but) y d under reaches entry short;
+          ahead = (a.0, past a.0 a.1 a.3, a.2, a.3);
+        }
+
+    pub gap_goes_on : step - gap ≤ d → IsGap (length t) (set (set t ((start + gap) % length t) (y + 1)) ((start + step) % length t) 0) start step (step + 1)
+    gap_goes_on far =
+        let len : ℕ = length t in
+        let hole : ℕ = (start + gap) % len in
+        let at : ℕ = (start + step) % len in
+        let filled : List ℕ = set t hole (y + 1) in
+        let a = g.ahead in
+        let behind : gap < step = g.behind in
+        let later : step + 1 ≤ a.0 = past a.0 a.1 a.3 in
+        let off : (start + a.0) % len ≢ at = λ same. let e : a.0 ≡ step = one_round len start a.0 step a.2 within same in absurd (omega arith) in
+        let off' : (start + a.0) % len ≢ hole = λ same. let e : a.0 ≡ gap = one_round len start a.0 gap a.2 (omega arith) same in absurd (omega arith) in
+        let inside : at < length filled = omega (arith, length-set t hole (y + 1)) in
+        record {
+          behind = omega arith;
+          empty = round_at len filled at 0 (start + step) inside refl;
+          but = gap_moves len t start gap step refl (g.behind) within (g.but) y d under reaches entry (g.empty) far;
+          ahead = (a.0, later, a.2, round_off len filled at 0 (start + a.0) off ∙ round_off len t hole (y + 1) (start + a.0) off' ∙ a.3);
+        }
+
+    pub apart_from_gap : (start + gap) % length t ≢ (start + step) % length t
+    apart_from_gap same = let behind : gap < step = g.behind in let e : gap ≡ step = one_round (length t) start gap step (omega arith) within same in absurd (omega arith)

@@ -1,0 +1,30 @@
+-- A heap and a table that hold the same hashes.
+use Rattle.std.specs.Prelude.{◌≡◌, ℕ, ◌+◌, ◌*◌, ◌≤◌, List, ◌∷◌, length, nat_eq, All}
+use Rattle.std.specs.Int.{IsNextPowerOfTwo}
+use Rattle.std.specs.List.{IsDistinct}
+use Rattle.std.specs.List.Sorted.{IsPermutation}
+use Rattle.std.specs.Ordering.{nat_cmp}
+use Rattle.std.specs.BinaryHeap.{IsHeap}
+use Rattle.sk_model.specs.Width.{AreItems}
+use Rattle.sk_heap.specs.Heap.{times}
+use Rattle.sk_heap.specs.Table.{IsProbed, HoldsEach}
+
+-- at most k hashes, in order as a heap, none of them twice, and the table that they are looked up in
+pub record IsHeld (k : ℕ) (heap table : List ℕ) : Type 0 where
+  pub least : 2 ≤ k
+  pub most : k ≤ 32768
+  pub within : length heap ≤ k
+  pub items : AreItems heap
+  pub distinct : IsDistinct nat_eq heap
+  pub order : IsHeap nat_cmp heap
+  pub size : IsNextPowerOfTwo (2 * k) (length table)
+  pub probed : IsProbed table
+  pub entries : HoldsEach heap table
+  pub vacant : times 0 table + length heap ≡ length table
+
+-- a hash in the place of the greatest
+pub record IsExchanged (hash : ℕ) (old new : List ℕ) (greatest : ℕ) : Type 0 where
+  pub rest : List ℕ
+  pub out : IsPermutation old (greatest ∷ rest)
+  pub put : IsPermutation (hash ∷ rest) new
+  pub most : All (λ y. y ≤ greatest) old

@@ -1,0 +1,13 @@
+//! The sequential sketch of the k smallest hashes, as a heap beside a probing table.
+#![tactic(auto)]
+
+mod heap_theta;
+mod held;
+mod kind;
+mod table;
+
+pub use heap_theta::HeapTheta;
+pub use sk_model::OutOfMemory;
+
+#[cfg(test)]
+mod tests;

@@ -1,0 +1,113 @@
+//! The table that hashes are looked up in, by linear probing. It has h + 1 for the hash h, and 0 at its
+//! empty places; a deletion shifts entries back (Knuth, The Art of Computer Programming 3, 6.4, algorithm R).
+ghost use Rattle.std.specs.Prelude.{◌≡◌, ◌≢◌, ◌+◌, ◌-◌, ◌%◌, ◌^◌, ◌<◌, ◌≤◌, ℕ, ◌∷◌, length, slice_index, Contains, IfOk, IfErr};
+ghost use Rattle.std.specs.Int.{IsPowerOfTwo};
+ghost use Rattle.sk_model.specs.Width.{item_end};
+ghost use Rattle.sk_heap.specs.Heap.{HasSame};
+ghost use Rattle.sk_heap.specs.Table.{IsProbed, IsFirstEmpty, IsGap, going_round};
+
+// The place of a number in a table of that length.
+#[inline(always)]
+fn place(n: u64, len: usize) -> usize
+    requires { IsPowerOfTwo len }
+    ensures { result ≡ n % len }
+{
+    (n & (len as u64 - 1)) as usize
+}
+
+// How far one goes from where a hash's probing begins to a place.
+#[inline(always)]
+fn steps_to(hash: u64, at: usize, len: usize) -> usize
+    requires power { IsPowerOfTwo len }
+    requires short { len ≤ 2 ^ 17 }
+    requires within { at < len }
+    ensures within { result < len }
+    ensures reaches { (hash + result) % len ≡ at }
+{
+    place((at + len - place(hash, len)) as u64, len)
+}
+
+// The place of a hash, or the first empty one on the way.
+pub fn find(table: &[u64], hash: u64) -> Result<usize, usize>
+    requires item { hash < item_end }
+    requires power { IsPowerOfTwo (length table.now) }
+    requires short { length table.now ≤ 2 ^ 17 }
+    requires probed { IsProbed table.now }
+    requires room { Contains table.now 0 }
+    ensures found { IfOk result (λ at. (at < length table.now) × (slice_index table.now at ≡ hash + 1)) }
+    ensures empty { IfErr result (λ at. IsFirstEmpty hash table.now at) }
+{
+    'probe: for steps in 0..table.len() {
+        let at = place(hash + steps as u64, table.len());
+        let entry = table[at];
+        if entry == hash + 1 {
+            return Ok(at);
+        }
+        if entry == 0 {
+            return Err(at);
+        }
+    }
+    unreachable!()
+}
+
+// Moves the entry at a step behind the gap into it, unless its way does not pass the gap. Answers where the
+// gap then is.
+#[inline(always)]
+fn shift_back(table: &mut [u64], start: usize, gap: usize, step: usize) -> usize
+    requires power { IsPowerOfTwo (length table.old) }
+    requires short { length table.old ≤ 2 ^ 17 }
+    requires start { start < length table.old }
+    requires within { step < length table.old }
+    requires gap { IsGap (length table.old) table.old start gap step }
+    requires entry { going_round (length table.old) table.old (start + step) ≢ 0 }
+    ensures gap { IsGap (length table.old) table.new start result (step + 1) }
+    ensures same { HasSame table.new table.old }
+{
+    let len = table.len();
+    let at = place((start + step) as u64, len);
+    let entry = table[at];
+    if steps_to(entry - 1, at, len) < step - gap {
+        return gap;
+    }
+    let hole = place((start + gap) as u64, len);
+    table[hole] = entry;
+    table[at] = 0;
+    step
+}
+
+// Closes the gap at a place: moves back what stands behind it and may stand in it, and so on.
+fn close_gap(table: &mut [u64], start: usize)
+    requires power { IsPowerOfTwo (length table.old) }
+    requires short { length table.old ≤ 2 ^ 17 }
+    requires start { start < length table.old }
+    requires gap { IsGap (length table.old) table.old start 0 1 }
+    ensures probed { IsProbed table.new }
+    ensures same { HasSame table.new table.old }
+{
+    let len = table.len();
+    let mut gap = 0;
+    'shift: for step in 1..len {
+        if table[place((start + step) as u64, len)] == 0 {
+            return;
+        }
+        gap = shift_back(table, start, gap, step);
+    }
+}
+
+// Takes a hash out.
+pub fn remove(table: &mut [u64], hash: u64)
+    requires item { hash < item_end }
+    requires power { IsPowerOfTwo (length table.old) }
+    requires short { length table.old ≤ 2 ^ 17 }
+    requires probed { IsProbed table.old }
+    requires room { Contains table.old 0 }
+    requires holds { Contains table.old (hash + 1) }
+    ensures probed { IsProbed table.new }
+    ensures rest { HasSame ((hash + 1) ∷ table.new) (0 ∷ table.old) }
+{
+    let Ok(at) = find(table, hash) else {
+        unreachable!()
+    };
+    table[at] = 0;
+    close_gap(table, at);
+}

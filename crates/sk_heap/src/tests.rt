@@ -1,0 +1,109 @@
+ghost use Rattle.std.specs.Prelude.{◌<◌, ◌≤◌};
+ghost use Rattle.sk_model.specs.Width.{item_end};
+
+use super::*;
+use sk_compose::round::offer;
+use sk_compose::{Buffer, Composable, Parcel, ThetaKind};
+use sk_model::plain;
+use sk_theta::{ITEM_END, Reply, Theta, unpack};
+use std::alloc::Global;
+use std::test::Fail;
+
+#[test]
+fn a_worked_sketch_shows_its_heap_and_table(rt: HostRuntime) -> Result<(), Fail> {
+    let mut sketch = HeapTheta::new(rt.alloc(), 2)?;
+    assert_eq!(rt; (sketch.count(), sketch.theta()), (0, ITEM_END));
+    assert!(rt; sketch.update(5));
+    assert!(rt; sketch.update(3));
+    assert!(rt; sketch.update(4));
+    assert!(rt; !sketch.update(3));
+    assert_eq!(rt; sketch.heap(), [4, 3].as_slice());
+    assert_eq!(rt; sketch.table(), [5, 0, 0, 4].as_slice());
+    assert!(rt; !sketch.update(8));
+    assert_eq!(rt; sketch.fraction(), (281_474_976_710_656, 4));
+    assert_eq!(rt; sketch.list()?.as_slice(), [3, 4].as_slice());
+    assert_eq!(rt; unpack(sketch.packed()), Reply { count: 2, theta: 4 });
+    assert_eq!(rt; sketch.k(), 2);
+    Ok(())
+}
+
+// Hashes 1, 5 and 9 begin at one place of a table of 4, and 3 before it.
+#[test]
+fn entries_move_back_behind_one_that_goes(rt: HostRuntime) -> Result<(), Fail> {
+    let mut sketch = HeapTheta::new(rt.alloc(), 2)?;
+    sketch.merge(&[9, 5]);
+    assert_eq!(rt; sketch.table(), [0, 10, 6, 0].as_slice());
+    assert!(rt; sketch.update(1));
+    assert_eq!(rt; sketch.table(), [0, 6, 2, 0].as_slice());
+    assert!(rt; sketch.update(3));
+    assert_eq!(rt; sketch.table(), [0, 2, 0, 4].as_slice());
+    assert!(rt; !sketch.update(1));
+    Ok(())
+}
+
+#[test]
+#[tactic(auto, unfolding(sk_model::specs::Entries::items_of_entries))]
+fn a_repeat_in_a_batch_counts_once(rt: HostRuntime) -> Result<(), Fail> {
+    let mut sketch = HeapTheta::new(rt.alloc(), 2)?;
+    let mut parcel = Parcel {
+        buffer: Buffer::new(rt.alloc(), 3)?,
+        told: None,
+    };
+    let published = offer(&rt, &mut sketch, 0, &[3, 5, 3], &mut parcel)?;
+    assert_eq!(rt; unpack(published.word), Reply { count: 2, theta: 5 });
+    assert_eq!(rt; published.hint, 5);
+    assert!(rt; !HeapTheta::keeps(published.hint, 5));
+    assert!(rt; HeapTheta::early(ITEM_END));
+    assert_eq!(rt; ThetaKind::k(&sketch), 2);
+    Ok(())
+}
+
+// The next of a fixed sequence (Knuth's MMIX constants), below a bound and below the end of the items.
+fn draw(state: &mut u64, bound: u64) -> u64
+    ensures { result < item_end }
+{
+    *state = state
+        .wrapping_mul(6_364_136_223_846_793_005)
+        .wrapping_add(1_442_695_040_888_963_407);
+    (*state >> 16) % bound.max(1).min(ITEM_END)
+}
+
+// Whether both forms, over so many numbers below the bound, are the plain form of them.
+fn agrees(alloc: Global, k: u32, bound: u64, count: u32, state: &mut u64) -> Result<bool, Fail>
+    requires least { 2 ≤ k }
+    requires most { k ≤ 32768 }
+{
+    let mut heap = HeapTheta::new(alloc, k)?;
+    let mut array = Theta::new(alloc, k)?;
+    let mut hashes = Vec::new(alloc);
+    for _ in 0..count {
+        let hash = draw(state, bound);
+        if heap.update(hash) != array.update(hash) {
+            return Ok(false);
+        }
+        hashes.push(hash)?;
+    }
+    let kept = plain::k_smallest(alloc, k as usize, &hashes)?;
+    let (numerator, theta) = plain::estimate(alloc, k as usize, &hashes)?;
+    let fraction = heap.fraction();
+    Ok(
+        heap.list()?.as_slice() == kept.as_slice()
+            && array.list()?.as_slice() == kept.as_slice()
+            && (u128::from(fraction.0), fraction.1) == (numerator, theta)
+            && heap.packed() == array.packed(),
+    )
+}
+
+#[test]
+fn random_lists_give_what_the_other_forms_give(rt: HostRuntime) -> Result<(), Fail> {
+    let alloc = rt.alloc();
+    let mut state = 1;
+    for bound in [1, 5, 100, 2_000, ITEM_END] {
+        assert!(rt; agrees(alloc, 2, bound, 300, &mut state)?);
+        assert!(rt; agrees(alloc, 3, bound, 300, &mut state)?);
+        assert!(rt; agrees(alloc, 64, bound, 600, &mut state)?);
+        assert!(rt; agrees(alloc, 500, bound, 2_000, &mut state)?);
+    }
+    assert!(rt; agrees(alloc, 4_096, 6_000, 9_000, &mut state)?);
+    Ok(())
+}
