@@ -4,9 +4,9 @@ ghost use Rattle.sk_cli.specs.Run.{estimate_line, Executes};
 ghost use Rattle.sk_cli.specs.declared.command.Command.TheVariants as command;
 
 use crate::fault::Fault;
+use sk_heap::HeapTheta;
 use sk_ingest::{Intake, Kind, read_items};
 use sk_io::{Sink, Source, write_all};
-use sk_theta::Theta;
 use std::alloc::{AllocError, Global};
 
 // The line of an estimate.
@@ -31,7 +31,7 @@ pub fn count<S: Source, O: Sink>(
     ensures { Executes (command.Count k kind) most (S.left input.old) (S.left input.new) (S.faults input.old) (S.faults input.new)
         (O.written out.old) (O.written out.new) (O.faults out.old) (O.faults out.new) result }
 {
-    let mut sketch = Theta::new(alloc, k)?;
+    let mut sketch = HeapTheta::new(alloc, k)?;
     let plan = Intake { kind, most };
     read_items(alloc, &plan, input, &mut sketch)?;
     let (n, d) = sketch.fraction();
