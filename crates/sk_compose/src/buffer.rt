@@ -22,7 +22,8 @@ impl Model for Buffer {
 
     ghost view = { λ b. record { items = b.items.items; capacity = b.capacity } };
 
-    ghost invariant = { λ b. IsBuffer (record { items = b.items.items; capacity = b.capacity }) × (b.capacity ≤ vec_capacity b.items) };
+    ghost invariant = { λ b. IsBuffer (record { items = b.items.items; capacity = b.capacity })
+        × (b.capacity ≤ vec_capacity b.items) };
 }
 
 impl Buffer {

@@ -50,9 +50,12 @@ pub trait Composable: Drop {
 
     /// Puts the entries of an updater's batch to the end of the list, or changes nothing.
     fn merge<R: Wait>(&mut self, rt: &R, from: u32, batch: &Buffer) -> Result<(), OutOfMemory>
-        requires few { (list : List Entry) × is_of self.old list × (length list + length batch.now.items ≤ 2 ^ 46) }
-        ensures lists { IfOk result (λ _. (list : List Entry) → is_of self.old list → is_of self.new (list ++ tagged from batch.now.items)) }
-        ensures refused { IfErr result (λ _. (list : List Entry) → is_of self.old list ↔ is_of self.new list) }
+        requires few { (list : List Entry) × is_of self.old list
+            × (length list + length batch.now.items ≤ 2 ^ 46) }
+        ensures lists { IfOk result (λ _. (list : List Entry) → is_of self.old list
+            → is_of self.new (list ++ tagged from batch.now.items)) }
+        ensures refused { IfErr result (λ _. (list : List Entry) → is_of self.old list
+            ↔ is_of self.new list) }
         ensures cause { IfErr result (λ _. IsTrue TAKES_MEMORY) }
         ensures numbers { numbers self.new ≡ numbers self.old }
         ensures name { name self.new ≡ name self.old };
@@ -60,7 +63,8 @@ pub trait Composable: Drop {
     /// By which items are filtered. It is never 0.
     fn hint(&self) -> u64
         ensures lower { 1 ≤ result }
-        ensures value { (list : List Entry) → is_of self.now list → result ≡ hint_of (numbers self.now) list };
+        ensures value { (list : List Entry) → is_of self.now list
+            → result ≡ hint_of (numbers self.now) list };
 
     /// Whether an item has to be merged, by a hint of a list that the sketch was of.
     fn keeps(hint: u64, item: u64) -> bool
@@ -72,7 +76,8 @@ pub trait Composable: Drop {
 
     /// What is published of the sketch, in one word.
     fn packed(&self) -> u64
-        ensures value { (list : List Entry) → is_of self.now list → result ≡ packed_of (numbers self.now) list };
+        ensures value { (list : List Entry) → is_of self.now list
+            → result ≡ packed_of (numbers self.now) list };
 
     /// What the last merge made known.
     fn told(&mut self) -> Self::Told
@@ -80,13 +85,17 @@ pub trait Composable: Drop {
         ensures numbers { numbers self.new ≡ numbers self.old }
         ensures name { name self.new ≡ name self.old }
         ensures told_name { tells → told_name result ≡ name self.old }
-        ensures told { tells → (list : List Entry) → is_of self.old list → told_of result list };
+        ensures told { tells → (list : List Entry) → is_of self.old list
+            → told_of result list };
 
     // An item that the hint of a list does not keep may be left out of any longer list.
-    ghost idle_replies: { (numbers : List ℕ) (list more rest : List Entry) (i item : ℕ) → item < item_end
+    ghost idle_replies: { (numbers : List ℕ) (list more rest : List Entry) (i item : ℕ)
+        → item < item_end
         → keeps_of (hint_of numbers list) item ≡ false
-        → (hint_of numbers ((list ++ more) ++ (i, item) ∷ rest) ≡ hint_of numbers ((list ++ more) ++ rest))
-        × (packed_of numbers ((list ++ more) ++ (i, item) ∷ rest) ≡ packed_of numbers ((list ++ more) ++ rest)) };
+        → (hint_of numbers ((list ++ more) ++ (i, item) ∷ rest)
+        ≡ hint_of numbers ((list ++ more) ++ rest))
+        × (packed_of numbers ((list ++ more) ++ (i, item) ∷ rest)
+        ≡ packed_of numbers ((list ++ more) ++ rest)) };
 
     ghost idle_lists: { (s : Self) (list more rest : List Entry) (i item : ℕ) → item < item_end
         → keeps_of (hint_of (numbers s) list) item ≡ false

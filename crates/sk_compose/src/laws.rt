@@ -1,4 +1,4 @@
-//! The laws of the definitions on which the interface rests, each the contract of an empty function.
+//! The laws on which the interface rests, each the contract of an empty function.
 
 pub use sk_model::laws::missing::missing_adds_up;
 pub use sk_model::laws::sketch::{

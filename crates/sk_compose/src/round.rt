@@ -36,8 +36,10 @@ pub fn serve<C: Composable, R: Wait>(
     from: u32,
     parcel: &mut Parcel<C::Told>,
 ) -> Result<Published, OutOfMemory>
-    requires few { (list : List Entry) × C.is_of sketch.old list × (length list + length parcel.old.buffer.items ≤ 2 ^ 46) }
-    ensures lists { IfOk result (λ _. (list : List Entry) → C.is_of sketch.old list → C.is_of sketch.new (list ++ tagged from parcel.old.buffer.items)) }
+    requires few { (list : List Entry) × C.is_of sketch.old list
+        × (length list + length parcel.old.buffer.items ≤ 2 ^ 46) }
+    ensures lists { IfOk result (λ _. (list : List Entry) → C.is_of sketch.old list
+        → C.is_of sketch.new (list ++ tagged from parcel.old.buffer.items)) }
     ensures word { IfOk result (λ p. (list : List Entry) → C.is_of sketch.old list
         → p.word ≡ C.packed_of (C.numbers sketch.old) (list ++ tagged from parcel.old.buffer.items)) }
     ensures hint { IfOk result (λ p. (list : List Entry) → C.is_of sketch.old list
@@ -45,9 +47,11 @@ pub fn serve<C: Composable, R: Wait>(
     ensures lower { IfOk result (λ p. 1 ≤ p.hint) }
     ensures emptied { IfOk result (λ _. parcel.new.buffer.items ≡ []) }
     ensures capacity { parcel.new.buffer.capacity ≡ parcel.old.buffer.capacity }
-    ensures told { IfOk result (λ _. IfSome parcel.new.told (λ told. C.tells → (C.told_name told ≡ C.name sketch.old)
-        × ((list : List Entry) → C.is_of sketch.old list → C.told_of told (list ++ tagged from parcel.old.buffer.items)))) }
-    ensures refused { IfErr result (λ _. (list : List Entry) → C.is_of sketch.old list ↔ C.is_of sketch.new list) }
+    ensures told { IfOk result (λ _. IfSome parcel.new.told (λ told. C.tells
+        → (C.told_name told ≡ C.name sketch.old) × ((list : List Entry) → C.is_of sketch.old list
+        → C.told_of told (list ++ tagged from parcel.old.buffer.items)))) }
+    ensures refused { IfErr result (λ _. (list : List Entry) → C.is_of sketch.old list
+        ↔ C.is_of sketch.new list) }
     ensures held { IfErr result (λ _. parcel.new ≡ parcel.old) }
     ensures cause { IfErr result (λ _. IsTrue C.TAKES_MEMORY) }
     ensures numbers { C.numbers sketch.new ≡ C.numbers sketch.old }
@@ -74,13 +78,19 @@ pub fn offer<C: Composable, R: Wait>(
     requires fits { AreItems items.now }
     requires empty { parcel.old.buffer.items ≡ [] }
     requires room { length items.now ≤ parcel.old.buffer.capacity }
-    requires few { (list : List Entry) × C.is_of sketch.old list × (length list + length items.now ≤ 2 ^ 46) }
-    ensures lists { IfOk result (λ _. (list : List Entry) → C.is_of sketch.old list → C.is_of sketch.new (list ++ tagged from items.now)) }
+    requires few { (list : List Entry) × C.is_of sketch.old list
+        × (length list + length items.now ≤ 2 ^ 46) }
+    ensures lists { IfOk result (λ _. (list : List Entry) → C.is_of sketch.old list
+        → C.is_of sketch.new (list ++ tagged from items.now)) }
     ensures word { IfOk result (λ p. (list : List Entry) → C.is_of sketch.old list
         → p.word ≡ C.packed_of (C.numbers sketch.old) (list ++ tagged from items.now)) }
     ensures hint { IfOk result (λ p. (list : List Entry) → C.is_of sketch.old list
         → p.hint ≡ C.hint_of (C.numbers sketch.old) (list ++ tagged from items.now)) }
-    ensures refused { IfErr result (λ _. (list : List Entry) → C.is_of sketch.old list ↔ C.is_of sketch.new list) }
+    ensures refused { IfErr result (λ _. (list : List Entry) → C.is_of sketch.old list
+        ↔ C.is_of sketch.new list) }
+    ensures cause { IfErr result (λ _. IsTrue C.TAKES_MEMORY) }
+    ensures numbers { C.numbers sketch.new ≡ C.numbers sketch.old }
+    ensures name { C.name sketch.new ≡ C.name sketch.old }
     ensures emptied { IfOk result (λ _. parcel.new.buffer.items ≡ []) }
     ensures within { length parcel.new.buffer.items ≤ length items.now }
     ensures capacity { parcel.new.buffer.capacity ≡ parcel.old.buffer.capacity }

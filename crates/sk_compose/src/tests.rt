@@ -141,7 +141,8 @@ fn a_refused_batch_is_merged_by_the_next_round(rt: HostRuntime) -> Result<(), Fa
 
 // What a kind of the k smallest says of a list.
 fn reply<C: ThetaKind>(sketch: &C) -> Reply
-    ensures { (list : List Entry) → C.is_of sketch.now list → (result.count, result.theta) ≡ unpacked (packed_of (k_of (C.numbers sketch.now)) (items_of_entries list)) }
+    ensures { (list : List Entry) → C.is_of sketch.now list
+        → (result.count, result.theta) ≡ unpacked (packed_of (k_of (C.numbers sketch.now)) (items_of_entries list)) }
 {
     unpack(sketch.packed())
 }

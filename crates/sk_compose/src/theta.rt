@@ -1,4 +1,4 @@
-//! The sorted array as such a sketch.
+//! The sorted array as a sketch of its kind.
 ghost use Rattle.std.specs.Prelude.{◌≡◌};
 
 use crate::buffer::Buffer;

@@ -16,9 +16,11 @@ pub trait ThetaKind: Composable<Told = ()> {
         ensures least { 2 ≤ result }
         ensures most { result ≤ 32768 };
 
-    ghost hint_is: { (numbers : List ℕ) (list : List Entry) → Self.hint_of numbers list ≡ k_min.theta_of (k_of numbers) (items_of_entries list) };
+    ghost hint_is: { (numbers : List ℕ) (list : List Entry)
+        → Self.hint_of numbers list ≡ k_min.theta_of (k_of numbers) (items_of_entries list) };
 
-    ghost packed_is: { (numbers : List ℕ) (list : List Entry) → Self.packed_of numbers list ≡ k_min.packed_of (k_of numbers) (items_of_entries list) };
+    ghost packed_is: { (numbers : List ℕ) (list : List Entry)
+        → Self.packed_of numbers list ≡ k_min.packed_of (k_of numbers) (items_of_entries list) };
 
     ghost keeps_is: { (hint item : ℕ) → Self.keeps_of hint item ≡ nat_lt item hint };
 

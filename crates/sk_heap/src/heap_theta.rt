@@ -35,7 +35,8 @@ impl Model for HeapTheta {
 
     ghost view = { λ t. record { k = t.k; kept = rising (heap_items t.heap) } };
 
-    ghost invariant = { λ t. IsHeld t.k (heap_items t.heap) t.table.items × (t.k ≤ heap_capacity t.heap) × (t.theta ≡ theta_kept t.k (rising (heap_items t.heap))) };
+    ghost invariant = { λ t. IsHeld t.k (heap_items t.heap) t.table.items
+        × (t.k ≤ heap_capacity t.heap) × (t.theta ≡ theta_kept t.k (rising (heap_items t.heap))) };
 }
 
 impl HeapTheta {

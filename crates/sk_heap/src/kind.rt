@@ -1,4 +1,4 @@
-//! The heap as a sketch that is run concurrently.
+//! The heap as a sketch of its kind.
 ghost use Rattle.std.specs.Prelude.{◌≡◌};
 
 use crate::heap_theta::HeapTheta;
