@@ -1,0 +1,3 @@
+//! Laws of the machines. Each function is empty: its contract is the law.
+
+pub mod coarse;
