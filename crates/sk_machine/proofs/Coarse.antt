@@ -74,6 +74,110 @@ module _ (hint : List Entry → ℕ) (b : ℕ) (h : List Entry) (s : Stage) (i :
   pub open_ready : MeetsUpdater hint b h s i u → u.mine.ready ≡ true → u.word ≢ 0
   open_ready o ready z = true≢false (sym ready ∙ o.closed_ready z)
 
+-- ---- what an event makes of one updater
+
+module _ (hint : List Entry → ℕ) (b : ℕ) (h : List Entry) (s : Stage) (i : ℕ) (u : CoarseUpdater) where
+  pub looked : MeetsUpdater hint b h s i u → b ≢ 0 → u.word ≢ 0
+      → MeetsUpdater hint b h s i (record u { mine = record { handed = u.mine.handed; base = u.given; ready = true; rested = false; picked = u.mine.picked } })
+  looked o admitted found = record {
+    given_is = o.given_is;
+    base_is = begins_refl u.given;
+    open_hint = o.open_hint;
+    open_given = o.open_given;
+    open_all = o.open_all;
+    open_apart = o.open_apart;
+    closed_ready = λ z. absurd (found z);
+    closed_rested = λ _. refl;
+    ready_base = λ _. refl;
+    closed_more = λ z. absurd (found z);
+    closed = λ z. absurd (found z);
+    items = o.items;
+    few = o.few;
+    vacant = λ z. absurd (admitted z);
+  }
+
+  pub handed_over : (batch : List ℕ) → MeetsUpdater hint b h s i u → b ≢ 0 → u.mine.ready ≡ true → IsBatch b batch → AreItems batch → length u.mine.handed + length batch ≤ most_kept
+      → MeetsUpdater hint b h s i (record { word = 0; given = u.given; waiting = batch; mine = record { handed = u.mine.handed ++ batch; base = u.mine.base; ready = false; rested = false; picked = false } })
+  handed_over batch o admitted ready is items few =
+      let w = open_ready hint b h s i u o ready in
+      let u' : CoarseUpdater = record { word = 0; given = u.given; waiting = batch; mine = record { handed = u.mine.handed ++ batch; base = u.mine.base; ready = false; rested = false; picked = false } } in record {
+        given_is = o.given_is;
+        base_is = o.base_is;
+        open_hint = λ z. absurd (z refl);
+        open_given = λ z. absurd (z refl);
+        open_all = λ z. absurd (z refl);
+        open_apart = λ z. absurd (z refl);
+        closed_ready = λ _. refl;
+        closed_rested = λ _. refl;
+        ready_base = λ on. absurd (true≢false (sym on));
+        closed_more = λ _. let some = is.0 in let same = ap length (o.open_given w) in omega (arith, length-append u.mine.handed batch);
+        closed = λ _. waits b h i u' s (o.open_apart w) (is, ap (λ l. l ++ batch) (sym (o.open_all w)));
+        items = All-append (λ (x : ℕ). x < item_end) u.mine.handed batch o.items items;
+        few = omega (arith, length-append u.mine.handed batch);
+        vacant = λ z. absurd (admitted z);
+      }
+
+  pub rested : (picked : Bool) → MeetsUpdater hint b h s i u → u.mine.ready ≡ true
+      → MeetsUpdater hint b h s i (record u { mine = record { handed = u.mine.handed; base = u.mine.base; ready = false; rested = true; picked = picked } })
+  rested picked o ready = let w = open_ready hint b h s i u o ready in record {
+    given_is = o.given_is;
+    base_is = o.base_is;
+    open_hint = o.open_hint;
+    open_given = o.open_given;
+    open_all = o.open_all;
+    open_apart = o.open_apart;
+    closed_ready = λ _. refl;
+    closed_rested = λ z. absurd (w z);
+    ready_base = λ on. absurd (true≢false (sym on));
+    closed_more = o.closed_more;
+    closed = λ z. absurd (w z);
+    items = o.items;
+    few = o.few;
+    vacant = λ z. ((o.vacant z).0, refl);
+  }
+
+  pub admitted : (b' : ℕ) → MeetsUpdater hint b h s i u → b ≡ 0 → 1 ≤ b' → MeetsUpdater hint b' h s i u
+  admitted b' o none some = let w = open_vacant hint b h s i u o none in record {
+    given_is = o.given_is;
+    base_is = o.base_is;
+    open_hint = o.open_hint;
+    open_given = o.open_given;
+    open_all = o.open_all;
+    open_apart = o.open_apart;
+    closed_ready = o.closed_ready;
+    closed_rested = o.closed_rested;
+    ready_base = o.ready_base;
+    closed_more = o.closed_more;
+    closed = λ z. absurd (w z);
+    items = o.items;
+    few = o.few;
+    vacant = λ z. absurd (omega arith);
+  }
+
+  -- what lies in the slot is free while the propagator is at the updater, and while its word is not 0
+  pub waiting_free : (waiting : List ℕ) → MeetsUpdater hint b h s i u → (u.word ≡ 0 → At s i) → MeetsUpdater hint b h s i (record u { waiting = waiting })
+  waiting_free waiting o at = record {
+    given_is = o.given_is;
+    base_is = o.base_is;
+    open_hint = o.open_hint;
+    open_given = o.open_given;
+    open_all = o.open_all;
+    open_apart = o.open_apart;
+    closed_ready = o.closed_ready;
+    closed_rested = o.closed_rested;
+    ready_base = o.ready_base;
+    closed_more = o.closed_more;
+    closed = λ z. still s (at z) (o.closed z);
+    items = o.items;
+    few = o.few;
+    vacant = o.vacant;
+  }
+    where
+      still : (s : Stage) → At s i → IsClosed b h i u s → IsClosed b h i (record u { waiting = waiting }) s
+      still Idle at t = absurd at
+      still (Busy k batch) at t = (t.0, λ ne. absurd (ne at))
+      still (Published k) at t = (t.0, λ ne. absurd (ne at))
+
 -- the batch with which the propagator is busy
 pub busy_batch : (hint : List Entry → ℕ) (n : ℕ) (m : Coarse) (i : ℕ) (batch : List ℕ) → Meets hint n m → m.stage ≡ Busy i batch → IsBehindBy (m.sizes i) m.published i (m.updaters i) batch
 busy_batch hint n m i batch ok has =
@@ -143,58 +247,28 @@ module _ (hint : List Entry → ℕ) (n : ℕ) where
   }
 
   pub looks : (m : Coarse) (i : ℕ) → Meets hint n m → i < n → m.sizes i ≢ 0 → (m.updaters i).word ≢ 0 → Meets hint n (after_look i m)
-  looks m i ok inside admitted found = record {
+  looks m i ok inside there found = record {
     entries = ok.entries;
     stage_at = ok.stage_at;
     turn_within = ok.turn_within;
     turn_free = ok.turn_free;
-    each = λ j near. let u = m.updaters i in let o = ok.each i inside in
+    each = λ j near. let u = m.updaters i in
         each_put (λ k. MeetsUpdater hint (m.sizes k) m.published m.stage k) m.updaters i (record u { mine = record { handed = u.mine.handed; base = u.given; ready = true; rested = false; picked = u.mine.picked } }) j
-        (record {
-          given_is = o.given_is;
-          base_is = begins_refl u.given;
-          open_hint = o.open_hint;
-          open_given = o.open_given;
-          open_all = o.open_all;
-          open_apart = o.open_apart;
-          closed_ready = λ z. absurd (found z);
-          closed_rested = λ _. refl;
-          ready_base = λ _. refl;
-          closed_more = λ z. absurd (found z);
-          closed = λ z. absurd (found z);
-          items = o.items;
-          few = o.few;
-          vacant = λ z. absurd (admitted z);
-        })
+        (looked hint (m.sizes i) m.published m.stage i u (ok.each i inside) there found)
         (λ _. ok.each j near);
   }
 
   pub hands : (m : Coarse) (i : ℕ) (batch : List ℕ) → Meets hint n m → i < n → m.sizes i ≢ 0 → (m.updaters i).mine.ready ≡ true → IsBatch (m.sizes i) batch
       → AreItems batch → length (m.updaters i).mine.handed + length batch ≤ most_kept → Meets hint n (after_hand i batch m)
-  hands m i batch ok inside admitted ready is items few = record {
+  hands m i batch ok inside there ready is items few = record {
     entries = ok.entries;
     stage_at = ok.stage_at;
     turn_within = ok.turn_within;
     turn_free = ok.turn_free;
-    each = λ j near. let u = m.updaters i in let o = ok.each i inside in let w = open_ready hint (m.sizes i) m.published m.stage i u o ready in
-        let u' : CoarseUpdater = record { word = 0; given = u.given; waiting = batch; mine = record { handed = u.mine.handed ++ batch; base = u.mine.base; ready = false; rested = false; picked = false } } in
-        each_put (λ k. MeetsUpdater hint (m.sizes k) m.published m.stage k) m.updaters i u' j
-        (record {
-          given_is = o.given_is;
-          base_is = o.base_is;
-          open_hint = λ z. absurd (z refl);
-          open_given = λ z. absurd (z refl);
-          open_all = λ z. absurd (z refl);
-          open_apart = λ z. absurd (z refl);
-          closed_ready = λ _. refl;
-          closed_rested = λ _. refl;
-          ready_base = λ on. absurd (true≢false (sym on));
-          closed_more = λ _. let some = is.0 in let same = ap length (o.open_given w) in omega (arith, length-append u.mine.handed batch);
-          closed = λ _. waits (m.sizes i) m.published i u' m.stage (o.open_apart w) (is, ap (λ l. l ++ batch) (sym (o.open_all w)));
-          items = All-append (λ (x : ℕ). x < item_end) u.mine.handed batch o.items items;
-          few = omega (arith, length-append u.mine.handed batch);
-          vacant = λ z. absurd (admitted z);
-        })
+    each = λ j near. let u = m.updaters i in
+        each_put (λ k. MeetsUpdater hint (m.sizes k) m.published m.stage k) m.updaters i
+        (record { word = 0; given = u.given; waiting = batch; mine = record { handed = u.mine.handed ++ batch; base = u.mine.base; ready = false; rested = false; picked = false } }) j
+        (handed_over hint (m.sizes i) m.published m.stage i u batch (ok.each i inside) there ready is items few)
         (λ _. ok.each j near);
   }
 
@@ -204,24 +278,9 @@ module _ (hint : List Entry → ℕ) (n : ℕ) where
     stage_at = ok.stage_at;
     turn_within = ok.turn_within;
     turn_free = ok.turn_free;
-    each = λ j near. let u = m.updaters i in let o = ok.each i inside in let w = open_ready hint (m.sizes i) m.published m.stage i u o ready in
+    each = λ j near. let u = m.updaters i in
         each_put (λ k. MeetsUpdater hint (m.sizes k) m.published m.stage k) m.updaters i (record u { mine = record { handed = u.mine.handed; base = u.mine.base; ready = false; rested = true; picked = picked } }) j
-        (record {
-          given_is = o.given_is;
-          base_is = o.base_is;
-          open_hint = o.open_hint;
-          open_given = o.open_given;
-          open_all = o.open_all;
-          open_apart = o.open_apart;
-          closed_ready = λ _. refl;
-          closed_rested = λ z. absurd (w z);
-          ready_base = λ on. absurd (true≢false (sym on));
-          closed_more = o.closed_more;
-          closed = λ z. absurd (w z);
-          items = o.items;
-          few = o.few;
-          vacant = λ z. ((o.vacant z).0, refl);
-        })
+        (rested hint (m.sizes i) m.published m.stage i u picked (ok.each i inside) ready)
         (λ _. ok.each j near);
   }
 
@@ -339,23 +398,8 @@ module _ (hint : List Entry → ℕ) (n : ℕ) where
     stage_at = ok.stage_at;
     turn_within = ok.turn_within;
     turn_free = ok.turn_free;
-    each = λ j near. let u = m.updaters i in let o = ok.each i inside in let w = open_vacant hint (m.sizes i) m.published m.stage i u o none in
+    each = λ j near.
         each_put (λ k c. MeetsUpdater hint c m.published m.stage k (m.updaters k)) m.sizes i b j
-        (record {
-          given_is = o.given_is;
-          base_is = o.base_is;
-          open_hint = o.open_hint;
-          open_given = o.open_given;
-          open_all = o.open_all;
-          open_apart = o.open_apart;
-          closed_ready = o.closed_ready;
-          closed_rested = o.closed_rested;
-          ready_base = o.ready_base;
-          closed_more = o.closed_more;
-          closed = λ z. absurd (w z);
-          items = o.items;
-          few = o.few;
-          vacant = λ z. absurd (omega arith);
-        })
+        (admitted hint (m.sizes i) m.published m.stage i (m.updaters i) b (ok.each i inside) none some)
         (λ _. ok.each j near);
   }

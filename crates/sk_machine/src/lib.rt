@@ -2,4 +2,7 @@
 #![tactic(auto)]
 
 pub mod laws;
+mod states;
 pub mod views;
+
+pub use states::{Mark, Progress};
