@@ -1,0 +1,10 @@
+//! The machine of all interleavings, which runs one given schedule.
+#![tactic(auto)]
+
+mod event;
+mod state;
+mod token;
+mod updater;
+
+pub use event::{Answer, Event, NotEnabled};
+pub use state::State;
