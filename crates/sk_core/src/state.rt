@@ -1,13 +1,22 @@
 //! The state of the machine.
-ghost use Rattle.std.specs.Prelude.{◌≡◌, ◌≢◌, ◌↔◌, ◌+◌, ◌<◌, ◌≤◌, [], ◌∷◌, ◌++◌, length, IfOk, IsTrue};
-ghost use Rattle.sk_core.specs.Stored.{Stored, machine_of};
+ghost use Rattle.std.specs.Prelude.{◌≡◌, ◌↔◌, IsTrue};
+ghost use Rattle.sk_core.specs.Stored.{machine_of};
 ghost use Rattle.sk_machine.specs.Fine.{IsAdmitted, IsLive};
+
+mod propagator;
+mod tokens;
+mod turns;
+mod updaters;
 
 use crate::token::Token;
 use crate::updater::Updater;
 use sk_machine::Progress;
 use sk_theta::Theta;
 use std::marker::Model;
+
+/// The most offers that are kept, and the most tokens that are made.
+const MOST_OFFERS: usize = 1_000_000;
+const MOST_TOKENS: usize = 256;
 
 /// The machine, with the memory for 1,000,000 kept offers and 256 tokens.
 #[derive(Drop)]
@@ -24,16 +33,15 @@ pub struct State {
 }
 
 impl Model for State {
-    ghost use Rattle.std.specs.Prelude.{◌≤◌, vec_capacity};
-    ghost use Rattle.sk_model.specs.Entries.{items_of_entries};
-    ghost use Rattle.sk_theta.specs.Kept.{StandsFor};
-    ghost use Rattle.sk_core.specs.Stored.{Stored, IsStored};
+    ghost use Rattle.sk_core.specs.Stored.{Stored};
 
     ghost Value = { Stored };
 
-    ghost view = { λ s. record { k = s.sketch.k; offers = s.offers.items; published = s.published.items; word = s.word; updaters = s.updaters.items; progress = s.progress; in_hand = s.in_hand.items; turn = s.turn; tokens = s.tokens.items } };
+    ghost use Rattle.sk_core.specs.Inside.{stored_of, IsKept};
 
-    ghost invariant = { λ s. IsStored (record { k = s.sketch.k; offers = s.offers.items; published = s.published.items; word = s.word; updaters = s.updaters.items; progress = s.progress; in_hand = s.in_hand.items; turn = s.turn; tokens = s.tokens.items }) × StandsFor s.sketch (items_of_entries s.published.items) × (1000000 ≤ vec_capacity s.offers) × (1000000 ≤ vec_capacity s.published) × (4096 ≤ vec_capacity s.in_hand) × (256 ≤ vec_capacity s.tokens) };
+    ghost view = { stored_of };
+
+    ghost invariant = { IsKept };
 }
 
 impl State {
