@@ -72,6 +72,8 @@ pub stores_updater : (s : Stored) (i : ℕ) (u : StoredUpdater) (p : Progress) (
     → IsSound (hint_by s.k) (word_by s.k) (record (with_updater i (updater_of s.offers s.published i u) (machine_of s)) { progress = p; in_hand = in_hand })
     → IsStored (record s { updaters = set s.updaters i u; progress = p; in_hand = in_hand })
 stores_updater s i u p in_hand ok inside within sound = record {
+  least = ok.least;
+  most = ok.most;
   few_updaters = subst (λ n. n ≤ 64) (sym (length-set s.updaters i u)) ok.few_updaters;
   few_offers = ok.few_offers;
   few_tokens = ok.few_tokens;
@@ -90,12 +92,12 @@ abbrev pub Outcome : Event → Stored → Stored → Answer → Type 0
 Outcome e old new answer = IsStored new × Happens e old new answer
 
 -- an event of an updater that is read, and put back changed
-pub enacted : (e : Event) (old s : Stored) (i : ℕ) (change : StoredUpdater → StoredUpdater) (u u' : StoredUpdater) (answer : StoredUpdater → Answer) (said : Answer) (new : StoredUpdater → Stored)
+pub enacted : (e : Event) (old s : Stored) (i : ℕ) (change : StoredUpdater → StoredUpdater) (u u' : StoredUpdater) (answer : StoredUpdater → Answer) (said : Answer) (new : StoredUpdater → StoredUpdater → Stored)
     → s ≡ old → i < length s.updaters → u ≡ get_or s.updaters i u → u' ≡ change u → said ≡ answer u
-    → (IsEnabled e (machine_of s) → Outcome e s (new (change (updater_at s i))) (answer (updater_at s i))) → IsEnabled e (machine_of old) → Outcome e old (new u') said
+    → (IsEnabled e (machine_of s) → Outcome e s (new (updater_at s i) (change (updater_at s i))) (answer (updater_at s i))) → IsEnabled e (machine_of old) → Outcome e old (new u u') said
 enacted e old s i change u u' answer said new view inside read is says step may =
     let at : u ≡ updater_at s i = read_at s.updaters i u (blank_updater 0) inside read in
-    let new_is : new (change (updater_at s i)) ≡ new u' = ap new (sym (is ∙ ap change at)) in
+    let new_is : new (updater_at s i) (change (updater_at s i)) ≡ new u u' = ap (λ v. new v (change v)) (sym at) ∙ ap (new u) (sym is) in
     let said_is : answer (updater_at s i) ≡ said = sym (says ∙ ap answer at) in
     subst (λ (x : Stored × Stored × Answer). Outcome e x.0 x.1 x.2) (λ j. (view j, new_is j, said_is j)) (step (subst (λ (o : Stored). IsEnabled e (machine_of o)) (sym view) may))
 

@@ -1,6 +1,6 @@
 -- What an updater's events make of what is stored.
 use Rattle.std.proofs.Common.{◌≡◌, ◌≢◌, ℕ, zero, suc, ◌+◌, ◌-◌, ◌<◌, ◌≤◌, List, [], ◌∷◌, ◌++◌, length, take, get_or, set, Bool, true, false, All, arith, length-append, append-nil, refl, sym, ap, ◌∙◌, subst, cond, ltb, lt-ltb, le-ltb, get_or-set_same, get_or-set_other, length-set, slice_index}
-use Rattle.std.proofs.lemmas.List.{length-take}
+use Rattle.std.proofs.lemmas.List.{length-take, set-get_or}
 use Rattle.std.proofs.lemmas.List.Elements.{All-push}
 use Rattle.sk_model.specs.Entries.{Entry, entries_by, tagged}
 use Rattle.sk_model.specs.Width.{item_end}
@@ -112,6 +112,8 @@ keeps_stored s i x ok below may =
     let new = one_offer s i x ok inside in
     let size = length-set s.updaters i (record u { fill = u.fill ++ x ∷ [] }) in (
       record {
+        least = ok.least;
+        most = ok.most;
         few_updaters = subst (λ n. n ≤ 64) (sym size) ok.few_updaters;
         few_offers = omega (arith, length-append s.offers ((i, x) ∷ []));
         few_tokens = ok.few_tokens;
@@ -152,34 +154,37 @@ module _ (old s : Stored) (i : ℕ) (u u' : StoredUpdater) (view : s ≡ old) (o
       → Outcome (event.Look i) old (record s { updaters = set s.updaters i u' }) (answer.Hint word)
   looks_at word says found is may =
       let inside = within may.0.0 in
-      enacted (event.Look i) old s i (λ v. record v { hint = v.word; base = v.given; mark = Ready }) u u' (λ v. answer.Hint v.word) (answer.Hint word) (λ v. record s { updaters = set s.updaters i v }) view inside read is (ap answer.Hint says)
+      enacted (event.Look i) old s i (λ v. record v { hint = v.word; base = v.given; mark = Ready }) u u' (λ v. answer.Hint v.word) (answer.Hint word) (λ _ v. record s { updaters = set s.updaters i v }) view inside read is (ap answer.Hint says)
       (looks_stored s i ok (λ z. found (says ∙ ap (λ (v : StoredUpdater). v.word) (here inside) ∙ z))) may
 
   pub swaps_at : u' ≡ record u { fill = u.slot; slot = u.fill; mark = Swapped } → MaySwap i (machine_of old)
       → Outcome (event.Swap i) old (record s { updaters = set s.updaters i u' }) answer.Swapped
   swaps_at is may =
-      enacted (event.Swap i) old s i (λ v. record v { fill = v.slot; slot = v.fill; mark = Swapped }) u u' (λ _. answer.Swapped) answer.Swapped (λ v. record s { updaters = set s.updaters i v }) view (within may.0.0) read is refl
+      enacted (event.Swap i) old s i (λ v. record v { fill = v.slot; slot = v.fill; mark = Swapped }) u u' (λ _. answer.Swapped) answer.Swapped (λ _ v. record s { updaters = set s.updaters i v }) view (within may.0.0) read is refl
       (swaps_stored s i ok) may
 
   pub hands_at : (count : ℕ) → count ≡ length u.slot → u' ≡ record u { word = 0; mark = Neither; handed = u.handed + length u.slot } → MayHand i (machine_of old)
       → Outcome (event.Hand i) old (record s { updaters = set s.updaters i u' }) (answer.Handed count)
   hands_at count says is may =
-      enacted (event.Hand i) old s i (λ v. record v { word = 0; mark = Neither; handed = v.handed + length v.slot }) u u' (λ v. answer.Handed (length v.slot)) (answer.Handed count) (λ v. record s { updaters = set s.updaters i v }) view (within may.0.0) read is (ap answer.Handed says)
+      enacted (event.Hand i) old s i (λ v. record v { word = 0; mark = Neither; handed = v.handed + length v.slot }) u u' (λ v. answer.Handed (length v.slot)) (answer.Handed count) (λ _ v. record s { updaters = set s.updaters i v }) view (within may.0.0) read is (ap answer.Handed says)
       (hands_stored s i ok) may
 
   pub admits_at : (size : ℕ) → u' ≡ record u { size = size } → MayAdmit i size (machine_of old) → Outcome (event.Admit i size) old (record s { updaters = set s.updaters i u' }) answer.Admitted
   admits_at size is may =
-      enacted (event.Admit i size) old s i (λ v. record v { size = size }) u u' (λ _. answer.Admitted) answer.Admitted (λ v. record s { updaters = set s.updaters i v }) view (within may.0) read is refl
+      enacted (event.Admit i size) old s i (λ v. record v { size = size }) u u' (λ _. answer.Admitted) answer.Admitted (λ _ v. record s { updaters = set s.updaters i v }) view (within may.0) read is refl
       (admits_stored s i size ok) may
 
-  pub keeps_at : (x : ℕ) → x < u.hint → u' ≡ record u { fill = u.fill ++ x ∷ [] } → MayOffer i x (machine_of old)
-      → Outcome (event.Offer i x) old (record s { offers = s.offers ++ (i, x) ∷ []; updaters = set s.updaters i u' }) answer.Kept
-  keeps_at x below is may =
+  pub keeps_at : (x : ℕ) (offers : List Entry) → offers ≡ s.offers ++ (i, x) ∷ [] → x < u.hint → u' ≡ record u { fill = u.fill ++ x ∷ [] } → MayOffer i x (machine_of old)
+      → Outcome (event.Offer i x) old (record s { offers = offers; updaters = set s.updaters i u' }) answer.Kept
+  keeps_at x offers grown below is may =
       let inside = within may.0.0 in
-      enacted (event.Offer i x) old s i (λ v. record v { fill = v.fill ++ x ∷ [] }) u u' (λ _. answer.Kept) answer.Kept (λ v. record s { offers = s.offers ++ (i, x) ∷ []; updaters = set s.updaters i v }) view inside read is refl
-      (keeps_stored s i x ok (subst (λ (v : StoredUpdater). x < v.hint) (here inside) below)) may
+      subst (λ (l : List Entry). Outcome (event.Offer i x) old (record s { offers = l; updaters = set s.updaters i u' }) answer.Kept) (sym grown)
+      (enacted (event.Offer i x) old s i (λ v. record v { fill = v.fill ++ x ∷ [] }) u u' (λ _. answer.Kept) answer.Kept (λ _ v. record s { offers = s.offers ++ (i, x) ∷ []; updaters = set s.updaters i v }) view inside read is refl
+      (keeps_stored s i x ok (subst (λ (v : StoredUpdater). x < v.hint) (here inside) below)) may)
 
-  pub filters_at : (x : ℕ) → u.hint ≤ x → MayOffer i x (machine_of old) → Happens (event.Offer i x) old old answer.Filtered
+  pub filters_at : (x : ℕ) → u.hint ≤ x → MayOffer i x (machine_of old) → Happens (event.Offer i x) old (record s { updaters = set s.updaters i u }) answer.Filtered
   filters_at x idle may =
       let inside = within may.0.0 in
-      subst (λ (o : Stored). MayOffer i x (machine_of o) → Happens (event.Offer i x) o o answer.Filtered) view (filters_stored s i x (subst (λ (v : StoredUpdater). v.hint ≤ x) (here inside) idle)) may
+      let same : set s.updaters i u ≡ s.updaters = ap (set s.updaters i) read ∙ set-get_or s.updaters i u in
+      subst (λ (l : List StoredUpdater). Happens (event.Offer i x) old (record s { updaters = l }) answer.Filtered) (sym same)
+      (subst (λ (o : Stored). MayOffer i x (machine_of o) → Happens (event.Offer i x) o s answer.Filtered) view (filters_stored s i x (subst (λ (v : StoredUpdater). v.hint ≤ x) (here inside) idle)) may)

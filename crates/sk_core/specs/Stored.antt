@@ -110,6 +110,8 @@ pub record KnowsWithin (offers published : List Entry) (t : Token) : Type 0 wher
   pub known : (i : ℕ) → slice_index t.known i ≤ length (entries_by i offers)
 
 pub record IsStored (s : Stored) : Type 0 where
+  pub least : 2 ≤ s.k
+  pub most : s.k ≤ 32768
   pub few_updaters : length s.updaters ≤ 64
   pub few_offers : length s.offers ≤ most_offers
   pub few_tokens : length s.tokens ≤ most_tokens

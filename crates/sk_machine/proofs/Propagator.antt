@@ -57,7 +57,7 @@ module _ (hint packed : List Entry → ℕ) (f : Fine) where
   }
 
   -- the propagator is at an updater: there are the turn, and a word of 0
-  at_updater : (i : ℕ) → IsSound hint packed f → IsAt f.progress i → (i < f.n) × ((f.updaters i).word ≡ 0)
+  pub at_updater : (i : ℕ) → IsSound hint packed f → IsAt f.progress i → (i < f.n) × ((f.updaters i).word ≡ 0)
   at_updater i ok at =
       let here = at_of f.updaters f.in_hand f.progress i at in let inside = ok.coarse.stage_at i here in
       (inside, closed_at hint (f.updaters i).size f.published stage i (coarse_updater (f.updaters i)) (ok.coarse.each i inside) here)

@@ -94,6 +94,6 @@ fn append_batch(entries: &mut Vec<(u64, u64)>, i: u64, batch: &[u64])
     ensures room { vec_capacity entries.new ≡ vec_capacity entries.old }
 {
     'append: for item in batch {
-        entries.push((i, *item)).unwrap();
+        entries.push_reserved((i, *item));
     }
 }

@@ -39,7 +39,7 @@ impl State {
         self.tokens[t as usize].seen = self.published.len();
         let token = self.tokens[t as usize];
         let number = self.tokens.len();
-        self.tokens.push(token).unwrap();
+        self.tokens.push_reserved(token);
         Ok(Answer::Token(number as u64))
     }
 
@@ -60,7 +60,7 @@ impl State {
         known[i as usize] = self.updaters[i as usize].handed();
         let number = self.tokens.len();
         let seen = self.published.len();
-        self.tokens.push(Token { live: true, seen, known }).unwrap();
+        self.tokens.push_reserved(Token { live: true, seen, known });
         Ok(Answer::Token(number as u64))
     }
 

@@ -33,7 +33,7 @@ impl State {
             return Ok(Answer::Filtered);
         }
         updater.keep(item);
-        self.offers.push((i, item)).unwrap();
+        self.offers.push_reserved((i, item));
         Ok(Answer::Kept)
     }
 
