@@ -1,3 +1,4 @@
 pub mod Machine
 pub mod Propagator
+pub mod Tokens
 pub mod Updaters

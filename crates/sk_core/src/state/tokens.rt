@@ -18,7 +18,9 @@ impl State {
         if !self.is_live(t) {
             return Err(NotEnabled);
         }
-        self.tokens[t as usize].seen = self.published.len();
+        let mut token = self.tokens[t as usize];
+        token.seen = self.published.len();
+        self.tokens[t as usize] = token;
         let (numerator, denominator) = unpack(self.word).fraction(self.sketch.k());
         Ok(Answer::Estimate(numerator, denominator))
     }
@@ -36,8 +38,9 @@ impl State {
         if !self.may_split(t) {
             return Err(NotEnabled);
         }
-        self.tokens[t as usize].seen = self.published.len();
-        let token = self.tokens[t as usize];
+        let mut token = self.tokens[t as usize];
+        token.seen = self.published.len();
+        self.tokens[t as usize] = token;
         let number = self.tokens.len();
         self.tokens.push_reserved(token);
         Ok(Answer::Token(number as u64))
@@ -77,11 +80,13 @@ impl State {
         if !self.may_join(t, other) {
             return Err(NotEnabled);
         }
-        let known = self.tokens[other as usize].known;
-        self.tokens[other as usize].live = false;
-        let token = &mut self.tokens[t as usize];
+        let mut token = self.tokens[t as usize];
+        let mut ended = self.tokens[other as usize];
         token.seen = self.published.len();
-        token.known = longest(&token.known, &known);
+        token.known = longest(&token.known, &ended.known);
+        ended.live = false;
+        self.tokens[t as usize] = token;
+        self.tokens[other as usize] = ended;
         Ok(Answer::Joined)
     }
 }
