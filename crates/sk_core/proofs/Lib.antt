@@ -1,4 +1,6 @@
 pub mod Machine
 pub mod Propagator
+pub mod Runs
+pub mod Start
 pub mod Tokens
 pub mod Updaters

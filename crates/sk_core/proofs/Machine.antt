@@ -144,7 +144,7 @@ is_put g f i c here others = λ a j. at j a
 
 -- ---- items
 
-items_of : (n : ℕ) (l : List Entry) → All (IsEntry n) l → AreItems (items_of_entries l)
+pub items_of : (n : ℕ) (l : List Entry) → All (IsEntry n) l → AreItems (items_of_entries l)
 unfolding items_of_entries
 items_of n l all = All-map (λ (x : ℕ). x < item_end) (λ (e : Entry). e.1) l (λ i d inside. (all i d inside).1)
 

@@ -1,3 +1,4 @@
 pub mod Stored
 pub mod Events
 pub mod Inside
+pub mod Runs

@@ -1,5 +1,5 @@
 -- What a state of the machine stores: its lists, and for each of their beginnings that somebody knows a length.
-use Rattle.std.specs.Prelude.{◌≡◌, ℕ, ◌<◌, ◌≤◌, List, [], length, take, replicate, Bool, true, All, slice_index, slice_index_or}
+use Rattle.std.specs.Prelude.{◌≡◌, ℕ, ◌<◌, ◌≤◌, List, [], length, take, replicate, nat_lt, if◌then◌else◌, Bool, true, All, slice_index, slice_index_or}
 use Rattle.sk_model.specs.Entries.{Entry, entries_by, items_of_entries}
 use Rattle.sk_model.specs.Sketch.{theta_of, packed_of}
 use Rattle.sk_model.specs.Width.{item_end}
@@ -52,6 +52,10 @@ blank_updater size = record { size = size; hint = item_end; fill = []; word = it
 -- a token that has seen and knows nothing
 abbrev pub blank_token : Token
 blank_token = record { live = true; seen = 0; known = replicate 64 0 }
+
+-- the sizes of n updaters with buffers of b items; 0 where nobody is admitted
+abbrev pub sizes_of : ℕ → ℕ → ℕ → ℕ
+sizes_of n b i = if nat_lt i n then b else 0
 
 -- ---- the machine that it is
 

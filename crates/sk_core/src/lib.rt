@@ -2,9 +2,11 @@
 #![tactic(auto)]
 
 mod event;
+mod schedule;
 mod state;
 mod token;
 mod updater;
 
 pub use event::{Answer, Event, NotEnabled};
+pub use schedule::run_events;
 pub use state::State;

@@ -1,13 +1,17 @@
 //! The state of the machine.
-ghost use Rattle.std.specs.Prelude.{◌≡◌, ◌↔◌, IsTrue};
+ghost use Rattle.std.specs.Prelude.{◌≡◌, ◌↔◌, IsTrue, OnOk, OnErr, IfOk};
 ghost use Rattle.sk_core.specs.Stored.{machine_of};
+ghost use Rattle.sk_core.specs.Events.{IsEnabled, after, answer_of, Plays};
+ghost use Rattle.sk_core.specs.Runs.{MeetsAll, IsStep};
 ghost use Rattle.sk_machine.specs.Fine.{IsAdmitted, IsLive};
 
+mod make;
 mod propagator;
 mod tokens;
 mod turns;
 mod updaters;
 
+use crate::event::{Answer, Event, NotEnabled};
 use crate::token::Token;
 use crate::updater::Updater;
 use sk_machine::Progress;
@@ -45,6 +49,46 @@ impl Model for State {
 }
 
 impl State {
+    /// Plays an event. `NotEnabled` comes exactly where its condition does not hold, and then nothing has
+    /// changed.
+    pub fn step(&mut self, event: &Event) -> Result<Answer, NotEnabled>
+        ensures enabled { OnOk result (IsEnabled event.now (machine_of self.old)) }
+        ensures machine { OnOk result (machine_of self.new ≡ after self.old.k event.now (machine_of self.old)) }
+        ensures answer { IfOk result (λ answer. answer ≡ answer_of self.old.k event.now (machine_of self.old)) }
+        ensures step { IfOk result (λ answer. IsStep self.old.k (machine_of self.old) event.now answer) }
+        ensures refused { OnErr result (¬ IsEnabled event.now (machine_of self.old)) }
+        ensures unchanged { OnErr result (self.new ≡ self.old) }
+        ensures sketch { self.new.k ≡ self.old.k }
+        ensures invariant { MeetsAll self.new.k (machine_of self.new) }
+    {
+        let _ = &self.word;
+        self.play(event)
+    }
+
+    // The call of each event.
+    fn play(&mut self, event: &Event) -> Result<Answer, NotEnabled>
+        ensures { Plays event.now self.old self.new result }
+    {
+        match *event {
+            Event::Offer(i, item) => self.offer(i, item),
+            Event::Look(i) => self.look(i),
+            Event::Swap(i) => self.swap(i),
+            Event::Hand(i) => self.hand(i),
+            Event::Find(i) => self.find(i),
+            Event::Take(i) => self.take(i),
+            Event::Publish(i) => self.publish(i),
+            Event::Put(i) => self.put(i),
+            Event::GiveBack(i) => self.give_back(i),
+            Event::Ask(t) => self.ask(t),
+            Event::Split(t) => self.split(t),
+            Event::Note(i) => self.note(i),
+            Event::Join(t, other) => self.join(t, other),
+            Event::Turn(seat) => self.turn(seat),
+            Event::YieldTurn(seat) => self.yield_turn(seat),
+            Event::Admit(i, size) => self.admit(i, size),
+        }
+    }
+
     // Whether the updater is there.
     fn is_admitted(&self, i: u64) -> bool
         ensures { IsTrue result ↔ IsAdmitted i (machine_of self.now) }
