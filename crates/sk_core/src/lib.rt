@@ -2,11 +2,9 @@
 #![tactic(auto)]
 
 mod event;
-mod schedule;
 mod state;
 mod token;
 mod updater;
 
 pub use event::{Answer, Event, NotEnabled};
-pub use schedule::run_events;
-pub use state::State;
+pub use state::{State, run_events};

@@ -7,9 +7,12 @@ ghost use Rattle.sk_machine.specs.Fine.{IsAdmitted, IsLive};
 
 mod make;
 mod propagator;
+mod run;
 mod tokens;
 mod turns;
 mod updaters;
+
+pub use run::run_events;
 
 use crate::event::{Answer, Event, NotEnabled};
 use crate::token::Token;
