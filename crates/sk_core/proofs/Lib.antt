@@ -1,3 +1,5 @@
+pub mod Fields
+pub mod Lines
 pub mod Machine
 pub mod Propagator
 pub mod Runs

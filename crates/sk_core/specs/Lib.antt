@@ -2,3 +2,4 @@ pub mod Stored
 pub mod Events
 pub mod Inside
 pub mod Runs
+pub mod Texts

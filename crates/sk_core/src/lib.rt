@@ -3,6 +3,7 @@
 
 mod event;
 mod state;
+mod text;
 mod token;
 mod updater;
 
