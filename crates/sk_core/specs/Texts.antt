@@ -3,6 +3,9 @@ use Rattle.std.specs.Prelude.{ℕ, ◌++◌, ◌==◌, ◌&&◌, nat_le, if◌th
 use Rattle.std.specs.Str.{bytes_eq}
 use Rattle.sk_model.specs.Numbers.{number_of}
 use Rattle.sk_model.specs.Width.{item_end}
+use Rattle.sk_lines.specs.Fractions.{fraction_text}
+use Rattle.sk_core.specs.declared.event.Answer.{Answer}
+use Rattle.sk_core.specs.declared.event.Answer.TheVariants as answers
 use Rattle.sk_core.specs.declared.event.Event.{Event}
 use Rattle.sk_core.specs.declared.event.Event.TheVariants.{Offer, Look, Swap, Hand, Find, Take, Publish, Put, GiveBack, Ask, Split, Note, Join, Turn, YieldTurn, Admit}
 
@@ -87,3 +90,27 @@ vacant_of_fields (word ∷ k ∷ n ∷ c ∷ more) = None
 -- what a first line `vacant K N` says
 abbrev pub vacant_line_of : List ℕ → Option (ℕ × ℕ)
 vacant_line_of line = vacant_of_fields (fields_of line)
+
+-- ---- answers
+
+-- how an answer is written
+unfoldable pub answer_text : Answer → List ℕ
+answer_text answers.Kept = codes "kept"
+answer_text answers.Filtered = codes "filtered"
+answer_text (answers.Hint word) = codes "hint " ++ decimal word
+answer_text answers.Busy = codes "busy"
+answer_text answers.Swapped = codes "swapped"
+answer_text (answers.Handed count) = codes "handed " ++ decimal count
+answer_text answers.Waiting = codes "waiting"
+answer_text answers.Nothing = codes "nothing"
+answer_text (answers.Took count) = codes "took " ++ decimal count
+answer_text (answers.Published count) = codes "published " ++ decimal count
+answer_text answers.Put = codes "put"
+answer_text (answers.Returned word) = codes "returned " ++ decimal word
+answer_text (answers.Estimate n d) = codes "estimate " ++ fraction_text n d
+answer_text (answers.Token number) = codes "token " ++ decimal number
+answer_text answers.Joined = codes "joined"
+answer_text answers.Turned = codes "turned"
+answer_text (answers.Elsewhere seat) = codes "elsewhere " ++ decimal seat
+answer_text answers.Yielded = codes "yielded"
+answer_text answers.Admitted = codes "admitted"
