@@ -48,7 +48,7 @@ tail_of : (text : List ℕ) → Tail text
 tail_of text = dite (dec_le (length text) (position_or_len is_space text))
     (λ le. inl (cut_none text le))
     (λ gt. let inside : position_or_len is_space text < length text = omega arith in let p = position_or_len is_space text in let f = has_field (drop (p + 1) text) in
-        inr (take p text, f.0, f.1, cut_some text inside ∙ ap (λ l. take p text ∷ l) f.2, spaced_number text inside))
+    inr (take p text, f.0, f.1, cut_some text inside ∙ ap (λ l. take p text ∷ l) f.2, spaced_number text inside))
 
 and_none : {A B : Type 0} (o : Option A) → option_and_then (λ (a : A). let none : Option B = None in none) o ≡ None
 and_none None = refl
@@ -76,7 +76,7 @@ vacant_of_line line word rest k n first second =
     ap vacant_of_fields (first ∙ ap (λ l. word ∷ l) second) ∙ ⊎_elim
     (λ one. ap (λ l. vacant_of_fields (word ∷ k ∷ l)) one)
     (λ more. ap (λ l. vacant_of_fields (word ∷ k ∷ l)) more.3 ∙ sym (ap (λ o. cond (bytes_eq word (codes "vacant")) (option_and_then (λ k. option_and_then (λ n. Some (k, n)) (option_and_then (λ n. cond (nat_le 1 n && nat_le n 64) (Some n) None) o)) (number_from 2 32768 k)) None) more.4
-        ∙ ap (λ o. cond (bytes_eq word (codes "vacant")) o None) (and_none (number_from 2 32768 k)) ∙ same (bytes_eq word (codes "vacant"))))
+    ∙ ap (λ o. cond (bytes_eq word (codes "vacant")) o None) (and_none (number_from 2 32768 k)) ∙ same (bytes_eq word (codes "vacant"))))
     (tail_of n)
   where
     same : {A : Type 0} (b : Bool) → cond b (let none : Option A = None in none) None ≡ None
@@ -92,7 +92,7 @@ machine_of_line line word rest k rest' b n first second third =
     ap machine_of_fields (first ∙ ap (λ l. word ∷ l) (second ∙ ap (λ l. k ∷ l) third)) ∙ ⊎_elim
     (λ one. ap (λ l. machine_of_fields (word ∷ k ∷ b ∷ l)) one)
     (λ more. ap (λ l. machine_of_fields (word ∷ k ∷ b ∷ l)) more.3 ∙ sym (ap (λ o. cond (bytes_eq word (codes "machine")) (option_and_then (λ k. option_and_then (λ b. option_and_then (λ n. Some (k, b, n)) (option_and_then (λ n. cond (nat_le 1 n && nat_le n 64) (Some n) None) o)) (number_from 1 4096 b)) (number_from 2 32768 k)) None) more.4
-        ∙ ap (λ o. cond (bytes_eq word (codes "machine")) o None) (none_of (number_from 2 32768 k)) ∙ same (bytes_eq word (codes "machine"))))
+    ∙ ap (λ o. cond (bytes_eq word (codes "machine")) o None) (none_of (number_from 2 32768 k)) ∙ same (bytes_eq word (codes "machine"))))
     (tail_of n)
   where
     same : {A : Type 0} (b : Bool) → cond b (let none : Option A = None in none) None ≡ None

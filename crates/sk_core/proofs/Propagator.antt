@@ -63,8 +63,8 @@ pub takes_stored : (s : Stored) (i : ℕ) → IsStored s → MayTake i (machine_
     → Outcome (event.Take i) s (record s { updaters = set s.updaters i (record (updater_at s i) { slot = []; home = false }); progress = Holding i; in_hand = (updater_at s i).slot }) (answer.Took (length (updater_at s i).slot))
 takes_stored s i ok may =
     let u = updater_at s i in let u' : StoredUpdater = record u { slot = []; home = false } in let w = ok.updaters i in let f : Fine = machine_of s in let inside = at_found s i ok may in (
-      stores_updater s i u' (Holding i) u.slot ok inside (record { handed = w.handed; given = w.given; base = w.base; }) (takes (hint_by s.k) (word_by s.k) f i ok.sound may),
-      record { enabled = may; sketch = refl; machine = ap (λ (g : Fine). let h : Fine = record g { progress = Holding i; in_hand = u.slot } in h) (set_updater s i u' inside); answer_is = refl; },
+      stores_updater s i u' (Holding i) u.slot ok inside (record { handed = w.handed; given = w.given; base = w.base }) (takes (hint_by s.k) (word_by s.k) f i ok.sound may),
+      record { enabled = may; sketch = refl; machine = ap (λ (g : Fine). let h : Fine = record g { progress = Holding i; in_hand = u.slot } in h) (set_updater s i u' inside); answer_is = refl },
     )
 
 -- ---- publish
@@ -83,8 +83,8 @@ batch_fits s i ok is =
     let below : All (λ (e : Entry). e.0 < n) all = All-weaker (IsEntry n) (λ (e : Entry). e.0 < n) (λ e is. is.0) all (All-append (IsEntry n) s.published (tagged i s.in_hand) ok.sound.coarse.entries (tagged_are_entries n i s.in_hand inside (batch_items s i ok is))) in
     let handed : (j : ℕ) → length (take (updater_at s j).handed (entries_by j s.offers)) ≤ length (entries_by j s.offers) = λ j. omega (arith, length-take (updater_at s j).handed (entries_by j s.offers)) in
     let each : (j : ℕ) → j < n → length (entries_by j all) ≤ length (entries_by j s.offers) = λ j near. let front = handed j in dite (ℕ_discrete j i)
-        (λ e. let here : length (entries_by j all) ≡ length (take (updater_at s j).handed (entries_by j s.offers)) = ap length (subst (λ k. entries_by k all ≡ take (updater_at s k).handed (entries_by k s.offers)) (sym e) (entries_by_more i s.published s.in_hand ∙ sym (batch_of s i ok is))) in omega arith)
-        (λ ne. let same = ap length (entries_by_rest j i s.published s.in_hand ne) in let b = begins_length _ _ (of_published_begins hint (f.updaters j).size s.published (stage_of f.updaters s.in_hand s.progress) j (coarse_updater (f.updaters j)) (ok.sound.coarse.each j near)) in omega arith) in
+    (λ e. let here : length (entries_by j all) ≡ length (take (updater_at s j).handed (entries_by j s.offers)) = ap length (subst (λ k. entries_by k all ≡ take (updater_at s k).handed (entries_by k s.offers)) (sym e) (entries_by_more i s.published s.in_hand ∙ sym (batch_of s i ok is))) in omega arith)
+    (λ ne. let same = ap length (entries_by_rest j i s.published s.in_hand ne) in let b = begins_length _ _ (of_published_begins hint (f.updaters j).size s.published (stage_of f.updaters s.in_hand s.progress) j (coarse_updater (f.updaters j)) (ok.sound.coarse.each j near)) in omega arith) in
     let total = sum_below_least n (λ j. length (entries_by j all)) (λ j. length (entries_by j s.offers)) each in
     let left = length_by n all below in let right = length_by n s.offers ok.of_updaters in
     let size = length-append s.published (tagged i s.in_hand) in
@@ -129,11 +129,11 @@ publishes_stored s i ok may =
         few_offers = ok.few_offers;
         few_tokens = ok.few_tokens;
         of_updaters = ok.of_updaters;
-        updaters = λ j. let w = ok.updaters j in let g = w.given in let b = w.base in record { handed = w.handed; given = omega arith; base = omega arith; };
-        tokens = λ t. let w = ok.tokens t in let seen = w.seen in record { seen = omega arith; known = w.known; };
+        updaters = λ j. let w = ok.updaters j in let g = w.given in let b = w.base in record { handed = w.handed; given = omega arith; base = omega arith };
+        tokens = λ t. let w = ok.tokens t in let seen = w.seen in record { seen = omega arith; known = w.known };
         sound = subst (IsSound (hint_by s.k) (word_by s.k)) (sym (one_batch s i ok)) (publishes_one (hint_by s.k) (word_by s.k) f i ok.sound may);
       },
-      record { enabled = may; sketch = refl; machine = one_batch s i ok; answer_is = ap answer.Published (omega arith); },
+      record { enabled = may; sketch = refl; machine = one_batch s i ok; answer_is = ap answer.Published (omega arith) },
     )
 
 -- ---- put
@@ -142,8 +142,8 @@ pub puts_stored : (s : Stored) (i : ℕ) → IsStored s → MayPut i (machine_of
     → Outcome (event.Put i) s (record s { updaters = set s.updaters i (record (updater_at s i) { slot = []; home = true }); progress = Put i }) answer.Put
 puts_stored s i ok may =
     let u = updater_at s i in let u' : StoredUpdater = record u { slot = []; home = true } in let w = ok.updaters i in let f : Fine = machine_of s in let inside = at_published s i ok may in (
-      stores_updater s i u' (Put i) s.in_hand ok inside (record { handed = w.handed; given = w.given; base = w.base; }) (puts (hint_by s.k) (word_by s.k) f i ok.sound may),
-      record { enabled = may; sketch = refl; machine = ap (λ (g : Fine). let h : Fine = record g { progress = Put i } in h) (set_updater s i u' inside); answer_is = refl; },
+      stores_updater s i u' (Put i) s.in_hand ok inside (record { handed = w.handed; given = w.given; base = w.base }) (puts (hint_by s.k) (word_by s.k) f i ok.sound may),
+      record { enabled = may; sketch = refl; machine = ap (λ (g : Fine). let h : Fine = record g { progress = Put i } in h) (set_updater s i u' inside); answer_is = refl },
     )
 
 -- ---- return
@@ -156,9 +156,9 @@ returns_stored s i ok may =
     let new : updater_of s.offers s.published i u' ≡ record (f.updaters i) { word = hint; given = s.published } =
     ap (λ l. let v : FineUpdater = record (f.updaters i) { word = hint; given = l } in v) (take_whole s.published) in
     let after : FineUpdater → Fine = λ v. let g : Fine = record (with_updater i v f) { progress = Idle } in g in (
-      stores_updater s i u' Idle s.in_hand ok inside (record { handed = w.handed; given = omega arith; base = w.base; })
-      (subst (λ (v : FineUpdater). IsSound (hint_by s.k) (word_by s.k) (after v)) (sym new) (returns_one (hint_by s.k) (word_by s.k) f i ok.sound may (hint_positive s.k s.published ok.least))),
-      record { enabled = may; sketch = refl; machine = ap (λ (g : Fine). let h : Fine = record g { progress = Idle } in h) (set_updater s i u' inside) ∙ ap after new; answer_is = refl; },
+      stores_updater s i u' Idle s.in_hand ok inside (record { handed = w.handed; given = omega arith; base = w.base })
+          (subst (λ (v : FineUpdater). IsSound (hint_by s.k) (word_by s.k) (after v)) (sym new) (returns_one (hint_by s.k) (word_by s.k) f i ok.sound may (hint_positive s.k s.published ok.least))),
+      record { enabled = may; sketch = refl; machine = ap (λ (g : Fine). let h : Fine = record g { progress = Idle } in h) (set_updater s i u' inside) ∙ ap after new; answer_is = refl },
     )
 
 -- ---- the same of an updater that is read, and put back changed
@@ -191,9 +191,9 @@ pub publishes_at : (old s : Stored) (i k word count : ℕ) (published : List Ent
 publishes_at old s i k word count published in_hand view ok grown same is none says may =
     subst (λ (o : Stored). MayPublish i (machine_of o) → Outcome (event.Publish i) o (record s { k = k; published = published; word = word; progress = Published i; in_hand = in_hand }) (answer.Published count)) view
     (λ may. let h : List Entry = s.published ++ tagged i s.in_hand in
-        let new : with_batch s i ≡ record s { k = k; published = published; word = word; progress = Published i; in_hand = in_hand } =
-        λ a. record s { k = sym same a; published = sym grown a; word = sym (is ∙ ap (word_by s.k) grown) a; progress = Published i; in_hand = sym none a } in
-        subst (λ (x : Stored × ℕ). Outcome (event.Publish i) s x.0 (answer.Published x.1)) (λ a. (new a, (ap length (sym grown) ∙ sym says) a)) (publishes_stored s i ok may)) may
+    let new : with_batch s i ≡ record s { k = k; published = published; word = word; progress = Published i; in_hand = in_hand } =
+    λ a. record s { k = sym same a; published = sym grown a; word = sym (is ∙ ap (word_by s.k) grown) a; progress = Published i; in_hand = sym none a } in
+    subst (λ (x : Stored × ℕ). Outcome (event.Publish i) s x.0 (answer.Published x.1)) (λ a. (new a, (ap length (sym grown) ∙ sym says) a)) (publishes_stored s i ok may)) may
 
 -- ---- the turn
 

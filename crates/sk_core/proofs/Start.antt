@@ -88,8 +88,8 @@ stored_at_start k n b word two most few is = record {
   few_offers = omega arith;
   few_tokens = omega arith;
   of_updaters = All-nil (λ (e : Entry). e.0 < length (replicate n (blank_updater b)));
-  updaters = λ i. subst (IsWithin [] [] i) (sym (updater_at_start n b i)) (record { handed = omega arith; given = omega arith; base = omega arith; });
-  tokens = λ t. subst (KnowsWithin [] []) (sym (token_at_start t)) (record { seen = omega arith; known = λ i. let z = zeros 64 i in omega arith; });
+  updaters = λ i. subst (IsWithin [] [] i) (sym (updater_at_start n b i)) (record { handed = omega arith; given = omega arith; base = omega arith });
+  tokens = λ t. subst (KnowsWithin [] []) (sym (token_at_start t)) (record { seen = omega arith; known = λ i. let z = zeros 64 i in omega arith });
   sound = subst (IsSound (hint_by k) (word_by k)) (sym (machine_at_start k n b word two is)) (starts_sound (hint_by k) (word_by k) n (sizes_of n b) (hint_positive k [] two));
 }
   where

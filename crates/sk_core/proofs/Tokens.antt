@@ -74,7 +74,7 @@ sees : (s : Stored) (token : Token) → token_of s.offers s.published (asking s 
 sees s token = ap (λ l. let t : fine.Token = record (token_of s.offers s.published token) { seen = l } in t) (take_whole s.published)
 
 asks_within : (s : Stored) (t : ℕ) → IsStored s → KnowsWithin s.offers s.published (asking s (token_at s t))
-asks_within s t ok = let w = ok.tokens t in record { seen = omega arith; known = w.known; }
+asks_within s t ok = let w = ok.tokens t in record { seen = omega arith; known = w.known }
 
 asked : (s : Stored) (t : ℕ) → t < length s.tokens → machine_of (record s { tokens = set s.tokens t (asking s (token_at s t)) }) ≡ after_ask t (machine_of s)
 asked s t inside = set_token s t (asking s (token_at s t)) inside ∙ ap (λ (x : fine.Token). with_token t x (machine_of s)) (sees s (token_at s t))
@@ -109,7 +109,7 @@ module _ (old s : Stored) (view : s ≡ old) (ok : IsStored s) where
       let live' = live_in t live in let is = read_at s.tokens t token blank_token live'.0 read in
       let e = estimate_is s.k s.word count theta n d (items_of_entries s.published) ok.least (items_all s ok) ok.sound.fits.word told says in
       subst (λ (x : Stored × Token × ℕ). Outcome (event.Ask t) x.0 (record s { tokens = set s.tokens t (record x.1 { seen = x.2 }) }) (answer.Estimate n d)) (λ a. (view a, sym is a, sym all a))
-      (asks_stored s t ok live', record { enabled = live'; sketch = refl; machine = asked s t live'.0; answer_is = ap (λ (x : ℕ × ℕ). answer.Estimate x.0 x.1) e; })
+      (asks_stored s t ok live', record { enabled = live'; sketch = refl; machine = asked s t live'.0; answer_is = ap (λ (x : ℕ × ℕ). answer.Estimate x.0 x.1) e })
 
   pub splits_at : (t count seen : ℕ) (token : Token) (tokens : List Token) → token ≡ get_or s.tokens t token → seen ≡ length s.published → tokens ≡ set s.tokens t (record token { seen = seen }) ++ record token { seen = seen } ∷ [] → count ≡ length s.tokens
       → MaySplit t (machine_of old) → Outcome (event.Split t) old (record s { tokens = tokens }) (answer.Token count)
@@ -123,8 +123,8 @@ module _ (old s : Stored) (view : s ≡ old) (ok : IsStored s) where
       one_token mid copy ∙ ap (with_new_token (token_of s.offers s.published copy)) (asked s t may'.0.0) ∙ ap (λ (x : fine.Token). with_new_token x (after_ask t (machine_of s))) (sees s (token_at s t)) in
       let made : Outcome (event.Split t) s (record s { tokens = asked_list ++ copy ∷ [] }) (answer.Token (length s.tokens)) = (
         stores_tokens s (asked_list ++ copy ∷ []) ok (omega (arith, length-append asked_list (copy ∷ []), length-set s.tokens t copy)) (push_within s.offers s.published asked_list copy (asks_within s t ok) ok'.tokens)
-        (subst (IsSound (hint_by s.k) (word_by s.k)) (sym new) (splits (hint_by s.k) (word_by s.k) (machine_of s) t ok.sound may')),
-        record { enabled = may'; sketch = refl; machine = new; answer_is = refl; },
+            (subst (IsSound (hint_by s.k) (word_by s.k)) (sym new) (splits (hint_by s.k) (word_by s.k) (machine_of s) t ok.sound may')),
+        record { enabled = may'; sketch = refl; machine = new; answer_is = refl },
       ) in
       let same : asked_list ++ copy ∷ [] ≡ tokens = sym (grown ∙ ap (λ m. let x : Token = record token { seen = m } in set s.tokens t x ++ x ∷ []) all ∙ ap (λ (x : Token). set s.tokens t (asking s x) ++ asking s x ∷ []) is) in
       subst (λ (x : Stored × List Token × ℕ). Outcome (event.Split t) x.0 (record s { tokens = x.1 }) (answer.Token x.2)) (λ a. (view a, same a, sym says a)) made
@@ -137,11 +137,11 @@ module _ (old s : Stored) (view : s ≡ old) (ok : IsStored s) where
       let h = (updater_at s i).handed in let zeros : List ℕ = replicate 64 0 in let wide : length zeros ≡ 64 = length-replicate {A = ℕ} 64 0 in
       let token : Token = record { live = true; seen = length s.published; known = set zeros i h } in
       let at : (j : ℕ) → slice_index (set zeros i h) j ≡ cond (eqb j i) h 0 = λ j. dite (ℕ_discrete j i)
-          (λ e. ap (slice_index (set zeros i h)) e ∙ get_or-set_same zeros i h 0 (omega arith) ∙ sym (ap (λ c. cond c h 0) (eq-eqb j i e)))
-          (λ ne. get_or-set_other zeros i j h 0 ne ∙ zeros_at 64 j ∙ sym (ap (λ c. cond c h 0) (ne_eqb j i ne))) in
+      (λ e. ap (slice_index (set zeros i h)) e ∙ get_or-set_same zeros i h 0 (omega arith) ∙ sym (ap (λ c. cond c h 0) (eq-eqb j i e)))
+      (λ ne. get_or-set_other zeros i j h 0 ne ∙ zeros_at 64 j ∙ sym (ap (λ c. cond c h 0) (ne_eqb j i ne))) in
       let knowledge : (j : ℕ) → take (slice_index (set zeros i h) j) (entries_by j s.offers) ≡ known_of i (take h (entries_by i s.offers)) j = λ j. ap (λ m. take m (entries_by j s.offers)) (at j) ∙ dite (ℕ_discrete j i)
-          (λ e. ap (λ c. take (cond c h 0) (entries_by j s.offers)) (eq-eqb j i e) ∙ ap (λ k. take h (entries_by k s.offers)) e ∙ sym (ap (λ c. cond c (take h (entries_by i s.offers)) []) (eq-eqb j i e)))
-          (λ ne. ap (λ c. take (cond c h 0) (entries_by j s.offers)) (ne_eqb j i ne) ∙ sym (ap (λ c. cond c (take h (entries_by i s.offers)) []) (ne_eqb j i ne))) in
+      (λ e. ap (λ c. take (cond c h 0) (entries_by j s.offers)) (eq-eqb j i e) ∙ ap (λ k. take h (entries_by k s.offers)) e ∙ sym (ap (λ c. cond c (take h (entries_by i s.offers)) []) (eq-eqb j i e)))
+      (λ ne. ap (λ c. take (cond c h 0) (entries_by j s.offers)) (ne_eqb j i ne) ∙ sym (ap (λ c. cond c (take h (entries_by i s.offers)) []) (ne_eqb j i ne))) in
       let noted : token_of s.offers s.published token ≡ record { live = true; seen = s.published; known = known_of i (take h (entries_by i s.offers)) } =
       λ a. record { live = true; seen = take_whole s.published a; known = λ j. knowledge j a } in
       let new : machine_of (record s { tokens = s.tokens ++ token ∷ [] }) ≡ after_note i (machine_of s) = one_token s token ∙ ap (λ (x : fine.Token). with_new_token x (machine_of s)) noted in
@@ -153,8 +153,8 @@ module _ (old s : Stored) (view : s ≡ old) (ok : IsStored s) where
       } in
       let made : Outcome (event.Note i) s (record s { tokens = s.tokens ++ token ∷ [] }) (answer.Token (length s.tokens)) = (
         stores_tokens s (s.tokens ++ token ∷ []) ok (omega (arith, length-append s.tokens (token ∷ []))) (push_within s.offers s.published s.tokens token within ok.tokens)
-        (subst (IsSound (hint_by s.k) (word_by s.k)) (sym new) (notes (hint_by s.k) (word_by s.k) (machine_of s) i ok.sound may')),
-        record { enabled = may'; sketch = refl; machine = new; answer_is = refl; },
+            (subst (IsSound (hint_by s.k) (word_by s.k)) (sym new) (notes (hint_by s.k) (word_by s.k) (machine_of s) i ok.sound may')),
+        record { enabled = may'; sketch = refl; machine = new; answer_is = refl },
       ) in
       let same : s.tokens ++ token ∷ [] ≡ tokens = sym (grown ∙ ap (λ (m : ℕ). let x : Token = record { live = true; seen = m; known = known } in s.tokens ++ x ∷ []) all ∙ ap (λ (l : List ℕ). let x : Token = record { live = true; seen = length s.published; known = l } in s.tokens ++ x ∷ []) (knows ∙ ap (set zeros i) is)) in
       subst (λ (x : Stored × List Token × ℕ). Outcome (event.Note i) x.0 (record s { tokens = x.1 }) (answer.Token x.2)) (λ a. (view a, same a, sym says a)) made
@@ -189,10 +189,10 @@ module _ (old s : Stored) (view : s ≡ old) (ok : IsStored s) where
           let new : machine_of (record s { tokens = set first other b }) ≡ after_join t other f =
           set_token mid other b there ∙ ap (with_token other (of b)) (set_token s t a may'.0.0 ∙ ap (λ (x : fine.Token). with_token t x f) knows)
           ∙ (λ j. let x : fine.Token = of (is j) in let y : fine.Token = of (is' j) in with_token other (record y { live = false }) (with_token t (record x { seen = s.published; known = λ i. longer (x.known i) (y.known i) }) f)) in
-          let within : KnowsWithin s.offers s.published a = record { seen = omega arith; known = λ i. let g = greater i in let k = w.known i in let k' = w'.known i in omega arith; } in
-          let within' : KnowsWithin s.offers s.published b = record { seen = w'.seen; known = w'.known; } in (
+          let within : KnowsWithin s.offers s.published a = record { seen = omega arith; known = λ i. let g = greater i in let k = w.known i in let k' = w'.known i in omega arith } in
+          let within' : KnowsWithin s.offers s.published b = record { seen = w'.seen; known = w'.known } in (
             stores_tokens s (set first other b) ok (subst (λ n. n ≤ 256) (sym (length-set first other b ∙ length-set s.tokens t a)) ok.few_tokens)
-            (λ u. each_set (λ _ (x : Token). KnowsWithin s.offers s.published x) first other b blank_token u there within' (each_set (λ _ (x : Token). KnowsWithin s.offers s.published x) s.tokens t a blank_token u may'.0.0 within (ok.tokens u)))
-            (subst (IsSound (hint_by s.k) (word_by s.k)) (sym new) (joins (hint_by s.k) (word_by s.k) f t other ok.sound may')),
-            record { enabled = may'; sketch = refl; machine = new; answer_is = refl; },
+                (λ u. each_set (λ _ (x : Token). KnowsWithin s.offers s.published x) first other b blank_token u there within' (each_set (λ _ (x : Token). KnowsWithin s.offers s.published x) s.tokens t a blank_token u may'.0.0 within (ok.tokens u)))
+                (subst (IsSound (hint_by s.k) (word_by s.k)) (sym new) (joins (hint_by s.k) (word_by s.k) f t other ok.sound may')),
+            record { enabled = may'; sketch = refl; machine = new; answer_is = refl },
           )

@@ -20,7 +20,7 @@ pub looks_stored : (s : Stored) (i : ℕ) → IsStored s → (updater_at s i).wo
     → Outcome (event.Look i) s (record s { updaters = set s.updaters i (record (updater_at s i) { hint = (updater_at s i).word; base = (updater_at s i).given; mark = Ready }) }) (answer.Hint (updater_at s i).word)
 looks_stored s i ok found may =
     let u = updater_at s i in let u' : StoredUpdater = record u { hint = u.word; base = u.given; mark = Ready } in let w = ok.updaters i in let f : Fine = machine_of s in (
-      stores_updater s i u' s.progress s.in_hand ok may.0.0 (record { handed = w.handed; given = w.given; base = w.given; }) (renews (hint_by s.k) (word_by s.k) f i ok.sound may found),
+      stores_updater s i u' s.progress s.in_hand ok may.0.0 (record { handed = w.handed; given = w.given; base = w.given }) (renews (hint_by s.k) (word_by s.k) f i ok.sound may found),
       record {
         enabled = may;
         sketch = refl;
@@ -33,16 +33,16 @@ pub swaps_stored : (s : Stored) (i : ℕ) → IsStored s → MaySwap i (machine_
     → Outcome (event.Swap i) s (record s { updaters = set s.updaters i (record (updater_at s i) { fill = (updater_at s i).slot; slot = (updater_at s i).fill; mark = Swapped }) }) answer.Swapped
 swaps_stored s i ok may =
     let u = updater_at s i in let u' : StoredUpdater = record u { fill = u.slot; slot = u.fill; mark = Swapped } in let w = ok.updaters i in let f : Fine = machine_of s in (
-      stores_updater s i u' s.progress s.in_hand ok may.0.0 (record { handed = w.handed; given = w.given; base = w.base; }) (swaps (hint_by s.k) (word_by s.k) f i ok.sound may),
-      record { enabled = may; sketch = refl; machine = set_updater s i u' may.0.0; answer_is = refl; },
+      stores_updater s i u' s.progress s.in_hand ok may.0.0 (record { handed = w.handed; given = w.given; base = w.base }) (swaps (hint_by s.k) (word_by s.k) f i ok.sound may),
+      record { enabled = may; sketch = refl; machine = set_updater s i u' may.0.0; answer_is = refl },
     )
 
 pub admits_stored : (s : Stored) (i size : ℕ) → IsStored s → MayAdmit i size (machine_of s)
     → Outcome (event.Admit i size) s (record s { updaters = set s.updaters i (record (updater_at s i) { size = size }) }) answer.Admitted
 admits_stored s i size ok may =
     let u = updater_at s i in let u' : StoredUpdater = record u { size = size } in let w = ok.updaters i in let f : Fine = machine_of s in (
-      stores_updater s i u' s.progress s.in_hand ok may.0 (record { handed = w.handed; given = w.given; base = w.base; }) (admits (hint_by s.k) (word_by s.k) f i size ok.sound may),
-      record { enabled = may; sketch = refl; machine = set_updater s i u' may.0; answer_is = refl; },
+      stores_updater s i u' s.progress s.in_hand ok may.0 (record { handed = w.handed; given = w.given; base = w.base }) (admits (hint_by s.k) (word_by s.k) f i size ok.sound may),
+      record { enabled = may; sketch = refl; machine = set_updater s i u' may.0; answer_is = refl },
     )
 
 pub hands_stored : (s : Stored) (i : ℕ) → IsStored s → MayHand i (machine_of s)
@@ -58,8 +58,8 @@ hands_stored s i ok may =
     let inside = w.handed in
     let new : updater_of s.offers s.published i u' ≡ record (f.updaters i) { word = 0; mark = Neither; handed = take u.handed kept ++ u.slot } =
     ap (λ l. let v : FineUpdater = record (f.updaters i) { word = 0; mark = Neither; handed = l } in v) more in (
-      stores_updater s i u' s.progress s.in_hand ok may.0.0 (record { handed = omega (arith, length-take u.handed kept); given = w.given; base = w.base; })
-      (subst (λ (v : FineUpdater). IsSound (hint_by s.k) (word_by s.k) (with_updater i v f)) (sym new) (hands (hint_by s.k) (word_by s.k) f i ok.sound may)),
+      stores_updater s i u' s.progress s.in_hand ok may.0.0 (record { handed = omega (arith, length-take u.handed kept); given = w.given; base = w.base })
+          (subst (λ (v : FineUpdater). IsSound (hint_by s.k) (word_by s.k) (with_updater i v f)) (sym new) (hands (hint_by s.k) (word_by s.k) f i ok.sound may)),
       record {
         enabled = may;
         sketch = refl;
@@ -119,9 +119,9 @@ keeps_stored s i x ok below may =
         few_tokens = ok.few_tokens;
         of_updaters = subst (λ n. All (λ (e : Entry). e.0 < n) (s.offers ++ (i, x) ∷ [])) (sym size) (All-push (λ (e : Entry). e.0 < length s.updaters) s.offers (i, x) ok.of_updaters inside);
         updaters = λ j. each_set (IsWithin (s.offers ++ (i, x) ∷ []) s.published) s.updaters i (record u { fill = u.fill ++ x ∷ [] }) (blank_updater 0) j inside
-            (let w = ok.updaters i in let more = offers_grow i s.offers ((i, x) ∷ []) in let h = w.handed in record { handed = omega arith; given = w.given; base = w.base; })
-            (let w = ok.updaters j in let more = offers_grow j s.offers ((i, x) ∷ []) in let h = w.handed in record { handed = omega arith; given = w.given; base = w.base; });
-        tokens = λ t. let w = ok.tokens t in record { seen = w.seen; known = λ j. let more = offers_grow j s.offers ((i, x) ∷ []) in let k = w.known j in omega arith; };
+            (let w = ok.updaters i in let more = offers_grow i s.offers ((i, x) ∷ []) in let h = w.handed in record { handed = omega arith; given = w.given; base = w.base })
+            (let w = ok.updaters j in let more = offers_grow j s.offers ((i, x) ∷ []) in let h = w.handed in record { handed = omega arith; given = w.given; base = w.base });
+        tokens = λ t. let w = ok.tokens t in record { seen = w.seen; known = λ j. let more = offers_grow j s.offers ((i, x) ∷ []) in let k = w.known j in omega arith };
         sound = subst (IsSound (hint_by s.k) (word_by s.k)) (sym new) (keeps (hint_by s.k) (word_by s.k) f i x ok.sound may below (omega arith));
       },
       record {

@@ -12,3 +12,6 @@ pub use answer::push_answer;
 pub use event::{Answer, Event, NotEnabled};
 pub use state::{State, run_events};
 pub use text::{read_event, read_machine, read_vacant};
+
+#[cfg(test)]
+mod tests;

@@ -12,17 +12,17 @@ mod tokens;
 mod turns;
 mod updaters;
 
-pub use run::run_events;
-
 use crate::event::{Answer, Event, NotEnabled};
 use crate::token::Token;
 use crate::updater::Updater;
+pub use run::run_events;
 use sk_machine::Progress;
 use sk_theta::Theta;
 use std::marker::Model;
 
 /// The most offers that are kept, and the most tokens that are made.
 const MOST_OFFERS: usize = 1_000_000;
+
 const MOST_TOKENS: usize = 256;
 
 /// The machine, with the memory for 1,000,000 kept offers and 256 tokens.

@@ -29,7 +29,11 @@ pub fn read_machine(line: &[u8]) -> Option<(u32, u32, u32)>
     if word != b"machine".as_slice() {
         return None;
     }
-    Some((number(k, 2, 32_768)?, number(b, 1, 4_096)?, number(n, 1, 64)?))
+    Some((
+        number(k, 2, 32_768)?,
+        number(b, 1, 4_096)?,
+        number(n, 1, 64)?,
+    ))
 }
 
 /// What a first line `vacant K N` says, where both numbers are within their limits.

@@ -11,7 +11,11 @@ use std::alloc::Global;
 
 /// Plays events in order, up to the first that is not enabled, and gives their answers. Where there is no
 /// memory for the answers, nothing is played.
-pub fn run_events(alloc: Global, state: &mut State, events: &[Event]) -> Result<Vec<Answer>, OutOfMemory>
+pub fn run_events(
+    alloc: Global,
+    state: &mut State,
+    events: &[Event],
+) -> Result<Vec<Answer>, OutOfMemory>
     ensures run { IfOk result (λ answers. IsRun state.old.k (take (length answers.items) events.now) answers.items
         (machine_of state.old) (machine_of state.new)) }
     ensures within { IfOk result (λ answers. length answers.items ≤ length events.now) }

@@ -63,7 +63,11 @@ impl State {
         known[i as usize] = self.updaters[i as usize].handed();
         let number = self.tokens.len();
         let seen = self.published.len();
-        self.tokens.push_reserved(Token { live: true, seen, known });
+        self.tokens.push_reserved(Token {
+            live: true,
+            seen,
+            known,
+        });
         Ok(Answer::Token(number as u64))
     }
 

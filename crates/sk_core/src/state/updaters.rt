@@ -18,7 +18,8 @@ impl State {
             return false;
         }
         let updater = &self.updaters[i as usize];
-        updater.mark() != Mark::Swapped && (item >= updater.hint() || updater.fill_len() < updater.size())
+        updater.mark() != Mark::Swapped
+            && (item >= updater.hint() || updater.fill_len() < updater.size())
     }
 
     // An updater is offered an item.

@@ -9,5 +9,5 @@ invariant-play l = record {
   count : length l.answers.items ≡ l.event-index;
   room : vec_capacity l.answers ≡ length l.events;
   sketch : l.state.k ≡ l.initial.state.k;
-  invariant : MeetsAll l.state.k (machine_of l.state)
+  invariant : MeetsAll l.state.k (machine_of l.state);
 }
