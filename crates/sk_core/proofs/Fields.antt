@@ -1,5 +1,5 @@
 -- The fields of a text, one after another.
-use Rattle.std.proofs.Common.{◌≡◌, ℕ, zero, suc, ◌+◌, ◌<◌, ◌≤◌, Bool, true, false, cond, eqb, not, List, [], ◌∷◌, length, take, drop, ltb, Option, Some, None, arith, refl, sym, ap, ◌∙◌, subst}
+use Rattle.std.proofs.Common.{◌≡◌, ℕ, suc, ◌+◌, ◌<◌, ◌≤◌, Bool, true, false, cond, eqb, not, List, [], ◌∷◌, length, take, drop, ltb, Some, None, arith, refl, sym, ap, ◌∙◌, subst}
 use borrow.Author.Tests.{ltb-true, ltb-false}
 use Rattle.std.specs.List.{position, position_or_len}
 use Rattle.sk_core.specs.Texts.{fields_of, onto_first}

@@ -1,6 +1,6 @@
 -- What the fields of a line read as.
-use Rattle.std.proofs.Common.{◌≡◌, ◌≢◌, ◌⊎◌, inl, inr, ⊎_elim, ℕ, suc, ◌+◌, ◌-◌, ◌<◌, ◌≤◌, Bool, true, false, cond, eqb, ltb, not, ◌&&◌, List, [], ◌∷◌, length, take, drop, Option, Some, None, arith, refl, sym, ap, ◌∙◌, subst, codes}
-use Rattle.std.specs.Prelude.{option_and_then, nat_lt, nat_le, decimal}
+use Rattle.std.proofs.Common.{◌≡◌, ◌⊎◌, inl, inr, ⊎_elim, ℕ, ◌+◌, ◌-◌, ◌<◌, Bool, true, false, cond, eqb, ltb, not, ◌&&◌, List, [], ◌∷◌, length, take, drop, Option, Some, None, arith, refl, sym, ap, ◌∙◌, codes}
+use Rattle.std.specs.Prelude.{option_and_then, nat_le, decimal}
 use Rattle.std.specs.List.{list_all, position_or_len}
 use Rattle.std.specs.Char.{is_ascii_digit}
 use Rattle.std.specs.Str.{bytes_eq}
@@ -9,7 +9,7 @@ use native.Mathlib.Decide.{dec_le}
 use borrow.Author.Tests.{eqb-true}
 use Rattle.sk_model.specs.Numbers.{number_of, value_of}
 use Rattle.sk_model.specs.Width.{item_end}
-use Rattle.sk_core.specs.Texts.{fields_of, onto_first, number_from, event_of_one, event_of_two, event_of_fields, event_of, machine_of_fields, machine_line_of, vacant_of_fields, vacant_line_of}
+use Rattle.sk_core.specs.Texts.{fields_of, onto_first, number_from, event_of_two, event_of_fields, event_of, machine_of_fields, machine_line_of, vacant_of_fields, vacant_line_of}
 use Rattle.sk_core.specs.declared.event.Event.{Event}
 use Rattle.sk_core.proofs.Fields.{is_space, cut_some, cut_none}
 

@@ -1,5 +1,5 @@
 -- How the machine changes with what a state stores.
-use Rattle.std.proofs.Common.{◌≡◌, ◌≢◌, ℕ, zero, suc, ◌+◌, ◌-◌, ◌<◌, ◌≤◌, List, [], ◌∷◌, ◌++◌, length, take, get_or, set, slice_index, replicate, Bool, true, false, All, arith, length-append, length-set, append-nil, append_assoc, refl, sym, ap, ◌∙◌, subst, get_or-set_same, get_or-set_other, cond, eqb, eq-eqb, ne_eqb}
+use Rattle.std.proofs.Common.{◌≡◌, ◌≢◌, ℕ, ◌+◌, ◌<◌, ◌≤◌, List, ◌++◌, length, take, get_or, set, All, arith, length-append, length-set, sym, ap, ◌∙◌, subst, get_or-set_same, get_or-set_other, cond, eqb, eq-eqb, ne_eqb}
 use Rattle.std.proofs.lemmas.List.{take-append-le, take_all, get_or_default, length-take}
 use Rattle.std.proofs.lemmas.List.Elements.{All-map, All-take}
 use mathlib.Core.Logic.{dite}
@@ -10,15 +10,14 @@ use Rattle.sk_model.proofs.Entries.{entries_by_append}
 use Rattle.sk_model.proofs.Sketch.{theta_within, theta_positive}
 use Rattle.sk_machine.specs.Coarse.{IsEntry}
 use Rattle.sk_machine.specs.Numbered.{put}
-use Rattle.sk_machine.specs.Fine.{FineUpdater, Fine, with_updater, with_token}
+use Rattle.sk_machine.specs.Fine.{Fine, with_updater, with_token}
 use Rattle.sk_machine.specs.Invariant.{IsSound}
 use Rattle.sk_core.specs.Events.{IsEnabled, Happens}
 use Rattle.sk_core.specs.declared.event.Event.{Event}
 use Rattle.sk_core.specs.declared.event.Answer.{Answer}
-use Rattle.sk_machine.specs.Fine as fine
 use Rattle.sk_machine.specs.declared.states.Progress.{Progress}
-use Rattle.sk_machine.proofs.Numbered.{put_here, put_else, each_put}
-use Rattle.sk_core.specs.Stored.{StoredUpdater, Stored, blank_updater, blank_token, updater_of, token_of, updater_at, token_at, machine_of, hint_by, word_by, IsWithin, KnowsWithin, IsStored}
+use Rattle.sk_machine.proofs.Numbered.{put_here, put_else}
+use Rattle.sk_core.specs.Stored.{StoredUpdater, Stored, blank_updater, blank_token, updater_of, token_of, updater_at, token_at, machine_of, hint_by, word_by, IsWithin, IsStored}
 use Rattle.sk_core.specs.declared.token.Token.{Token}
 
 -- a list that is set at one place, under a function of the place too

@@ -1,17 +1,15 @@
 -- What the events of whoever propagates, and those of the turn, make of what is stored.
-use Rattle.std.proofs.Common.{◌≡◌, ◌≢◌, ◌⊎◌, ℕ, ◌+◌, ◌-◌, ◌<◌, ◌≤◌, List, [], ◌∷◌, ◌++◌, length, take, get_or, set, Bool, true, false, All, arith, length-append, append-nil, refl, sym, ap, ◌∙◌, subst, length-set, slice_index}
+use Rattle.std.proofs.Common.{◌≡◌, ℕ, ◌+◌, ◌<◌, ◌≤◌, List, [], ◌++◌, length, take, get_or, set, true, false, All, arith, length-append, refl, sym, ap, ◌∙◌, subst}
 use Rattle.std.proofs.lemmas.List.{length-take, length-map}
 use Rattle.std.proofs.lemmas.List.Elements.{All-append, All-weaker}
 use mathlib.Core.Logic.{dite}
 use native.Mathlib.Decide.{ℕ_discrete}
 use Rattle.sk_model.specs.Entries.{Entry, entries_by, items_of_entries, tagged}
-use Rattle.sk_model.specs.Sketch.{k_smallest, theta_of, packed_of}
-use Rattle.sk_model.specs.Width.{item_end, AreItems}
+use Rattle.sk_model.specs.Width.{AreItems}
 use Rattle.sk_model.proofs.Entries.{items_append, items_tagged, entries_by_more}
 use Rattle.sk_model.proofs.Missing.{begins_length}
-use Rattle.sk_machine.specs.Numbered.{sum_below}
 use Rattle.sk_machine.specs.Coarse.{IsEntry}
-use Rattle.sk_machine.specs.Fine.{most_offers, FineUpdater, Fine, with_updater, MayFind, MayTake, MayPublish, after_publish, MayPut, MayReturn, after_return, MayTurn, MayYield}
+use Rattle.sk_machine.specs.Fine.{FineUpdater, Fine, with_updater, MayFind, MayTake, MayPublish, after_publish, MayPut, MayReturn, MayTurn, MayYield}
 use Rattle.sk_machine.specs.Invariant.{IsAt, IsSound, coarse_of, coarse_updater, stage_of}
 use Rattle.sk_machine.specs.declared.states.Progress.{Progress}
 use Rattle.sk_machine.specs.declared.states.Progress.TheVariants.{Idle, Found, Holding, Published, Put}
@@ -20,11 +18,10 @@ use Rattle.sk_machine.proofs.Coarse.{entries_by_rest, tagged_are_entries, busy_b
 use Rattle.sk_machine.proofs.Sound.{items_of_back}
 use Rattle.sk_machine.proofs.Propagator.{at_updater, finds_one, takes, publishes_one, puts, returns_one, turns_to, yields_it}
 use Rattle.sk_theta.specs.Kept.{Sketch, StandsFor}
-use Rattle.sk_core.specs.Stored.{StoredUpdater, Stored, blank_updater, updater_of, token_of, updater_at, token_at, machine_of, hint_by, word_by, IsWithin, KnowsWithin, IsStored}
-use Rattle.sk_core.specs.Events.{Happens}
+use Rattle.sk_core.specs.Stored.{StoredUpdater, Stored, updater_of, token_of, updater_at, token_at, machine_of, hint_by, word_by, IsStored}
 use Rattle.sk_core.specs.declared.event.Event.TheVariants as event
 use Rattle.sk_core.specs.declared.event.Answer.TheVariants as answer
-use Rattle.sk_core.proofs.Machine.{Outcome, enacted, set_updater, stores_updater, if_zero, if_not_zero, take_stays, take_whole, hint_positive}
+use Rattle.sk_core.proofs.Machine.{Outcome, enacted, set_updater, stores_updater, if_zero, take_stays, take_whole, hint_positive}
 
 -- the propagator is at an updater that there is
 pub inside_at : (s : Stored) (i : ℕ) → IsStored s → IsAt s.progress i → i < length s.updaters

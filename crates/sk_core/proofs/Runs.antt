@@ -1,22 +1,21 @@
 -- Each event that is enabled keeps the invariant, and so do runs.
-use Rattle.std.proofs.Common.{◌≡◌, ◌≢◌, ◌↔◌, ℕ, ◌+◌, ◌<◌, ◌≤◌, List, [], ◌∷◌, ◌++◌, length, take, get_or, Result, Ok, Err, OnOk, OnErr, IfOk, arith, refl, sym, ap, ◌∙◌, subst, cond, ltb, lt-ltb, le-ltb}
+use Rattle.std.proofs.Common.{◌≡◌, ℕ, ◌+◌, ◌<◌, ◌≤◌, List, [], ◌∷◌, ◌++◌, length, take, get_or, Result, Ok, Err, OnOk, OnErr, IfOk, arith, refl, sym, ap, ◌∙◌, subst, cond, lt-ltb, le-ltb}
 use Rattle.std.proofs.lemmas.List.{take_more}
 use mathlib.Core.Logic.{dite}
 use native.Mathlib.Decide.{dec_le}
-use Rattle.sk_model.specs.Entries.{Entry, entries_by, items_of_entries}
-use Rattle.sk_model.specs.Sketch.{theta_of, IsIdle}
+use Rattle.sk_model.specs.Entries.{items_of_entries}
 use Rattle.sk_model.specs.Width.{item_end, AreItems}
 use Rattle.sk_model.proofs.Entries.{items_append}
 use Rattle.sk_model.proofs.Sketch.{theta_within}
 use Rattle.sk_machine.specs.Fine.{Fine}
-use Rattle.sk_machine.specs.Invariant.{Invariant, IsSound}
+use Rattle.sk_machine.specs.Invariant.{IsSound}
 use Rattle.sk_machine.proofs.Sound.{items_of_begin}
 use Rattle.sk_machine.proofs.Updaters.{offers, looks, swaps, hands, admits}
 use Rattle.sk_machine.proofs.Propagator.{looks_for, takes, publishes_one, puts, returns_one, turns_to, yields_it}
 use Rattle.sk_machine.proofs.Tokens.{asks, splits, notes, joins}
 use Rattle.sk_machine.proofs.Parts.{eight_parts, lacks_of_token, lacks_kept}
 use Rattle.sk_core.specs.Stored.{Stored, machine_of, hint_by, word_by, IsStored}
-use Rattle.sk_core.specs.Events.{IsEnabled, after, answer_of, Happens, IsRefused, Plays}
+use Rattle.sk_core.specs.Events.{IsEnabled, after, answer_of, Plays}
 use Rattle.sk_core.specs.Runs.{MeetsAll, IsRelaxedReply, IsFilteredByHint, IsStep, IsRun}
 use Rattle.sk_core.specs.declared.event.Event.{Event}
 use Rattle.sk_core.specs.declared.event.Event.TheVariants.{Offer, Look, Swap, Hand, Find, Take, Publish, Put, GiveBack, Ask, Split, Note, Join, Turn, YieldTurn, Admit}

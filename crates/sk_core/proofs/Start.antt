@@ -1,21 +1,20 @@
 -- What a state stores at the start.
-use Rattle.std.proofs.Common.{◌≡◌, ◌≢◌, ℕ, zero, suc, ◌+◌, ◌-◌, ◌<◌, ◌≤◌, List, [], ◌∷◌, ◌++◌, length, take, get_or, replicate, slice_index, Bool, true, All, arith, refl, sym, ap, ◌∙◌, subst, cond, ltb, lt-ltb, le-ltb, nat_lt}
+use Rattle.std.proofs.Common.{◌≡◌, ℕ, zero, suc, ◌+◌, ◌-◌, ◌<◌, ◌≤◌, List, [], ◌∷◌, ◌++◌, length, take, get_or, replicate, slice_index, true, arith, refl, sym, ap, ◌∙◌, subst, cond, lt-ltb, le-ltb, nat_lt}
 use Rattle.std.proofs.lemmas.List.{length-replicate, take_all}
 use Rattle.std.proofs.lemmas.List.Elements.{All-nil}
 use mathlib.Core.Logic.{dite}
 use native.Mathlib.Decide.{dec_le}
-use Rattle.sk_model.specs.Entries.{Entry, entries_by, items_of_entries}
+use Rattle.sk_model.specs.Entries.{Entry, items_of_entries}
 use Rattle.sk_model.specs.Sketch.{theta_of}
 use Rattle.sk_model.specs.Width.{item_end}
 use Rattle.sk_model.proofs.Entries.{entries_by_nil}
 use Rattle.sk_model.proofs.Sketch.{k_smallest-nil}
-use Rattle.sk_machine.specs.Fine.{FineUpdater, Fine, fine_start}
-use Rattle.sk_machine.specs.Fine as fine
+use Rattle.sk_machine.specs.Fine.{fine_start}
 use Rattle.sk_machine.specs.Invariant.{IsSound}
 use Rattle.sk_machine.specs.declared.states.Mark.TheVariants.{Neither}
 use Rattle.sk_machine.specs.declared.states.Progress.TheVariants.{Idle}
 use Rattle.sk_machine.proofs.Parts.{starts_sound, eight_parts}
-use Rattle.sk_core.specs.Stored.{StoredUpdater, Stored, blank_updater, blank_token, sizes_of, updater_of, token_of, updater_at, token_at, machine_of, hint_by, word_by, IsWithin, KnowsWithin, IsStored}
+use Rattle.sk_core.specs.Stored.{StoredUpdater, Stored, blank_updater, blank_token, sizes_of, updater_of, token_of, machine_of, hint_by, word_by, IsWithin, KnowsWithin, IsStored}
 use Rattle.sk_core.specs.Runs.{MeetsAll}
 use Rattle.sk_core.specs.declared.token.Token.{Token}
 use Rattle.sk_core.proofs.Machine.{hint_positive}

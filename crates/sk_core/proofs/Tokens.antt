@@ -1,5 +1,5 @@
 -- What the events of tokens make of what is stored.
-use Rattle.std.proofs.Common.{◌≡◌, ◌≢◌, ℕ, zero, suc, ◌+◌, ◌-◌, ◌<◌, ◌≤◌, max, List, [], ◌∷◌, ◌++◌, length, take, get_or, set, replicate, slice_index, Bool, true, false, arith, length-append, refl, sym, ap, ap₂, ◌∙◌, subst, length-set, get_or-set_same, get_or-set_other, cond, eqb, eq-eqb, ne_eqb, ltb, lt-ltb, le-ltb}
+use Rattle.std.proofs.Common.{◌≡◌, ◌≢◌, ℕ, zero, suc, ◌<◌, ◌≤◌, max, List, [], ◌∷◌, ◌++◌, length, take, get_or, set, replicate, slice_index, true, false, arith, length-append, refl, sym, ap, ◌∙◌, subst, length-set, get_or-set_same, get_or-set_other, cond, eqb, eq-eqb, ne_eqb, lt-ltb, le-ltb}
 use Rattle.std.proofs.lemmas.List.{length-take, length-replicate}
 use mathlib.Core.Logic.{dite}
 use native.Mathlib.Decide.{ℕ_discrete, dec_le}
@@ -7,13 +7,11 @@ use Rattle.sk_model.specs.Entries.{Entry, entries_by, items_of_entries}
 use Rattle.sk_model.specs.Sketch.{count_of, theta_of, packed_of, unpacked, fraction_of, estimate_of}
 use Rattle.sk_model.specs.Width.{AreItems}
 use Rattle.sk_model.proofs.Sketch.{packed_reads_back}
-use Rattle.sk_machine.specs.Numbered.{put}
 use Rattle.sk_machine.specs.Fine.{Fine, IsLive, longer, known_of, with_token, with_new_token, after_ask, MaySplit, after_split, MayNote, after_note, MayJoin, after_join}
 use Rattle.sk_machine.specs.Fine as fine
 use Rattle.sk_machine.specs.Invariant.{IsSound}
 use Rattle.sk_machine.proofs.Tokens.{asks, splits, notes, joins}
 use Rattle.sk_core.specs.Stored.{Stored, blank_token, updater_of, token_of, updater_at, token_at, machine_of, hint_by, word_by, KnowsWithin, IsStored}
-use Rattle.sk_core.specs.Events.{Happens}
 use Rattle.sk_core.specs.declared.token.Token.{Token}
 use Rattle.sk_core.specs.declared.event.Event.TheVariants as event
 use Rattle.sk_core.specs.declared.event.Answer.TheVariants as answer

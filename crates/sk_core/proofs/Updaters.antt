@@ -1,20 +1,19 @@
 -- What an updater's events make of what is stored.
-use Rattle.std.proofs.Common.{◌≡◌, ◌≢◌, ℕ, zero, suc, ◌+◌, ◌-◌, ◌<◌, ◌≤◌, List, [], ◌∷◌, ◌++◌, length, take, get_or, set, Bool, true, false, All, arith, length-append, append-nil, refl, sym, ap, ◌∙◌, subst, cond, ltb, lt-ltb, le-ltb, get_or-set_same, get_or-set_other, length-set, slice_index}
+use Rattle.std.proofs.Common.{◌≡◌, ◌≢◌, ℕ, ◌+◌, ◌<◌, ◌≤◌, List, [], ◌∷◌, ◌++◌, length, take, get_or, set, All, arith, length-append, append-nil, refl, sym, ap, ◌∙◌, subst, cond, lt-ltb, le-ltb, get_or-set_same, get_or-set_other, length-set, slice_index}
 use Rattle.std.proofs.lemmas.List.{length-take, set-get_or}
 use Rattle.std.proofs.lemmas.List.Elements.{All-push}
-use Rattle.sk_model.specs.Entries.{Entry, entries_by, tagged}
-use Rattle.sk_model.specs.Width.{item_end}
+use Rattle.sk_model.specs.Entries.{Entry, entries_by}
 use Rattle.sk_model.proofs.Entries.{entries_by_more}
 use Rattle.sk_machine.proofs.Coarse.{entries_by_rest}
 use Rattle.sk_machine.specs.Fine.{FineUpdater, Fine, with_updater, MayOffer, after_kept, MayLook, after_renewal, MaySwap, MayHand, MayAdmit}
-use Rattle.sk_machine.specs.Invariant.{IsSound, HoldsKept, swapped_items}
+use Rattle.sk_machine.specs.Invariant.{IsSound, swapped_items}
 use Rattle.sk_machine.specs.declared.states.Mark.TheVariants.{Neither, Ready, Swapped}
 use Rattle.sk_machine.proofs.Updaters.{keeps, renews, swaps, hands, admits}
-use Rattle.sk_core.specs.Stored.{StoredUpdater, Stored, blank_updater, updater_of, token_of, updater_at, token_at, machine_of, hint_by, word_by, IsWithin, KnowsWithin, IsStored}
+use Rattle.sk_core.specs.Stored.{StoredUpdater, Stored, blank_updater, updater_of, updater_at, token_at, machine_of, hint_by, word_by, IsWithin, IsStored}
 use Rattle.sk_core.specs.Events.{Happens}
 use Rattle.sk_core.specs.declared.event.Event.TheVariants as event
 use Rattle.sk_core.specs.declared.event.Answer.TheVariants as answer
-use Rattle.sk_core.proofs.Machine.{Outcome, set_updater, stores_updater, each_set, read_at, enacted, if_zero, if_not_zero, take_all_of, take_offers, offers_grow, is_put, hint_within}
+use Rattle.sk_core.proofs.Machine.{Outcome, set_updater, stores_updater, each_set, read_at, enacted, if_not_zero, take_all_of, take_offers, offers_grow, is_put, hint_within}
 
 pub looks_stored : (s : Stored) (i : ℕ) → IsStored s → (updater_at s i).word ≢ 0 → MayLook i (machine_of s)
     → Outcome (event.Look i) s (record s { updaters = set s.updaters i (record (updater_at s i) { hint = (updater_at s i).word; base = (updater_at s i).given; mark = Ready }) }) (answer.Hint (updater_at s i).word)

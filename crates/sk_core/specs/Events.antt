@@ -1,5 +1,5 @@
 -- What the events of a schedule do to the machine, and what they answer.
-use Rattle.std.specs.Prelude.{◌≡◌, ◌≢◌, ◌≤◌, ◌<◌, ℕ, ◌+◌, ◌-◌, nat_lt, ◌==◌, if◌then◌else◌, List, [], ◌∷◌, length, Result, MatchResult}
+use Rattle.std.specs.Prelude.{◌≡◌, ℕ, ◌+◌, ◌-◌, nat_lt, ◌==◌, if◌then◌else◌, length, Result, MatchResult}
 use Rattle.sk_model.specs.Entries.{items_of_entries}
 use Rattle.sk_model.specs.Sketch.{estimate_of}
 use Rattle.sk_machine.specs.Fine.{Fine, IsLive, MayOffer, after_offer, MayLook, after_look, MaySwap, after_swap, MayHand, after_hand, MayAdmit, after_admit, MayFind, after_find, MayTake, after_take, MayPublish, after_publish, MayPut, after_put, MayReturn, after_return, MayTurn, after_turn, MayYield, after_yield, after_ask, MaySplit, after_split, MayNote, after_note, MayJoin, after_join}

@@ -1,5 +1,5 @@
 -- How the fields of a state store what contracts see of it.
-use Rattle.std.specs.Prelude.{ℕ, ◌≤◌, vec_capacity}
+use Rattle.std.specs.Prelude.{◌≤◌, vec_capacity}
 use Rattle.sk_model.specs.Entries.{items_of_entries}
 use Rattle.sk_theta.specs.Kept.{StandsFor}
 use Rattle.sk_core.specs.declared.state.State.TheInside.{Inside}

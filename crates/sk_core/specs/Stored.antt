@@ -1,5 +1,5 @@
 -- What a state of the machine stores: its lists, and for each of their beginnings that somebody knows a length.
-use Rattle.std.specs.Prelude.{◌≡◌, ℕ, ◌<◌, ◌≤◌, List, [], length, take, replicate, nat_lt, if◌then◌else◌, Bool, true, All, slice_index, slice_index_or}
+use Rattle.std.specs.Prelude.{ℕ, ◌<◌, ◌≤◌, List, [], length, take, replicate, nat_lt, if◌then◌else◌, Bool, true, All, slice_index, slice_index_or}
 use Rattle.sk_model.specs.Entries.{Entry, entries_by, items_of_entries}
 use Rattle.sk_model.specs.Sketch.{theta_of, packed_of}
 use Rattle.sk_model.specs.Width.{item_end}

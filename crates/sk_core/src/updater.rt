@@ -1,5 +1,5 @@
 //! An updater, with its buffers.
-ghost use Rattle.std.specs.Prelude.{◌≡◌, ◌+◌, ◌<◌, ◌≤◌, [], ◌∷◌, ◌++◌, length, IfOk, true, false, vec_capacity};
+ghost use Rattle.std.specs.Prelude.{◌≡◌, ◌+◌, ◌<◌, ◌≤◌, [], ◌∷◌, ◌++◌, length, IfOk, nat_lt, true, false, vec_capacity};
 ghost use Rattle.sk_machine.specs.declared.states.Mark.TheVariants.{Neither, Ready, Swapped};
 ghost use Rattle.sk_core.specs.Stored.{StoredUpdater};
 ghost use Rattle.sk_model.specs.Width.{item_end};
@@ -65,10 +65,11 @@ impl Updater {
         self.size
     }
 
-    pub fn hint(&self) -> u64
-        ensures { result ≡ self.now.hint }
+    // Whether the hint keeps the item.
+    pub fn keeps(&self, item: u64) -> bool
+        ensures { result ≡ nat_lt item self.now.hint }
     {
-        self.hint
+        item < self.hint
     }
 
     pub fn word(&self) -> u64
@@ -102,7 +103,7 @@ impl Updater {
     }
 
     // Puts an item into the fill buffer.
-    pub fn keep(&mut self, item: u64)
+    pub fn push(&mut self, item: u64)
         requires { length self.old.fill < self.old.size }
         ensures { self.new ≡ record self.old { fill = self.old.fill ++ item ∷ [] } }
     {

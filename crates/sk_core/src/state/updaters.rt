@@ -19,7 +19,7 @@ impl State {
         }
         let updater = &self.updaters[i as usize];
         updater.mark() != Mark::Swapped
-            && (item >= updater.hint() || updater.fill_len() < updater.size())
+            && (!updater.keeps(item) || updater.fill_len() < updater.size())
     }
 
     // An updater is offered an item.
@@ -30,10 +30,10 @@ impl State {
             return Err(NotEnabled);
         }
         let updater = &mut self.updaters[i as usize];
-        if item >= updater.hint() {
+        if !updater.keeps(item) {
             return Ok(Answer::Filtered);
         }
-        updater.keep(item);
+        updater.push(item);
         self.offers.push_reserved((i, item));
         Ok(Answer::Kept)
     }

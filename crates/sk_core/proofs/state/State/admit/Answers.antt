@@ -1,4 +1,4 @@
-use Rattle.std.proofs.Common.{rules, arith}
+use Rattle.std.proofs.Common.{rules}
 use Rattle.sk_core.specs.Inside.{stored_of}
 use Rattle.sk_core.proofs.Updaters.{admits_at}
 use Rattle.sk_core.proofs.state.State.admit.Goals as goal

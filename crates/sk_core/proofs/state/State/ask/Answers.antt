@@ -1,4 +1,4 @@
-use Rattle.std.proofs.Common.{rules, ap, sym, ◌∙◌}
+use Rattle.std.proofs.Common.{rules, ap, ◌∙◌}
 use Rattle.sk_model.specs.Sketch.{fraction_of}
 use Rattle.sk_core.specs.Inside.{stored_of}
 use Rattle.sk_core.proofs.Tokens.{asks_at}

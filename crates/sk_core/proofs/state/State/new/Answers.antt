@@ -1,9 +1,9 @@
-use Rattle.std.proofs.Common.{◌≤◌, List, [], ◌∷◌, ◌++◌, ap, ◌∙◌, sym, subst, arith, ℕ, ◌≡◌}
-use Rattle.sk_model.specs.Entries.{Entry, items_of_entries}
+use Rattle.std.proofs.Common.{◌≤◌, List, [], ◌∷◌, ◌++◌, ap, ◌∙◌, sym, subst, arith, ℕ}
+use Rattle.sk_model.specs.Entries.{items_of_entries}
 use Rattle.sk_model.specs.Sketch.{packed_of}
 use Rattle.sk_theta.specs.Kept.{Sketch, StandsFor}
-use Rattle.sk_machine.specs.Fine.{Fine, fine_start}
-use Rattle.sk_core.specs.Stored.{blank_token, hint_by, word_by, machine_of, sizes_of}
+use Rattle.sk_machine.specs.Fine.{fine_start}
+use Rattle.sk_core.specs.Stored.{blank_token, hint_by, word_by, sizes_of}
 use Rattle.sk_core.proofs.Start.{no_items, starts_stored, starts_as, starts_meeting}
 use Rattle.sk_core.proofs.state.State.new.Goals as goal
 

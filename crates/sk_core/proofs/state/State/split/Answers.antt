@@ -1,4 +1,4 @@
-use Rattle.std.proofs.Common.{rules, arith, ◌∙◌, sym, length-set}
+use Rattle.std.proofs.Common.{rules, arith, ◌∙◌}
 use Rattle.sk_core.specs.Inside.{stored_of}
 use Rattle.sk_core.proofs.Tokens.{splits_at}
 use Rattle.sk_core.proofs.state.State.split.Goals as goal

@@ -1,4 +1,4 @@
-use Rattle.std.proofs.Common.{rules, arith, ap, ◌∙◌, ◌++◌, ◌∷◌, [], length}
+use Rattle.std.proofs.Common.{arith, ap, ◌∙◌, ◌++◌, ◌∷◌, [], length}
 use Rattle.std.proofs.lemmas.List.{length-replicate}
 use Rattle.sk_core.specs.Stored.{blank_updater}
 use Rattle.sk_core.proofs.Start.{replicate_more}

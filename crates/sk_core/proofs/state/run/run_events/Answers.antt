@@ -1,9 +1,8 @@
 use Rattle.std.proofs.Common.{[], ◌+◌, length, refl, ap, sym, ◌∙◌, subst}
 use Rattle.std.proofs.lemmas.List.{length_push}
 use Rattle.sk_machine.proofs.Parts.{eight_parts}
-use Rattle.sk_core.specs.Stored.{Stored, hint_by, word_by, machine_of}
+use Rattle.sk_core.specs.Stored.{Stored, machine_of}
 use Rattle.sk_core.specs.Runs.{MeetsAll, IsRun}
-use Rattle.sk_core.specs.declared.event.Answer.{Answer}
 use Rattle.sk_core.specs.declared.event.Event.TheVariants.{Offer}
 use Rattle.sk_core.proofs.Runs.{run_empty, run_on}
 use Rattle.sk_core.proofs.state.run.run_events.Goals as goal
