@@ -1,0 +1,5 @@
+pub mod Stored
+pub mod Events
+pub mod Inside
+pub mod Runs
+pub mod Texts

@@ -1,0 +1,17 @@
+//! The machine of all interleavings, which runs one given schedule.
+#![tactic(auto)]
+
+mod answer;
+mod event;
+mod state;
+mod text;
+mod token;
+mod updater;
+
+pub use answer::push_answer;
+pub use event::{Answer, Event, NotEnabled};
+pub use state::{State, run_events};
+pub use text::{read_event, read_machine, read_vacant};
+
+#[cfg(test)]
+mod tests;

@@ -1,0 +1,15 @@
+//! A token.
+
+/// The most updaters that there may be.
+pub const MOST_UPDATERS: usize = 64;
+
+/// What a token has seen, and what it knows of each updater, as lengths.
+#[derive(Clone, Copy)]
+pub struct Token {
+    /// False once it was joined into another.
+    pub live: bool,
+    /// How many of the published entries it has seen.
+    pub seen: usize,
+    /// How many of each updater's kept items it knows to be handed over.
+    pub known: [usize; MOST_UPDATERS],
+}

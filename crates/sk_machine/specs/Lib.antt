@@ -1,0 +1,4 @@
+pub mod Numbered
+pub mod Coarse
+pub mod Fine
+pub mod Invariant
