@@ -11,6 +11,25 @@ use Rattle.sk_cli.specs.Options.{Word, Given, spelled_by, value_behind, is_given
 abbrev pub seed_by : List Given → Option ℕ
 seed_by given = number_in 0 (2 ^ 32 - 1) 0 (value_behind name.Seed given)
 
+-- a name of a file is any word that is not empty
+abbrev pub name_by : Option Word → Option (Option Word)
+name_by None = Some None
+name_by (Some []) = None
+name_by (Some (byte ∷ bytes)) = Some (Some (byte ∷ bytes))
+
+-- the name of the file that is read in place of the standard input, if there is one
+abbrev pub file_by : List Given → Option (Option Word)
+file_by given = name_by (value_behind name.File given)
+
+-- what words ask for: a command, and the name of the file that it reads in place of the standard input
+pub record Asked : Type 0 where
+  pub command : Command
+  pub file : Option Word
+
+-- a command by its options, with its file
+abbrev pub asked_by : (List Given → Option Command) → List Given → Option Asked
+asked_by by given = option_and_then (λ command. option_map (λ file. record { command = command; file = file }) (file_by given)) (by given)
+
 -- the options of `count`
 abbrev pub count_by : List Given → Option Command
 count_by given =
@@ -22,16 +41,16 @@ abbrev pub hash_by : List Given → Option Command
 hash_by given = option_map (λ seed. Hash seed) (seed_by given)
 
 -- the command, where no word follows
-abbrev pub alone : Command → List Word → Option Command
-alone command [] = Some command
+abbrev pub alone : Command → List Word → Option Asked
+alone command [] = Some (record { command = command; file = None })
 alone command (word ∷ words) = None
 
--- the command that words spell, with its options
-abbrev pub command_of : List Word → Option Command
-command_of [] = None
-command_of (word ∷ words) =
-    if bytes_eq word (codes "count") then option_and_then count_by (spelled_by verb.Count words) else (
-    if bytes_eq word (codes "hash") then option_and_then hash_by (spelled_by verb.Hash words) else (
+-- what words ask for: a command with its options
+abbrev pub request_of : List Word → Option Asked
+request_of [] = None
+request_of (word ∷ words) =
+    if bytes_eq word (codes "count") then option_and_then (asked_by count_by) (spelled_by verb.Count words) else (
+    if bytes_eq word (codes "hash") then option_and_then (asked_by hash_by) (spelled_by verb.Hash words) else (
     if bytes_eq word (codes "--help") then alone Help words else (
     if bytes_eq word (codes "--version") then alone Version words else None)))
 

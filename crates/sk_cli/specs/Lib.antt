@@ -1,4 +1,8 @@
+pub mod Asking
 pub mod Command
+pub mod Count
+pub mod Due
 pub mod Fault
+pub mod Hash
 pub mod Options
 pub mod Run

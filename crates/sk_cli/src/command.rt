@@ -1,7 +1,9 @@
-// The words of a command line as a command.
+// The words of a command line as what is asked.
 ghost use Rattle.std.specs.Prelude.{◌≡◌, IfSome};
+ghost use Rattle.std.specs.Option.{option_map, option_copied};
 ghost use Rattle.sk_cli.specs.Options.{texts_of};
-ghost use Rattle.sk_cli.specs.Command.{command_of, count_by, hash_by, seed_by, alone, IsWithin};
+ghost use Rattle.sk_cli.specs.Command.{request_of, count_by, hash_by, seed_by, file_by, asked_by, alone, IsWithin};
+ghost use Rattle.sk_cli.specs.Asking.{asked_of};
 
 use crate::options::{Name, Options, Verb};
 use sk_ingest::Kind;
@@ -17,22 +19,49 @@ pub enum Command {
     Version,
 }
 
-impl Command {
+/// A command, and the name of the file that it reads in place of the standard input.
+#[derive(Clone, Copy)]
+pub struct Request<'a> {
+    pub command: Command,
+    pub file: Option<&'a str>,
+}
+
+impl<'a> Request<'a> {
     /// What the words ask for, or `None` where they are no command with its options.
-    pub fn of(words: &[String]) -> Option<Command>
-        ensures value { result ≡ command_of (texts_of words.now) }
-        ensures limits { IfSome result IsWithin }
+    pub fn of(words: &'a [String]) -> Option<Request<'a>>
+        ensures value { option_map asked_of result ≡ request_of (texts_of words.now) }
+        ensures limits { IfSome result (λ request. IsWithin request.command) }
     {
         let (verb, behind) = words.split_first()?;
         match verb.as_str() {
-            "count" => Command::count(&Options::new(Verb::Count, behind)?),
-            "hash" => Command::hash(&Options::new(Verb::Hash, behind)?),
+            "count" => Request::count(&Options::new(Verb::Count, behind)?),
+            "hash" => Request::hash(&Options::new(Verb::Hash, behind)?),
             "--help" => alone(Command::Help, behind),
             "--version" => alone(Command::Version, behind),
             _ => None,
         }
     }
 
+    fn count(options: &Options<'a>) -> Option<Request<'a>>
+        ensures value { option_map asked_of result ≡ asked_by count_by options.now }
+        ensures limits { IfSome result (λ request. IsWithin request.command) }
+    {
+        let command = Command::count(options)?;
+        let file = file_in(options)?;
+        Some(Request { command, file })
+    }
+
+    fn hash(options: &Options<'a>) -> Option<Request<'a>>
+        ensures value { option_map asked_of result ≡ asked_by hash_by options.now }
+        ensures limits { IfSome result (λ request. IsWithin request.command) }
+    {
+        let command = Command::hash(options)?;
+        let file = file_in(options)?;
+        Some(Request { command, file })
+    }
+}
+
+impl Command {
     fn count(options: &Options<'_>) -> Option<Command>
         ensures value { result ≡ count_by options.now }
         ensures limits { IfSome result IsWithin }
@@ -58,12 +87,15 @@ impl Command {
 }
 
 // The command, where no word stands behind it.
-fn alone(command: Command, behind: &[String]) -> Option<Command>
-    ensures value { result ≡ alone command (texts_of behind.now) }
-    ensures same { IfSome result (λ c. c ≡ command) }
+fn alone<'a>(command: Command, behind: &[String]) -> Option<Request<'a>>
+    ensures value { option_map asked_of result ≡ alone command (texts_of behind.now) }
+    ensures same { IfSome result (λ request. request.command ≡ command) }
 {
     if behind.is_empty() {
-        Some(command)
+        Some(Request {
+            command,
+            file: None,
+        })
     } else {
         None
     }
@@ -74,4 +106,20 @@ fn seed_in(options: &Options<'_>) -> Option<u32>
     ensures { result ≡ seed_by options.now }
 {
     Some(options.number(Name::Seed, 0, u64::from(u32::MAX), 0)? as u32)
+}
+
+// The name of the file, if there is one. `None` where it is empty.
+fn file_in<'a>(options: &Options<'a>) -> Option<Option<&'a str>>
+    ensures { option_map option_copied result ≡ file_by options.now }
+{
+    match options.value(Name::File) {
+        None => Some(None),
+        Some(name) => {
+            if name.is_empty() {
+                None
+            } else {
+                Some(Some(name))
+            }
+        }
+    }
 }

@@ -1,12 +1,14 @@
 // The command that estimates how many distinct items there are.
-ghost use Rattle.std.specs.Prelude.{◌≡◌, ◌≤◌, ◌^◌, OnOk, IfOk, string_bytes};
-ghost use Rattle.sk_cli.specs.Run.{estimate_line, Executes};
+ghost use Rattle.std.specs.Prelude.{◌≡◌, ◌≤◌, ◌^◌, IfOk, string_bytes};
+ghost use Rattle.sk_cli.specs.Count.{estimate_line};
+ghost use Rattle.sk_cli.specs.Run.{Executes};
 ghost use Rattle.sk_cli.specs.declared.command.Command.TheVariants as command;
 
 use crate::fault::Fault;
+use crate::write::write_text;
 use sk_heap::HeapTheta;
 use sk_ingest::{Intake, Kind, read_items};
-use sk_io::{Sink, Source, write_all};
+use sk_io::{Sink, Source};
 use std::alloc::{AllocError, Global};
 
 // The line of an estimate.
@@ -16,25 +18,27 @@ fn line_of(alloc: Global, n: u64, d: u64) -> Result<String, AllocError>
     format!(in alloc; "estimate {n}/{d}\n")
 }
 
-/// Reads the input to its end, and then writes the estimate of its distinct items.
+/// Reads the source to its end, and then writes the estimate of its distinct items.
 pub fn count<S: Source, O: Sink>(
     alloc: Global,
     k: u32,
     kind: Kind,
     most: u64,
-    input: &mut S,
+    source: &mut S,
     out: &mut O,
 ) -> Result<(), Fault>
     requires least { 2 ≤ k }
     requires most { k ≤ 32768 }
     requires bound { most ≤ 2 ^ 40 }
-    ensures { Executes (command.Count k kind) most (S.left input.old) (S.left input.new) (S.faults input.old) (S.faults input.new)
-        (O.written out.old) (O.written out.new) (O.faults out.old) (O.faults out.new) result }
+    ensures done { Executes (command.Count k kind) most
+        (record { left = S.left source.old; read_faults = S.faults source.old; written = O.written out.old; write_faults = O.faults out.old })
+        (record { left = S.left source.new; read_faults = S.faults source.new; written = O.written out.new; write_faults = O.faults out.new }) result }
+    ensures stays { S.stands_on source.new ≡ S.stands_on source.old }
 {
     let mut sketch = HeapTheta::new(alloc, k)?;
     let plan = Intake { kind, most };
-    read_items(alloc, &plan, input, &mut sketch)?;
+    read_items(alloc, &plan, source, &mut sketch)?;
     let (n, d) = sketch.fraction();
     let line = line_of(alloc, n, d)?;
-    write_all(out, line.as_bytes()).map_err(|_| Fault::WriteFault)
+    write_text(out, line.as_bytes())
 }

@@ -3,11 +3,13 @@
 
 mod command;
 mod count;
+mod execute;
 mod fault;
 mod hash;
 mod help;
 mod options;
 mod program;
+mod write;
 
 pub use program::run;
 

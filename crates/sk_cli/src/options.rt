@@ -16,6 +16,7 @@ pub enum Verb {
 /// The name of an option.
 #[derive(Clone, Copy, Debug, PartialEq, Eq)]
 pub enum Name {
+    File,
     K,
     Raw,
     Seed,
@@ -27,6 +28,7 @@ impl Name {
         ensures { result ≡ name_of word.now }
     {
         match word {
+            "--file" => Some(Name::File),
             "--k" => Some(Name::K),
             "--raw" => Some(Name::Raw),
             "--seed" => Some(Name::Seed),
@@ -39,7 +41,7 @@ impl Name {
         ensures { result ≡ takes_value self }
     {
         match self {
-            Name::K | Name::Seed => true,
+            Name::File | Name::K | Name::Seed => true,
             Name::Raw => false,
         }
     }
@@ -52,7 +54,7 @@ impl Verb {
     {
         match self {
             Verb::Count => true,
-            Verb::Hash => name == Name::Seed,
+            Verb::Hash => name == Name::File || name == Name::Seed,
         }
     }
 }

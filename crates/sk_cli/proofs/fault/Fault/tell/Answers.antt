@@ -32,3 +32,7 @@ returns-in-BadItem-clause-front g c =
 pub returns-in-Usage-clause-front : goal.returns-in-Usage-clause-front
 returns-in-Usage-clause-front g c =
     subst (λ (f : Fault). OnErr c.write_all-in-Usage.result (AppendsFront (g.E.Sink.written c.args.err.now) (g.E.Sink.written c.write_all-in-Usage.new.out) (message_of f))) (sym c.in-Usage.is) c.write_all-in-Usage.ensures.err
+
+pub returns-in-OpenFault-clause-front : goal.returns-in-OpenFault-clause-front
+returns-in-OpenFault-clause-front g c =
+    subst (λ (f : Fault). OnErr c.write_all-in-OpenFault.result (AppendsFront (g.E.Sink.written c.args.err.now) (g.E.Sink.written c.write_all-in-OpenFault.new.out) (message_of f))) (sym c.in-OpenFault.is) c.write_all-in-OpenFault.ensures.err
