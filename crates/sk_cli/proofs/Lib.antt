@@ -4,4 +4,5 @@ pub mod Fronts
 pub mod Hashing
 pub mod OptionLaws
 pub mod Reading
+pub mod Replaying
 pub mod Reporting

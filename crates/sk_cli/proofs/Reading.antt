@@ -67,7 +67,7 @@ text_is : (command : Command) (left : Option (List ℕ)) → reads command ≡ t
 text_is command left is = ap (λ (b : Bool). if b then left else Some []) is
 
 -- a text that begins with these lines has them as its first
-first_are : (given lines : List (List ℕ)) (n : ℕ) → n ≡ length given → Begins given lines → take n lines ≡ given
+pub first_are : (given lines : List (List ℕ)) (n : ℕ) → n ≡ length given → Begins given lines → take n lines ≡ given
 first_are given lines n is begins = ap (λ (m : ℕ). take m lines) is ∙ front_is given lines begins
 
 module _ (command : Command) (most : ℕ) (a b : Streams) (is : reads command ≡ true) where

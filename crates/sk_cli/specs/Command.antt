@@ -4,7 +4,7 @@ use Rattle.sk_ingest.specs.declared.kind.Kind.TheVariants as kind
 use Rattle.sk_cli.specs.declared.options.Verb.TheVariants as verb
 use Rattle.sk_cli.specs.declared.options.Name.TheVariants as name
 use Rattle.sk_cli.specs.declared.command.Command.{Command}
-use Rattle.sk_cli.specs.declared.command.Command.TheVariants.{Count, Hash, Help, Version}
+use Rattle.sk_cli.specs.declared.command.Command.TheVariants.{Count, Hash, Replay, Help, Version}
 use Rattle.sk_cli.specs.Options.{Word, Given, spelled_by, value_behind, is_given, number_in}
 
 -- the seed of the hash
@@ -40,6 +40,10 @@ count_by given =
 abbrev pub hash_by : List Given → Option Command
 hash_by given = option_map (λ seed. Hash seed) (seed_by given)
 
+-- `replay` has no option but the file
+abbrev pub replay_by : List Given → Option Command
+replay_by given = Some Replay
+
 -- the command, where no word follows
 abbrev pub alone : Command → List Word → Option Asked
 alone command [] = Some (record { command = command; file = None })
@@ -51,12 +55,14 @@ request_of [] = None
 request_of (word ∷ words) =
     if bytes_eq word (codes "count") then option_and_then (asked_by count_by) (spelled_by verb.Count words) else (
     if bytes_eq word (codes "hash") then option_and_then (asked_by hash_by) (spelled_by verb.Hash words) else (
+    if bytes_eq word (codes "replay") then option_and_then (asked_by replay_by) (spelled_by verb.Replay words) else (
     if bytes_eq word (codes "--help") then alone Help words else (
-    if bytes_eq word (codes "--version") then alone Version words else None)))
+    if bytes_eq word (codes "--version") then alone Version words else None))))
 
 -- the numbers of a command are within their limits
 abbrev pub IsWithin : Command → Type 0
 IsWithin (Count k kind) = (2 ≤ k) × (k ≤ 32768)
 IsWithin (Hash seed) = Unit {0}
+IsWithin Replay = Unit {0}
 IsWithin Help = Unit {0}
 IsWithin Version = Unit {0}

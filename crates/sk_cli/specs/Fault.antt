@@ -5,7 +5,7 @@ use Rattle.sk_ingest.specs.declared.items.Fault.TheVariants as reading
 use Rattle.sk_ingest.specs.declared.reader.LineFault.{LineFault}
 use Rattle.sk_ingest.specs.declared.reader.LineFault.TheVariants as stop
 use Rattle.sk_cli.specs.declared.fault.Fault.{Fault}
-use Rattle.sk_cli.specs.declared.fault.Fault.TheVariants.{OutOfMemory, Usage, ReadFault, WriteFault, LongLine, BadItem, OpenFault, TooMuch}
+use Rattle.sk_cli.specs.declared.fault.Fault.TheVariants.{OutOfMemory, Usage, ReadFault, WriteFault, LongLine, BadItem, BadEvent, OpenFault, TooMuch}
 
 abbrev pub status_of : Fault → ℕ
 status_of OutOfMemory = 1
@@ -14,6 +14,7 @@ status_of ReadFault = 3
 status_of WriteFault = 4
 status_of (LongLine line) = 5
 status_of (BadItem line) = 6
+status_of (BadEvent line) = 7
 status_of OpenFault = 8
 status_of TooMuch = 13
 
@@ -29,6 +30,7 @@ message_of ReadFault = codes "read fault\n"
 message_of WriteFault = codes "write fault\n"
 message_of (LongLine line) = line_message line (codes ": too long\n")
 message_of (BadItem line) = line_message line (codes ": not a number\n")
+message_of (BadEvent line) = line_message line (codes ": bad event\n")
 message_of OpenFault = codes "open fault\n"
 message_of TooMuch = codes "too much\n"
 

@@ -5,4 +5,6 @@ pub mod Due
 pub mod Fault
 pub mod Hash
 pub mod Options
+pub mod Replay
 pub mod Run
+pub mod Starting

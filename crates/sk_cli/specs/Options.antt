@@ -4,7 +4,7 @@ use Rattle.std.specs.declared.string.String.{String}
 use Rattle.std.specs.declared.alloc.Global.{Global}
 use Rattle.sk_model.specs.Numbers.{number_of}
 use Rattle.sk_cli.specs.declared.options.Verb.{Verb}
-use Rattle.sk_cli.specs.declared.options.Verb.TheVariants.{Count, Hash}
+use Rattle.sk_cli.specs.declared.options.Verb.TheVariants.{Count, Hash, Replay}
 use Rattle.sk_cli.specs.declared.options.Name.{Name}
 use Rattle.sk_cli.specs.declared.options.Name.TheVariants.{File, K, Raw, Seed}
 
@@ -36,6 +36,8 @@ allows Count name = true
 allows Hash File = true
 allows Hash Seed = true
 allows Hash name = false
+allows Replay File = true
+allows Replay name = false
 
 -- an option: its name, and the value behind it, empty for a flag
 abbrev pub Given : Type 0

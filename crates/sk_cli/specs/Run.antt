@@ -6,10 +6,10 @@ use Rattle.sk_model.specs.Causes.{Rose, AppendsFront}
 use Rattle.sk_io.specs.Files.{told_file}
 use Rattle.sk_cli.specs.Options.{Word}
 use Rattle.sk_cli.specs.Command.{Asked}
-use Rattle.sk_cli.specs.Due.{reads, text_for, lines_for, Writes, WritesFront, IsLongLine, IsBadItem, StopsBehind}
+use Rattle.sk_cli.specs.Due.{reads, text_for, lines_for, Writes, WritesFront, IsLongLine, IsBadItem, IsBadEvent, StopsBehind}
 use Rattle.sk_cli.specs.declared.command.Command.{Command}
 use Rattle.sk_cli.specs.declared.fault.Fault.{Fault}
-use Rattle.sk_cli.specs.declared.fault.Fault.TheVariants.{OutOfMemory, Usage, ReadFault, WriteFault, LongLine, BadItem, OpenFault, TooMuch}
+use Rattle.sk_cli.specs.declared.fault.Fault.TheVariants.{OutOfMemory, Usage, ReadFault, WriteFault, LongLine, BadItem, BadEvent, OpenFault, TooMuch}
 
 -- a source and a sink: the bytes that are left and those that were written, where they tell them, and their counts
 -- of faults
@@ -18,6 +18,9 @@ pub record Streams : Type 0 where
   pub read_faults : ℕ
   pub written : Option (List ℕ)
   pub write_faults : ℕ
+
+abbrev pub streams : Option (List ℕ) → ℕ → Option (List ℕ) → ℕ → Streams
+streams left read_faults written write_faults = record { left = left; read_faults = read_faults; written = written; write_faults = write_faults }
 
 -- ---- one command over a source and a sink
 
@@ -44,6 +47,7 @@ Ends command most old new ReadFault = Rose old.read_faults new.read_faults × ((
 Ends command most old new WriteFault = Rose old.write_faults new.write_faults × EndsWithin command old new
 Ends command most old new (LongLine n) = IfSome (text_for command old.left) (λ text. IsLongLine command n (lines_for command text) old.written new.written)
 Ends command most old new (BadItem n) = IfSome (text_for command old.left) (λ text. IsBadItem command n (lines_for command text) old.written new.written)
+Ends command most old new (BadEvent n) = IfSome (text_for command old.left) (λ text. IsBadEvent command n (lines_for command text) old.written new.written)
 Ends command most old new OpenFault = ⊥
 Ends command most old new TooMuch = (taken : List ℕ) × Stops command old new taken × (length taken ≡ most)
 
@@ -63,13 +67,24 @@ pub record Outside : Type 0 where
   pub written : Option (List ℕ)
   pub write_faults : ℕ
 
+abbrev pub outside : Option (List ℕ) → ℕ → Option (List (List ℕ × List ℕ)) → ℕ → ℕ → Option (List ℕ) → ℕ → Outside
+outside input input_faults files open_faults file_faults written write_faults = record {
+  input = input;
+  input_faults = input_faults;
+  files = files;
+  open_faults = open_faults;
+  file_faults = file_faults;
+  written = written;
+  write_faults = write_faults;
+}
+
 -- the standard input beside the output
 abbrev pub over_input : Outside → Streams
-over_input o = record { left = o.input; read_faults = o.input_faults; written = o.written; write_faults = o.write_faults }
+over_input o = streams o.input o.input_faults o.written o.write_faults
 
 -- a file of which this is left, beside the output
 abbrev pub over_file : Option (List ℕ) → Outside → Streams
-over_file left o = record { left = left; read_faults = o.file_faults; written = o.written; write_faults = o.write_faults }
+over_file left o = streams left o.file_faults o.written o.write_faults
 
 -- a fact of the streams that a command is over: the file of this name, of which something may be left afterwards,
 -- or the standard input

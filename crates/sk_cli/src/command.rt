@@ -2,7 +2,7 @@
 ghost use Rattle.std.specs.Prelude.{◌≡◌, IfSome};
 ghost use Rattle.std.specs.Option.{option_map, option_copied};
 ghost use Rattle.sk_cli.specs.Options.{texts_of};
-ghost use Rattle.sk_cli.specs.Command.{request_of, count_by, hash_by, seed_by, file_by, asked_by, alone, IsWithin};
+ghost use Rattle.sk_cli.specs.Command.{request_of, count_by, hash_by, replay_by, seed_by, file_by, asked_by, alone, IsWithin};
 ghost use Rattle.sk_cli.specs.Asking.{asked_of};
 
 use crate::options::{Name, Options, Verb};
@@ -15,6 +15,8 @@ pub enum Command {
     Count { k: u32, kind: Kind },
     /// Write the hash of each line that is not empty, under a seed.
     Hash { seed: u32 },
+    /// Play a schedule and write the answer to each event.
+    Replay,
     Help,
     Version,
 }
@@ -36,6 +38,7 @@ impl<'a> Request<'a> {
         match verb.as_str() {
             "count" => Request::count(&Options::new(Verb::Count, behind)?),
             "hash" => Request::hash(&Options::new(Verb::Hash, behind)?),
+            "replay" => Request::replay(&Options::new(Verb::Replay, behind)?),
             "--help" => alone(Command::Help, behind),
             "--version" => alone(Command::Version, behind),
             _ => None,
@@ -58,6 +61,17 @@ impl<'a> Request<'a> {
         let command = Command::hash(options)?;
         let file = file_in(options)?;
         Some(Request { command, file })
+    }
+
+    fn replay(options: &Options<'a>) -> Option<Request<'a>>
+        ensures value { option_map asked_of result ≡ asked_by replay_by options.now }
+        ensures limits { IfSome result (λ request. IsWithin request.command) }
+    {
+        let file = file_in(options)?;
+        Some(Request {
+            command: Command::Replay,
+            file,
+        })
     }
 }
 

@@ -1,7 +1,7 @@
 // The command that estimates how many distinct items there are.
 ghost use Rattle.std.specs.Prelude.{◌≡◌, ◌≤◌, ◌^◌, IfOk, string_bytes};
 ghost use Rattle.sk_cli.specs.Count.{estimate_line};
-ghost use Rattle.sk_cli.specs.Run.{Executes};
+ghost use Rattle.sk_cli.specs.Run.{streams, Executes};
 ghost use Rattle.sk_cli.specs.declared.command.Command.TheVariants as command;
 
 use crate::fault::Fault;
@@ -31,8 +31,8 @@ pub fn count<S: Source, O: Sink>(
     requires most { k ≤ 32768 }
     requires bound { most ≤ 2 ^ 40 }
     ensures done { Executes (command.Count k kind) most
-        (record { left = S.left source.old; read_faults = S.faults source.old; written = O.written out.old; write_faults = O.faults out.old })
-        (record { left = S.left source.new; read_faults = S.faults source.new; written = O.written out.new; write_faults = O.faults out.new }) result }
+        (streams (S.left source.old) (S.faults source.old) (O.written out.old) (O.faults out.old))
+        (streams (S.left source.new) (S.faults source.new) (O.written out.new) (O.faults out.new)) result }
     ensures stays { S.stands_on source.new ≡ S.stands_on source.old }
 {
     let mut sketch = HeapTheta::new(alloc, k)?;

@@ -3,13 +3,14 @@ ghost use Rattle.std.specs.Prelude.{◌≡◌, ◌≤◌, ◌^◌, Err, None, So
 ghost use Rattle.std.specs.Option.{option_copied};
 ghost use Rattle.sk_io.specs.Files.{told_file, IsMissing};
 ghost use Rattle.sk_cli.specs.Command.{IsWithin};
-ghost use Rattle.sk_cli.specs.Run.{Executes, Performs};
+ghost use Rattle.sk_cli.specs.Run.{streams, outside, Executes, Performs};
 
 use crate::command::Command;
 use crate::count::count;
 use crate::fault::Fault;
 use crate::hash::hash;
 use crate::help::{HELP, VERSION};
+use crate::replay::replay;
 use crate::write::write_text;
 use sk_io::{OnShelf, Shelf, Sink, Source};
 use std::alloc::Global;
@@ -28,8 +29,8 @@ pub fn perform<S: Source, O: Sink, F: Shelf>(
     requires within { IsWithin command }
     requires bound { most ≤ 2 ^ 40 }
     ensures done { Performs (record { command = command; file = option_copied file.entry }) most
-        (record { input = S.left input.old; input_faults = S.faults input.old; files = F.files shelf.old; open_faults = F.open_faults shelf.old; file_faults = F.read_faults shelf.old; written = O.written out.old; write_faults = O.faults out.old })
-        (record { input = S.left input.new; input_faults = S.faults input.new; files = F.files shelf.new; open_faults = F.open_faults shelf.new; file_faults = F.read_faults shelf.new; written = O.written out.new; write_faults = O.faults out.new }) result }
+        (outside (S.left input.old) (S.faults input.old) (F.files shelf.old) (F.open_faults shelf.old) (F.read_faults shelf.old) (O.written out.old) (O.faults out.old))
+        (outside (S.left input.new) (S.faults input.new) (F.files shelf.new) (F.open_faults shelf.new) (F.read_faults shelf.new) (O.written out.new) (O.faults out.new)) result }
     ensures missing { IfSome (option_copied file.entry) (λ name. IsMissing (F.files shelf.old) name → result ≡ Err Fault.OpenFault) }
     ensures files { F.files shelf.new ≡ F.files shelf.old }
     ensures with_file { OnSome file.entry (input.new ≡ input.old) }
@@ -56,8 +57,8 @@ fn execute_on<F: Shelf, O: Sink>(
     requires within { IsWithin command }
     requires bound { most ≤ 2 ^ 40 }
     ensures done { Executes command most
-        (record { left = F.left shelf.old file.old; read_faults = F.read_faults shelf.old; written = O.written out.old; write_faults = O.faults out.old })
-        (record { left = F.left shelf.new file.new; read_faults = F.read_faults shelf.new; written = O.written out.new; write_faults = O.faults out.new }) result }
+        (streams (F.left shelf.old file.old) (F.read_faults shelf.old) (O.written out.old) (O.faults out.old))
+        (streams (F.left shelf.new file.new) (F.read_faults shelf.new) (O.written out.new) (O.faults out.new)) result }
     ensures opens { F.open_faults shelf.new ≡ F.open_faults shelf.old }
     ensures files { F.files shelf.new ≡ F.files shelf.old }
 {
@@ -76,13 +77,14 @@ pub fn execute<S: Source, O: Sink>(
     requires within { IsWithin command }
     requires bound { most ≤ 2 ^ 40 }
     ensures done { Executes command most
-        (record { left = S.left source.old; read_faults = S.faults source.old; written = O.written out.old; write_faults = O.faults out.old })
-        (record { left = S.left source.new; read_faults = S.faults source.new; written = O.written out.new; write_faults = O.faults out.new }) result }
+        (streams (S.left source.old) (S.faults source.old) (O.written out.old) (O.faults out.old))
+        (streams (S.left source.new) (S.faults source.new) (O.written out.new) (O.faults out.new)) result }
     ensures stays { S.stands_on source.new ≡ S.stands_on source.old }
 {
     match command {
         Command::Count { k, kind } => count(alloc, k, kind, most, source, out),
         Command::Hash { seed } => hash(alloc, seed, most, source, out),
+        Command::Replay => replay(alloc, most, source, out),
         Command::Help => write_text(out, HELP.as_bytes()),
         Command::Version => write_text(out, VERSION.as_bytes()),
     }

@@ -19,6 +19,7 @@ pub enum Fault {
     WriteFault,
     LongLine(u64),
     BadItem(u64),
+    BadEvent(u64),
     OpenFault,
     TooMuch,
 }
@@ -85,6 +86,7 @@ impl Fault {
             Fault::WriteFault => 4,
             Fault::LongLine(_) => 5,
             Fault::BadItem(_) => 6,
+            Fault::BadEvent(_) => 7,
             Fault::OpenFault => 8,
             Fault::TooMuch => 13,
         }
@@ -106,6 +108,7 @@ impl Fault {
             Fault::WriteFault => write_all(err, b"write fault\n"),
             Fault::LongLine(line) => tell_line(err, line, b": too long\n"),
             Fault::BadItem(line) => tell_line(err, line, b": not a number\n"),
+            Fault::BadEvent(line) => tell_line(err, line, b": bad event\n"),
             Fault::OpenFault => write_all(err, b"open fault\n"),
             Fault::TooMuch => write_all(err, b"too much\n"),
         }

@@ -3,7 +3,7 @@ ghost use Rattle.std.specs.Prelude.{◌≡◌, ◌≤◌, ◌<◌, ◌^◌, ◌�
 ghost use Rattle.std.specs.Io.KnownBytes.{Appends};
 ghost use Rattle.sk_model.specs.Causes.{HasCause, AppendsFront};
 ghost use Rattle.sk_cli.specs.Hash.{hash_line, hash_text, hex_digit};
-ghost use Rattle.sk_cli.specs.Run.{Executes};
+ghost use Rattle.sk_cli.specs.Run.{streams, Executes};
 ghost use Rattle.sk_cli.specs.declared.command.Command.TheVariants as command;
 
 use crate::fault::Fault;
@@ -67,8 +67,8 @@ pub fn hash<S: Source, O: Sink>(
 ) -> Result<(), Fault>
     requires bound { most ≤ 2 ^ 40 }
     ensures done { Executes (command.Hash seed) most
-        (record { left = S.left source.old; read_faults = S.faults source.old; written = O.written out.old; write_faults = O.faults out.old })
-        (record { left = S.left source.new; read_faults = S.faults source.new; written = O.written out.new; write_faults = O.faults out.new }) result }
+        (streams (S.left source.old) (S.faults source.old) (O.written out.old) (O.faults out.old))
+        (streams (S.left source.new) (S.faults source.new) (O.written out.new) (O.faults out.new)) result }
     ensures stays { S.stands_on source.new ≡ S.stands_on source.old }
 {
     let mut reader = LineReader::new(alloc, most)?;

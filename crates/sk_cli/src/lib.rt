@@ -9,6 +9,7 @@ mod hash;
 mod help;
 mod options;
 mod program;
+mod replay;
 mod write;
 
 pub use program::run;

@@ -11,6 +11,7 @@ use std::marker::Model;
 pub enum Verb {
     Count,
     Hash,
+    Replay,
 }
 
 /// The name of an option.
@@ -55,6 +56,7 @@ impl Verb {
         match self {
             Verb::Count => true,
             Verb::Hash => name == Name::File || name == Name::Seed,
+            Verb::Replay => name == Name::File,
         }
     }
 }

@@ -4,7 +4,7 @@ use Rattle.std.proofs.KnownBytes.{Appends-nil, Appends-trans}
 use Rattle.sk_model.specs.Causes.{AppendsFront}
 use Rattle.sk_ingest.specs.declared.reader.LineFault.{LineFault}
 use Rattle.sk_cli.specs.Hash.{hash_text}
-use Rattle.sk_cli.specs.Run.{Streams, Ends}
+use Rattle.sk_cli.specs.Run.{Streams, streams, Ends}
 use Rattle.sk_cli.specs.Fault.{fault_by_line}
 use Rattle.sk_cli.specs.declared.fault.Fault.{Fault}
 use Rattle.sk_cli.specs.declared.fault.Fault.TheVariants as fault
@@ -17,7 +17,7 @@ use Rattle.sk_cli.proofs.hash.hash.Goals as goal
 
 pub returns-in_err-reader-clause-done : goal.returns-in_err-reader-clause-done
 returns-in_err-reader-clause-done g c =
-    let a : Streams = record { left = g.S.Source.left c.args.source.now; read_faults = g.S.Source.faults c.args.source.now; written = g.O.Sink.written c.args.out.now; write_faults = g.O.Sink.faults c.args.out.now } in
+    let a : Streams = streams (g.S.Source.left c.args.source.now) (g.S.Source.faults c.args.source.now) (g.O.Sink.written c.args.out.now) (g.O.Sink.faults c.args.out.now) in
     ends_by (Hash c.args.seed) c.args.most a a _ fault.OutOfMemory c.from_residual.ensures.1 (nothing_yet (Hash c.args.seed) a a (hash_text c.args.seed []) refl (hashes_of_none c.args.seed))
 
 pub line-init : goal.line-init
@@ -55,8 +55,8 @@ returns-in_err-next-clause-done g c =
     let s = c.in_err-next.field-0.0 in
     let seed = c.args.seed in
     let next = c.next.ensures in
-    let a : Streams = record { left = g.S.Source.left c.args.source.now; read_faults = g.S.Source.faults c.args.source.now; written = g.O.Sink.written c.args.out.now; write_faults = g.O.Sink.faults c.args.out.now } in
-    let b : Streams = record { left = g.S.Source.left c.next.new.source; read_faults = g.S.Source.faults c.next.new.source; written = g.O.Sink.written c.line.out; write_faults = g.O.Sink.faults c.line.out } in
+    let a : Streams = streams (g.S.Source.left c.args.source.now) (g.S.Source.faults c.args.source.now) (g.O.Sink.written c.args.out.now) (g.O.Sink.faults c.args.out.now) in
+    let b : Streams = streams (g.S.Source.left c.next.new.source) (g.S.Source.faults c.next.new.source) (g.O.Sink.written c.line.out) (g.O.Sink.faults c.line.out) in
     let now = g.S.Source.left c.line.source in
     let why : Failed c.line.reader c.next.new.self now b.left (g.S.Source.faults c.line.source) b.read_faults s = record {
       long_line = λ n is. next.long_line n (c.in_err-next.was ∙ ap (λ (e : LineFault). Err e) is);
@@ -77,8 +77,8 @@ returns-in_err-put_hash-clause-done g c =
     let own = c.next.new.self.cutter.line in
     let gave : c.next.result ≡ Ok true = c.in_ok-next.was ∙ ap (λ (b : Bool). Ok b) c.if-branch.true in
     let next = c.next.ensures.line gave in
-    let a : Streams = record { left = g.S.Source.left c.args.source.now; read_faults = g.S.Source.faults c.args.source.now; written = g.O.Sink.written c.args.out.now; write_faults = g.O.Sink.faults c.args.out.now } in
-    let b : Streams = record { left = g.S.Source.left c.next.new.source; read_faults = g.S.Source.faults c.next.new.source; written = g.O.Sink.written c.put_hash.new.out; write_faults = g.O.Sink.faults c.put_hash.new.out } in
+    let a : Streams = streams (g.S.Source.left c.args.source.now) (g.S.Source.faults c.args.source.now) (g.O.Sink.written c.args.out.now) (g.O.Sink.faults c.args.out.now) in
+    let b : Streams = streams (g.S.Source.left c.next.new.source) (g.S.Source.faults c.next.new.source) (g.O.Sink.written c.put_hash.new.out) (g.O.Sink.faults c.put_hash.new.out) in
     let given = inv.given ++ own ∷ [] in
     let read : Reads c.next.new.self a.left b.left c.args.most given (inv.taken ++ next.0) =
     reads_line c.line.reader c.next.new.self _ _ _ c.args.most inv.given inv.taken inv.read next c.next.ensures.limit c.next.ensures.most c.next.ensures.end in

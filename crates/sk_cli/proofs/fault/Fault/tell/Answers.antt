@@ -33,6 +33,18 @@ pub returns-in-Usage-clause-front : goal.returns-in-Usage-clause-front
 returns-in-Usage-clause-front g c =
     subst (λ (f : Fault). OnErr c.write_all-in-Usage.result (AppendsFront (g.E.Sink.written c.args.err.now) (g.E.Sink.written c.write_all-in-Usage.new.out) (message_of f))) (sym c.in-Usage.is) c.write_all-in-Usage.ensures.err
 
+pub returns-in-BadEvent-clause-ok : goal.returns-in-BadEvent-clause-ok
+returns-in-BadEvent-clause-ok g c =
+    subst (λ (f : Fault). OnOk c.tell_line-in-BadEvent.result (Appends (g.E.Sink.written c.args.err.now) (g.E.Sink.written c.tell_line-in-BadEvent.new.err) (message_of f))) (sym c.in-BadEvent.is) c.tell_line-in-BadEvent.ensures.ok
+
+pub returns-in-BadEvent-clause-front : goal.returns-in-BadEvent-clause-front
+returns-in-BadEvent-clause-front g c =
+    subst (λ (f : Fault). OnErr c.tell_line-in-BadEvent.result (AppendsFront (g.E.Sink.written c.args.err.now) (g.E.Sink.written c.tell_line-in-BadEvent.new.err) (message_of f))) (sym c.in-BadEvent.is) c.tell_line-in-BadEvent.ensures.front
+
+pub returns-in-OpenFault-clause-ok : goal.returns-in-OpenFault-clause-ok
+returns-in-OpenFault-clause-ok g c =
+    subst (λ (f : Fault). OnOk c.write_all-in-OpenFault.result (Appends (g.E.Sink.written c.args.err.now) (g.E.Sink.written c.write_all-in-OpenFault.new.out) (message_of f))) (sym c.in-OpenFault.is) c.write_all-in-OpenFault.ensures.ok
+
 pub returns-in-OpenFault-clause-front : goal.returns-in-OpenFault-clause-front
 returns-in-OpenFault-clause-front g c =
     subst (λ (f : Fault). OnErr c.write_all-in-OpenFault.result (AppendsFront (g.E.Sink.written c.args.err.now) (g.E.Sink.written c.write_all-in-OpenFault.new.out) (message_of f))) (sym c.in-OpenFault.is) c.write_all-in-OpenFault.ensures.err
