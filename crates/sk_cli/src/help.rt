@@ -15,6 +15,10 @@ usage:
       writes the hash of each line that is not empty, 12 digits in base 16
       --seed S     the seed of the hash, 0 to 4294967295 (0)
       --file NAME  reads this file in place of the standard input
+  sketchd replay [--file NAME]
+      plays a schedule of the sketch's concurrent protocol and writes the answer to each event; the
+      first line is `machine K B N` or `vacant K N`
+      --file NAME  reads this file in place of the standard input
   sketchd --help
   sketchd --version
 

@@ -1,4 +1,5 @@
 mod files;
+mod replays;
 
 use super::*;
 use crate::command::Command;
@@ -209,6 +210,8 @@ fn words_that_are_no_command(rt: HostRuntime) -> Result<(), Fail> {
         "count --file a --file a",
         "count --file none --k 1",
         "--help --file a",
+        "replay --seed 1",
+        "replay --file a --file b",
         "hash --k 4",
         "hash --seed",
         "count --k=4",

@@ -4,10 +4,16 @@ use sk_io::FileShelf;
 
 const QUICK: &str = "hello\nhello, world\nThe quick brown fox jumps over the lazy dog.\n";
 
-// Three files, and the calls that fail.
+// Four files, and the calls that fail.
 fn shelf_of(alloc: Global, open_fails: &[u64], read_fails: &[u64]) -> Result<MemShelf, Fail> {
     let mut files = Vec::new(alloc);
-    for (name, text) in [("quick", QUICK), ("ids", "5\n3\n"), ("--raw", "7\n")] {
+    let texts = [
+        ("quick", QUICK),
+        ("ids", "5\n3\n"),
+        ("--raw", "7\n"),
+        ("plan", "machine 2 1 1\nsplit 0\n"),
+    ];
+    for (name, text) in texts {
         let name = String::from_str(alloc, name)?;
         files.push((name, text.as_bytes().to_vec(alloc)?))?;
     }
@@ -25,7 +31,7 @@ fn run_off_input<F: Shelf>(alloc: Global, line: &str, shelf: &mut F) -> Result<R
 #[test]
 fn a_file_is_read_in_place_of_the_input(rt: HostRuntime) -> Result<(), Fail> {
     let alloc = rt.alloc();
-    let cases: [(&str, &[u8]); 6] = [
+    let cases: [(&str, &[u8]); 7] = [
         (
             "count --file quick --k 2",
             b"estimate 281474976710656/224131386917309\n",
@@ -40,6 +46,7 @@ fn a_file_is_read_in_place_of_the_input(rt: HostRuntime) -> Result<(), Fail> {
         ),
         ("count --seed 7 --file quick", b"estimate 3/1\n"),
         ("count --file --raw", b"estimate 1/1\n"),
+        ("replay --file plan", b"token 1\n"),
         (
             "hash --file quick",
             b"cbd8a7b341bd\n342fac623a5e\ncd99481f9ee9\n",
@@ -55,7 +62,7 @@ fn a_file_is_read_in_place_of_the_input(rt: HostRuntime) -> Result<(), Fail> {
 #[test]
 fn a_file_that_is_not_there(rt: HostRuntime) -> Result<(), Fail> {
     let alloc = rt.alloc();
-    for line in ["count --file none", "hash --file -", "count --file quic"] {
+    for line in ["count --file none", "hash --file -", "replay --file pla"] {
         let mut shelf = shelf_of(alloc, &[], &[])?;
         let ran = run_off_input(alloc, line, &mut shelf)?;
         expect_fault(&rt, &ran, 8, b"open fault\n");

@@ -188,7 +188,7 @@ returns-in_err-write_text-clause-done g c =
     let ends : Ends Replay c.args.most a b fault.WriteFault = (
       omega (arith, c.in_err-write_text.ensures.cause.failed, inv.write_later),
       answer_cut_short a b c.args.most c.line.state.k c.next-in-line.new.self inv.first inv.events inv.answers (machine_of c.line.state) (machine_of c.play.new.state) own (inv.taken ++ next.0) said
-      (g.O.Sink.written c.line.out) inv.played play read inv.written front,
+          (g.O.Sink.written c.line.out) inv.played play read inv.written front,
     ) in
     ends_by Replay c.args.most a b _ _ c.from_residual-in_err-write_text.ensures.1 (subst (λ (f : Fault). Ends Replay c.args.most a b f) (sym c.in_err-write_text.ensures.err) ends)
 
