@@ -1,5 +1,5 @@
 -- How `count` goes.
-use Rattle.std.proofs.Common.{◌≡◌, ℕ, ◌<◌, List, [], length, take, Option, Result, OnOk, OnErr, IfErr, inl, refl, sym, subst, arith}
+use Rattle.std.proofs.Common.{◌≡◌, ◌⊎◌, ℕ, ◌<◌, List, [], length, take, Option, Result, OnOk, OnErr, IfErr, inl, refl, sym, subst, arith}
 use Rattle.std.specs.Option.{IfSome}
 use Rattle.std.specs.Io.KnownBytes.{Appends, Consumes, IsAtEnd}
 use Rattle.std.proofs.KnownBytes.{Appends-nil}
@@ -14,16 +14,13 @@ use Rattle.sk_cli.specs.declared.fault.Fault.{Fault}
 use Rattle.sk_cli.specs.declared.fault.Fault.TheVariants as fault
 use Rattle.sk_cli.specs.declared.command.Command.TheVariants.{Count}
 use Rattle.sk_cli.specs.Count.{estimate_line}
-use Rattle.sk_cli.specs.Due.{Writes, WritesFront, IsLongLine, IsBadItem, StopsBehind}
+use Rattle.sk_cli.specs.Due.{IsDue, IsDueBefore, IsLong, IsBadItem, Writes, WritesFront}
 use Rattle.sk_cli.specs.Fault.{fault_by}
-use Rattle.sk_cli.specs.Run.{Streams, Finishes, Ends, EndsWithin, Executes}
+use Rattle.sk_cli.specs.Run.{Streams, Stops, Finishes, Ends, EndsWithin, Executes}
 use Rattle.sk_cli.proofs.Endings.{told_then, told_both, nothing_yet, none_within, ends_writing, on_ok_then, on_err_both}
 
-good_none : (kind : Kind) → AreGood kind []
-good_none kind = record { within = none_within; items = λ k d below. absurd (omega arith) }
-
 pub no_count_yet : (k : ℕ) (kind : Kind) (a b : Streams) → b.written ≡ a.written → EndsWithin (Count k kind) a b
-no_count_yet k kind a b same = nothing_yet (Count k kind) a b [] same (good_none kind, refl)
+no_count_yet k kind a b same = nothing_yet (Count k kind) a b [] same (λ text. refl)
 
 -- what was found of a text, without who took its items
 pub without_items : (left : Option (List ℕ)) (P Q : List ℕ → Type 0) → IfSome left (λ (text : List ℕ). P text × Q text) → IfSome left P
@@ -41,28 +38,22 @@ module _ (k : ℕ) (kind : Kind) (most : ℕ) (a b : Streams) (same : b.written 
   nothing : Appends a.written b.written []
   nothing = subst (λ (w : Option (List ℕ)). Appends a.written w []) (sym same) (Appends-nil a.written)
 
-  long_line : (n : ℕ) (text : List ℕ) → IsLongAt kind n (lines_of text) → IsLongLine (Count k kind) n (lines_of text) a.written b.written
-  long_line n text at = record { from = at.from; long = at.long; before = ([], (at.before, refl), nothing) }
-
-  bad_item : (n : ℕ) (text : List ℕ) → IsBadAt kind n (lines_of text) → IsBadItem (Count k kind) n (lines_of text) a.written b.written
-  bad_item n text at = record { from = at.from; to = at.to; within = at.within; bad = (at.filled, at.bad); before = ([], (at.before, refl), nothing) }
-
-  stands : (taken : List ℕ) → IsGoodSoFar kind taken → StopsBehind (Count k kind) taken a.written b.written
-  stands taken good = record { written = ([], (good.lines, refl), nothing); piece = good.piece }
+  stops : (taken : List ℕ) → Consumes a.left b.left taken → IsGoodSoFar kind taken → Stops (Count k kind) a b taken
+  stops taken consumed good = record { consumed = consumed; written = ([], (good, refl), nothing) }
 
   -- a count that ends while it reads has written nothing
   pub counting_ended : (f : ReadingFault) → Ended kind most a.left b.left a.read_faults b.read_faults f → Ends (Count k kind) most a b (fault_by f)
   counting_ended reading.OutOfMemory ended = no_count_yet k kind a b same
   counting_ended reading.ReadFault ended =
       let at = ended.read_fault_at refl in
-      (ended.read_fault refl, (at.0, record { consumed = at.1; stands = stands at.0 at.3 }, at.2))
+      (ended.read_fault refl, (at.0, stops at.0 at.1 at.3, at.2))
   counting_ended (reading.LongLine n) ended =
-      told_then a.left (λ (text : List ℕ). IsLongAt kind n (lines_of text)) (λ (text : List ℕ). IsLongLine (Count k kind) n (lines_of text) a.written b.written) (long_line n) (ended.long_line n refl)
+      told_then a.left (λ (text : List ℕ). IsLongAt kind n (lines_of text)) (λ (text : List ℕ). Writes (IsLong (Count k kind) n text) a.written b.written) (λ text at. ([], (at, refl), nothing)) (ended.long_line n refl)
   counting_ended (reading.BadItem n) ended =
-      told_then a.left (λ (text : List ℕ). IsBadAt kind n (lines_of text)) (λ (text : List ℕ). IsBadItem (Count k kind) n (lines_of text) a.written b.written) (bad_item n) (ended.bad_item n refl)
+      told_then a.left (λ (text : List ℕ). IsBadAt kind n (lines_of text)) (λ (text : List ℕ). Writes (IsBadItem (Count k kind) n text) a.written b.written) (λ text at. ([], (at, refl), nothing)) (ended.bad_item n refl)
   counting_ended reading.TooMuch ended =
       let at = ended.too_much refl in
-      (at.0, record { consumed = at.1; stands = stands at.0 at.3 }, at.2)
+      (at.0, stops at.0 at.1 at.3, at.2)
 
 -- the estimate is written once the source has ended
 pub counted : (k : ℕ) (kind : Kind) (most : ℕ) (a b : Streams) (line : List ℕ) (r : Result (Unit {0}) Fault) →
@@ -74,6 +65,6 @@ counted k kind most a b line r end good size is ok front rose only =
     let whole = told_both a.left (λ (text : List ℕ). AreGood kind (lines_of text)) (λ (text : List ℕ). line ≡ estimate_line (estimate_of k (items_by kind (lines_of text)))) good is in
     ends_writing (Count k kind) most a b r
     (on_ok_then r (Appends a.written b.written line) (Finishes (Count k kind) most a b)
-    (λ appended. record { output = told_then a.left _ (λ (text : List ℕ). Writes (Count k kind) (lines_of text) a.written b.written) (λ text due. (line, due, appended)) whole; end = end; size = size }) ok)
+    (λ appended. record { output = told_then a.left _ (λ (text : List ℕ). Writes (IsDue (Count k kind) text) a.written b.written) (λ text due. (line, due, appended)) whole; end = end; size = size }) ok)
     (on_err_both r (AppendsFront a.written b.written line) (Rose a.write_faults b.write_faults) (Ends (Count k kind) most a b fault.WriteFault)
-    (λ front rose. (rose, told_then a.left _ (λ (text : List ℕ). WritesFront (Count k kind) (lines_of text) a.written b.written) (λ text due. (line, inl due, front)) whole)) front rose) only
+    (λ front rose. (rose, told_then a.left _ (λ (text : List ℕ). WritesFront (λ d. IsDue (Count k kind) text d ⊎ IsDueBefore (Count k kind) text d) a.written b.written) (λ text due. (line, inl due, front)) whole)) front rose) only

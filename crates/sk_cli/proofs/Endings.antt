@@ -9,7 +9,7 @@ use Rattle.sk_ingest.specs.Items.{line_limit}
 use Rattle.sk_cli.specs.declared.command.Command.{Command}
 use Rattle.sk_cli.specs.declared.fault.Fault.{Fault}
 use Rattle.sk_cli.specs.declared.fault.Fault.TheVariants as fault
-use Rattle.sk_cli.specs.Due.{text_for, IsDueSoFar, WritesFront, lines_for}
+use Rattle.sk_cli.specs.Due.{text_for, IsDue, IsDueBefore, WritesFront}
 use Rattle.sk_cli.specs.Run.{Streams, Finishes, Ends, EndsWithin, Executes}
 
 -- what holds of every text holds of one that is told
@@ -53,7 +53,7 @@ pub none_within : AreWithin line_limit []
 none_within = λ k d below. absurd (omega arith)
 
 -- a command that has read nothing and written nothing
-pub nothing_yet : (command : Command) (a b : Streams) (due : List ℕ) → b.written ≡ a.written → IsDueSoFar command [] due → EndsWithin command a b
+pub nothing_yet : (command : Command) (a b : Streams) (due : List ℕ) → b.written ≡ a.written → ((text : List ℕ) → IsDueBefore command text due) → EndsWithin command a b
 nothing_yet command a b due same is =
-    all_told (text_for command a.left) (λ (text : List ℕ). WritesFront command (lines_for command text) a.written b.written)
-    (λ text. (due, inr (0, is), subst (λ (w : Option (List ℕ)). AppendsFront a.written w due) (sym same) (front_of_any a.written due)))
+    all_told (text_for command a.left) (λ (text : List ℕ). WritesFront (λ d. IsDue command text d ⊎ IsDueBefore command text d) a.written b.written)
+    (λ text. (due, inr (is text), subst (λ (w : Option (List ℕ)). AppendsFront a.written w due) (sym same) (front_of_any a.written due)))

@@ -6,8 +6,9 @@ use Rattle.sk_model.specs.Lines.{lines_of, filled, AreWithin}
 use Rattle.sk_model.proofs.Lines.{filled_append, filled_of_one, filled_of_empty}
 use Rattle.sk_cli.specs.declared.command.Command.TheVariants.{Hash}
 use Rattle.sk_cli.specs.Hash.{hex, hex_digit, hash_line, hash_text}
-use Rattle.sk_cli.specs.Due.{IsDueSoFar}
+use Rattle.sk_cli.specs.Due.{IsDueBefore}
 use Rattle.sk_cli.proofs.Endings.{none_within}
+use Rattle.sk_cli.proofs.Reading.{ByLines}
 
 pub hex_more : (width n : ℕ) → hex (width + 1) n ≡ hex width (n / 16) ++ hex_digit (n % 16) ∷ []
 unfolding hex
@@ -55,6 +56,9 @@ pub no_hash_text : (seed : ℕ) → hash_text seed [] ≡ []
 unfolding hash_text filled
 no_hash_text seed = refl
 
--- no line is due for no hash
-pub hashes_of_none : (seed : ℕ) → IsDueSoFar (Hash seed) [] (hash_text seed [])
-hashes_of_none seed = (none_within, refl)
+-- `hash` examines line by line
+pub hash_by_lines : (seed : ℕ) → ByLines (Hash seed) (λ lines due. due ≡ hash_text seed lines)
+hash_by_lines seed = record { reads_it = refl; so_far = λ taken due within is. (within, is); before = λ n text due within is. (n, within, is); long = λ n text due long is. (long, is) }
+
+pub no_hash_yet : (seed : ℕ) (text : List ℕ) → IsDueBefore (Hash seed) text (hash_text seed [])
+no_hash_yet seed text = (0, none_within, refl)

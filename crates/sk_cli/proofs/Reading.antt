@@ -1,5 +1,5 @@
 -- How a command goes that reads line by line.
-use Rattle.std.proofs.Common.{◌≡◌, inr, ℕ, ◌+◌, ◌-◌, ◌<◌, ◌≤◌, ◌^◌, Bool, true, false, if◌then◌else◌, List, [], ◌∷◌, ◌++◌, length, take, get_or, Option, Some, None, IsSome, refl, sym, ap, ◌∙◌, subst, arith, rules}
+use Rattle.std.proofs.Common.{◌≡◌, ◌⊎◌, inr, ℕ, ◌+◌, ◌-◌, ◌<◌, ◌≤◌, ◌^◌, Bool, true, false, if◌then◌else◌, List, [], ◌∷◌, ◌++◌, length, take, get_or, Option, Some, None, IsSome, refl, sym, ap, ◌∙◌, subst, arith, rules}
 use Rattle.std.proofs.lemmas.Bool.{false≢true}
 use Rattle.std.specs.Bool.{OnTrue}
 use Rattle.std.specs.Option.{IfSome}
@@ -16,9 +16,9 @@ use Rattle.sk_ingest.specs.Items.{line_limit, IsGood, complete_lines_of}
 use Rattle.sk_ingest.specs.Reading.{Reading, HasGiven, GivesNext, GivesNone, FindsLong, Stands, Stops as StopsAt, ComesLong}
 use Rattle.sk_ingest.proofs.ItemLaws.{front_is, told_by, with_rest, stood, has_begun, read_whole}
 use Rattle.sk_cli.specs.declared.command.Command.{Command}
-use Rattle.sk_cli.specs.Due.{reads, text_for, IsDueSoFar, IsDue, Writes, WritesFront, IsLongLine, StopsBehind}
+use Rattle.sk_cli.specs.Due.{reads, text_for, IsDue, IsDueSoFar, IsDueBefore, IsLongLine, IsLong, Writes, WritesFront}
 use Rattle.sk_cli.specs.Fault.{fault_by_line}
-use Rattle.sk_cli.specs.Run.{Streams, Finishes, Ends, EndsWithin}
+use Rattle.sk_cli.specs.Run.{Streams, Stops, Finishes, Ends, EndsWithin}
 
 -- how far a command has come with the lines of a source
 pub record Reads (r : Reading) (left now : Option (List ℕ)) (most : ℕ) (given : List (List ℕ)) (taken : List ℕ) : Type 0 where
@@ -70,88 +70,91 @@ text_is command left is = ap (λ (b : Bool). if b then left else Some []) is
 pub first_are : (given lines : List (List ℕ)) (n : ℕ) → n ≡ length given → Begins given lines → take n lines ≡ given
 first_are given lines n is begins = ap (λ (m : ℕ). take m lines) is ∙ front_is given lines begins
 
-module _ (command : Command) (most : ℕ) (a b : Streams) (is : reads command ≡ true) where
-  -- the first line that is too long, behind those whose text was written
-  finds_long : (n : ℕ) (given : List (List ℕ)) (due taken : List ℕ) → Consumes a.left b.left taken → n ≡ length given + 1 → IsDueSoFar command given due → Appends a.written b.written due →
-      IfSome b.left (λ (more : List ℕ). ComesLong line_limit given (lines_of (taken ++ more))) → IfSome a.left (λ (text : List ℕ). IsLongLine command n (lines_of text) a.written b.written)
-  finds_long n given due taken consumed place so_far written long =
-      told_by a.left b.left taken (λ (text : List ℕ). IsLongLine command n (lines_of text) a.written b.written) consumed
-      (with_rest b.left (λ (more : List ℕ). ComesLong line_limit given (lines_of (taken ++ more))) (λ (more : List ℕ). IsLongLine command n (lines_of (taken ++ more)) a.written b.written)
-      (λ more comes. record {
-        from = omega (arith, place);
-        long = subst (λ (m : ℕ). IsFirstLong line_limit m (lines_of (taken ++ more))) (omega (arith, place)) comes.first;
-        before = (due, subst (λ (l : List (List ℕ)). IsDueSoFar command l due) (sym (first_are given (lines_of (taken ++ more)) (n - 1) (omega (arith, place)) comes.begins)) so_far, written);
-      }) long)
+-- a command that examines line by line, with the text that is due for lines of which none is refused
+pub record ByLines (command : Command) (Due : List (List ℕ) → List ℕ → Type 0) : Type 0 where
+  pub reads_it : reads command ≡ true
+  pub so_far : (taken due : List ℕ) → AreWithin line_limit (open_lines_of taken) → Due (complete_lines_of taken) due → IsDueSoFar command taken due
+  pub before : (n : ℕ) (text due : List ℕ) → AreWithin line_limit (take n (lines_of text)) → Due (take n (lines_of text)) due → IsDueBefore command text due
+  pub long : (n : ℕ) (text due : List ℕ) → IsLongLine n (lines_of text) → Due (take (n - 1) (lines_of text)) due → IsLong command n text due
 
-  stands : (r : Reading) (given : List (List ℕ)) (due taken : List ℕ) → r.cutter.limit ≡ line_limit → AreWithin line_limit given → IsDueSoFar command given due → Appends a.written b.written due →
-      Stands r given taken → StopsBehind command taken a.written b.written
-  stands r given due taken limit within so_far written at =
+module _ (command : Command) (Due : List (List ℕ) → List ℕ → Type 0) (by : ByLines command Due) (most : ℕ) (a b : Streams) where
+  -- the first line that is too long, behind those whose text was written
+  finds_long : (n : ℕ) (given : List (List ℕ)) (due taken : List ℕ) → Consumes a.left b.left taken → n ≡ length given + 1 → Due given due → Appends a.written b.written due →
+      IfSome b.left (λ (more : List ℕ). ComesLong line_limit given (lines_of (taken ++ more))) → IfSome a.left (λ (text : List ℕ). Writes (IsLong command n text) a.written b.written)
+  finds_long n given due taken consumed place is_due written long =
+      told_by a.left b.left taken (λ (text : List ℕ). Writes (IsLong command n text) a.written b.written) consumed
+      (with_rest b.left (λ (more : List ℕ). ComesLong line_limit given (lines_of (taken ++ more))) (λ (more : List ℕ). Writes (IsLong command n (taken ++ more)) a.written b.written)
+      (λ more comes.
+      let from : 1 ≤ n = omega (arith, place) in
+      let first : IsFirstLong line_limit (n - 1) (lines_of (taken ++ more)) = subst (λ (m : ℕ). IsFirstLong line_limit m (lines_of (taken ++ more))) (omega (arith, place)) comes.first in
+      let so_far : Due (take (n - 1) (lines_of (taken ++ more))) due =
+      subst (λ (l : List (List ℕ)). Due l due) (sym (first_are given (lines_of (taken ++ more)) (n - 1) (omega (arith, place)) comes.begins)) is_due in
+      (due, by.long n (taken ++ more) due (from, first) so_far, written)) long)
+
+  stops : (r : Reading) (given : List (List ℕ)) (due taken : List ℕ) → r.cutter.limit ≡ line_limit → Consumes a.left b.left taken → Due given due → Appends a.written b.written due →
+      Stands r given taken → Stops command a b taken
+  stops r given due taken limit consumed is_due written at =
       let good = stood (kind.Hash 0) r given taken limit (λ k d below some. is_some_of (hash_of 0 (get_or given k d))) at in
-      record { written = (due, subst (λ (l : List (List ℕ)). IsDueSoFar command l due) (sym good.1) so_far, written); piece = good.0.piece }
+      record { consumed = consumed; written = (due, by.so_far taken due good.0.piece (subst (λ (l : List (List ℕ)). Due l due) (sym good.1) is_due), written) }
 
   -- a text that is told, where the command reads it
   of_text : (P : List ℕ → Type 0) → IfSome a.left P → IfSome (text_for command a.left) P
-  of_text P holds = subst (λ (told : Option (List ℕ)). IfSome told P) (sym (text_is command a.left is)) holds
+  of_text P holds = subst (λ (told : Option (List ℕ)). IfSome told P) (sym (text_is command a.left by.reads_it)) holds
 
   -- a command whose lines end early
   pub failed : (r s : Reading) (now : Option (List ℕ)) (given : List (List ℕ)) (due taken : List ℕ) (before : ℕ) → Reads r a.left now most given taken → a.read_faults ≤ before →
-      IsDueSoFar command given due → Appends a.written b.written due → (f : LineFault) → Failed r s now b.left before b.read_faults f → Ends command most a b (fault_by_line f)
-  failed r s now given due taken before read later so_far written (stop.LongLine n) why =
+      Due given due → Appends a.written b.written due → (f : LineFault) → Failed r s now b.left before b.read_faults f → Ends command most a b (fault_by_line f)
+  failed r s now given due taken before read later is_due written (stop.LongLine n) why =
       let found = why.long_line n refl in
       let long = found.2 given taken read.has in
-      of_text (λ (text : List ℕ). IsLongLine command n (lines_of text) a.written b.written)
-      (finds_long n given due (taken ++ found.0) (Consumes-trans a.left now b.left taken found.0 read.consumed found.1) long.0 so_far written
+      of_text (λ (text : List ℕ). Writes (IsLong command n text) a.written b.written)
+      (finds_long n given due (taken ++ found.0) (Consumes-trans a.left now b.left taken found.0 read.consumed found.1) long.0 is_due written
       (subst (λ (m : ℕ). IfSome b.left (λ (more : List ℕ). ComesLong m given (lines_of ((taken ++ found.0) ++ more)))) read.limit long.1))
-  failed r s now given due taken before read later so_far written stop.ReadFault why =
+  failed r s now given due taken before read later is_due written stop.ReadFault why =
       let found = why.read_fault_at refl in
       let at = found.2 given taken read.has in (
         omega (arith, why.read_fault refl, later),
         (
           taken ++ found.0,
-          record {
-            consumed = Consumes-trans a.left now b.left taken found.0 read.consumed found.1;
-            stands = stands s given due (taken ++ found.0) (why.limit ∙ read.limit) (within_given r a.left now most given taken read) so_far written at;
-          },
+          stops s given due (taken ++ found.0) (why.limit ∙ read.limit) (Consumes-trans a.left now b.left taken found.0 read.consumed found.1) is_due written at,
           omega (arith, at.follows.count, found.3, why.most, read.most_is),
         ),
       )
-  failed r s now given due taken before read later so_far written stop.TooMuch why =
+  failed r s now given due taken before read later is_due written stop.TooMuch why =
       let found = why.too_much refl in
       let at = found.2 given taken read.has in (
         taken ++ found.0,
-        record {
-          consumed = Consumes-trans a.left now b.left taken found.0 read.consumed found.1;
-          stands = stands s given due (taken ++ found.0) (why.limit ∙ read.limit) (within_given r a.left now most given taken read) so_far written at;
-        },
+        stops s given due (taken ++ found.0) (why.limit ∙ read.limit) (Consumes-trans a.left now b.left taken found.0 read.consumed found.1) is_due written at,
         at.follows.count ∙ found.3 ∙ why.most ∙ read.most_is,
       )
 
   -- a write that ends early
-  pub cut_short : (r : Reading) (given : List (List ℕ)) (due taken : List ℕ) → Reads r a.left b.left most given taken → IsDueSoFar command given due → AppendsFront a.written b.written due →
-      EndsWithin command a b
-  cut_short r given due taken read so_far front =
-      of_text (λ (text : List ℕ). WritesFront command (lines_of text) a.written b.written)
-      (told_by a.left b.left taken (λ (text : List ℕ). WritesFront command (lines_of text) a.written b.written) read.consumed
-      (with_rest b.left (λ (rest : List ℕ). Begins given (lines_of (taken ++ rest))) (λ (rest : List ℕ). WritesFront command (lines_of (taken ++ rest)) a.written b.written)
-      (λ rest begins. (
+  pub cut_short : (r : Reading) (given : List (List ℕ)) (due taken : List ℕ) → Reads r a.left b.left most given taken → Due given due → AppendsFront a.written b.written due → EndsWithin command a b
+  cut_short r given due taken read is_due front =
+      let Front : List ℕ → Type 0 = λ text. WritesFront (λ d. IsDue command text d ⊎ IsDueBefore command text d) a.written b.written in
+      of_text Front
+      (told_by a.left b.left taken Front read.consumed
+      (with_rest b.left (λ (rest : List ℕ). Begins given (lines_of (taken ++ rest))) (λ (rest : List ℕ). Front (taken ++ rest))
+      (λ rest begins.
+      let first : take (length given) (lines_of (taken ++ rest)) ≡ given = first_are given (lines_of (taken ++ rest)) (length given) refl begins in (
         due,
-        inr (length given, subst (λ (l : List (List ℕ)). IsDueSoFar command l due) (sym (first_are given (lines_of (taken ++ rest)) (length given) refl begins)) so_far),
+        inr (by.before (length given) (taken ++ rest) due (subst (AreWithin line_limit) (sym first) (within_given r a.left b.left most given taken read)) (subst (λ (l : List (List ℕ)). Due l due) (sym first) is_due)),
         front,
       )) (has_begun r given taken b.left read.has read.end)))
 
   -- the source has ended
   pub read_to_end : (r s : Reading) (now : Option (List ℕ)) (given : List (List ℕ)) (due taken : List ℕ) → Reads r a.left now most given taken →
       (more : List ℕ) × Consumes now b.left more × GivesNone r s more → s.ended ≡ true → s.most ≡ r.most → ((r.ended ≡ true → IsAtEnd now) → s.ended ≡ true → IsAtEnd b.left) →
-      IsDue command given due → Appends a.written b.written due → Finishes command most a b
+      ((text : List ℕ) → lines_of text ≡ given → IsDue command text due) → Appends a.written b.written due → Finishes command most a b
   read_to_end r s now given due taken read none ended most_is end is_due written =
       let all = none.2 given taken read.has in
       let whole = Consumes-trans a.left now b.left taken none.0 read.consumed none.1 in
       let at_end = end read.end ended in
       let few : length (taken ++ none.0) < most = omega (arith, all.1.count, all.1.size ended, most_is, read.most_is) in
       record {
-        output = of_text (λ (text : List ℕ). Writes command (lines_of text) a.written b.written)
-            (read_whole a.left b.left (taken ++ none.0) (λ (text : List ℕ). Writes command (lines_of text) a.written b.written) whole at_end
-            (due, subst (λ (l : List (List ℕ)). IsDue command l due) (sym all.0) is_due, written));
+        output = of_text (λ (text : List ℕ). Writes (IsDue command text) a.written b.written)
+            (read_whole a.left b.left (taken ++ none.0) (λ (text : List ℕ). Writes (IsDue command text) a.written b.written) whole at_end
+            (due, is_due (taken ++ none.0) all.0, written));
         end = on_true (reads command) (IsAtEnd b.left) at_end;
         size = on_true (reads command) (IfSome a.left (λ (text : List ℕ). length text < most)) (read_whole a.left b.left (taken ++ none.0) (λ (text : List ℕ). length text < most) whole at_end few);
       }

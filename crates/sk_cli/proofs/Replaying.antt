@@ -20,11 +20,11 @@ use Rattle.sk_ingest.specs.Reading.{Reading, GivesNone}
 use Rattle.sk_ingest.proofs.ItemLaws.{told_by, with_rest, has_begun, read_whole}
 use Rattle.sk_cli.specs.declared.command.Command.TheVariants.{Replay}
 use Rattle.sk_cli.specs.Replay.{start_of, IsPlay, Played, answer_line, answers_text, IsAnswered, IsNoMore}
-use Rattle.sk_cli.specs.Due.{IsDueSoFar, IsBadEvent}
-use Rattle.sk_cli.specs.Run.{Streams, EndsWithin}
+use Rattle.sk_cli.specs.Due.{IsDueBefore, IsBadLine, IsBadEvent, Writes}
+use Rattle.sk_cli.specs.Run.{Streams, Refuses, EndsWithin}
 use Rattle.sk_cli.proofs.Endings.{none_within}
 use Rattle.sk_cli.proofs.Fronts.{front_behind}
-use Rattle.sk_cli.proofs.Reading.{Reads, within_given, first_are, cut_short}
+use Rattle.sk_cli.proofs.Reading.{ByLines, Reads, within_given, first_are, cut_short}
 
 pub answers_more : (answers : List Answer) (a : Answer) → answers_text (answers ++ a ∷ []) ≡ answers_text answers ++ answer_line a
 unfolding answers_text
@@ -61,13 +61,15 @@ played_more k first lines answers from line a to played play = record {
 }
 
 -- what is due for the lines of a schedule that were played
-pub due_played : (k : ℕ) (first : List ℕ) (lines : List (List ℕ)) (answers : List Answer) (reached : Fine) → Played k first lines answers reached → AreWithin line_limit (first ∷ lines) →
-    IsDueSoFar Replay (first ∷ lines) (answers_text answers)
-due_played k first lines answers reached played within = (within, (k, answers, reached, played, refl))
+pub answered : (k : ℕ) (first : List ℕ) (lines : List (List ℕ)) (answers : List Answer) (reached : Fine) → Played k first lines answers reached → IsAnswered (first ∷ lines) (answers_text answers)
+answered k first lines answers reached played = (k, answers, reached, played, refl)
 
--- what is due for no line
-pub due_none : IsDueSoFar Replay [] []
-due_none = (none_within, refl)
+-- `replay` examines line by line
+pub replay_by_lines : ByLines Replay IsAnswered
+replay_by_lines = record { reads_it = refl; so_far = λ taken due within is. (within, is); before = λ n text due within is. (n, within, is); long = λ n text due long is. (long, is) }
+
+pub no_answer_yet : (text : List ℕ) → IsDueBefore Replay text []
+no_answer_yet text = (0, none_within, refl)
 
 -- ---- refusals
 
@@ -75,29 +77,32 @@ at_length : (xs : List (List ℕ)) (y : List ℕ) (zs : List (List ℕ)) → get
 at_length [] y zs = refl
 at_length (x ∷ xs) y zs = at_length xs y zs
 
-bad_line : (n : ℕ) (given : List (List ℕ)) (line : List ℕ) (lines : List (List ℕ)) (due : List ℕ) (old new : Option (List ℕ)) → n ≡ length given + 1 → AreWithin line_limit (given ++ line ∷ []) →
-    IsDueSoFar Replay given due → Appends old new due → IsNoMore given line → Begins (given ++ line ∷ []) lines → IsBadEvent Replay n lines old new
-bad_line n given line lines due old new is within so_far written bad begins =
+bad_line : (n : ℕ) (given : List (List ℕ)) (line : List ℕ) (lines : List (List ℕ)) → n ≡ length given + 1 → AreWithin line_limit (given ++ line ∷ []) → IsNoMore given line →
+    Begins (given ++ line ∷ []) lines → IsBadLine n lines × (take (n - 1) lines ≡ given)
+bad_line n given line lines is within bad begins =
     let place : n - 1 ≡ length given = omega arith in
     let behind : lines ≡ given ++ line ∷ begins.0 = begins.1 ∙ append_assoc given (line ∷ []) begins.0 in
     let front : take (n - 1) lines ≡ given = first_are given lines (n - 1) place (line ∷ begins.0, behind) in
-    let here : get_or lines (n - 1) [] ≡ line = ap (λ (m : ℕ). get_or lines m []) place ∙ ap (λ (l : List (List ℕ)). get_or l (length given) []) behind ∙ at_length given line begins.0 in
-    let short : length line ≤ line_limit = subst (λ (l : List ℕ). length l ≤ line_limit) (at_length given line []) (within (length given) [] (omega (arith, length-append given (line ∷ [])))) in
-    record {
-      from = omega arith;
-      to = omega (arith, ap length behind, length-append given (line ∷ begins.0));
-      within = subst (λ (l : List ℕ). length l ≤ line_limit) (sym here) short;
-      bad = subst (λ (l : List (List ℕ)). IsNoMore l (get_or lines (n - 1) [])) (sym front) (subst (λ (l : List ℕ). IsNoMore given l) (sym here) bad);
-      before = (due, subst (λ (l : List (List ℕ)). IsDueSoFar Replay l due) (sym front) so_far, written);
-    }
+    let up_to : take n lines ≡ given ++ line ∷ [] = first_are (given ++ line ∷ []) lines n (omega (arith, length-append given (line ∷ []))) begins in
+    let here : get_or lines (n - 1) [] ≡ line = ap (λ (m : ℕ). get_or lines m []) place ∙ ap (λ (l : List (List ℕ)). get_or l (length given) []) behind ∙ at_length given line begins.0 in (
+      record {
+        from = omega arith;
+        to = omega (arith, ap length behind, length-append given (line ∷ begins.0));
+        within = subst (AreWithin line_limit) (sym up_to) within;
+        bad = subst (λ (l : List (List ℕ)). IsNoMore l (get_or lines (n - 1) [])) (sym front) (subst (λ (l : List ℕ). IsNoMore given l) (sym here) bad);
+      },
+      front,
+    )
 
 -- a line that is refused, behind those that were played
 pub refuses : (a b : Streams) (most n : ℕ) (r : Reading) (given : List (List ℕ)) (line due taken : List ℕ) → Reads r a.left b.left most (given ++ line ∷ []) taken → n ≡ length given + 1 →
-    IsDueSoFar Replay given due → Appends a.written b.written due → IsNoMore given line → IfSome a.left (λ (text : List ℕ). IsBadEvent Replay n (lines_of text) a.written b.written)
+    IsAnswered given due → Appends a.written b.written due → IsNoMore given line → Refuses Replay (IsBadEvent Replay n) a b
 refuses a b most n r given line due taken read is so_far written bad =
-    told_by a.left b.left taken (λ (text : List ℕ). IsBadEvent Replay n (lines_of text) a.written b.written) read.consumed
-    (with_rest b.left (λ (rest : List ℕ). Begins (given ++ line ∷ []) (lines_of (taken ++ rest))) (λ (rest : List ℕ). IsBadEvent Replay n (lines_of (taken ++ rest)) a.written b.written)
-    (λ rest begins. bad_line n given line (lines_of (taken ++ rest)) due a.written b.written is (within_given r a.left b.left most (given ++ line ∷ []) taken read) so_far written bad begins)
+    told_by a.left b.left taken (λ (text : List ℕ). Writes (IsBadEvent Replay n text) a.written b.written) read.consumed
+    (with_rest b.left (λ (rest : List ℕ). Begins (given ++ line ∷ []) (lines_of (taken ++ rest))) (λ (rest : List ℕ). Writes (IsBadEvent Replay n (taken ++ rest)) a.written b.written)
+    (λ rest begins.
+    let found = bad_line n given line (lines_of (taken ++ rest)) is (within_given r a.left b.left most (given ++ line ∷ []) taken read) bad begins in
+    (due, (found.0, subst (λ (l : List (List ℕ)). IsAnswered l due) (sym found.1) so_far), written))
     (has_begun r (given ++ line ∷ []) taken b.left read.has read.end))
 
 no_first_line : start_of [] ≡ None
@@ -106,24 +111,20 @@ no_first_line = refl
 
 -- a text of no line
 pub refuses_nothing : (a b : Streams) (most : ℕ) (r s : Reading) (now : Option (List ℕ)) → Reads r a.left now most [] [] → (more : List ℕ) × Consumes now b.left more × GivesNone r s more → s.ended ≡ true →
-    ((r.ended ≡ true → IsAtEnd now) → s.ended ≡ true → IsAtEnd b.left) → b.written ≡ a.written → IfSome a.left (λ (text : List ℕ). IsBadEvent Replay 1 (lines_of text) a.written b.written)
+    ((r.ended ≡ true → IsAtEnd now) → s.ended ≡ true → IsAtEnd b.left) → b.written ≡ a.written → Refuses Replay (IsBadEvent Replay 1) a b
 refuses_nothing a b most r s now read none ended end same =
     let all = none.2 [] [] read.has in
-    read_whole a.left b.left none.0 (λ (text : List ℕ). IsBadEvent Replay 1 (lines_of text) a.written b.written) (Consumes-trans a.left now b.left [] none.0 read.consumed none.1) (end read.end ended)
-    (subst (λ (lines : List (List ℕ)). IsBadEvent Replay 1 lines a.written b.written) (sym all.0) (record {
-      from = omega arith;
-      to = omega arith;
-      within = omega arith;
-      bad = no_first_line;
-      before = ([], due_none, subst (λ (w : Option (List ℕ)). Appends a.written w []) (sym same) (Appends-nil a.written));
-    }))
+    let bad : IsBadLine 1 [] = record { from = omega arith; to = omega arith; within = none_within; bad = no_first_line } in
+    let nothing : Appends a.written b.written [] = subst (λ (w : Option (List ℕ)). Appends a.written w []) (sym same) (Appends-nil a.written) in
+    read_whole a.left b.left none.0 (λ (text : List ℕ). Writes (IsBadEvent Replay 1 text) a.written b.written) (Consumes-trans a.left now b.left [] none.0 read.consumed none.1) (end read.end ended)
+    ([], subst (λ (lines : List (List ℕ)). IsBadLine 1 lines × IsAnswered (take 0 lines) []) (sym all.0) (bad, refl), nothing)
 
 -- a line that was played, and whose answer was not written whole
 pub answer_cut_short : (a b : Streams) (most k : ℕ) (r : Reading) (first : List ℕ) (lines : List (List ℕ)) (answers : List Answer) (from to : Fine) (line taken : List ℕ) (said : Answer) (mid : Option (List ℕ)) →
     Played k first lines answers from → IsPlay line k from said to → Reads r a.left b.left most (first ∷ (lines ++ line ∷ [])) taken → Appends a.written mid (answers_text answers) →
     AppendsFront mid b.written (answer_line said) → EndsWithin Replay a b
 answer_cut_short a b most k r first lines answers from to line taken said mid played play read written front =
-    cut_short Replay most a b refl r (first ∷ (lines ++ line ∷ [])) (answers_text (answers ++ said ∷ [])) taken read
-    (due_played k first (lines ++ line ∷ []) (answers ++ said ∷ []) to (played_more k first lines answers from line said to played play) (within_given r a.left b.left most (first ∷ (lines ++ line ∷ [])) taken read))
+    cut_short Replay IsAnswered replay_by_lines most a b r (first ∷ (lines ++ line ∷ [])) (answers_text (answers ++ said ∷ [])) taken read
+    (answered k first (lines ++ line ∷ []) (answers ++ said ∷ []) to (played_more k first lines answers from line said to played play))
     (subst (λ (l : List ℕ). AppendsFront a.written b.written l) (sym (answers_more answers said))
     (front_behind a.written mid b.written (answers_text answers) (answer_line said) written front))

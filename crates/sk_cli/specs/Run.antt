@@ -1,12 +1,12 @@
 -- How a run goes: what it reads and writes, and why it ends.
-use Rattle.std.specs.Prelude.{◌≡◌, ℕ, ◌<◌, List, length, Option, None, Some, IfSome, Result, MatchResult}
+use Rattle.std.specs.Prelude.{◌≡◌, ◌⊎◌, ℕ, ◌<◌, List, length, Option, None, Some, IfSome, Result, MatchResult}
 use Rattle.std.specs.Bool.{OnTrue}
 use Rattle.std.specs.Io.KnownBytes.{Appends, Consumes, IsAtEnd, Keeps}
 use Rattle.sk_model.specs.Causes.{Rose, AppendsFront}
 use Rattle.sk_io.specs.Files.{told_file}
 use Rattle.sk_cli.specs.Options.{Word}
 use Rattle.sk_cli.specs.Command.{Asked}
-use Rattle.sk_cli.specs.Due.{reads, text_for, lines_for, Writes, WritesFront, IsLongLine, IsBadItem, IsBadEvent, StopsBehind}
+use Rattle.sk_cli.specs.Due.{reads, text_for, IsDue, IsDueSoFar, IsDueBefore, IsLong, IsBadItem, IsBadEvent, Writes, WritesFront}
 use Rattle.sk_cli.specs.declared.command.Command.{Command}
 use Rattle.sk_cli.specs.declared.fault.Fault.{Fault}
 use Rattle.sk_cli.specs.declared.fault.Fault.TheVariants.{OutOfMemory, Usage, ReadFault, WriteFault, LongLine, BadItem, BadEvent, OpenFault, TooMuch}
@@ -24,20 +24,24 @@ streams left read_faults written write_faults = record { left = left; read_fault
 
 -- ---- one command over a source and a sink
 
--- the source was read to its end, none of its lines is refused, and the whole text was written
+-- the source was read to its end, none of its lines is refused, and the whole text that is due was written
 pub record Finishes (command : Command) (most : ℕ) (old new : Streams) : Type 0 where
-  pub output : IfSome (text_for command old.left) (λ text. Writes command (lines_for command text) old.written new.written)
+  pub output : IfSome (text_for command old.left) (λ text. Writes (IsDue command text) old.written new.written)
   pub end : OnTrue (reads command) (IsAtEnd new.left)
   pub size : OnTrue (reads command) (IfSome old.left (λ text. length text < most))
 
--- a part of a text that is due was written, from its front
-abbrev pub EndsWithin : Command → Streams → Streams → Type 0
-EndsWithin command old new = IfSome (text_for command old.left) (λ text. WritesFront command (lines_for command text) old.written new.written)
-
--- these bytes were taken, and no line of theirs is refused
+-- these bytes were taken, none of their lines is refused, and what is due for those that have ended was written
 pub record Stops (command : Command) (old new : Streams) (taken : List ℕ) : Type 0 where
   pub consumed : Consumes old.left new.left taken
-  pub stands : StopsBehind command taken old.written new.written
+  pub written : Writes (IsDueSoFar command taken) old.written new.written
+
+-- a front was written of a text that is due for all that is read, or for its first lines
+abbrev pub EndsWithin : Command → Streams → Streams → Type 0
+EndsWithin command old new = IfSome (text_for command old.left) (λ text. WritesFront (λ due. IsDue command text due ⊎ IsDueBefore command text due) old.written new.written)
+
+-- a line is refused, and what is due for the lines before it was written
+abbrev pub Refuses : Command → (List ℕ → List ℕ → Type 0) → Streams → Streams → Type 0
+Refuses command IsRefused old new = IfSome (text_for command old.left) (λ text. Writes (IsRefused text) old.written new.written)
 
 -- where a command may end by a fault
 abbrev pub Ends : Command → ℕ → Streams → Streams → Fault → Type 0
@@ -45,9 +49,9 @@ Ends command most old new OutOfMemory = EndsWithin command old new
 Ends command most old new Usage = ⊥
 Ends command most old new ReadFault = Rose old.read_faults new.read_faults × ((taken : List ℕ) × Stops command old new taken × (length taken < most))
 Ends command most old new WriteFault = Rose old.write_faults new.write_faults × EndsWithin command old new
-Ends command most old new (LongLine n) = IfSome (text_for command old.left) (λ text. IsLongLine command n (lines_for command text) old.written new.written)
-Ends command most old new (BadItem n) = IfSome (text_for command old.left) (λ text. IsBadItem command n (lines_for command text) old.written new.written)
-Ends command most old new (BadEvent n) = IfSome (text_for command old.left) (λ text. IsBadEvent command n (lines_for command text) old.written new.written)
+Ends command most old new (LongLine n) = Refuses command (IsLong command n) old new
+Ends command most old new (BadItem n) = Refuses command (IsBadItem command n) old new
+Ends command most old new (BadEvent n) = Refuses command (IsBadEvent command n) old new
 Ends command most old new OpenFault = ⊥
 Ends command most old new TooMuch = (taken : List ℕ) × Stops command old new taken × (length taken ≡ most)
 

@@ -11,14 +11,14 @@ use Rattle.sk_cli.specs.declared.fault.Fault.TheVariants as fault
 use Rattle.sk_cli.specs.declared.command.Command.TheVariants.{Hash}
 use Rattle.sk_cli.proofs.Endings.{ends_by, nothing_yet}
 use Rattle.sk_cli.proofs.Fronts.{front_behind}
-use Rattle.sk_cli.proofs.Hashing.{no_hash_text, hash_text_append, hashes_of_none}
+use Rattle.sk_cli.proofs.Hashing.{no_hash_text, hash_text_append, hash_by_lines, no_hash_yet}
 use Rattle.sk_cli.proofs.Reading.{Reads, Failed, reads_none, reads_line, within_given, failed, cut_short, read_to_end}
 use Rattle.sk_cli.proofs.hash.hash.Goals as goal
 
 pub returns-in_err-reader-clause-done : goal.returns-in_err-reader-clause-done
 returns-in_err-reader-clause-done g c =
     let a : Streams = streams (g.S.Source.left c.args.source.now) (g.S.Source.faults c.args.source.now) (g.O.Sink.written c.args.out.now) (g.O.Sink.faults c.args.out.now) in
-    ends_by (Hash c.args.seed) c.args.most a a _ fault.OutOfMemory c.from_residual.ensures.1 (nothing_yet (Hash c.args.seed) a a (hash_text c.args.seed []) refl (hashes_of_none c.args.seed))
+    ends_by (Hash c.args.seed) c.args.most a a _ fault.OutOfMemory c.from_residual.ensures.1 (nothing_yet (Hash c.args.seed) a a (hash_text c.args.seed []) refl (no_hash_yet c.args.seed))
 
 pub line-init : goal.line-init
 line-init g c = record {
@@ -67,8 +67,8 @@ returns-in_err-next-clause-done g c =
       most = next.most;
     } in
     ends_by (Hash seed) c.args.most a b _ (fault_by_line s) c.from_residual-in_err-next.ensures.1
-    (failed (Hash seed) c.args.most a b refl c.line.reader c.next.new.self now inv.given (hash_text seed inv.given) inv.taken (g.S.Source.faults c.line.source) inv.read inv.read_later
-    (within_given _ _ _ _ _ _ inv.read, refl) inv.written s why)
+    (failed (Hash seed) _ (hash_by_lines seed) c.args.most a b c.line.reader c.next.new.self now inv.given (hash_text seed inv.given) inv.taken (g.S.Source.faults c.line.source) inv.read inv.read_later
+    refl inv.written s why)
 
 pub returns-in_err-put_hash-clause-done : goal.returns-in_err-put_hash-clause-done
 returns-in_err-put_hash-clause-done g c =
@@ -87,6 +87,6 @@ returns-in_err-put_hash-clause-done g c =
     subst (λ (l : List ℕ). AppendsFront a.written b.written l) (sym (hash_text_append seed inv.given (own ∷ []))) (front_behind a.written _ b.written (hash_text seed inv.given) (hash_text seed (own ∷ [])) inv.written front) in
     let ends : Ends (Hash seed) c.args.most a b fault.WriteFault = (
       omega (arith, c.in_err-put_hash.ensures.cause.failed, inv.write_later),
-      cut_short (Hash seed) c.args.most a b refl c.next.new.self given (hash_text seed given) (inv.taken ++ next.0) read (within_given _ _ _ _ _ _ read, refl) both,
+      cut_short (Hash seed) _ (hash_by_lines seed) c.args.most a b c.next.new.self given (hash_text seed given) (inv.taken ++ next.0) read refl both,
     ) in
     ends_by (Hash seed) c.args.most a b _ _ c.from_residual-in_err-put_hash.ensures.1 (subst (λ (f : Fault). Ends (Hash seed) c.args.most a b f) (sym c.in_err-put_hash.ensures.err) ends)

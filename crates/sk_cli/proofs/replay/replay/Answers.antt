@@ -7,7 +7,10 @@ use Rattle.sk_core.specs.Stored.{Stored, machine_of}
 use Rattle.sk_core.specs.declared.event.Answer.{Answer}
 use Rattle.sk_ingest.specs.declared.reader.LineFault.{LineFault}
 use Rattle.sk_ingest.proofs.ItemLaws.{has_few}
-use Rattle.sk_cli.specs.Replay.{start_of, Played, IsPlay, IsNoPlay, answers_text, answer_line}
+use Rattle.sk_cli.specs.Replay.{start_of, Played, IsPlay, IsNoPlay, IsAnswered, answers_text, answer_line}
+use Rattle.sk_model.specs.Lines.{lines_of, AreWithin}
+use Rattle.sk_ingest.specs.Items.{line_limit}
+use Rattle.sk_cli.specs.Due.{IsDue}
 use Rattle.sk_cli.specs.Starting.{started, MeetsThere}
 use Rattle.sk_cli.specs.Run.{Streams, streams, Ends}
 use Rattle.sk_cli.specs.Fault.{fault_by_line}
@@ -16,13 +19,13 @@ use Rattle.sk_cli.specs.declared.fault.Fault.TheVariants as fault
 use Rattle.sk_cli.specs.declared.command.Command.TheVariants.{Replay}
 use Rattle.sk_cli.proofs.Endings.{ends_by, nothing_yet, front_of_any}
 use Rattle.sk_cli.proofs.Reading.{Reads, Failed, reads_none, reads_line, within_given, failed, read_to_end}
-use Rattle.sk_cli.proofs.Replaying.{answers_more, no_answers, played_none, played_more, due_played, due_none, refuses, refuses_nothing, answer_cut_short}
+use Rattle.sk_cli.proofs.Replaying.{answers_more, no_answers, played_none, played_more, answered, replay_by_lines, no_answer_yet, refuses, refuses_nothing, answer_cut_short}
 use Rattle.sk_cli.proofs.replay.replay.Goals as goal
 
 pub returns-in_err-reader-clause-done : goal.returns-in_err-reader-clause-done
 returns-in_err-reader-clause-done g c =
     let a : Streams = streams (g.S.Source.left c.args.source.now) (g.S.Source.faults c.args.source.now) (g.O.Sink.written c.args.out.now) (g.O.Sink.faults c.args.out.now) in
-    ends_by Replay c.args.most a a _ fault.OutOfMemory c.from_residual.ensures.1 (nothing_yet Replay a a [] refl due_none)
+    ends_by Replay c.args.most a a _ fault.OutOfMemory c.from_residual.ensures.1 (nothing_yet Replay a a [] refl no_answer_yet)
 
 pub returns-in_err-next-clause-done : goal.returns-in_err-next-clause-done
 returns-in_err-next-clause-done g c =
@@ -40,7 +43,7 @@ returns-in_err-next-clause-done g c =
       most = next.most;
     } in
     ends_by Replay c.args.most a b _ (fault_by_line s) c.from_residual-in_err-next.ensures.1
-    (failed Replay c.args.most a b refl c.in_ok-reader.reader c.next.new.self now [] [] [] a.read_faults (reads_none c.in_ok-reader.reader a.left c.args.most c.in_ok-reader.ensures.given c.in_ok-reader.ensures.limit c.in_ok-reader.ensures.most c.in_ok-reader.ensures.open) (omega arith) due_none (Appends-nil a.written) s why)
+    (failed Replay IsAnswered replay_by_lines c.args.most a b c.in_ok-reader.reader c.next.new.self now [] [] [] a.read_faults (reads_none c.in_ok-reader.reader a.left c.args.most c.in_ok-reader.ensures.given c.in_ok-reader.ensures.limit c.in_ok-reader.ensures.most c.in_ok-reader.ensures.open) (omega arith) refl (Appends-nil a.written) s why)
 
 pub returns-then-not-branch-clause-done : goal.returns-then-not-branch-clause-done
 returns-then-not-branch-clause-done g c =
@@ -53,7 +56,7 @@ pub returns-in_err-state-clause-done : goal.returns-in_err-state-clause-done
 returns-in_err-state-clause-done g c =
     let a : Streams = streams (g.S.Source.left c.args.source.now) (g.S.Source.faults c.args.source.now) (g.O.Sink.written c.args.out.now) (g.O.Sink.faults c.args.out.now) in
     let b : Streams = streams (g.S.Source.left c.next.new.source) (g.S.Source.faults c.next.new.source) (g.O.Sink.written c.args.out.now) (g.O.Sink.faults c.args.out.now) in
-    ends_by Replay c.args.most a b _ fault.OutOfMemory c.from_residual-in_err-state.ensures.1 (nothing_yet Replay a b [] refl due_none)
+    ends_by Replay c.args.most a b _ fault.OutOfMemory c.from_residual-in_err-state.ensures.1 (nothing_yet Replay a b [] refl no_answer_yet)
 
 pub returns-in_default-clause-done : goal.returns-in_default-clause-done
 returns-in_default-clause-done g c =
@@ -64,7 +67,7 @@ returns-in_default-clause-done g c =
     let next = c.next.ensures.line gave in
     let read = reads_line c.in_ok-reader.reader c.next.new.self a.left a.left (g.S.Source.left c.next.new.source) c.args.most [] [] (reads_none c.in_ok-reader.reader a.left c.args.most c.in_ok-reader.ensures.given c.in_ok-reader.ensures.limit c.in_ok-reader.ensures.most c.in_ok-reader.ensures.open) next c.next.ensures.limit c.next.ensures.most c.next.ensures.end in
     let none : start_of own ≡ None = ap start_of (sym c.line-2.ensures) ∙ sym c.in_ok-state.ensures.value ∙ ap (option_map started) c.in_default.is in
-    refuses a b c.args.most 1 c.next.new.self [] own [] ([] ++ next.0) read (omega arith) due_none (Appends-nil a.written) none
+    refuses a b c.args.most 1 c.next.new.self [] own [] ([] ++ next.0) read (omega arith) refl (Appends-nil a.written) none
 
 pub line-init : goal.line-init
 line-init g c =
@@ -105,8 +108,8 @@ returns-in_err-next-2-clause-done g c =
       most = next.most;
     } in
     ends_by Replay c.args.most a b _ (fault_by_line s) c.from_residual-in_err-next-2.ensures.1
-    (failed Replay c.args.most a b refl c.line.reader c.next-in-line.new.self now (inv.first ∷ inv.events) (answers_text inv.answers) inv.taken (g.S.Source.faults c.line.source) inv.read inv.read_later
-    (due_played c.line.state.k inv.first inv.events inv.answers (machine_of c.line.state) inv.played (within_given _ _ _ _ _ _ inv.read)) inv.written s why)
+    (failed Replay IsAnswered replay_by_lines c.args.most a b c.line.reader c.next-in-line.new.self now (inv.first ∷ inv.events) (answers_text inv.answers) inv.taken (g.S.Source.faults c.line.source) inv.read inv.read_later
+    (answered c.line.state.k inv.first inv.events inv.answers (machine_of c.line.state) inv.played) inv.written s why)
 
 pub returns-in_default-play-clause-done : goal.returns-in_default-play-clause-done
 returns-in_default-play-clause-done g c =
@@ -123,7 +126,7 @@ returns-in_default-play-clause-done g c =
     let place : c.number.result ≡ length lines + 1 =
     omega (arith, c.number.ensures, read.has.number, few, read.has.count, c.in_ok-next-2.ensures.bound, read.most_is, c.requires.bound, length-append lines (own ∷ [])) in
     refuses a b c.args.most c.number.result c.next-in-line.new.self lines own (answers_text inv.answers) (inv.taken ++ next.0) read place
-    (due_played c.line.state.k inv.first inv.events inv.answers (machine_of c.line.state) inv.played (within_given _ _ _ _ _ _ inv.read)) inv.written
+    (answered c.line.state.k inv.first inv.events inv.answers (machine_of c.line.state) inv.played) inv.written
     (c.line.state.k, inv.answers, machine_of c.line.state, inv.played, bad)
 
 pub returns-in_err-set_line-clause-done : goal.returns-in_err-set_line-clause-done
@@ -198,6 +201,12 @@ returns-clause-done g c =
     let a : Streams = streams (g.S.Source.left c.args.source.now) (g.S.Source.faults c.args.source.now) (g.O.Sink.written c.args.out.now) (g.O.Sink.faults c.args.out.now) in
     let b : Streams = streams (g.S.Source.left c.next-in-line.new.source) (g.S.Source.faults c.next-in-line.new.source) (g.O.Sink.written c.line.out) (g.O.Sink.faults c.line.out) in
     let none : c.next-in-line.result ≡ Ok false = c.in_ok-next-2.was ∙ ap (λ (b : Bool). Ok b) c.if-branch.false in
-    read_to_end Replay c.args.most a b refl c.line.reader c.next-in-line.new.self (g.S.Source.left c.line.source) (inv.first ∷ inv.events) (answers_text inv.answers) inv.taken inv.read
+    let given = inv.first ∷ inv.events in
+    let whole : (text : List ℕ) → lines_of text ≡ given → IsDue Replay text (answers_text inv.answers) = λ text is. (
+      subst (AreWithin line_limit) (sym is) (within_given _ _ _ _ _ _ inv.read),
+      subst (λ (l : List (List ℕ)). IsAnswered l (answers_text inv.answers)) (sym is) (answered c.line.state.k inv.first inv.events inv.answers (machine_of c.line.state) inv.played),
+      omega (arith, ap length is),
+    ) in
+    read_to_end Replay IsAnswered replay_by_lines c.args.most a b c.line.reader c.next-in-line.new.self (g.S.Source.left c.line.source) (inv.first ∷ inv.events) (answers_text inv.answers) inv.taken inv.read
     (c.next-in-line.ensures.none none) (c.next-in-line.ensures.ended none) c.next-in-line.ensures.most c.next-in-line.ensures.end
-    (within_given _ _ _ _ _ _ inv.read, (c.line.state.k, inv.answers, machine_of c.line.state, inv.played, refl), omega arith) inv.written
+    whole inv.written
