@@ -1,3 +1,6 @@
+pub mod Cuts
 pub mod FaultLaws
 pub mod ItemLaws
 pub mod Readings
+pub mod Runs
+pub mod Steps

@@ -1,8 +1,9 @@
 // Where a text of records stands, byte by byte.
-ghost use Rattle.std.specs.Prelude.{◌≡◌, ◌≤◌, length};
+ghost use Rattle.std.specs.Prelude.{◌≡◌, ◌≤◌, length, true, false};
 ghost use Rattle.csv.specs.Machine.{step};
 ghost use Rattle.csv.specs.Reading.{default_config};
-ghost use Rattle.sk_ingest.specs.Places.{state_of, settled, IsCut};
+ghost use Rattle.csv.specs.declared.parser.State.TheVariants as st;
+ghost use Rattle.sk_ingest.specs.Places.{state_of, settled, is_inside, IsCut};
 
 // A place of a text of records.
 #[derive(Clone, Copy, Debug, PartialEq, Eq)]
@@ -51,6 +52,17 @@ fn unquoted(byte: u8) -> Place
     }
 }
 
+#[inline(always)]
+fn is_between(place: Place) -> bool
+    ensures between { result ≡ true → state_of place ≡ st.StartRecord }
+    ensures inside { result ≡ false → is_inside (state_of place) ≡ true }
+{
+    match place {
+        Place::Between => true,
+        _ => false,
+    }
+}
+
 // The place behind a piece, and how many bytes of it lie before the last place between two records
 // that it has behind its start.
 pub(crate) fn scan(start: Place, piece: &[u8]) -> (Place, usize)
@@ -61,7 +73,7 @@ pub(crate) fn scan(start: Place, piece: &[u8]) -> (Place, usize)
     let mut cut = 0;
     'byte: for i in 0..piece.len() {
         place = behind(place, piece[i]);
-        if place == Place::Between {
+        if is_between(place) {
             cut = i + 1;
         }
     }
