@@ -2,5 +2,6 @@ pub mod Cuts
 pub mod FaultLaws
 pub mod ItemLaws
 pub mod Readings
+pub mod RowLaws
 pub mod Runs
 pub mod Steps

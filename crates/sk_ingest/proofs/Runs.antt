@@ -88,6 +88,34 @@ shorter s fields field (c ∷ rest) p e =
         let less = again (rw t at e) in
         omega (arith, less)
 
+-- behind a record it stands between two
+pub read_between : (s : State) (fields : Row) (field xs : List ℕ) (p : Read) → next_record default_config s fields field xs ≡ Some p → settled p.1 ≡ st.StartRecord
+unfolding next_record
+read_between s fields field [] p e = by (ends_at_end s) refl
+  where
+    by : (b : Bool) → ends_at_end s ≡ b → settled p.1 ≡ st.StartRecord
+    by true t =
+        let q : (fields ++ (field ∷ []), st.StartRecord, []) ≡ p = some_is _ p (rw t at e) in
+        subst (λ (r : Read). settled r.1 ≡ st.StartRecord) q refl
+    by false t = cc (rw t at e)
+read_between s fields field (c ∷ rest) p e =
+    by (is_end (step default_config s c).1) refl
+    (read_between (step default_config s c).0 (fields_after (step default_config s c).1 fields field) (field_after (step default_config s c).1 c field) rest p)
+  where
+    by : (b : Bool) → is_end (step default_config s c).1 ≡ b →
+        (next_record default_config (step default_config s c).0 (fields_after (step default_config s c).1 fields field) (field_after (step default_config s c).1 c field) rest ≡ Some p → settled p.1 ≡ st.StartRecord) →
+        settled p.1 ≡ st.StartRecord
+    by true t again =
+        let q : (fields_after (step default_config s c).1 fields field, (step default_config s c).0, rest) ≡ p = some_is _ p (rw t at e) in
+        subst (λ (r : Read). settled r.1 ≡ st.StartRecord) q (ends_between s c t)
+    by false t again = again (rw t at e)
+
+-- a record that was read between two takes a byte
+pub takes_some : (s : State) (xs : List ℕ) (p : Read) → settled s ≡ st.StartRecord → next_record default_config s [] [] xs ≡ Some p → length p.2 < length xs
+unfolding next_record
+takes_some s [] p between e = cc (rw (between_ends_none s between) at e)
+takes_some s (c ∷ rest) p between e = omega (arith, shorter s [] [] (c ∷ rest) p e)
+
 -- behind the end of a text there is nothing
 nothing_left : (n : ℕ) → records_from default_config n st.StartRecord [] ≡ []
 unfolding records_from next_record

@@ -5,7 +5,7 @@ ghost use Rattle.csv.specs.Reading.{default_config, records, strip_bom};
 ghost use Rattle.csv.specs.Records.{fields_of};
 ghost use Rattle.csv.specs.declared.parser.State.{State};
 ghost use Rattle.csv.specs.declared.parser.State.TheVariants as st;
-ghost use Rattle.sk_ingest.specs.Records.{Row, width_of};
+ghost use Rattle.sk_ingest.specs.Records.{Row, field_of, width_of};
 ghost use Rattle.sk_ingest.specs.Rows.{StandsAt};
 ghost use Rattle.sk_ingest.specs.Table.{items_in, first_width, HasRows, Refuses, Ends};
 
@@ -95,7 +95,7 @@ impl Table {
         if !self.fits(row.len()) {
             return Err(Fault::BadCsv(self.number));
         }
-        let field = row.get(self.column - 1).unwrap_or(&[]);
+        let field = field_in(row, self.column);
         if field.len() > LINE_LIMIT {
             return Err(Fault::LongLine(self.number));
         }
@@ -111,6 +111,15 @@ impl Table {
         let first = *self.width.get_or_insert(width);
         first == width && self.column <= width
     }
+}
+
+// The field of a record in a column, counted from 1. A record without it has an empty one.
+#[inline]
+fn field_in(row: &ByteRecord, column: usize) -> &[u8]
+    requires { 1 ≤ column }
+    ensures { result.now ≡ field_of column (fields_of row.now) }
+{
+    row.get(column - 1).unwrap_or(&[])
 }
 
 // A reader of a text's records: commas, double quotes, no header row, records of any length.
