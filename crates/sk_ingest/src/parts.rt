@@ -156,10 +156,7 @@ impl Parts {
         ensures less { 1 < self.old.cut → remaining_of self.new < remaining_of self.old }
         ensures same { (self.new.most ≡ self.old.most) × (self.new.taken ≡ self.old.taken) × (self.new.ended ≡ self.old.ended) }
     {
-        let len = self.bytes.len();
-        let at = self.cut - 1;
-        self.bytes.copy_within(at..len, 0);
-        self.bytes.truncate(len - at);
+        drop_front(&mut self.bytes, self.cut - 1);
         self.cut = 1;
     }
 
@@ -171,6 +168,16 @@ impl Parts {
     {
         &self.bytes
     }
+}
+
+// Drops so many bytes from the front.
+fn drop_front(bytes: &mut Vec<u8>, n: usize)
+    requires { n ≤ length bytes.old.items }
+    ensures { bytes.new.items ≡ drop n bytes.old.items }
+{
+    let len = bytes.len();
+    bytes.copy_within(n..len, 0);
+    bytes.truncate(len - n);
 }
 
 // Whether these are the first bytes of a byte order mark, and not all of it.

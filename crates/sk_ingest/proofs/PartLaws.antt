@@ -1,0 +1,157 @@
+-- Parts of a source's bytes, and what they hold.
+use Rattle.std.proofs.Common.{◌≡◌, ◌==◌, ◌⊎◌, ℕ, zero, suc, ◌+◌, ◌-◌, ◌<◌, ◌≤◌, ◌^◌, Bool, true, false, List, [], ◌∷◌, ◌++◌, length, take, drop, slice_index, codes, refl, sym, ap, ◌∙◌, subst, inl, inr, arith, append_assoc, append-nil, length-append}
+use Rattle.std.proofs.lemmas.Bool.{false≢true}
+use Rattle.std.proofs.Math.Seq.{take-append_seam}
+use Rattle.csv.specs.Reading.{default_config, records, strip_bom}
+use Rattle.csv.specs.declared.parser.State.{State}
+use Rattle.csv.specs.declared.parser.State.TheVariants as st
+use Rattle.sk_ingest.specs.declared.parts.Parts.{Parts}
+use Rattle.sk_ingest.specs.Places.{state_of, settled, state_after, StaysInside, IsCut}
+use Rattle.sk_ingest.specs.Records.{Row, records_of, open_records_of, complete_records_of}
+use Rattle.sk_ingest.specs.Parts.{IsLed, HasTaken, Holds, Takes, remaining_of, is_mark_front}
+use Rattle.sk_ingest.proofs.Steps.{IsEnd, end_is_skipped}
+use Rattle.sk_ingest.proofs.Runs.{records_append, records_led, open_is_one, records_few}
+use Rattle.sk_ingest.proofs.Cuts.{after_append, after_byte, last_is_end, cut_later, cut_stays}
+
+-- whether a source may still end
+abbrev pub may_end : Bool → ℕ
+may_end true = 0
+may_end false = 1
+
+pub led_plain : (text : List ℕ) → IsLed text → strip_bom text ≡ text
+unfolding strip_bom
+led_plain [] led = refl
+led_plain (a ∷ []) led = refl
+led_plain (a ∷ b ∷ []) led = refl
+led_plain (a ∷ b ∷ c ∷ rest) led = elim led.1 [
+  | inl lf ↦ subst (λ (x : ℕ). strip_bom (x ∷ b ∷ c ∷ rest) ≡ x ∷ b ∷ c ∷ rest) (sym lf) refl
+  | inr cr ↦ subst (λ (x : ℕ). strip_bom (x ∷ b ∷ c ∷ rest) ≡ x ∷ b ∷ c ∷ rest) (sym cr) refl
+]
+
+pub led_front : (cut : ℕ) (text : List ℕ) → 1 ≤ cut → IsLed text → IsLed (take cut text)
+led_front zero text some led = absurd (omega arith)
+led_front (suc n) [] some led = absurd (omega (arith, led.0))
+led_front (suc n) (c ∷ rest) some led = (omega arith, led.1)
+
+-- a text that is not empty, up to its last byte
+split_last : (xs : List ℕ) → 1 ≤ length xs → (init : List ℕ) × (last : ℕ) × (xs ≡ init ++ last ∷ [])
+split_last [] some = absurd (omega arith)
+split_last (x ∷ []) some = ([], x, refl)
+split_last (x ∷ y ∷ ys) some =
+    let more = split_last (y ∷ ys) (omega arith) in
+    (x ∷ more.0, more.1, ap (λ (l : List ℕ). x ∷ l) more.2)
+
+drop_front : (xs ys : List ℕ) → drop (length xs) (xs ++ ys) ≡ ys
+drop_front [] ys = refl
+drop_front (x ∷ xs) ys = drop_front xs ys
+
+-- behind a byte that ends a record it stands as at the start
+led_goes_on : (c : ℕ) → IsEnd c → state_after st.StartRecord (c ∷ []) ≡ st.StartRecord
+led_goes_on c end = after_byte st.StartRecord c ∙ ap (λ (p : State × _). settled p.0) (end_is_skipped c end)
+
+-- the whole records held were given, and their last byte is kept
+pub drop_given : (p new : Parts) (rows : List Row) (taken : List ℕ) → HasTaken p rows taken → new.bytes.items ≡ drop (p.cut - 1) p.bytes.items → new.cut ≡ 1 → new.place ≡ p.place →
+    new.taken ≡ p.taken → new.most ≡ p.most → new.ended ≡ p.ended → HasTaken new (rows ++ records default_config (take p.cut p.bytes.items)) taken
+drop_given p new rows taken has bytes cut place count most ended =
+    let is = has.cut in
+    let ends = split_last is.front (omega (arith, is.size, has.some)) in
+    let last = ends.1 in
+    let between : state_after st.StartRecord is.front ≡ st.StartRecord = is.between (omega (arith, has.some)) in
+    let end : IsEnd last = last_is_end st.StartRecord ends.0 last (sym (ap (state_after st.StartRecord) ends.2) ∙ between) in
+    let given : take p.cut p.bytes.items ≡ is.front =
+    ap (λ (l : List ℕ). take p.cut l) is.joined ∙ ap (λ (n : ℕ). take n (is.front ++ is.back)) (sym is.size) ∙ take-append_seam is.front is.back in
+    let place_before : p.cut - 1 ≡ length ends.0 = omega (arith, is.size, ap length ends.2, length-append ends.0 (last ∷ [])) in
+    let whole : p.bytes.items ≡ ends.0 ++ last ∷ is.back =
+    is.joined ∙ ap (λ (l : List ℕ). l ++ is.back) ends.2 ∙ append_assoc ends.0 (last ∷ []) is.back in
+    let held : new.bytes.items ≡ last ∷ is.back =
+    bytes ∙ ap (λ (n : ℕ). drop n p.bytes.items) place_before ∙ ap (drop (length ends.0)) whole ∙ drop_front ends.0 (last ∷ is.back) in
+    let led = led_goes_on last end in
+    record {
+      follows = λ later over.
+          has.follows later (λ e. over (ended ∙ e))
+          ∙ ap (λ (l : List ℕ). rows ++ records default_config l) (ap (λ (l : List ℕ). l ++ later) is.joined ∙ append_assoc is.front is.back later)
+          ∙ ap (λ (l : List Row). rows ++ l) (records_append is.front (is.back ++ later) between ∙ ap (λ (l : List Row). records default_config is.front ++ l) (sym (records_led last (is.back ++ later) end)))
+          ∙ sym (append_assoc rows (records default_config is.front) (records default_config (last ∷ is.back ++ later)))
+          ∙ ap (λ (l : List ℕ). (rows ++ records default_config l) ++ records default_config (last ∷ is.back ++ later)) (sym given)
+          ∙ ap (λ (l : List ℕ). (rows ++ records default_config (take p.cut p.bytes.items)) ++ records default_config (l ++ later)) (sym held);
+      led = subst IsLed (sym held) (omega arith, end);
+      cut = subst (λ (n : ℕ). IsCut st.StartRecord new.bytes.items (state_of new.place) n) (sym cut) (record {
+        front = last ∷ [];
+        back = is.back;
+        joined = held;
+        size = refl;
+        between = λ some. led;
+        inside = subst (λ (s : State). StaysInside s is.back) (between ∙ sym led) is.inside;
+        ends = ap state_of place ∙ is.ends ∙ ap (state_after st.StartRecord) is.joined ∙ after_append st.StartRecord is.front is.back
+            ∙ ap (λ (s : State). state_after s is.back) (between ∙ sym led) ∙ sym (after_append st.StartRecord (last ∷ []) is.back) ∙ ap (state_after st.StartRecord) (sym held);
+      });
+      some = omega (arith, cut);
+      count = has.count ∙ sym count;
+      bound = omega (arith, has.bound, count, most);
+      few = omega (arith, has.few, most);
+    }
+
+-- a piece more was taken, with a place between two records or none
+pub takes_more : (p mid new : Parts) (rows : List Row) (taken more : List ℕ) (found : ℕ) → HasTaken p rows taken → p.ended ≡ false → Holds p mid more →
+    IsCut (state_of p.place) more (state_of new.place) found → new.bytes.items ≡ mid.bytes.items → new.taken ≡ mid.taken → new.most ≡ mid.most →
+    (found ≡ 0 → new.cut ≡ p.cut) → (0 < found → new.cut ≡ length p.bytes.items + found) → HasTaken new rows (taken ++ more)
+takes_more p mid new rows taken more found has going holds cut bytes count most stays later_cut =
+    let held : new.bytes.items ≡ p.bytes.items ++ more = bytes ∙ holds.bytes in
+    record {
+      follows = λ later over.
+          ap records_of (append_assoc taken more later) ∙ has.follows (more ++ later) (λ e. absurd (false≢true (sym going ∙ e)))
+          ∙ ap (λ (l : List ℕ). rows ++ records default_config l) (sym (append_assoc p.bytes.items more later))
+          ∙ ap (λ (l : List ℕ). rows ++ records default_config (l ++ later)) (sym held);
+      led = subst IsLed (sym held) (led_longer p.bytes.items has.led);
+      cut = subst (λ (l : List ℕ). IsCut st.StartRecord l (state_of new.place) new.cut) (sym held) (go found cut stays later_cut);
+      some = some_cut found stays later_cut;
+      count = length-append taken more ∙ ap (λ (n : ℕ). n + length more) has.count ∙ sym (count ∙ holds.taken);
+      bound = omega (arith, count, most, holds.bound);
+      few = omega (arith, has.few, most, holds.most);
+    }
+  where
+    led_longer : (xs : List ℕ) → IsLed xs → IsLed (xs ++ more)
+    led_longer [] led = absurd (omega (arith, led.0))
+    led_longer (c ∷ rest) led = (omega arith, led.1)
+    go : (n : ℕ) → IsCut (state_of p.place) more (state_of new.place) n → (n ≡ 0 → new.cut ≡ p.cut) → (0 < n → new.cut ≡ length p.bytes.items + n) →
+        IsCut st.StartRecord (p.bytes.items ++ more) (state_of new.place) new.cut
+    go zero cut stays later = subst (λ (n : ℕ). IsCut st.StartRecord (p.bytes.items ++ more) (state_of new.place) n) (sym (stays refl))
+        (cut_stays st.StartRecord p.bytes.items more (state_of p.place) (state_of new.place) p.cut has.cut cut)
+    go (suc n) cut stays later =
+        let some : 0 < suc n = omega arith in
+        subst (λ (m : ℕ). IsCut st.StartRecord (p.bytes.items ++ more) (state_of new.place) m) (sym (later some))
+        (cut_later st.StartRecord p.bytes.items more (state_of p.place) (state_of new.place) p.cut (suc n) has.cut cut some)
+    some_cut : (n : ℕ) → (n ≡ 0 → new.cut ≡ p.cut) → (0 < n → new.cut ≡ length p.bytes.items + n) → 1 ≤ new.cut
+    some_cut zero stays later = omega (arith, stays refl, has.some)
+    some_cut (suc n) stays later =
+        let some : 0 < suc n = omega arith in
+        omega (arith, later some)
+
+less_one : (rows : List Row) (row : Row) → take (length (rows ++ row ∷ []) - 1) (rows ++ row ∷ []) ≡ rows
+less_one rows row =
+    let place : length (rows ++ row ∷ []) - 1 ≡ length rows = omega (arith, length-append rows (row ∷ [])) in
+    ap (λ (n : ℕ). take n (rows ++ row ∷ [])) place ∙ take-append_seam rows (row ∷ [])
+
+-- where no whole record is held, the records given are those that have ended
+pub complete_is : (p : Parts) (rows : List Row) (taken : List ℕ) → HasTaken p rows taken → p.cut ≡ 1 → p.ended ≡ false → complete_records_of taken ≡ rows
+complete_is p rows taken has one going =
+    let is = has.cut in
+    let between : state_after st.StartRecord is.front ≡ st.StartRecord = is.between (omega (arith, one)) in
+    let last = open_is_one is.back (subst (λ (s : State). StaysInside s is.back) between is.inside) in
+    let none : records default_config is.front ≡ [] = no_record is.front (is.size ∙ one) between in
+    let opened : open_records_of taken ≡ rows ++ last.0 ∷ [] =
+    has.follows (codes "x") (λ e. absurd (false≢true (sym going ∙ e)))
+    ∙ ap (λ (l : List ℕ). rows ++ records default_config l) (ap (λ (l : List ℕ). l ++ codes "x") is.joined ∙ append_assoc is.front is.back (codes "x"))
+    ∙ ap (λ (l : List Row). rows ++ l) (records_append is.front (is.back ++ codes "x") between ∙ ap (λ (l : List Row). l ++ records default_config (is.back ++ codes "x")) none ∙ last.1) in
+    ap (λ (l : List Row). take (length l - 1) l) opened ∙ less_one rows last.0
+  where
+    no_record : (front : List ℕ) → length front ≡ 1 → state_after st.StartRecord front ≡ st.StartRecord → records default_config front ≡ []
+    no_record [] size between = absurd (omega (arith, size))
+    no_record (c ∷ []) size between =
+        let few = records_few [] in
+        records_led c [] (last_is_end st.StartRecord [] c between) ∙ no_rows (records default_config []) (omega (arith, few))
+      where
+        no_rows : (l : List Row) → length l ≡ 0 → l ≡ []
+        no_rows [] none = refl
+        no_rows (r ∷ l) none = absurd (omega arith)
+    no_record (c ∷ d ∷ rest) size between = absurd (omega (arith, size))
