@@ -1,4 +1,5 @@
 pub mod Cuts
+pub mod EndLaws
 pub mod FaultLaws
 pub mod ItemLaws
 pub mod PartLaws

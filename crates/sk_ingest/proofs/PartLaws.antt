@@ -1,14 +1,17 @@
 -- Parts of a source's bytes, and what they hold.
-use Rattle.std.proofs.Common.{◌≡◌, ◌==◌, ◌⊎◌, ℕ, zero, suc, ◌+◌, ◌-◌, ◌<◌, ◌≤◌, ◌^◌, Bool, true, false, List, [], ◌∷◌, ◌++◌, length, take, drop, slice_index, codes, refl, sym, ap, ◌∙◌, subst, inl, inr, arith, append_assoc, append-nil, length-append}
-use Rattle.std.proofs.lemmas.Bool.{false≢true}
+use Rattle.std.proofs.Common.{◌≡◌, ◌≢◌, ◌==◌, ◌⊎◌, ℕ, zero, suc, ◌+◌, ◌-◌, ◌<◌, ◌≤◌, ◌^◌, Bool, true, false, List, [], ◌∷◌, ◌++◌, length, take, drop, slice_index, codes, Option, Some, None, refl, sym, ap, ◌∙◌, subst, inl, inr, arith, append_assoc, append-nil, length-append}
+use Rattle.std.proofs.lemmas.Bool.{cases_Bool, eqb-true, false≢true}
 use Rattle.std.proofs.Math.Seq.{take-append_seam}
-use Rattle.csv.specs.Reading.{default_config, records, strip_bom}
+use Rattle.std.proofs.lemmas.List.{take_all}
+use Rattle.std.specs.Io.KnownBytes.{Consumes, Keeps}
+use Rattle.csv.specs.Reading.{default_config, records, records_from, strip_bom, is_bom}
+use Rattle.csv.specs.Machine.{next_record}
 use Rattle.csv.specs.declared.parser.State.{State}
 use Rattle.csv.specs.declared.parser.State.TheVariants as st
 use Rattle.sk_ingest.specs.declared.parts.Parts.{Parts}
 use Rattle.sk_ingest.specs.Places.{state_of, settled, state_after, StaysInside, IsCut}
 use Rattle.sk_ingest.specs.Records.{Row, records_of, open_records_of, complete_records_of}
-use Rattle.sk_ingest.specs.Parts.{IsLed, HasTaken, Holds, Takes, remaining_of, is_mark_front}
+use Rattle.sk_ingest.specs.Parts.{IsLed, HasStarted, HasTaken, Holds, Takes, remaining_of, is_mark_front, mark, IsWithoutMark}
 use Rattle.sk_ingest.proofs.Steps.{IsEnd, end_is_skipped}
 use Rattle.sk_ingest.proofs.Runs.{records_append, records_led, open_is_one, records_few}
 use Rattle.sk_ingest.proofs.Cuts.{after_append, after_byte, last_is_end, cut_later, cut_stays}
@@ -155,3 +158,104 @@ complete_is p rows taken has one going =
         no_rows [] none = refl
         no_rows (r ∷ l) none = absurd (omega arith)
     no_record (c ∷ d ∷ rest) size between = absurd (omega (arith, size))
+
+-- bytes consumed, and then none
+pub consumes_still : (old mid new : Option (List ℕ)) (more : List ℕ) → Consumes old mid more → Keeps mid new → Consumes old new more
+consumes_still None mid new more consumed keeps = tt
+consumes_still (Some xs) None new more consumed keeps = absurd consumed
+consumes_still (Some xs) (Some ys) None more consumed keeps = keeps
+consumes_still (Some xs) (Some ys) (Some zs) more consumed keeps = consumed ∙ ap (λ (l : List ℕ). more ++ l) (sym keeps)
+
+-- what was put behind some bytes
+pub behind_is : (n : ℕ) (all old more : List ℕ) → n ≡ length old → all ≡ old ++ more → take (length all - n) (drop n all) ≡ more
+behind_is n all old more place joined =
+    let rest : drop n all ≡ more = ap (λ (m : ℕ). drop m all) place ∙ ap (drop (length old)) joined ∙ drop_front old more in
+    ap (take (length all - n)) rest ∙ take_all (length all - n) more (omega (arith, place, ap length joined, length-append old more))
+
+none_stays : (s : State) → StaysInside s []
+unfolding StaysInside
+none_stays s = tt
+
+mark_dropped : (later : List ℕ) → strip_bom (0xEF ∷ 0xBB ∷ 0xBF ∷ later) ≡ later
+unfolding strip_bom
+mark_dropped later = refl
+
+-- no record has ended in the first bytes of a mark
+pub none_complete : (taken : List ℕ) → is_mark_front taken ≡ true → complete_records_of taken ≡ []
+unfolding records_of strip_bom records_from next_record
+none_complete [] front = refl
+none_complete (a ∷ []) front = subst (λ (x : ℕ). complete_records_of (x ∷ []) ≡ []) (sym (eqb-true a 0xEF front)) refl
+none_complete (a ∷ b ∷ []) front = elim (cases_Bool (a == 0xEF)) [
+  | inr differs ↦ absurd (false≢true (rw differs at front))
+  | inl first ↦ elim (cases_Bool (b == 0xBB)) [
+    | inr differs ↦ absurd (false≢true (rw (first, differs) at front))
+    | inl also ↦
+        subst (λ (x : ℕ). complete_records_of (x ∷ b ∷ []) ≡ []) (sym (eqb-true a 0xEF first)) (subst (λ (x : ℕ). complete_records_of (0xEF ∷ x ∷ []) ≡ []) (sym (eqb-true b 0xBB also)) refl)
+  ]
+]
+none_complete (a ∷ b ∷ c ∷ rest) front = absurd (false≢true front)
+
+one_mark : (a b c : ℕ) → is_bom a b c ≡ true → a ∷ b ∷ c ∷ [] ≡ mark
+one_mark a b c is = elim (cases_Bool (a == 0xEF)) [
+  | inr differs ↦ absurd (false≢true (rw differs at is))
+  | inl first ↦ elim (cases_Bool (b == 0xBB)) [
+    | inr differs ↦ absurd (false≢true (rw (first, differs) at is))
+    | inl also ↦ elim (cases_Bool (c == 0xBF)) [
+      | inr differs ↦ absurd (false≢true (rw (first, also, differs) at is))
+      | inl last ↦ ap (λ (x : ℕ). x ∷ b ∷ c ∷ []) (eqb-true a 0xEF first) ∙ ap (λ (x : ℕ). 0xEF ∷ x ∷ c ∷ []) (eqb-true b 0xBB also) ∙ ap (λ (x : ℕ). 0xEF ∷ 0xBB ∷ x ∷ []) (eqb-true c 0xBF last)
+    ]
+  ]
+]
+
+-- a text that does not begin with a mark
+plain_start : (taken later : List ℕ) → length taken ≤ 3 → taken ≢ mark → (is_mark_front taken ≡ false) ⊎ (later ≡ []) → strip_bom (taken ++ later) ≡ taken ++ later
+unfolding strip_bom
+plain_start [] later small other (inl told) = absurd (false≢true (sym told))
+plain_start [] later small other (inr over) = rw over refl
+plain_start (a ∷ []) [] small other why = refl
+plain_start (a ∷ []) (x ∷ []) small other why = refl
+plain_start (a ∷ []) (x ∷ y ∷ later) small other (inl told) = rw told refl
+plain_start (a ∷ []) (x ∷ y ∷ later) small other (inr over) = cc
+plain_start (a ∷ b ∷ []) [] small other why = refl
+plain_start (a ∷ b ∷ []) (x ∷ later) small other (inl told) = rw told refl
+plain_start (a ∷ b ∷ []) (x ∷ later) small other (inr over) = cc
+plain_start (a ∷ b ∷ c ∷ []) later small other why = elim (cases_Bool (is_bom a b c)) [
+  | inl is ↦ absurd (other (one_mark a b c is))
+  | inr differs ↦ rw differs refl
+]
+plain_start (a ∷ b ∷ c ∷ d ∷ rest) later small other why = absurd (omega (arith, small))
+
+-- what is held of the first bytes: none of a mark, else all
+pub started : (p new : Parts) (taken held : List ℕ) (found : ℕ) → HasStarted p taken → IsWithoutMark taken held → new.bytes.items ≡ 10 ∷ held →
+    IsCut st.StartRecord held (state_of new.place) found → new.cut ≡ 1 + found → new.taken ≡ p.taken → new.most ≡ p.most → new.ended ≡ p.ended → HasTaken new [] taken
+unfolding records_of
+started p new taken held found has which bytes cut place count most ended = record {
+  follows = λ later over.
+      ap (records default_config) (plain later over which) ∙ sym (records_led 10 (held ++ later) (inl refl)) ∙ ap (λ (l : List ℕ). records default_config (l ++ later)) (sym bytes);
+  led = subst IsLed (sym bytes) (omega arith, inl refl);
+  cut = subst (λ (l : List ℕ). IsCut st.StartRecord l (state_of new.place) new.cut) (sym bytes) (subst (λ (n : ℕ). IsCut st.StartRecord (10 ∷ held) (state_of new.place) n) (sym place) (go found cut));
+  some = omega (arith, place);
+  count = has.count ∙ sym count;
+  bound = omega (arith, has.bound, count, most);
+  few = omega (arith, has.few, most);
+}
+  where
+    told_or_over : (later : List ℕ) (b : Bool) → p.ended ≡ b → (new.ended ≡ true → later ≡ []) → (is_mark_front taken ≡ false) ⊎ (later ≡ [])
+    told_or_over later true e over = inr (over (ended ∙ e))
+    told_or_over later false e over = inl (has.told e)
+    plain : (later : List ℕ) → (new.ended ≡ true → later ≡ []) → IsWithoutMark taken held → strip_bom (taken ++ later) ≡ held ++ later
+    plain later over (inl is) = rw (is.0, is.1) (mark_dropped later)
+    plain later over (inr other) = plain_start taken later has.small other.0 (told_or_over later p.ended refl over) ∙ ap (λ (l : List ℕ). l ++ later) (sym other.1)
+    base : IsCut st.StartRecord (10 ∷ []) st.StartRecord 1
+    base = record {
+      front = 10 ∷ [];
+      back = [];
+      joined = refl;
+      size = refl;
+      between = λ some. led_goes_on 10 (inl refl);
+      inside = none_stays (state_after st.StartRecord (10 ∷ []));
+      ends = sym (led_goes_on 10 (inl refl));
+    }
+    go : (n : ℕ) → IsCut st.StartRecord held (state_of new.place) n → IsCut st.StartRecord (10 ∷ held) (state_of new.place) (1 + n)
+    go zero cut = cut_stays st.StartRecord (10 ∷ []) held st.StartRecord (state_of new.place) 1 base cut
+    go (suc n) cut = cut_later st.StartRecord (10 ∷ []) held st.StartRecord (state_of new.place) 1 (suc n) base cut (omega arith)

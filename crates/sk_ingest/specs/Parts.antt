@@ -1,5 +1,5 @@
 -- What is held of a source that is read in parts, each of whole records.
-use Rattle.std.specs.Prelude.{◌≡◌, ◌≤◌, ◌<◌, ◌⊎◌, ℕ, ◌+◌, ◌-◌, ◌^◌, Bool, true, false, ◌==◌, ◌&&◌, List, [], ◌∷◌, ◌++◌, length, slice_index, ⊤}
+use Rattle.std.specs.Prelude.{◌≡◌, ◌≢◌, ◌≤◌, ◌<◌, ◌⊎◌, ℕ, ◌+◌, ◌-◌, ◌^◌, Bool, true, false, ◌==◌, ◌&&◌, List, [], ◌∷◌, ◌++◌, length, slice_index, ⊤}
 use Rattle.csv.specs.Reading.{default_config, records}
 use Rattle.csv.specs.declared.parser.State.TheVariants as st
 use Rattle.sk_ingest.specs.Places.{state_of, IsCut}
@@ -57,3 +57,20 @@ is_mark_front [] = true
 is_mark_front (a ∷ []) = a == 0xEF
 is_mark_front (a ∷ b ∷ []) = (a == 0xEF) && (b == 0xBB)
 is_mark_front (a ∷ b ∷ c ∷ rest) = false
+
+-- the bytes of the byte order mark, U+FEFF in UTF-8
+abbrev pub mark : List ℕ
+mark = 0xEF ∷ 0xBB ∷ 0xBF ∷ []
+
+-- none of the bytes taken where they are a byte order mark, else all
+abbrev pub IsWithoutMark : List ℕ → List ℕ → Type 0
+IsWithoutMark taken held = ((taken ≡ mark) × (held ≡ [])) ⊎ ((taken ≢ mark) × (held ≡ taken))
+
+-- the first bytes of a source were taken, enough to tell whether they are a byte order mark
+pub record HasStarted (p : Parts) (taken : List ℕ) : Type 0 where
+  pub bytes : p.bytes.items ≡ 10 ∷ taken
+  pub small : length taken ≤ 3
+  pub told : p.ended ≡ false → is_mark_front taken ≡ false
+  pub count : length taken ≡ p.taken
+  pub bound : p.taken ≤ p.most
+  pub few : p.most ≤ 2 ^ 40

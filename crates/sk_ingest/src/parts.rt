@@ -4,7 +4,7 @@ ghost use Rattle.std.specs.Io.KnownBytes.{Consumes, IsAtEnd, Keeps};
 ghost use Rattle.csv.specs.Reading.{default_config, records, strip_bom};
 ghost use Rattle.sk_model.specs.Causes.{Rose};
 ghost use Rattle.sk_ingest.specs.Records.{Row, complete_records_of};
-ghost use Rattle.sk_ingest.specs.Parts.{HasTaken, Takes, Holds, IsOfSource, remaining_of, is_mark_front};
+ghost use Rattle.sk_ingest.specs.Parts.{HasStarted, HasTaken, Takes, Holds, IsOfSource, IsWithoutMark, mark, remaining_of, is_mark_front};
 
 use crate::items::Fault;
 use crate::place::{Place, scan};
@@ -67,13 +67,20 @@ impl Parts {
         'mark: while !parts.ended && may_be_mark(&parts.bytes[1..]) {
             parts.take(source, 1)?;
         }
-        if is_mark(&parts.bytes[1..]) {
-            parts.bytes.truncate(1);
-        }
-        let (place, cut) = scan(Place::Between, &parts.bytes[1..]);
-        parts.place = place;
-        parts.cut += cut;
+        parts.settle();
         Ok(parts)
+    }
+
+    // Drops a byte order mark that the first bytes are, and looks where they may be cut.
+    fn settle(&mut self)
+        requires { (taken : List ℕ) × HasStarted self.old taken }
+        ensures takes { (taken : List ℕ) → HasStarted self.old taken → HasTaken self.new [] taken }
+        ensures same { (self.new.most ≡ self.old.most) × (self.new.taken ≡ self.old.taken) × (self.new.ended ≡ self.old.ended) }
+    {
+        drop_mark(&mut self.bytes);
+        let (place, cut) = scan(Place::Between, &self.bytes[1..]);
+        self.place = place;
+        self.cut = 1 + cut;
     }
 
     // Takes some bytes more of the source, at most `room`, or finds its end.
@@ -187,9 +194,20 @@ fn may_be_mark(bytes: &[u8]) -> bool
     bytes.len() < MARK.len() && MARK.starts_with(bytes)
 }
 
+// Drops a byte order mark that the bytes behind the first one are.
+fn drop_mark(bytes: &mut Vec<u8>)
+    requires { 1 ≤ length bytes.old.items }
+    ensures { (first : ℕ) (taken : List ℕ) → bytes.old.items ≡ first ∷ taken
+        → (held : List ℕ) × (bytes.new.items ≡ first ∷ held) × IsWithoutMark taken held }
+{
+    if is_mark(&bytes[1..]) {
+        bytes.truncate(1);
+    }
+}
+
 // Whether these are the bytes of a byte order mark.
 fn is_mark(bytes: &[u8]) -> bool
-    ensures { (result ≡ true) ↔ (bytes.now ≡ 0xEF ∷ 0xBB ∷ 0xBF ∷ []) }
+    ensures { (result ≡ true) ↔ (bytes.now ≡ mark) }
 {
     bytes == MARK.as_slice()
 }
