@@ -2,7 +2,7 @@
 use Rattle.std.proofs.Common.{◌≡◌, ◌≢◌, ◌⊎◌, ℕ, zero, suc, ◌+◌, ◌-◌, ◌<◌, ◌≤◌, ◌^◌, min, Bool, true, false, List, [], ◌∷◌, ◌++◌, length, take, drop, map, get_or, All, Option, Some, None, IsNone, refl, sym, ap, ◌∙◌, subst, inl, inr, arith, append_assoc, append-nil, length-append}
 use Rattle.std.specs.Option.{IfSome}
 use Rattle.std.specs.Io.KnownBytes.{Consumes, IsAtEnd}
-use Rattle.std.proofs.lemmas.List.{map-append, map-take, take-append-le, take_all, take_min}
+use Rattle.std.proofs.lemmas.List.{map-append, take-append-le, take_all, take_min}
 use Rattle.std.proofs.lemmas.List.Elements.{All-nil, All-push}
 use Rattle.std.proofs.Math.Seq.{take-append_seam, get_or-append_seam}
 use Rattle.csv.specs.Reading.{default_config, records, strip_bom, is_bom}
@@ -142,13 +142,18 @@ uneven_row kind column n P rows more ends =
         uneven here width (inl other) = inl (λ same. other (ap length (sym here) ∙ same ∙ width))
         uneven here width (inr short) = inr (omega (arith, short, ap length here))
 
+take_fields : (column n : ℕ) (rows : List Row) → take n (fields_in column rows) ≡ fields_in column (take n rows)
+take_fields column zero rows = refl
+take_fields column (suc n) [] = refl
+take_fields column (suc n) (row ∷ rows) = ap (λ (l : List (List ℕ)). field_of column row ∷ l) (take_fields column n rows)
+
 -- the items of some first records
 pub first_items : (kind : Kind) (column n : ℕ) (P : List ℕ → Type 0) (rows more : List Row) → P (items_in kind column (take n rows)) →
     (m : ℕ) × P (items_by kind (take m (fields_in column (rows ++ more))))
 first_items kind column n P rows more stands =
     let m = min n (length rows) in
     let front : take m (fields_in column (rows ++ more)) ≡ fields_in column (take n rows) =
-    map-take (field_of column) m (rows ++ more) ∙ ap (fields_in column) (take-append-le m rows more (omega arith) ∙ take_min n rows) in
+    take_fields column m (rows ++ more) ∙ ap (fields_in column) (take-append-le m rows more (omega arith) ∙ take_min n rows) in
     (m, subst (λ (l : List (List ℕ)). P (items_by kind l)) (sym front) stands)
 
 -- what holds of all records that begin with those given
@@ -218,3 +223,41 @@ room_rest p rows taken has =
     let all : records_of (taken ++ []) ≡ rows ++ records default_config p.bytes.items =
     has.follows [] (λ _. refl) ∙ ap (λ (l : List ℕ). rows ++ records default_config l) (append-nil p.bytes.items) in
     omega (arith, few_records (taken ++ []), ap length all, length-append rows (records default_config p.bytes.items), ap length (append-nil taken), has.count, has.bound, has.few)
+
+-- what is said of a source where a record was refused, or for want of memory
+pub record GaveUp (kind : Kind) (column : ℕ) (P : List ℕ → Type 0) (old : Option (List ℕ)) (f : Fault) : Type 0 where
+  pub long : (n : ℕ) → f ≡ fault.LongLine n → IfSome old (λ (text : List ℕ). IsLongRow kind column n (records_of text) × P (items_by kind (take (n - 1) (fields_in column (records_of text)))))
+  pub bad : (n : ℕ) → f ≡ fault.BadItem n → IfSome old (λ (text : List ℕ). IsBadRow kind column n (records_of text) × P (items_by kind (take (n - 1) (fields_in column (records_of text)))))
+  pub uneven : (n : ℕ) → f ≡ fault.BadCsv n → IfSome old (λ (text : List ℕ). IsUnevenRow kind column n (records_of text) × P (items_by kind (take (n - 1) (fields_in column (records_of text)))))
+  pub memory : f ≡ fault.OutOfMemory → IfSome old (λ (text : List ℕ). (n : ℕ) × P (items_by kind (take n (fields_in column (records_of text)))))
+  pub no_read_fault : f ≡ fault.ReadFault → ⊥
+  pub no_too_much : f ≡ fault.TooMuch → ⊥
+
+pub gave_up : (kind : Kind) (column : ℕ) (P : List ℕ → Type 0) (old : Option (List ℕ)) (all : List Row) (f : Fault) →
+    ((Q : List Row → Type 0) → ((more : List Row) → Q (all ++ more)) → IfSome old (λ (text : List ℕ). Q (records_of text))) → Ends kind column P all f → GaveUp kind column P old f
+gave_up kind column P old all f told ends = record {
+  long = λ n is. told (λ (l : List Row). IsLongRow kind column n l × P (items_by kind (take (n - 1) (fields_in column l)))) (λ more. long_row kind column n P all more (subst (Ends kind column P all) is ends));
+  bad = λ n is. told (λ (l : List Row). IsBadRow kind column n l × P (items_by kind (take (n - 1) (fields_in column l)))) (λ more. bad_row kind column n P all more (subst (Ends kind column P all) is ends));
+  uneven = λ n is. told (λ (l : List Row). IsUnevenRow kind column n l × P (items_by kind (take (n - 1) (fields_in column l)))) (λ more. uneven_row kind column n P all more (subst (Ends kind column P all) is ends));
+  memory = λ is.
+      let some = subst (Ends kind column P all) is ends in
+      told (λ (l : List Row). (n : ℕ) × P (items_by kind (take n (fields_in column l)))) (λ more. first_items kind column some.0 P all more some.1);
+  no_read_fault = λ is. absurd (subst (Ends kind column P all) is ends);
+  no_too_much = λ is. absurd (subst (Ends kind column P all) is ends);
+}
+
+pub gave_up_whole : (kind : Kind) (column : ℕ) (P : List ℕ → Type 0) (p : Parts) (rows : List Row) (taken : List ℕ) (old left : Option (List ℕ)) (f : Fault) → HasTaken p rows taken → Consumes old left taken →
+    (p.ended ≡ true → IsAtEnd left) → Ends kind column P (rows ++ records default_config (take p.cut p.bytes.items)) f → GaveUp kind column P old f
+gave_up_whole kind column P p rows taken old left f has consumed end ends =
+    gave_up kind column P old (rows ++ records default_config (take p.cut p.bytes.items)) f (λ Q holds. told_whole p rows taken old left Q has consumed end holds) ends
+
+pub gave_up_rest : (kind : Kind) (column : ℕ) (P : List ℕ → Type 0) (p : Parts) (rows : List Row) (taken : List ℕ) (old left : Option (List ℕ)) (f : Fault) → HasTaken p rows taken → Consumes old left taken →
+    IsAtEnd left → Ends kind column P (rows ++ records default_config p.bytes.items) f → GaveUp kind column P old f
+gave_up_rest kind column P p rows taken old left f has consumed end ends =
+    let all = rows ++ records default_config p.bytes.items in
+    gave_up kind column P old all f (λ Q holds. told_end p rows taken old left Q has consumed end (subst Q (append-nil all) (holds []))) ends
+
+-- the items of the records given, which are a front of all
+pub given_items : (kind : Kind) (column : ℕ) (P : List ℕ → Type 0) (rows more : List Row) → P (items_in kind column rows) → (n : ℕ) × P (items_by kind (take n (fields_in column (rows ++ more))))
+given_items kind column P rows more stands =
+    first_items kind column (length rows) P rows more (subst (λ (l : List Row). P (items_in kind column l)) (sym (take_all (length rows) rows (omega arith))) stands)
