@@ -7,3 +7,4 @@ pub mod Readings
 pub mod RowLaws
 pub mod Runs
 pub mod Steps
+pub mod UnitLaws
