@@ -1,5 +1,5 @@
 -- How the reading of a source's records ends.
-use Rattle.std.proofs.Common.{◌≡◌, ◌≢◌, ◌⊎◌, ℕ, zero, suc, ◌+◌, ◌-◌, ◌<◌, ◌≤◌, ◌^◌, min, Bool, true, false, List, [], ◌∷◌, ◌++◌, length, take, drop, map, get_or, All, Option, Some, None, IsNone, refl, sym, ap, ◌∙◌, subst, inl, inr, arith, append_assoc, append-nil, length-append}
+use Rattle.std.proofs.Common.{◌≡◌, ◌≢◌, ◌⊎◌, ℕ, zero, suc, ◌+◌, ◌-◌, ◌<◌, ◌≤◌, ◌^◌, min, Bool, true, false, List, [], ◌∷◌, ◌++◌, length, take, get_or, Option, Some, None, refl, sym, ap, ◌∙◌, subst, inl, inr, arith, append_assoc, append-nil, length-append}
 use Rattle.std.specs.Option.{IfSome}
 use Rattle.std.specs.Io.KnownBytes.{Consumes, IsAtEnd}
 use Rattle.std.proofs.lemmas.List.{map-append, take-append-le, take_all, take_min}
@@ -8,18 +8,18 @@ use Rattle.std.proofs.Math.Seq.{take-append_seam, get_or-append_seam}
 use Rattle.csv.specs.Reading.{default_config, records, strip_bom, is_bom}
 use Rattle.csv.specs.declared.parser.State.TheVariants as st
 use Rattle.sk_model.specs.Missing.{Begins}
-use Rattle.sk_model.specs.Lines.{AreWithin, IsFirstLong}
+use Rattle.sk_model.specs.Lines.{AreWithin}
 use Rattle.sk_ingest.specs.declared.kind.Kind.{Kind}
 use Rattle.sk_ingest.specs.declared.parts.Parts.{Parts}
 use Rattle.sk_ingest.specs.declared.items.Fault.{Fault}
 use Rattle.sk_ingest.specs.declared.items.Fault.TheVariants as fault
-use Rattle.sk_ingest.specs.Items.{line_limit, item_of, items_by, IsGood, AreGood, IsLongAt, IsBadAt}
+use Rattle.sk_ingest.specs.Items.{line_limit, items_by, IsGood, IsLongAt, IsBadAt}
 use Rattle.sk_ingest.specs.Reading.{ComesLong}
 use Rattle.sk_ingest.specs.Places.{state_after}
 use Rattle.sk_ingest.specs.Records.{Row, records_of, field_of, fields_in, width_of, AreEven, AreGoodRows, IsLongRow, IsBadRow, IsUnevenRow}
 use Rattle.sk_ingest.specs.Parts.{HasTaken}
-use Rattle.sk_ingest.specs.Table.{items_in, EndsAt, Ends}
-use Rattle.sk_ingest.proofs.ItemLaws.{front_is, told_by, long_one, bad_one, no_items}
+use Rattle.sk_ingest.specs.Table.{items_in, Ends}
+use Rattle.sk_ingest.proofs.ItemLaws.{told_by, long_one, bad_one}
 use Rattle.sk_ingest.proofs.Runs.{records_append, records_few}
 
 -- no records are good
@@ -174,10 +174,10 @@ whole_rows p rows taken later has over =
     let more = records default_config (is.back ++ later) in (
       more,
       has.follows later over
-      ∙ ap (λ (l : List ℕ). rows ++ records default_config l) (ap (λ (l : List ℕ). l ++ later) is.joined ∙ append_assoc is.front is.back later)
-      ∙ ap (λ (l : List Row). rows ++ l) (records_append is.front (is.back ++ later) between)
-      ∙ sym (append_assoc rows (records default_config is.front) more)
-      ∙ ap (λ (l : List ℕ). (rows ++ records default_config l) ++ more) (sym given),
+          ∙ ap (λ (l : List ℕ). rows ++ records default_config l) (ap (λ (l : List ℕ). l ++ later) is.joined ∙ append_assoc is.front is.back later)
+          ∙ ap (λ (l : List Row). rows ++ l) (records_append is.front (is.back ++ later) between)
+          ∙ sym (append_assoc rows (records default_config is.front) more)
+          ∙ ap (λ (l : List ℕ). (rows ++ records default_config l) ++ more) (sym given),
     )
 
 pub told_whole : (p : Parts) (rows : List Row) (taken : List ℕ) (old left : Option (List ℕ)) (Q : List Row → Type 0) → HasTaken p rows taken → Consumes old left taken →

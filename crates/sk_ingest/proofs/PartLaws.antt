@@ -1,5 +1,5 @@
 -- Parts of a source's bytes, and what they hold.
-use Rattle.std.proofs.Common.{◌≡◌, ◌≢◌, ◌==◌, ◌⊎◌, ℕ, zero, suc, ◌+◌, ◌-◌, ◌<◌, ◌≤◌, ◌^◌, Bool, true, false, List, [], ◌∷◌, ◌++◌, length, take, drop, slice_index, codes, Option, Some, None, refl, sym, ap, ◌∙◌, subst, inl, inr, arith, append_assoc, append-nil, length-append}
+use Rattle.std.proofs.Common.{◌≡◌, ◌≢◌, ◌==◌, ◌⊎◌, ℕ, zero, suc, ◌+◌, ◌-◌, ◌<◌, ◌≤◌, Bool, true, false, List, [], ◌∷◌, ◌++◌, length, take, drop, codes, Option, Some, None, refl, sym, ap, ◌∙◌, subst, inl, inr, arith, append_assoc, length-append}
 use Rattle.std.proofs.lemmas.Bool.{cases_Bool, eqb-true, false≢true}
 use Rattle.std.proofs.Math.Seq.{take-append_seam}
 use Rattle.std.proofs.lemmas.List.{take_all}
@@ -11,7 +11,7 @@ use Rattle.csv.specs.declared.parser.State.TheVariants as st
 use Rattle.sk_ingest.specs.declared.parts.Parts.{Parts}
 use Rattle.sk_ingest.specs.Places.{state_of, settled, state_after, StaysInside, IsCut}
 use Rattle.sk_ingest.specs.Records.{Row, records_of, open_records_of, complete_records_of}
-use Rattle.sk_ingest.specs.Parts.{IsLed, HasStarted, HasTaken, Holds, Takes, remaining_of, is_mark_front, mark, IsWithoutMark}
+use Rattle.sk_ingest.specs.Parts.{IsLed, HasStarted, HasTaken, Holds, is_mark_front, mark, IsWithoutMark}
 use Rattle.sk_ingest.proofs.Steps.{IsEnd, end_is_skipped}
 use Rattle.sk_ingest.proofs.Runs.{records_append, records_led, open_is_one, records_few}
 use Rattle.sk_ingest.proofs.Cuts.{after_append, after_byte, last_is_end, cut_later, cut_stays}
@@ -116,6 +116,7 @@ takes_more p mid new rows taken more found has going holds cut bytes count most 
     led_longer : (xs : List ℕ) → IsLed xs → IsLed (xs ++ more)
     led_longer [] led = absurd (omega (arith, led.0))
     led_longer (c ∷ rest) led = (omega arith, led.1)
+
     go : (n : ℕ) → IsCut (state_of p.place) more (state_of new.place) n → (n ≡ 0 → new.cut ≡ p.cut) → (0 < n → new.cut ≡ length p.bytes.items + n) →
         IsCut st.StartRecord (p.bytes.items ++ more) (state_of new.place) new.cut
     go zero cut stays later = subst (λ (n : ℕ). IsCut st.StartRecord (p.bytes.items ++ more) (state_of new.place) n) (sym (stays refl))
@@ -124,6 +125,7 @@ takes_more p mid new rows taken more found has going holds cut bytes count most 
         let some : 0 < suc n = omega arith in
         subst (λ (m : ℕ). IsCut st.StartRecord (p.bytes.items ++ more) (state_of new.place) m) (sym (later some))
         (cut_later st.StartRecord p.bytes.items more (state_of p.place) (state_of new.place) p.cut (suc n) has.cut cut some)
+
     some_cut : (n : ℕ) → (n ≡ 0 → new.cut ≡ p.cut) → (0 < n → new.cut ≡ length p.bytes.items + n) → 1 ≤ new.cut
     some_cut zero stays later = omega (arith, stays refl, has.some)
     some_cut (suc n) stays later =
@@ -243,9 +245,11 @@ started p new taken held found has which bytes cut place count most ended = reco
     told_or_over : (later : List ℕ) (b : Bool) → p.ended ≡ b → (new.ended ≡ true → later ≡ []) → (is_mark_front taken ≡ false) ⊎ (later ≡ [])
     told_or_over later true e over = inr (over (ended ∙ e))
     told_or_over later false e over = inl (has.told e)
+
     plain : (later : List ℕ) → (new.ended ≡ true → later ≡ []) → IsWithoutMark taken held → strip_bom (taken ++ later) ≡ held ++ later
     plain later over (inl is) = rw (is.0, is.1) (mark_dropped later)
     plain later over (inr other) = plain_start taken later has.small other.0 (told_or_over later p.ended refl over) ∙ ap (λ (l : List ℕ). l ++ later) (sym other.1)
+
     base : IsCut st.StartRecord (10 ∷ []) st.StartRecord 1
     base = record {
       front = 10 ∷ [];
@@ -256,6 +260,7 @@ started p new taken held found has which bytes cut place count most ended = reco
       inside = none_stays (state_after st.StartRecord (10 ∷ []));
       ends = sym (led_goes_on 10 (inl refl));
     }
+
     go : (n : ℕ) → IsCut st.StartRecord held (state_of new.place) n → IsCut st.StartRecord (10 ∷ held) (state_of new.place) (1 + n)
     go zero cut = cut_stays st.StartRecord (10 ∷ []) held st.StartRecord (state_of new.place) 1 base cut
     go (suc n) cut = cut_later st.StartRecord (10 ∷ []) held st.StartRecord (state_of new.place) 1 (suc n) base cut (omega arith)

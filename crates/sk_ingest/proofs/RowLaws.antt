@@ -1,5 +1,5 @@
 -- Records that a table takes, one after another.
-use Rattle.std.proofs.Common.{Bor, ◌≡◌, ◌≢◌, ◌⊎◌, ◌↔◌, ℕ, zero, suc, ◌+◌, ◌-◌, ◌<◌, ◌≤◌, ◌^◌, Bool, true, false, List, [], ◌∷◌, ◌++◌, length, take, map, get_or, All, Option, Some, None, IsNone, Result, Ok, Err, OnOk, OnErr, IsErrAnd, unwrap_or, refl, sym, ap, ◌∙◌, subst, inl, inr, arith, append_assoc, length-append}
+use Rattle.std.proofs.Common.{Bor, ◌≡◌, ℕ, zero, suc, ◌≤◌, List, [], ◌∷◌, ◌++◌, length, take, get_or, Option, Some, None, Result, Ok, Err, OnOk, OnErr, IsErrAnd, unwrap_or, refl, sym, ap, ◌∙◌, subst, append_assoc}
 use Rattle.std.specs.Result.{IfErr}
 use Rattle.std.proofs.Math.Seq.{take-append_seam}
 use Rattle.std.specs.Option.{option_map}
@@ -10,10 +10,9 @@ use Rattle.sk_model.specs.Missing.{Begins}
 use Rattle.sk_ingest.specs.declared.kind.Kind.{Kind}
 use Rattle.sk_ingest.specs.declared.items.Fault.{Fault}
 use Rattle.sk_ingest.specs.declared.items.Fault.TheVariants as fault
-use Rattle.sk_ingest.specs.Items.{line_limit, item_of, items_by, IsGood, AreGood}
+use Rattle.sk_ingest.specs.Items.{line_limit, items_by, IsGood, AreGood}
 use Rattle.sk_ingest.specs.Records.{Row, field_of, fields_in, width_of, AreEven, AreGoodRows}
-use Rattle.sk_ingest.specs.Table.{first_width, items_in, HasRows, Refuses, EndsAt, Ends}
-use Rattle.sk_ingest.specs.declared.table.Table.{Table}
+use Rattle.sk_ingest.specs.Table.{items_in, Refuses, Ends}
 
 pub field_at_is : (fields : Row) (i : ℕ) → unwrap_or (field_at fields i) [] ≡ get_or fields i []
 unfolding field_at

@@ -1,16 +1,15 @@
 -- How a text is read into records, byte by byte.
-use Rattle.std.proofs.Common.{◌≡◌, ◌==◌, ◌⊎◌, ℕ, zero, suc, ◌+◌, ◌-◌, ◌<◌, ◌≤◌, Bool, true, false, List, [], ◌∷◌, ◌++◌, length, Option, Some, None, unwrap_or, refl, sym, ap, ◌∙◌, subst, inl, inr, arith, append_assoc, append-nil, length-append}
+use Rattle.std.proofs.Common.{◌≡◌, ◌⊎◌, ℕ, zero, suc, ◌+◌, ◌-◌, ◌<◌, ◌≤◌, Bool, true, false, List, [], ◌∷◌, ◌++◌, length, Option, Some, None, unwrap_or, refl, sym, ap, ◌∙◌, subst, inl, inr, arith}
 use Rattle.std.specs.Prelude.{if◌then◌else◌}
-use Rattle.std.proofs.lemmas.Bool.{cases_Bool, false≢true}
+use Rattle.std.proofs.lemmas.Bool.{false≢true}
 use Rattle.csv.specs.Machine.{Read, next_record, step, is_end, ends_at_end, fields_after, field_after}
 use Rattle.csv.specs.Reading.{default_config, records, records_from, records_next}
 use Rattle.csv.specs.declared.parser.State.{State}
 use Rattle.csv.specs.declared.parser.State.TheVariants as st
 use Rattle.csv.specs.declared.parser.Action.{Action}
-use Rattle.csv.specs.declared.parser.Action.TheVariants as act
-use Rattle.sk_ingest.specs.Places.{settled, is_inside, state_after, StaysInside, IsCut}
+use Rattle.sk_ingest.specs.Places.{settled, is_inside, state_after, StaysInside}
 use Rattle.sk_ingest.specs.Records.{Row}
-use Rattle.sk_ingest.proofs.Steps.{after_cr, settled_goes_on, settled_twice, inside_settled, not_both, ends_between, stays_inside, between_goes_on, IsEnd, end_is_skipped, between_is_end, inside_ends, between_ends_none}
+use Rattle.sk_ingest.proofs.Steps.{after_cr, not_both, ends_between, stays_inside, between_goes_on, IsEnd, end_is_skipped, between_ends_none}
 
 -- the records of a text from a state, with the fields and the bytes of the field at hand
 unfoldable pub run : State → Row → List ℕ → List ℕ → List Row
@@ -147,6 +146,7 @@ records_are_from (suc n) s xs less = by (next_record default_config s [] [] xs) 
     rest_is (c ∷ rest) p e less again =
         let fewer = shorter s [] [] (c ∷ rest) p e in
         again p.1 p.2 (omega (arith, fewer))
+
     by : (o : Option Read) → next_record default_config s [] [] xs ≡ o →
         ((s : State) (xs : List ℕ) → length xs < n → records_from default_config n s xs ≡ run s [] [] xs) →
         records_next (records_from default_config n) (next_record default_config s [] [] xs) ≡ run s [] [] xs
@@ -271,6 +271,7 @@ run_few s fields field (c ∷ rest) =
     at_most_one : (b : Bool) → at_end_count b ≤ 1
     at_most_one true = omega arith
     at_most_one false = omega arith
+
     by : (b : Bool) → is_end (step default_config s c).1 ≡ b →
         ((fields : Row) (field : List ℕ) → length (run (step default_config s c).0 fields field rest) ≤ length rest + at_end_count (ends_at_end (step default_config s c).0)) →
         length (run s fields field (c ∷ rest)) ≤ length (c ∷ rest) + at_end_count (ends_at_end s)

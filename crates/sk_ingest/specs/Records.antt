@@ -1,5 +1,5 @@
 -- The records of a text of comma-separated values, a column of them, and which of them are refused.
-use Rattle.std.specs.Prelude.{◌≡◌, ◌≢◌, ◌⊎◌, ℕ, ◌-◌, ◌<◌, ◌≤◌, List, [], ◌∷◌, ◌++◌, length, take, map, All, slice_index_or, codes}
+use Rattle.std.specs.Prelude.{◌≡◌, ◌≢◌, ◌⊎◌, ℕ, ◌-◌, ◌<◌, ◌≤◌, List, [], ◌++◌, length, take, map, All, slice_index_or, codes}
 use Rattle.csv.specs.Reading.{default_config, records, strip_bom}
 use Rattle.sk_ingest.specs.declared.kind.Kind.{Kind}
 use Rattle.sk_ingest.specs.Items.{AreGood, IsLongAt, IsBadAt}

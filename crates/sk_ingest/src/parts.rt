@@ -35,11 +35,7 @@ pub(crate) struct Parts {
 
 impl Parts {
     // The start of a source of fewer than `most` bytes, without a byte order mark.
-    pub(crate) fn start<S: Source>(
-        alloc: Global,
-        most: u64,
-        source: &mut S,
-    ) -> Result<Parts, Fault>
+    pub(crate) fn start<S: Source>(alloc: Global, most: u64, source: &mut S) -> Result<Parts, Fault>
         requires { most ≤ 2 ^ 40 }
         ensures taken { IfOk result (λ parts. (taken : List ℕ) × Consumes (S.left source.old) (S.left source.new) taken × HasTaken parts [] taken) }
         ensures most { IfOk result (λ parts. parts.most ≡ most) }
@@ -123,10 +119,10 @@ impl Parts {
         ensures read_fault { IsErrOf result Fault.ReadFault → Rose (S.faults source.old) (S.faults source.new) }
         ensures read_fault_at { IsErrOf result Fault.ReadFault → (more : List ℕ) × Consumes (S.left source.old) (S.left source.new) more
             × ((rows : List Row) (taken : List ℕ) → HasTaken self.old rows taken
-                → (complete_records_of (taken ++ more) ≡ rows) × (length (taken ++ more) < self.old.most)) }
+            → (complete_records_of (taken ++ more) ≡ rows) × (length (taken ++ more) < self.old.most)) }
         ensures too_much { IsErrOf result Fault.TooMuch → (more : List ℕ) × Consumes (S.left source.old) (S.left source.new) more
             × ((rows : List Row) (taken : List ℕ) → HasTaken self.old rows taken
-                → (complete_records_of (taken ++ more) ≡ rows) × (length (taken ++ more) ≡ self.old.most)) }
+            → (complete_records_of (taken ++ more) ≡ rows) × (length (taken ++ more) ≡ self.old.most)) }
         ensures err { IfErr result IsOfSource }
         ensures later { S.faults source.old ≤ S.faults source.new }
         ensures stays { S.stands_on source.new ≡ S.stands_on source.old }

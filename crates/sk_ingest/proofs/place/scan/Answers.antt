@@ -1,4 +1,4 @@
-use Rattle.std.proofs.Common.{◌≡◌, ◌+◌, ℕ, List, take, ◌++◌, ◌∷◌, [], length, get_or, subst, arith, sym, true, false}
+use Rattle.std.proofs.Common.{◌≡◌, ◌+◌, ℕ, List, take, ◌++◌, ◌∷◌, [], length, get_or, subst, arith, sym}
 use Rattle.std.proofs.lemmas.List.{take_more, take_all, length-take-le}
 use Rattle.sk_ingest.specs.Places.{state_of, IsCut}
 use Rattle.sk_ingest.proofs.Cuts.{cut_none, cut_here, cut_before}

@@ -1,4 +1,4 @@
-use Rattle.std.proofs.Common.{◌≡◌, ◌<◌, ◌≤◌, ◌+◌, ◌-◌, ◌^◌, ℕ, List, [], ◌++◌, length, take, Ok, Err, Bool, true, false, refl, sym, ap, ◌∙◌, subst, arith, length-append}
+use Rattle.std.proofs.Common.{◌≡◌, ◌<◌, ◌≤◌, ◌+◌, ◌^◌, ℕ, List, [], ◌++◌, length, take, Ok, Err, Bool, false, refl, sym, ap, ◌∙◌, subst, arith}
 use Rattle.std.proofs.KnownBytes.{Consumes-trans}
 use Rattle.csv.specs.Reading.{default_config, records}
 use Rattle.sk_ingest.specs.declared.kind.Kind.{Kind}

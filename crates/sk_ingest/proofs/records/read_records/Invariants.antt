@@ -3,7 +3,6 @@ use Rattle.std.specs.Io.KnownBytes.{Consumes, IsAtEnd}
 use Rattle.sk_ingest.specs.Records.{Row}
 use Rattle.sk_ingest.specs.Parts.{HasTaken, remaining_of}
 use Rattle.sk_ingest.specs.Table.{items_in, HasRows}
-use Rattle.sk_ingest.proofs.EndLaws.{none_good}
 use Rattle.sk_ingest.proofs.records.read_records.Given as goal
 
 abbrev pub invariant-part : goal.invariant-part

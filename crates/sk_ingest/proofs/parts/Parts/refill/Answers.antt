@@ -1,4 +1,4 @@
-use Rattle.std.proofs.Common.{◌≡◌, ◌≤◌, ◌<◌, ◌+◌, ℕ, List, ◌++◌, length, drop, Err, true, false, refl, sym, ap, ◌∙◌, subst, arith, length-append, append_assoc}
+use Rattle.std.proofs.Common.{◌≡◌, ◌+◌, ℕ, List, ◌++◌, length, Err, refl, ap, ◌∙◌, subst, arith, length-append, append_assoc}
 use Rattle.std.proofs.KnownBytes.{Consumes-trans}
 use Rattle.sk_ingest.specs.declared.items.Fault.{Fault}
 use Rattle.sk_ingest.specs.Places.{state_of, IsCut}
@@ -106,4 +106,3 @@ piece-preserved g c =
       later = omega (arith, c.in_ok-take.ensures.later, inv.later);
       stays = c.in_ok-take.ensures.stays ∙ inv.stays;
     }
-

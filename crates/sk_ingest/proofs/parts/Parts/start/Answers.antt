@@ -1,4 +1,4 @@
-use Rattle.std.proofs.Common.{◌≡◌, ◌<◌, ℕ, List, [], ◌∷◌, drop, take, Err, Bool, true, refl, sym, ap, ◌∙◌, subst, arith}
+use Rattle.std.proofs.Common.{◌≡◌, [], ◌∷◌, Err, true, refl, sym, ap, ◌∙◌, arith}
 use Rattle.sk_ingest.specs.declared.items.Fault.{Fault}
 use Rattle.sk_ingest.specs.Parts.{is_mark_front}
 use Rattle.sk_ingest.proofs.FaultLaws.{given_fault}

@@ -1,5 +1,4 @@
-use Rattle.std.proofs.Common.{Bor, ◌≡◌, ◌+◌, ◌<◌, ◌≤◌, ◌^◌, ℕ, List, [], ◌∷◌, ◌++◌, length, take, Bool, true, false, Ok, Some, refl, sym, ap, ◌∙◌, subst, arith, length-append, append-nil, append_assoc}
-use Rattle.csv.specs.Machine.{Read}
+use Rattle.std.proofs.Common.{◌≡◌, ◌+◌, ◌<◌, ◌≤◌, ◌^◌, ℕ, List, [], ◌∷◌, ◌++◌, length, Bool, true, false, Ok, refl, sym, ap, ◌∙◌, subst, arith, length-append, append-nil, append_assoc}
 use Rattle.csv.specs.Reading.{default_config, records}
 use Rattle.csv.specs.Records.{fields_of}
 use Rattle.csv.specs.declared.parser.State.TheVariants as st
@@ -110,14 +109,14 @@ returns-in_err-take-clause-ends g c =
     let E : Fault → Type 0 = λ f. (rows : List Row) → length rows + length all ≤ 2 ^ 40 → HasRows c.args.self.now rows → g.T.Taker.stands_for c.args.taker.now (items_in kind column rows) → Ends kind column P (rows ++ all) f in
     at_fault c.from_residual-in_err-take.result c.in_err-take.field-0.0 E c.from_residual-in_err-take.ensures.1
     (λ rows few has stands.
-      let given = rows ++ inv.given in
-      let has_given = inv.has rows has in
-      let good : AreGoodRows kind column given = under_same _ _ _ _ (λ (k : Kind) (n : ℕ). AreGoodRows k n given) inv.kind inv.column has_given.good in
-      let refused : Refuses kind column given row c.in_err-take.field-0.0 =
-      under_same _ _ _ _ (λ (k : Kind) (n : ℕ). Refuses k n given row c.in_err-take.field-0.0) inv.kind inv.column (c.in_err-take.ensures.refused given has_given) in
-      let kept : P (items_in kind column given) = subst (λ (t : _). g.T.Taker.stands_for t (items_in kind column given)) (sym c.in_err-take.ensures.kept) (inv.taken rows few has stands) in
-      let begins : rows ++ all ≡ (given ++ row ∷ []) ++ more = rows_in_front rows all (inv.given ++ row ∷ []) more split ∙ ap (λ (l : List Row). l ++ more) (sym (append_assoc rows inv.given (row ∷ []))) in
-      ends_at kind column P (rows ++ all) given row c.in_err-take.field-0.0 (more, begins) good refused kept)
+    let given = rows ++ inv.given in
+    let has_given = inv.has rows has in
+    let good : AreGoodRows kind column given = under_same _ _ _ _ (λ (k : Kind) (n : ℕ). AreGoodRows k n given) inv.kind inv.column has_given.good in
+    let refused : Refuses kind column given row c.in_err-take.field-0.0 =
+    under_same _ _ _ _ (λ (k : Kind) (n : ℕ). Refuses k n given row c.in_err-take.field-0.0) inv.kind inv.column (c.in_err-take.ensures.refused given has_given) in
+    let kept : P (items_in kind column given) = subst (λ (t : _). g.T.Taker.stands_for t (items_in kind column given)) (sym c.in_err-take.ensures.kept) (inv.taken rows few has stands) in
+    let begins : rows ++ all ≡ (given ++ row ∷ []) ++ more = rows_in_front rows all (inv.given ++ row ∷ []) more split ∙ ap (λ (l : List Row). l ++ more) (sym (append_assoc rows inv.given (row ∷ []))) in
+    ends_at kind column P (rows ++ all) given row c.in_err-take.field-0.0 (more, begins) good refused kept)
 
 pub returns-clause-rows : goal.returns-clause-rows
 returns-clause-rows g c =
