@@ -15,3 +15,6 @@ mod table;
 pub use items::{Fault, Intake, Taker, read_items};
 pub use kind::Kind;
 pub use reader::{LINE_LIMIT, LineFault, LineReader};
+
+#[cfg(test)]
+mod tests;
