@@ -30,10 +30,14 @@ pub record Asked : Type 0 where
 abbrev pub asked_by : (List Given → Option Command) → List Given → Option Asked
 asked_by by given = option_and_then (λ command. option_map (λ file. record { command = command; file = file }) (file_by given)) (by given)
 
+-- the column of the records that are read in place of lines; 0 for lines
+abbrev pub column_by : List Given → Option ℕ
+column_by given = if is_given name.Csv given then number_in 1 4096 1 (value_behind name.Csv given) else Some 0
+
 -- the options of `count`
 abbrev pub count_by : List Given → Option Command
 count_by given =
-    option_and_then (λ k. option_map (λ seed. Count k (if is_given name.Raw given then kind.Raw else kind.Hash seed)) (seed_by given))
+    option_and_then (λ k. option_and_then (λ seed. option_map (λ column. Count k (if is_given name.Raw given then kind.Raw else kind.Hash seed) column) (column_by given)) (seed_by given))
     (number_in 2 32768 4096 (value_behind name.K given))
 
 -- the options of `hash`
@@ -61,7 +65,7 @@ request_of (word ∷ words) =
 
 -- the numbers of a command are within their limits
 abbrev pub IsWithin : Command → Type 0
-IsWithin (Count k kind) = (2 ≤ k) × (k ≤ 32768)
+IsWithin (Count k kind column) = (2 ≤ k) × (k ≤ 32768)
 IsWithin (Hash seed) = Unit {0}
 IsWithin Replay = Unit {0}
 IsWithin Help = Unit {0}

@@ -4,7 +4,8 @@ use Rattle.std.specs.Io.KnownBytes.{Appends}
 use Rattle.sk_model.specs.Causes.{AppendsFront}
 use Rattle.sk_model.specs.Lines.{lines_of, open_lines_of, AreWithin, IsFirstLong}
 use Rattle.sk_model.specs.Sketch.{estimate_of}
-use Rattle.sk_ingest.specs.Items.{line_limit, items_by, AreGood, IsLongAt, IsBadAt, IsGoodSoFar, complete_lines_of}
+use Rattle.sk_ingest.specs.Items.{line_limit, items_by, complete_lines_of}
+use Rattle.sk_ingest.specs.Units.{units_of, IsReadable, IsReadableSoFar, IsLongUnit, IsBadUnit, IsUnevenUnit}
 use Rattle.sk_cli.specs.Count.{estimate_line}
 use Rattle.sk_cli.specs.Hash.{hash_text}
 use Rattle.sk_cli.specs.Replay.{IsAnswered, IsNoMore}
@@ -14,7 +15,7 @@ use Rattle.sk_cli.specs.declared.command.Command.TheVariants.{Count, Hash, Repla
 
 -- whether a command reads
 abbrev pub reads : Command → Bool
-reads (Count k kind) = true
+reads (Count k kind column) = true
 reads (Hash seed) = true
 reads Replay = true
 reads Help = false
@@ -26,9 +27,9 @@ text_for command left = if reads command then left else Some []
 
 -- ---- what is due where nothing is refused
 
--- no line of a text is refused, and this is the text that is due for it
+-- no line of a text is refused, or no record, and this is the text that is due for it
 abbrev pub IsDue : Command → List ℕ → List ℕ → Type 0
-IsDue (Count k kind) text due = AreGood kind (lines_of text) × (due ≡ estimate_line (estimate_of k (items_by kind (lines_of text))))
+IsDue (Count k kind column) text due = IsReadable kind column text × (due ≡ estimate_line (estimate_of k (items_by kind (units_of column text))))
 IsDue (Hash seed) text due = AreWithin line_limit (lines_of text) × (due ≡ hash_text seed (lines_of text))
 IsDue Replay text due = AreWithin line_limit (lines_of text) × IsAnswered (lines_of text) due × (0 < length (lines_of text))
 IsDue Help text due = due ≡ HELP.now
@@ -37,7 +38,7 @@ IsDue Version text due = due ≡ VERSION.now
 -- no line of these bytes of a text that may go on is refused so far, and this is the text that is due for those that
 -- have ended in them
 abbrev pub IsDueSoFar : Command → List ℕ → List ℕ → Type 0
-IsDueSoFar (Count k kind) taken due = IsGoodSoFar kind taken × (due ≡ [])
+IsDueSoFar (Count k kind column) taken due = IsReadableSoFar kind column taken × (due ≡ [])
 IsDueSoFar (Hash seed) taken due = AreWithin line_limit (open_lines_of taken) × (due ≡ hash_text seed (complete_lines_of taken))
 IsDueSoFar Replay taken due = AreWithin line_limit (open_lines_of taken) × IsAnswered (complete_lines_of taken) due
 IsDueSoFar Help taken due = due ≡ []
@@ -45,21 +46,21 @@ IsDueSoFar Version taken due = due ≡ []
 
 -- none of the first lines of a text is refused, and this is the text that is due for them before more is read
 abbrev pub IsDueBefore : Command → List ℕ → List ℕ → Type 0
-IsDueBefore (Count k kind) text due = due ≡ []
+IsDueBefore (Count k kind column) text due = due ≡ []
 IsDueBefore (Hash seed) text due = (n : ℕ) × AreWithin line_limit (take n (lines_of text)) × (due ≡ hash_text seed (take n (lines_of text)))
 IsDueBefore Replay text due = (n : ℕ) × AreWithin line_limit (take n (lines_of text)) × IsAnswered (take n (lines_of text)) due
 IsDueBefore Help text due = due ≡ []
 IsDueBefore Version text due = due ≡ []
 
--- ---- where a text is refused: at line n, counted from 1, which is the first that is refused
+-- ---- where a text is refused: at line or record n, counted from 1, which is the first that is refused
 
 -- line n is the first that is too long
 abbrev pub IsLongLine : ℕ → List (List ℕ) → Type 0
 IsLongLine n lines = (1 ≤ n) × IsFirstLong line_limit (n - 1) lines
 
--- line n is refused as too long, and this is the text that is due for the lines before it
+-- line n, or the field of record n, is refused as too long, and this is the text that is due for the lines before it
 abbrev pub IsLong : Command → ℕ → List ℕ → List ℕ → Type 0
-IsLong (Count k kind) n text due = IsLongAt kind n (lines_of text) × (due ≡ [])
+IsLong (Count k kind column) n text due = IsLongUnit kind column n text × (due ≡ [])
 IsLong (Hash seed) n text due = IsLongLine n (lines_of text) × (due ≡ hash_text seed (take (n - 1) (lines_of text)))
 IsLong Replay n text due = IsLongLine n (lines_of text) × IsAnswered (take (n - 1) (lines_of text)) due
 IsLong Help n text due = ⊥
@@ -67,11 +68,18 @@ IsLong Version n text due = ⊥
 
 -- line n is refused as no item, and this is the text that is due for the lines before it
 abbrev pub IsBadItem : Command → ℕ → List ℕ → List ℕ → Type 0
-IsBadItem (Count k kind) n text due = IsBadAt kind n (lines_of text) × (due ≡ [])
-IsBadItem (Hash seed) n text due = ⊥
-IsBadItem Replay n text due = ⊥
-IsBadItem Help n text due = ⊥
-IsBadItem Version n text due = ⊥
+IsBadItem (Count k kind column) n text due = (column ≡ 0) × IsBadUnit kind column n text × (due ≡ [])
+IsBadItem other n text due = ⊥
+
+-- the field of record n is refused as no item, and this is the text that is due for the records before it
+abbrev pub IsBadField : Command → ℕ → List ℕ → List ℕ → Type 0
+IsBadField (Count k kind column) n text due = (0 < column) × IsBadUnit kind column n text × (due ≡ [])
+IsBadField other n text due = ⊥
+
+-- record n is refused by its number of fields, and this is the text that is due for the records before it
+abbrev pub IsUneven : Command → ℕ → List ℕ → List ℕ → Type 0
+IsUneven (Count k kind column) n text due = IsUnevenUnit kind column n text × (due ≡ [])
+IsUneven other n text due = ⊥
 
 -- line n, counted from 1; an empty one, where there is none
 abbrev pub line_at : ℕ → List (List ℕ) → List ℕ
@@ -86,11 +94,8 @@ pub record IsBadLine (n : ℕ) (lines : List (List ℕ)) : Type 0 where
 
 -- line n is refused as no event that is enabled, and this is the text that is due for the lines before it
 abbrev pub IsBadEvent : Command → ℕ → List ℕ → List ℕ → Type 0
-IsBadEvent (Count k kind) n text due = ⊥
-IsBadEvent (Hash seed) n text due = ⊥
 IsBadEvent Replay n text due = IsBadLine n (lines_of text) × IsAnswered (take (n - 1) (lines_of text)) due
-IsBadEvent Help n text due = ⊥
-IsBadEvent Version n text due = ⊥
+IsBadEvent other n text due = ⊥
 
 -- ---- what is written
 

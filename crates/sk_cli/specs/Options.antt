@@ -6,7 +6,7 @@ use Rattle.sk_model.specs.Numbers.{number_of}
 use Rattle.sk_cli.specs.declared.options.Verb.{Verb}
 use Rattle.sk_cli.specs.declared.options.Verb.TheVariants.{Count, Hash, Replay}
 use Rattle.sk_cli.specs.declared.options.Name.{Name}
-use Rattle.sk_cli.specs.declared.options.Name.TheVariants.{File, K, Raw, Seed}
+use Rattle.sk_cli.specs.declared.options.Name.TheVariants.{Csv, File, K, Raw, Seed}
 
 -- a word, as its bytes
 abbrev pub Word : Type 0
@@ -18,13 +18,15 @@ texts_of words = map string_bytes words
 -- the option that a word names
 abbrev pub name_of : Word → Option Name
 name_of word =
+    if bytes_eq word (codes "--csv") then Some Csv else (
     if bytes_eq word (codes "--file") then Some File else (
     if bytes_eq word (codes "--k") then Some K else (
     if bytes_eq word (codes "--raw") then Some Raw else (
-    if bytes_eq word (codes "--seed") then Some Seed else None)))
+    if bytes_eq word (codes "--seed") then Some Seed else None))))
 
 -- whether a value stands behind a name
 abbrev pub takes_value : Name → Bool
+takes_value Csv = true
 takes_value File = true
 takes_value K = true
 takes_value Seed = true
@@ -45,10 +47,11 @@ Given = Name × Word
 
 -- a number for each name, by which names are told apart
 abbrev pub place_of : Name → ℕ
-place_of File = 0
-place_of K = 1
-place_of Raw = 2
-place_of Seed = 3
+place_of Csv = 0
+place_of File = 1
+place_of K = 2
+place_of Raw = 3
+place_of Seed = 4
 
 -- the name, where the command has it
 abbrev pub allowed_by : Verb → Option Name → Option Name

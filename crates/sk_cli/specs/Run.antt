@@ -6,10 +6,10 @@ use Rattle.sk_model.specs.Causes.{Rose, AppendsFront}
 use Rattle.sk_io.specs.Files.{told_file}
 use Rattle.sk_cli.specs.Options.{Word}
 use Rattle.sk_cli.specs.Command.{Asked}
-use Rattle.sk_cli.specs.Due.{reads, text_for, IsDue, IsDueSoFar, IsDueBefore, IsLong, IsBadItem, IsBadEvent, Writes, WritesFront}
+use Rattle.sk_cli.specs.Due.{reads, text_for, IsDue, IsDueSoFar, IsDueBefore, IsLong, IsBadItem, IsBadField, IsBadEvent, IsUneven, Writes, WritesFront}
 use Rattle.sk_cli.specs.declared.command.Command.{Command}
 use Rattle.sk_cli.specs.declared.fault.Fault.{Fault}
-use Rattle.sk_cli.specs.declared.fault.Fault.TheVariants.{OutOfMemory, Usage, ReadFault, WriteFault, LongLine, BadItem, BadEvent, OpenFault, TooMuch}
+use Rattle.sk_cli.specs.declared.fault.Fault.TheVariants.{OutOfMemory, Usage, ReadFault, WriteFault, LongLine, BadItem, BadField, BadEvent, OpenFault, BadCsv, TooMuch}
 
 -- a source and a sink: the bytes that are left and those that were written, where they tell them, and their counts
 -- of faults
@@ -39,7 +39,7 @@ pub record Stops (command : Command) (old new : Streams) (taken : List ℕ) : Ty
 abbrev pub EndsWithin : Command → Streams → Streams → Type 0
 EndsWithin command old new = IfSome (text_for command old.left) (λ text. WritesFront (λ due. IsDue command text due ⊎ IsDueBefore command text due) old.written new.written)
 
--- a line is refused, and what is due for the lines before it was written
+-- a line or a record is refused, and what is due for those before it was written
 abbrev pub Refuses : Command → (List ℕ → List ℕ → Type 0) → Streams → Streams → Type 0
 Refuses command IsRefused old new = IfSome (text_for command old.left) (λ text. Writes (IsRefused text) old.written new.written)
 
@@ -51,8 +51,10 @@ Ends command most old new ReadFault = Rose old.read_faults new.read_faults × ((
 Ends command most old new WriteFault = Rose old.write_faults new.write_faults × EndsWithin command old new
 Ends command most old new (LongLine n) = Refuses command (IsLong command n) old new
 Ends command most old new (BadItem n) = Refuses command (IsBadItem command n) old new
+Ends command most old new (BadField n) = Refuses command (IsBadField command n) old new
 Ends command most old new (BadEvent n) = Refuses command (IsBadEvent command n) old new
 Ends command most old new OpenFault = ⊥
+Ends command most old new (BadCsv n) = Refuses command (IsUneven command n) old new
 Ends command most old new TooMuch = (taken : List ℕ) × Stops command old new taken × (length taken ≡ most)
 
 -- how a command went

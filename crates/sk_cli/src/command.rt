@@ -2,7 +2,7 @@
 ghost use Rattle.std.specs.Prelude.{◌≡◌, IfSome};
 ghost use Rattle.std.specs.Option.{option_map, option_copied};
 ghost use Rattle.sk_cli.specs.Options.{texts_of};
-ghost use Rattle.sk_cli.specs.Command.{request_of, count_by, hash_by, replay_by, seed_by, file_by, asked_by, alone, IsWithin};
+ghost use Rattle.sk_cli.specs.Command.{request_of, count_by, hash_by, replay_by, seed_by, column_by, file_by, asked_by, alone, IsWithin};
 ghost use Rattle.sk_cli.specs.Asking.{asked_of};
 
 use crate::options::{Name, Options, Verb};
@@ -11,8 +11,9 @@ use sk_ingest::Kind;
 /// What the program is asked to do.
 #[derive(Clone, Copy, Debug, PartialEq, Eq)]
 pub enum Command {
-    /// Estimate how many distinct items there are, by the k smallest.
-    Count { k: u32, kind: Kind },
+    /// Estimate how many distinct items there are, by the k smallest: those of the lines at column 0,
+    /// else of the fields in this column, counted from 1.
+    Count { k: u32, kind: Kind, column: u32 },
     /// Write the hash of each line that is not empty, under a seed.
     Hash { seed: u32 },
     /// Play a schedule and write the answer to each event.
@@ -87,7 +88,8 @@ impl Command {
         } else {
             Kind::Hash(seed)
         };
-        Some(Command::Count { k, kind })
+        let column = column_in(options)?;
+        Some(Command::Count { k, kind, column })
     }
 
     fn hash(options: &Options<'_>) -> Option<Command>
@@ -120,6 +122,17 @@ fn seed_in(options: &Options<'_>) -> Option<u32>
     ensures { result ≡ seed_by options.now }
 {
     Some(options.number(Name::Seed, 0, u64::from(u32::MAX), 0)? as u32)
+}
+
+// The column of the records that are read in place of lines; 0 for lines.
+fn column_in(options: &Options<'_>) -> Option<u32>
+    ensures { result ≡ column_by options.now }
+{
+    if options.has(Name::Csv) {
+        Some(options.number(Name::Csv, 1, 4_096, 1)? as u32)
+    } else {
+        Some(0)
+    }
 }
 
 // The name of the file, if there is one. `None` where it is empty.

@@ -82,7 +82,7 @@ pub fn execute<S: Source, O: Sink>(
     ensures stays { S.stands_on source.new ≡ S.stands_on source.old }
 {
     match command {
-        Command::Count { k, kind } => count(alloc, k, kind, most, source, out),
+        Command::Count { k, kind, column } => count(alloc, k, kind, column, most, source, out),
         Command::Hash { seed } => hash(alloc, seed, most, source, out),
         Command::Replay => replay(alloc, most, source, out),
         Command::Help => write_text(out, HELP.as_bytes()),

@@ -17,6 +17,7 @@ pub enum Verb {
 /// The name of an option.
 #[derive(Clone, Copy, Debug, PartialEq, Eq)]
 pub enum Name {
+    Csv,
     File,
     K,
     Raw,
@@ -29,6 +30,7 @@ impl Name {
         ensures { result ≡ name_of word.now }
     {
         match word {
+            "--csv" => Some(Name::Csv),
             "--file" => Some(Name::File),
             "--k" => Some(Name::K),
             "--raw" => Some(Name::Raw),
@@ -42,7 +44,7 @@ impl Name {
         ensures { result ≡ takes_value self }
     {
         match self {
-            Name::File | Name::K | Name::Seed => true,
+            Name::Csv | Name::File | Name::K | Name::Seed => true,
             Name::Raw => false,
         }
     }

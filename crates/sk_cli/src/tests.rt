@@ -1,3 +1,4 @@
+mod columns;
 mod files;
 mod replays;
 
@@ -205,6 +206,11 @@ fn words_that_are_no_command(rt: HostRuntime) -> Result<(), Fail> {
         "count --raw --raw",
         "count --k --raw",
         "count --seed 4294967296",
+        "count --csv",
+        "count --csv 0",
+        "count --csv 4097",
+        "count --csv 1 --csv 1",
+        "hash --csv 1",
         "count --file",
         "count --file ''",
         "count --file a --file a",
@@ -281,6 +287,7 @@ fn too_much(rt: HostRuntime) -> Result<(), Fail> {
         let command = Command::Count {
             k: 4,
             kind: Kind::Raw,
+            column: 0,
         };
         assert_eq!(rt; execute(alloc, command, 8, &mut input, &mut out), want);
     }

@@ -4,7 +4,7 @@ use sk_io::FileShelf;
 
 const QUICK: &str = "hello\nhello, world\nThe quick brown fox jumps over the lazy dog.\n";
 
-// Four files, and the calls that fail.
+// Five files, and the calls that fail.
 fn shelf_of(alloc: Global, open_fails: &[u64], read_fails: &[u64]) -> Result<MemShelf, Fail> {
     let mut files = Vec::new(alloc);
     let texts = [
@@ -12,6 +12,7 @@ fn shelf_of(alloc: Global, open_fails: &[u64], read_fails: &[u64]) -> Result<Mem
         ("ids", "5\n3\n"),
         ("--raw", "7\n"),
         ("plan", "machine 2 1 1\nsplit 0\n"),
+        ("table", "1,5\n2,5\n"),
     ];
     for (name, text) in texts {
         let name = String::from_str(alloc, name)?;
@@ -31,7 +32,7 @@ fn run_off_input<F: Shelf>(alloc: Global, line: &str, shelf: &mut F) -> Result<R
 #[test]
 fn a_file_is_read_in_place_of_the_input(rt: HostRuntime) -> Result<(), Fail> {
     let alloc = rt.alloc();
-    let cases: [(&str, &[u8]); 7] = [
+    let cases: [(&str, &[u8]); 8] = [
         (
             "count --file quick --k 2",
             b"estimate 281474976710656/224131386917309\n",
@@ -47,6 +48,7 @@ fn a_file_is_read_in_place_of_the_input(rt: HostRuntime) -> Result<(), Fail> {
         ("count --seed 7 --file quick", b"estimate 3/1\n"),
         ("count --file --raw", b"estimate 1/1\n"),
         ("replay --file plan", b"token 1\n"),
+        ("count --csv 2 --file table", b"estimate 1/1\n"),
         (
             "hash --file quick",
             b"cbd8a7b341bd\n342fac623a5e\ncd99481f9ee9\n",
