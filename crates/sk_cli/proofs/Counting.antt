@@ -1,5 +1,5 @@
 -- How `count` goes.
-use Rattle.std.proofs.Common.{◌≡◌, ◌⊎◌, ℕ, zero, suc, ◌<◌, List, [], length, take, Option, Result, Ok, Err, OnOk, OnErr, IfErr, inl, refl, sym, subst, arith}
+use Rattle.std.proofs.Common.{◌≡◌, ◌⊎◌, ℕ, zero, suc, ◌<◌, List, [], length, Option, Result, Ok, Err, OnOk, OnErr, IfErr, inl, refl, sym, subst, arith}
 use Rattle.std.specs.Option.{IfSome}
 use Rattle.std.specs.Result.{MatchResult}
 use Rattle.std.specs.Io.KnownBytes.{Appends, Consumes, IsAtEnd}
@@ -18,7 +18,7 @@ use Rattle.sk_cli.specs.Count.{estimate_line}
 use Rattle.sk_cli.specs.Due.{IsDue, IsDueBefore, IsLong, IsBadItem, IsBadField, IsUneven, Writes, WritesFront}
 use Rattle.sk_cli.specs.Fault.{fault_by, bad_unit}
 use Rattle.sk_cli.specs.Run.{Streams, Stops, Finishes, Ends, EndsWithin, Executes}
-use Rattle.sk_cli.proofs.Endings.{told_then, told_both, nothing_yet, none_within, ends_writing, on_ok_then, on_err_both}
+use Rattle.sk_cli.proofs.Endings.{told_then, told_both, nothing_yet, ends_writing, on_ok_then, on_err_both}
 
 pub no_count_yet : (k : ℕ) (kind : Kind) (column : ℕ) (a b : Streams) → b.written ≡ a.written → EndsWithin (Count k kind column) a b
 no_count_yet k kind column a b same = nothing_yet (Count k kind column) a b [] same (λ text. refl)

@@ -1,10 +1,10 @@
 -- How a command ends.
-use Rattle.std.proofs.Common.{◌≡◌, ◌⊎◌, inl, inr, ℕ, ◌+◌, ◌-◌, ◌<◌, ◌≤◌, List, [], ◌∷◌, ◌++◌, length, take, Option, Some, None, Result, Ok, Err, OnOk, OnErr, IfErr, IsErrAnd, true, refl, sym, ap, ◌∙◌, subst, arith}
+use Rattle.std.proofs.Common.{◌≡◌, ◌⊎◌, inr, ℕ, ◌-◌, List, [], Option, Some, None, Result, Ok, Err, OnOk, OnErr, IfErr, IsErrAnd, sym, subst, arith}
 use Rattle.std.specs.Option.{IfSome}
 use Rattle.std.specs.Io.KnownBytes.{Appends}
 use Rattle.std.proofs.KnownBytes.{Appends-nil}
 use Rattle.sk_model.specs.Causes.{AppendsFront}
-use Rattle.sk_model.specs.Lines.{lines_of, AreWithin}
+use Rattle.sk_model.specs.Lines.{AreWithin}
 use Rattle.sk_ingest.specs.Items.{line_limit}
 use Rattle.sk_cli.specs.declared.command.Command.{Command}
 use Rattle.sk_cli.specs.declared.fault.Fault.{Fault}

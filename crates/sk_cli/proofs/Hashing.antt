@@ -1,8 +1,8 @@
 -- Hashes as text.
-use Rattle.std.proofs.Common.{◌≡◌, ℕ, zero, suc, ◌+◌, ◌-◌, ◌<◌, ◌≤◌, ◌/◌, ◌%◌, List, [], ◌∷◌, ◌++◌, length, take, drop, get_or, set, flat_map, Option, Some, None, refl, sym, ap, ◌∙◌, subst, arith, append_assoc, append-nil, IsSome, rules}
+use Rattle.std.proofs.Common.{◌≡◌, ℕ, zero, suc, ◌+◌, ◌-◌, ◌<◌, ◌/◌, ◌%◌, List, [], ◌∷◌, ◌++◌, length, drop, set, flat_map, refl, sym, ap, ◌∙◌, arith, append_assoc, append-nil}
 use Rattle.std.proofs.lemmas.Grind.{flat_map-append}
 use Rattle.sk_model.specs.Murmur.{hash_of}
-use Rattle.sk_model.specs.Lines.{lines_of, filled, AreWithin}
+use Rattle.sk_model.specs.Lines.{filled}
 use Rattle.sk_model.proofs.Lines.{filled_append, filled_of_one, filled_of_empty}
 use Rattle.sk_cli.specs.declared.command.Command.TheVariants.{Hash}
 use Rattle.sk_cli.specs.Hash.{hex, hex_digit, hash_line, hash_text}

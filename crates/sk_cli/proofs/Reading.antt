@@ -1,10 +1,10 @@
 -- How a command goes that reads line by line.
-use Rattle.std.proofs.Common.{◌≡◌, ◌⊎◌, inr, ℕ, ◌+◌, ◌-◌, ◌<◌, ◌≤◌, ◌^◌, Bool, true, false, if◌then◌else◌, List, [], ◌∷◌, ◌++◌, length, take, get_or, Option, Some, None, IsSome, refl, sym, ap, ◌∙◌, subst, arith, rules}
+use Rattle.std.proofs.Common.{◌≡◌, ◌⊎◌, inr, ℕ, ◌+◌, ◌-◌, ◌<◌, ◌≤◌, Bool, true, false, if◌then◌else◌, List, [], ◌∷◌, ◌++◌, length, take, get_or, Option, Some, IsSome, refl, sym, ap, ◌∙◌, subst, arith, rules}
 use Rattle.std.proofs.lemmas.Bool.{false≢true}
 use Rattle.std.specs.Bool.{OnTrue}
 use Rattle.std.specs.Option.{IfSome}
 use Rattle.std.specs.Io.KnownBytes.{Appends, Consumes, IsAtEnd}
-use Rattle.std.proofs.KnownBytes.{Appends-nil, Consumes-nil, Consumes-trans}
+use Rattle.std.proofs.KnownBytes.{Consumes-nil, Consumes-trans}
 use Rattle.sk_model.specs.Causes.{Rose, AppendsFront}
 use Rattle.sk_model.specs.Missing.{Begins}
 use Rattle.sk_model.specs.Murmur.{hash_of}
@@ -12,7 +12,7 @@ use Rattle.sk_model.specs.Lines.{lines_of, open_lines_of, AreWithin, IsFirstLong
 use Rattle.sk_ingest.specs.declared.kind.Kind.TheVariants as kind
 use Rattle.sk_ingest.specs.declared.reader.LineFault.{LineFault}
 use Rattle.sk_ingest.specs.declared.reader.LineFault.TheVariants as stop
-use Rattle.sk_ingest.specs.Items.{line_limit, IsGood, complete_lines_of}
+use Rattle.sk_ingest.specs.Items.{line_limit, complete_lines_of}
 use Rattle.sk_ingest.specs.Reading.{Reading, HasGiven, GivesNext, GivesNone, FindsLong, Stands, Stops as StopsAt, ComesLong}
 use Rattle.sk_ingest.proofs.ItemLaws.{front_is, told_by, with_rest, stood, has_begun, read_whole}
 use Rattle.sk_cli.specs.declared.command.Command.{Command}

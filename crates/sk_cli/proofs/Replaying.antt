@@ -1,16 +1,14 @@
 -- How `replay` goes.
-use Rattle.std.proofs.Common.{◌≡◌, ℕ, ◌+◌, ◌-◌, ◌<◌, ◌≤◌, ◌^◌, max, true, List, [], ◌∷◌, ◌++◌, length, take, map, flat_map, get_or, Option, Some, None, refl, sym, ap, ◌∙◌, subst, arith, append-nil, append_assoc, length-append}
+use Rattle.std.proofs.Common.{◌≡◌, ℕ, ◌+◌, ◌-◌, true, List, [], ◌∷◌, ◌++◌, length, take, map, flat_map, get_or, Option, Some, None, refl, sym, ap, ◌∙◌, subst, arith, append-nil, append_assoc, length-append}
 use Rattle.std.proofs.lemmas.Grind.{flat_map-append}
 use Rattle.std.proofs.lemmas.List.{map-append}
-use Rattle.std.specs.Option.{IfSome}
 use Rattle.std.specs.Io.KnownBytes.{Appends, Consumes, IsAtEnd}
-use Rattle.std.proofs.KnownBytes.{Appends-nil, Appends-trans, Consumes-trans}
+use Rattle.std.proofs.KnownBytes.{Appends-nil, Consumes-trans}
 use Rattle.sk_model.specs.Causes.{AppendsFront}
 use Rattle.sk_model.specs.Missing.{Begins}
 use Rattle.sk_model.specs.Lines.{lines_of, AreWithin}
 use Rattle.sk_machine.specs.Fine.{Fine}
-use Rattle.sk_core.specs.Events.{after}
-use Rattle.sk_core.specs.Runs.{MeetsAll, IsStep, IsRun}
+use Rattle.sk_core.specs.Runs.{MeetsAll, IsRun}
 use Rattle.sk_core.specs.Texts.{event_of, fields_of}
 use Rattle.sk_core.specs.declared.event.Event.{Event}
 use Rattle.sk_core.specs.declared.event.Answer.{Answer}

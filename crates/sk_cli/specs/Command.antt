@@ -1,8 +1,10 @@
 -- The words of a command line as a command.
 use Rattle.std.specs.Prelude.{ℕ, ◌≤◌, ◌-◌, ◌^◌, List, [], ◌∷◌, codes, if◌then◌else◌, Option, Some, None, option_and_then, option_map, bytes_eq}
+use Rattle.std.specs.Option.{option_copied}
 use Rattle.sk_ingest.specs.declared.kind.Kind.TheVariants as kind
 use Rattle.sk_cli.specs.declared.options.Verb.TheVariants as verb
 use Rattle.sk_cli.specs.declared.options.Name.TheVariants as name
+use Rattle.sk_cli.specs.declared.command.Request.{Request}
 use Rattle.sk_cli.specs.declared.command.Command.{Command}
 use Rattle.sk_cli.specs.declared.command.Command.TheVariants.{Count, Hash, Replay, Help, Version}
 use Rattle.sk_cli.specs.Options.{Word, Given, spelled_by, value_behind, is_given, number_in}
@@ -25,6 +27,10 @@ file_by given = name_by (value_behind name.File given)
 pub record Asked : Type 0 where
   pub command : Command
   pub file : Option Word
+
+-- a request as what its words ask for
+abbrev pub asked_of : Request → Asked
+asked_of request = record { command = request.command; file = option_copied request.file }
 
 -- a command by its options, with its file
 abbrev pub asked_by : (List Given → Option Command) → List Given → Option Asked

@@ -1,4 +1,3 @@
-pub mod Asking
 pub mod Command
 pub mod Count
 pub mod Due
@@ -7,4 +6,3 @@ pub mod Hash
 pub mod Options
 pub mod Replay
 pub mod Run
-pub mod Starting

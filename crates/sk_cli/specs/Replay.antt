@@ -1,7 +1,7 @@
 -- Schedules, and what is answered to them.
 use Rattle.std.specs.Prelude.{◌≡◌, ℕ, flat_map, map, List, [], ◌∷◌, ◌++◌, Option, None, Some, IfSome}
 use Rattle.sk_machine.specs.Fine.{Fine, fine_start}
-use Rattle.sk_core.specs.Stored.{hint_by, word_by, sizes_of}
+use Rattle.sk_core.specs.Stored.{Stored, machine_of, hint_by, word_by, sizes_of}
 use Rattle.sk_core.specs.Events.{IsEnabled, after}
 use Rattle.sk_core.specs.Runs.{MeetsAll, IsStep, IsRun}
 use Rattle.sk_core.specs.Texts.{event_of, machine_line_of, vacant_line_of, answer_text}
@@ -23,6 +23,14 @@ start_by None None = None
 -- the k and the start that a first line names
 abbrev pub start_of : List ℕ → Option (ℕ × Fine)
 start_of line = start_by (machine_line_of line) (vacant_line_of line)
+
+-- the k of a state, and the machine that it is
+abbrev pub started : Stored → ℕ × Fine
+started state = (state.k, machine_of state)
+
+-- the machine of a state that is there meets its invariant
+abbrev pub MeetsThere : Option Stored → Type 0
+MeetsThere state = IfSome state (λ s. MeetsAll s.k (machine_of s))
 
 -- ---- the lines behind it
 

@@ -1,7 +1,7 @@
 -- How a run goes: what it reads and writes, and why it ends.
 use Rattle.std.specs.Prelude.{◌≡◌, ◌⊎◌, ℕ, ◌<◌, List, length, Option, None, Some, IfSome, Result, MatchResult}
 use Rattle.std.specs.Bool.{OnTrue}
-use Rattle.std.specs.Io.KnownBytes.{Appends, Consumes, IsAtEnd, Keeps}
+use Rattle.std.specs.Io.KnownBytes.{Appends, Consumes, IsAtEnd}
 use Rattle.sk_model.specs.Causes.{Rose, AppendsFront}
 use Rattle.sk_io.specs.Files.{told_file}
 use Rattle.sk_cli.specs.Options.{Word}

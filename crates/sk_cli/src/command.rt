@@ -2,8 +2,7 @@
 ghost use Rattle.std.specs.Prelude.{◌≡◌, IfSome};
 ghost use Rattle.std.specs.Option.{option_map, option_copied};
 ghost use Rattle.sk_cli.specs.Options.{texts_of};
-ghost use Rattle.sk_cli.specs.Command.{request_of, count_by, hash_by, replay_by, seed_by, column_by, file_by, asked_by, alone, IsWithin};
-ghost use Rattle.sk_cli.specs.Asking.{asked_of};
+ghost use Rattle.sk_cli.specs.Command.{request_of, asked_of, count_by, hash_by, replay_by, seed_by, column_by, file_by, asked_by, alone, IsWithin};
 
 use crate::options::{Name, Options, Verb};
 use sk_ingest::Kind;

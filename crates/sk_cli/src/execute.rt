@@ -1,7 +1,7 @@
 // A command over the standard input or over a file.
 ghost use Rattle.std.specs.Prelude.{◌≡◌, ◌≤◌, ◌^◌, Err, None, Some, OnSome, IfNone, IfSome};
 ghost use Rattle.std.specs.Option.{option_copied};
-ghost use Rattle.sk_io.specs.Files.{told_file, IsMissing};
+ghost use Rattle.sk_io.specs.Files.{IsMissing};
 ghost use Rattle.sk_cli.specs.Command.{IsWithin};
 ghost use Rattle.sk_cli.specs.Run.{streams, outside, Executes, Performs};
 
@@ -29,8 +29,10 @@ pub fn perform<S: Source, O: Sink, F: Shelf>(
     requires within { IsWithin command }
     requires bound { most ≤ 2 ^ 40 }
     ensures done { Performs (record { command = command; file = option_copied file.entry }) most
-        (outside (S.left input.old) (S.faults input.old) (F.files shelf.old) (F.open_faults shelf.old) (F.read_faults shelf.old) (O.written out.old) (O.faults out.old))
-        (outside (S.left input.new) (S.faults input.new) (F.files shelf.new) (F.open_faults shelf.new) (F.read_faults shelf.new) (O.written out.new) (O.faults out.new)) result }
+        (outside (S.left input.old) (S.faults input.old) (F.files shelf.old) (F.open_faults shelf.old) (F.read_faults shelf.old)
+        (O.written out.old) (O.faults out.old))
+        (outside (S.left input.new) (S.faults input.new) (F.files shelf.new) (F.open_faults shelf.new) (F.read_faults shelf.new)
+        (O.written out.new) (O.faults out.new)) result }
     ensures missing { IfSome (option_copied file.entry) (λ name. IsMissing (F.files shelf.old) name → result ≡ Err Fault.OpenFault) }
     ensures files { F.files shelf.new ≡ F.files shelf.old }
     ensures with_file { OnSome file.entry (input.new ≡ input.old) }

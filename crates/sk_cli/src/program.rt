@@ -34,16 +34,20 @@ pub fn run<S: Source, O: Sink, E: Sink, F: Shelf>(
 
     // What the command reads was read to its end, no line is refused, and the whole text was written.
     ensures ok { result ≡ 0 → IfSome (request_of (texts_of words.now)) (λ asked. Over asked.file (λ a b. Finishes asked.command (2 ^ 40) a b)
-        (outside (S.left input.old) (S.faults input.old) (F.files shelf.old) (F.open_faults shelf.old) (F.read_faults shelf.old) (O.written out.old) (O.faults out.old))
-        (outside (S.left input.new) (S.faults input.new) (F.files shelf.new) (F.open_faults shelf.new) (F.read_faults shelf.new) (O.written out.new) (O.faults out.new))) }
+        (outside (S.left input.old) (S.faults input.old) (F.files shelf.old) (F.open_faults shelf.old) (F.read_faults shelf.old)
+        (O.written out.old) (O.faults out.old))
+        (outside (S.left input.new) (S.faults input.new) (F.files shelf.new) (F.open_faults shelf.new) (F.read_faults shelf.new)
+        (O.written out.new) (O.faults out.new))) }
     ensures quiet { result ≡ 0 → Keeps (E.written err.old) (E.written err.new) }
 
     // Every other status is that of a fault, which has its cause and its place, and of which standard error is told.
     ensures fault { result ≢ 0 → (f : Fault) × (result ≡ status_of f)
         × Reports (E.written err.old) (E.written err.new) (E.faults err.old) (E.faults err.new) (message_of f)
         × MatchOption (request_of (texts_of words.now)) (f ≡ fault.Usage) (λ asked. Fails asked (2 ^ 40)
-        (outside (S.left input.old) (S.faults input.old) (F.files shelf.old) (F.open_faults shelf.old) (F.read_faults shelf.old) (O.written out.old) (O.faults out.old))
-        (outside (S.left input.new) (S.faults input.new) (F.files shelf.new) (F.open_faults shelf.new) (F.read_faults shelf.new) (O.written out.new) (O.faults out.new)) f) }
+        (outside (S.left input.old) (S.faults input.old) (F.files shelf.old) (F.open_faults shelf.old) (F.read_faults shelf.old)
+        (O.written out.old) (O.faults out.old))
+        (outside (S.left input.new) (S.faults input.new) (F.files shelf.new) (F.open_faults shelf.new) (F.read_faults shelf.new)
+        (O.written out.new) (O.faults out.new)) f) }
 
     // A file that is known not to be there can't be opened.
     ensures missing { IfSome (request_of (texts_of words.now)) (λ asked. IfSome asked.file (λ name. IsMissing (F.files shelf.old) name → result ≡ 8)) }

@@ -2,10 +2,8 @@
 ghost use Rattle.std.specs.Prelude.{◌≡◌, ◌≤◌, ◌^◌, OnOk, IfOk, MatchOption};
 ghost use Rattle.std.specs.Option.{option_map};
 ghost use Rattle.sk_core.specs.Stored.{machine_of};
-ghost use Rattle.sk_core.specs.Runs.{MeetsAll};
-ghost use Rattle.sk_cli.specs.Replay.{start_of, answer_line, IsPlay, IsNoPlay};
+ghost use Rattle.sk_cli.specs.Replay.{start_of, started, MeetsThere, answer_line, IsPlay, IsNoPlay};
 ghost use Rattle.sk_cli.specs.Run.{streams, Executes};
-ghost use Rattle.sk_cli.specs.Starting.{started, MeetsThere};
 ghost use Rattle.sk_cli.specs.declared.command.Command.TheVariants as command;
 
 use crate::fault::Fault;

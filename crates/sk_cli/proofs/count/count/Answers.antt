@@ -1,4 +1,4 @@
-use Rattle.std.proofs.Common.{List, Err, refl, sym, ap, ◌∙◌, subst}
+use Rattle.std.proofs.Common.{Err, refl, sym, ap, ◌∙◌, subst}
 use Rattle.sk_ingest.specs.declared.items.Fault.{Fault as ReadingFault}
 use Rattle.sk_ingest.specs.Units.{IsLongUnit, IsBadUnit, IsUnevenUnit}
 use Rattle.sk_cli.specs.Run.{Streams, streams, Ends}

@@ -1,4 +1,4 @@
-use Rattle.std.proofs.Common.{◌≡◌, ◌≤◌, ◌<◌, ◌∷◌, ◌++◌, [], ℕ, List, Ok, Err, Bool, true, false, refl, sym, ap, ◌∙◌, subst, arith}
+use Rattle.std.proofs.Common.{◌≡◌, ◌∷◌, ◌++◌, [], ℕ, List, Ok, Err, Bool, true, refl, sym, ap, ◌∙◌, subst, arith}
 use Rattle.std.specs.Io.KnownBytes.{Appends}
 use Rattle.std.proofs.KnownBytes.{Appends-nil, Appends-trans}
 use Rattle.sk_model.specs.Causes.{AppendsFront}
@@ -12,7 +12,7 @@ use Rattle.sk_cli.specs.declared.command.Command.TheVariants.{Hash}
 use Rattle.sk_cli.proofs.Endings.{ends_by, nothing_yet}
 use Rattle.sk_cli.proofs.Fronts.{front_behind}
 use Rattle.sk_cli.proofs.Hashing.{no_hash_text, hash_text_append, hash_by_lines, no_hash_yet}
-use Rattle.sk_cli.proofs.Reading.{Reads, Failed, reads_none, reads_line, within_given, failed, cut_short, read_to_end}
+use Rattle.sk_cli.proofs.Reading.{Reads, Failed, reads_none, reads_line, failed, cut_short}
 use Rattle.sk_cli.proofs.hash.hash.Goals as goal
 
 pub returns-in_err-reader-clause-done : goal.returns-in_err-reader-clause-done
