@@ -1,123 +1,164 @@
--- How a command goes whose reading ends early.
-use Rattle.std.proofs.Common.{◌≡◌, ℕ, ◌<◌, List, [], length, Option, Some, None, Result, Ok, Err, OnOk, IsErrAnd, refl, sym, ◌∙◌, arith}
+-- How a command goes that reads line by line.
+use Rattle.std.proofs.Common.{◌≡◌, ◌⊎◌, inr, ℕ, ◌+◌, ◌-◌, ◌<◌, ◌≤◌, Bool, true, false, if◌then◌else◌, List, [], ◌∷◌, ◌++◌, length, take, get_or, Option, Some, IsSome, refl, sym, ap, ◌∙◌, subst, arith, rules}
+use Rattle.std.proofs.lemmas.Bool.{false≢true}
+use Rattle.std.specs.Bool.{OnTrue}
 use Rattle.std.specs.Option.{IfSome}
-use Rattle.std.specs.Io.KnownBytes.{Appends, Consumes}
-use Rattle.std.proofs.KnownBytes.{Appends-nil}
+use Rattle.std.specs.Io.KnownBytes.{Appends, Consumes, IsAtEnd}
+use Rattle.std.proofs.KnownBytes.{Consumes-nil, Consumes-trans}
 use Rattle.sk_model.specs.Causes.{Rose, AppendsFront}
-use Rattle.sk_model.specs.Lines.{lines_of}
-use Rattle.sk_ingest.specs.declared.kind.Kind.{Kind}
-use Rattle.sk_ingest.specs.declared.items.Fault.{Fault as ReadingFault}
-use Rattle.sk_ingest.specs.declared.items.Fault.TheVariants as reading
-use Rattle.sk_ingest.specs.Items.{IsLongAt, IsBadAt, IsGoodSoFar}
-use Rattle.sk_cli.specs.declared.fault.Fault.{Fault}
-use Rattle.sk_cli.specs.declared.fault.Fault.TheVariants as fault
-use Rattle.sk_cli.specs.declared.command.Command.TheVariants.{Count}
-use Rattle.sk_cli.specs.Fault.{fault_by}
-use Rattle.sk_cli.specs.Run.{Executes, output_of}
+use Rattle.sk_model.specs.Missing.{Begins}
+use Rattle.sk_model.specs.Murmur.{hash_of}
+use Rattle.sk_model.specs.Lines.{lines_of, open_lines_of, AreWithin, IsFirstLong}
+use Rattle.sk_ingest.specs.declared.kind.Kind.TheVariants as kind
+use Rattle.sk_ingest.specs.declared.reader.LineFault.{LineFault}
+use Rattle.sk_ingest.specs.declared.reader.LineFault.TheVariants as stop
+use Rattle.sk_ingest.specs.Items.{line_limit, complete_lines_of}
+use Rattle.sk_ingest.specs.Reading.{Reading, HasGiven, GivesNext, GivesNone, FindsLong, Stands, Stops as StopsAt, ComesLong}
+use Rattle.sk_ingest.proofs.ItemLaws.{front_is, told_by, with_rest, stood, has_begun, read_whole}
+use Rattle.sk_cli.specs.declared.command.Command.{Command}
+use Rattle.sk_cli.specs.Due.{reads, text_for, IsDue, IsDueSoFar, IsDueBefore, IsLongLine, IsLong, Writes, WritesFront}
+use Rattle.sk_cli.specs.Fault.{fault_by_line}
+use Rattle.sk_cli.specs.Run.{Streams, Stops, Finishes, Ends, EndsWithin}
 
-abbrev failed : Fault → Result (Unit {0}) Fault
-failed f = Err f
+-- how far a command has come with the lines of a source
+pub record Reads (r : Reading) (left now : Option (List ℕ)) (most : ℕ) (given : List (List ℕ)) (taken : List ℕ) : Type 0 where
+  pub has : HasGiven r given taken
+  pub consumed : Consumes left now taken
+  pub limit : r.cutter.limit ≡ line_limit
+  pub most_is : r.most ≡ most
+  pub end : r.ended ≡ true → IsAtEnd now
 
-one_fault : (e f : Fault) → failed e ≡ failed f → e ≡ f
-one_fault e f same = cc
-
--- the fault that a result has is the one that it was given
-pub given_fault : (r : Result (Unit {0}) Fault) (f e : Fault) → IsErrAnd r (λ x. x ≡ f) → r ≡ Err e → f ≡ e
-given_fault (Ok n) f e given is = absurd given
-given_fault (Err x) f e given is = sym given ∙ one_fault x e is
-
-pub on_ok_of_err : (r : Result (Unit {0}) Fault) (f : Fault) (P : Type 0) → IsErrAnd r (λ x. x ≡ f) → OnOk r P
-on_ok_of_err (Ok n) f P given = absurd given
-on_ok_of_err (Err x) f P given = tt
-
-long_is : (s : ReadingFault) (n : ℕ) → fault_by s ≡ fault.LongLine n → s ≡ reading.LongLine n
-long_is reading.OutOfMemory n is = cc
-long_is reading.ReadFault n is = cc
-long_is (reading.LongLine m) n is = cc
-long_is (reading.BadItem m) n is = cc
-long_is reading.TooMuch n is = cc
-
-bad_is : (s : ReadingFault) (n : ℕ) → fault_by s ≡ fault.BadItem n → s ≡ reading.BadItem n
-bad_is reading.OutOfMemory n is = cc
-bad_is reading.ReadFault n is = cc
-bad_is (reading.LongLine m) n is = cc
-bad_is (reading.BadItem m) n is = cc
-bad_is reading.TooMuch n is = cc
-
-read_fault_is : (s : ReadingFault) → fault_by s ≡ fault.ReadFault → s ≡ reading.ReadFault
-read_fault_is reading.OutOfMemory is = cc
-read_fault_is reading.ReadFault is = refl
-read_fault_is (reading.LongLine m) is = cc
-read_fault_is (reading.BadItem m) is = cc
-read_fault_is reading.TooMuch is = cc
-
-too_much_is : (s : ReadingFault) → fault_by s ≡ fault.TooMuch → s ≡ reading.TooMuch
-too_much_is reading.OutOfMemory is = cc
-too_much_is reading.ReadFault is = cc
-too_much_is (reading.LongLine m) is = cc
-too_much_is (reading.BadItem m) is = cc
-too_much_is reading.TooMuch is = refl
-
-no_write_fault : (s : ReadingFault) → fault_by s ≡ fault.WriteFault → ⊥
-no_write_fault reading.OutOfMemory is = cc
-no_write_fault reading.ReadFault is = cc
-no_write_fault (reading.LongLine m) is = cc
-no_write_fault (reading.BadItem m) is = cc
-no_write_fault reading.TooMuch is = cc
-
-no_usage : (s : ReadingFault) → fault_by s ≡ fault.Usage → ⊥
-no_usage reading.OutOfMemory is = cc
-no_usage reading.ReadFault is = cc
-no_usage (reading.LongLine m) is = cc
-no_usage (reading.BadItem m) is = cc
-no_usage reading.TooMuch is = cc
-
--- what was found of a text, without who took its items
-pub without_items : (left : Option (List ℕ)) (P Q : List ℕ → Type 0) → IfSome left (λ (text : List ℕ). P text × Q text) → IfSome left P
-without_items None P Q holds = tt
-without_items (Some text) P Q holds = holds.0
-
-pub with_nothing : (left : Option (List ℕ)) (P Q : List ℕ → Type 0) → ((text : List ℕ) → Q text) → IfSome left P → IfSome left (λ (text : List ℕ). P text × Q text)
-with_nothing None P Q all holds = tt
-with_nothing (Some text) P Q all holds = (holds, all text)
-
-pub all_told : (left : Option (List ℕ)) (P : List ℕ → Type 0) → ((text : List ℕ) → P text) → IfSome left P
-all_told None P all = tt
-all_told (Some text) P all = all text
-
--- nothing was written, which is the front of any text
-pub front_of_any : (old : Option (List ℕ)) (text : List ℕ) → AppendsFront old old text
-front_of_any old text = (0, omega arith, Appends-nil old)
-
--- why the reading ended
-pub record Ended (kind : Kind) (most : ℕ) (left rest : Option (List ℕ)) (before now : ℕ) (f : ReadingFault) : Type 0 where
-  pub long_line : (n : ℕ) → f ≡ reading.LongLine n → IfSome left (λ (text : List ℕ). IsLongAt kind n (lines_of text))
-  pub bad_item : (n : ℕ) → f ≡ reading.BadItem n → IfSome left (λ (text : List ℕ). IsBadAt kind n (lines_of text))
-  pub read_fault : f ≡ reading.ReadFault → Rose before now
-  pub read_fault_at : f ≡ reading.ReadFault → (taken : List ℕ) × Consumes left rest taken × (length taken < most) × IsGoodSoFar kind taken
-  pub too_much : f ≡ reading.TooMuch → (taken : List ℕ) × Consumes left rest taken × (length taken ≡ most) × IsGoodSoFar kind taken
-
--- a count that ends while it reads has written nothing
-pub counting_ended : (k : ℕ) (kind : Kind) (most : ℕ) (left rest : Option (List ℕ)) (before now : ℕ) (old : Option (List ℕ)) (faults : ℕ) (r : Result (Unit {0}) Fault) (f : ReadingFault) →
-    IsErrAnd r (λ (e : Fault). e ≡ fault_by f) → Ended kind most left rest before now f → Executes (Count k kind) most left rest before now old old faults faults r
-counting_ended k kind most left rest before now old faults r f gives ended = record {
-  output = on_ok_of_err r (fault_by f) _ gives;
-  end = on_ok_of_err r (fault_by f) _ gives;
-  good = on_ok_of_err r (fault_by f) _ gives;
-  size = on_ok_of_err r (fault_by f) _ gives;
-  long_line = λ n is. with_nothing left (λ (text : List ℕ). IsLongAt kind n (lines_of text)) (λ (text : List ℕ). Appends old old []) (λ text. Appends-nil old)
-      (ended.long_line n (long_is f n (given_fault r (fault_by f) _ gives is)));
-  bad_item = λ n is. with_nothing left (λ (text : List ℕ). IsBadAt kind n (lines_of text)) (λ (text : List ℕ). Appends old old []) (λ text. Appends-nil old)
-      (ended.bad_item n (bad_is f n (given_fault r (fault_by f) _ gives is)));
-  read_fault = λ is. ended.read_fault (read_fault_is f (given_fault r (fault_by f) _ gives is));
-  read_fault_at = λ is.
-      let at = ended.read_fault_at (read_fault_is f (given_fault r (fault_by f) _ gives is)) in
-      (record { taken = at.0; consumed = at.1; good = at.3; written = Appends-nil old }, at.2);
-  too_much = λ is.
-      let at = ended.too_much (too_much_is f (given_fault r (fault_by f) _ gives is)) in
-      (record { taken = at.0; consumed = at.1; good = at.3; written = Appends-nil old }, at.2);
-  write_fault = λ is. absurd (no_write_fault f (given_fault r (fault_by f) _ gives is));
-  write_fault_at = λ is. absurd (no_write_fault f (given_fault r (fault_by f) _ gives is));
-  memory = λ is. all_told left (λ (text : List ℕ). AppendsFront old old (output_of (Count k kind) (lines_of text))) (λ text. front_of_any old (output_of (Count k kind) (lines_of text)));
-  no_usage = λ is. no_usage f (given_fault r (fault_by f) _ gives is);
+pub reads_none : (r : Reading) (left : Option (List ℕ)) (most : ℕ) → HasGiven r [] [] → r.cutter.limit ≡ line_limit → r.most ≡ most → r.ended ≡ false → Reads r left left most [] []
+reads_none r left most has limit most_is not_ended = record {
+  has = has;
+  consumed = Consumes-nil left;
+  limit = limit;
+  most_is = most_is;
+  end = λ ended. absurd (false≢true (sym not_ended ∙ ended));
 }
+
+pub reads_line : (r s : Reading) (left now rest : Option (List ℕ)) (most : ℕ) (given : List (List ℕ)) (taken : List ℕ) → Reads r left now most given taken →
+    (next : (more : List ℕ) × Consumes now rest more × GivesNext r s more) → s.cutter.limit ≡ r.cutter.limit → s.most ≡ r.most →
+    ((r.ended ≡ true → IsAtEnd now) → s.ended ≡ true → IsAtEnd rest) → Reads s left rest most (given ++ s.cutter.line ∷ []) (taken ++ next.0)
+reads_line r s left now rest most given taken read next limit most_is end = record {
+  has = next.2 given taken read.has;
+  consumed = Consumes-trans left now rest taken next.0 read.consumed next.1;
+  limit = limit ∙ read.limit;
+  most_is = most_is ∙ read.most_is;
+  end = end read.end;
+}
+
+pub within_given : (r : Reading) (left now : Option (List ℕ)) (most : ℕ) (given : List (List ℕ)) (taken : List ℕ) → Reads r left now most given taken → AreWithin line_limit given
+within_given r left now most given taken read = subst (λ (m : ℕ). AreWithin m given) read.limit read.has.within
+
+-- why no line came
+pub record Failed (old new : Reading) (left rest : Option (List ℕ)) (before now : ℕ) (s : LineFault) : Type 0 where
+  pub long_line : (n : ℕ) → s ≡ stop.LongLine n → (more : List ℕ) × Consumes left rest more × FindsLong old more rest n
+  pub read_fault : s ≡ stop.ReadFault → Rose before now
+  pub read_fault_at : s ≡ stop.ReadFault → (more : List ℕ) × Consumes left rest more × StopsAt old new more × (new.taken < new.most)
+  pub too_much : s ≡ stop.TooMuch → (more : List ℕ) × Consumes left rest more × StopsAt old new more × (new.taken ≡ new.most)
+  pub limit : new.cutter.limit ≡ old.cutter.limit
+  pub most : new.most ≡ old.most
+
+is_some_of : (x : ℕ) → IsSome (Some x)
+is_some_of x = search rules
+
+text_is : (command : Command) (left : Option (List ℕ)) → reads command ≡ true → text_for command left ≡ left
+text_is command left is = ap (λ (b : Bool). if b then left else Some []) is
+
+-- a text that begins with these lines has them as its first
+pub first_are : (given lines : List (List ℕ)) (n : ℕ) → n ≡ length given → Begins given lines → take n lines ≡ given
+first_are given lines n is begins = ap (λ (m : ℕ). take m lines) is ∙ front_is given lines begins
+
+-- a command that examines line by line, with the text that is due for lines of which none is refused
+pub record ByLines (command : Command) (Due : List (List ℕ) → List ℕ → Type 0) : Type 0 where
+  pub reads_it : reads command ≡ true
+  pub so_far : (taken due : List ℕ) → AreWithin line_limit (open_lines_of taken) → Due (complete_lines_of taken) due → IsDueSoFar command taken due
+  pub before : (n : ℕ) (text due : List ℕ) → AreWithin line_limit (take n (lines_of text)) → Due (take n (lines_of text)) due → IsDueBefore command text due
+  pub long : (n : ℕ) (text due : List ℕ) → IsLongLine n (lines_of text) → Due (take (n - 1) (lines_of text)) due → IsLong command n text due
+
+module _ (command : Command) (Due : List (List ℕ) → List ℕ → Type 0) (by : ByLines command Due) (most : ℕ) (a b : Streams) where
+  -- the first line that is too long, behind those whose text was written
+  finds_long : (n : ℕ) (given : List (List ℕ)) (due taken : List ℕ) → Consumes a.left b.left taken → n ≡ length given + 1 → Due given due → Appends a.written b.written due →
+      IfSome b.left (λ (more : List ℕ). ComesLong line_limit given (lines_of (taken ++ more))) → IfSome a.left (λ (text : List ℕ). Writes (IsLong command n text) a.written b.written)
+  finds_long n given due taken consumed place is_due written long =
+      told_by a.left b.left taken (λ (text : List ℕ). Writes (IsLong command n text) a.written b.written) consumed
+      (with_rest b.left (λ (more : List ℕ). ComesLong line_limit given (lines_of (taken ++ more))) (λ (more : List ℕ). Writes (IsLong command n (taken ++ more)) a.written b.written)
+      (λ more comes.
+      let from : 1 ≤ n = omega (arith, place) in
+      let first : IsFirstLong line_limit (n - 1) (lines_of (taken ++ more)) = subst (λ (m : ℕ). IsFirstLong line_limit m (lines_of (taken ++ more))) (omega (arith, place)) comes.first in
+      let so_far : Due (take (n - 1) (lines_of (taken ++ more))) due =
+      subst (λ (l : List (List ℕ)). Due l due) (sym (first_are given (lines_of (taken ++ more)) (n - 1) (omega (arith, place)) comes.begins)) is_due in
+      (due, by.long n (taken ++ more) due (from, first) so_far, written)) long)
+
+  stops : (r : Reading) (given : List (List ℕ)) (due taken : List ℕ) → r.cutter.limit ≡ line_limit → Consumes a.left b.left taken → Due given due → Appends a.written b.written due →
+      Stands r given taken → Stops command a b taken
+  stops r given due taken limit consumed is_due written at =
+      let good = stood (kind.Hash 0) r given taken limit (λ k d below some. is_some_of (hash_of 0 (get_or given k d))) at in
+      record { consumed = consumed; written = (due, by.so_far taken due good.0.piece (subst (λ (l : List (List ℕ)). Due l due) (sym good.1) is_due), written) }
+
+  -- a text that is told, where the command reads it
+  of_text : (P : List ℕ → Type 0) → IfSome a.left P → IfSome (text_for command a.left) P
+  of_text P holds = subst (λ (told : Option (List ℕ)). IfSome told P) (sym (text_is command a.left by.reads_it)) holds
+
+  -- a command whose lines end early
+  pub failed : (r s : Reading) (now : Option (List ℕ)) (given : List (List ℕ)) (due taken : List ℕ) (before : ℕ) → Reads r a.left now most given taken → a.read_faults ≤ before →
+      Due given due → Appends a.written b.written due → (f : LineFault) → Failed r s now b.left before b.read_faults f → Ends command most a b (fault_by_line f)
+  failed r s now given due taken before read later is_due written (stop.LongLine n) why =
+      let found = why.long_line n refl in
+      let long = found.2 given taken read.has in
+      of_text (λ (text : List ℕ). Writes (IsLong command n text) a.written b.written)
+      (finds_long n given due (taken ++ found.0) (Consumes-trans a.left now b.left taken found.0 read.consumed found.1) long.0 is_due written
+      (subst (λ (m : ℕ). IfSome b.left (λ (more : List ℕ). ComesLong m given (lines_of ((taken ++ found.0) ++ more)))) read.limit long.1))
+  failed r s now given due taken before read later is_due written stop.ReadFault why =
+      let found = why.read_fault_at refl in
+      let at = found.2 given taken read.has in (
+        omega (arith, why.read_fault refl, later),
+        (
+          taken ++ found.0,
+          stops s given due (taken ++ found.0) (why.limit ∙ read.limit) (Consumes-trans a.left now b.left taken found.0 read.consumed found.1) is_due written at,
+          omega (arith, at.follows.count, found.3, why.most, read.most_is),
+        ),
+      )
+  failed r s now given due taken before read later is_due written stop.TooMuch why =
+      let found = why.too_much refl in
+      let at = found.2 given taken read.has in (
+        taken ++ found.0,
+        stops s given due (taken ++ found.0) (why.limit ∙ read.limit) (Consumes-trans a.left now b.left taken found.0 read.consumed found.1) is_due written at,
+        at.follows.count ∙ found.3 ∙ why.most ∙ read.most_is,
+      )
+
+  -- a write that ends early
+  pub cut_short : (r : Reading) (given : List (List ℕ)) (due taken : List ℕ) → Reads r a.left b.left most given taken → Due given due → AppendsFront a.written b.written due → EndsWithin command a b
+  cut_short r given due taken read is_due front =
+      let Front : List ℕ → Type 0 = λ text. WritesFront (λ d. IsDue command text d ⊎ IsDueBefore command text d) a.written b.written in
+      of_text Front
+      (told_by a.left b.left taken Front read.consumed
+      (with_rest b.left (λ (rest : List ℕ). Begins given (lines_of (taken ++ rest))) (λ (rest : List ℕ). Front (taken ++ rest))
+      (λ rest begins.
+      let first : take (length given) (lines_of (taken ++ rest)) ≡ given = first_are given (lines_of (taken ++ rest)) (length given) refl begins in (
+        due,
+        inr (by.before (length given) (taken ++ rest) due (subst (AreWithin line_limit) (sym first) (within_given r a.left b.left most given taken read)) (subst (λ (l : List (List ℕ)). Due l due) (sym first) is_due)),
+        front,
+      )) (has_begun r given taken b.left read.has read.end)))
+
+  -- the source has ended
+  pub read_to_end : (r s : Reading) (now : Option (List ℕ)) (given : List (List ℕ)) (due taken : List ℕ) → Reads r a.left now most given taken →
+      (more : List ℕ) × Consumes now b.left more × GivesNone r s more → s.ended ≡ true → s.most ≡ r.most → ((r.ended ≡ true → IsAtEnd now) → s.ended ≡ true → IsAtEnd b.left) →
+      ((text : List ℕ) → lines_of text ≡ given → IsDue command text due) → Appends a.written b.written due → Finishes command most a b
+  read_to_end r s now given due taken read none ended most_is end is_due written =
+      let all = none.2 given taken read.has in
+      let whole = Consumes-trans a.left now b.left taken none.0 read.consumed none.1 in
+      let at_end = end read.end ended in
+      let few : length (taken ++ none.0) < most = omega (arith, all.1.count, all.1.size ended, most_is, read.most_is) in
+      record {
+        output = of_text (λ (text : List ℕ). Writes (IsDue command text) a.written b.written)
+            (read_whole a.left b.left (taken ++ none.0) (λ (text : List ℕ). Writes (IsDue command text) a.written b.written) whole at_end
+            (due, is_due (taken ++ none.0) all.0, written));
+        end = on_true (reads command) (IsAtEnd b.left) at_end;
+        size = on_true (reads command) (IfSome a.left (λ (text : List ℕ). length text < most)) (read_whole a.left b.left (taken ++ none.0) (λ (text : List ℕ). length text < most) whole at_end few);
+      }
+    where
+      on_true : (t : Bool) (P : Type 0) → P → OnTrue t P
+      on_true true P holds = holds
+      on_true false P holds = tt

@@ -1,11 +1,11 @@
 -- Statuses, and what standard error gets.
-use Rattle.std.specs.Prelude.{◌≡◌, ◌⊎◌, ℕ, List, ◌++◌, codes, decimal}
+use Rattle.std.specs.Prelude.{ℕ, zero, suc, List, ◌++◌, codes, decimal}
 use Rattle.sk_ingest.specs.declared.items.Fault.{Fault as ReadingFault}
 use Rattle.sk_ingest.specs.declared.items.Fault.TheVariants as reading
 use Rattle.sk_ingest.specs.declared.reader.LineFault.{LineFault}
 use Rattle.sk_ingest.specs.declared.reader.LineFault.TheVariants as stop
 use Rattle.sk_cli.specs.declared.fault.Fault.{Fault}
-use Rattle.sk_cli.specs.declared.fault.Fault.TheVariants.{OutOfMemory, Usage, ReadFault, WriteFault, LongLine, BadItem, TooMuch}
+use Rattle.sk_cli.specs.declared.fault.Fault.TheVariants.{OutOfMemory, Usage, ReadFault, WriteFault, LongLine, BadItem, BadField, BadEvent, OpenFault, BadCsv, TooMuch}
 
 abbrev pub status_of : Fault → ℕ
 status_of OutOfMemory = 1
@@ -14,11 +14,15 @@ status_of ReadFault = 3
 status_of WriteFault = 4
 status_of (LongLine line) = 5
 status_of (BadItem line) = 6
+status_of (BadField number) = 6
+status_of (BadEvent line) = 7
+status_of OpenFault = 8
+status_of (BadCsv number) = 12
 status_of TooMuch = 13
 
--- what is wrong with a line
-abbrev pub line_message : ℕ → List ℕ → List ℕ
-line_message line what = codes "line " ++ decimal line ++ what
+-- what is wrong with a line or a record
+abbrev pub unit_message : List ℕ → ℕ → List ℕ → List ℕ
+unit_message unit number what = unit ++ (decimal number ++ what)
 
 -- the line that standard error gets
 abbrev pub message_of : Fault → List ℕ
@@ -26,27 +30,27 @@ message_of OutOfMemory = codes "out of memory\n"
 message_of Usage = codes "usage: sketchd count, hash, replay, image, join, quantile, serve or make\n"
 message_of ReadFault = codes "read fault\n"
 message_of WriteFault = codes "write fault\n"
-message_of (LongLine line) = line_message line (codes ": too long\n")
-message_of (BadItem line) = line_message line (codes ": not a number\n")
+message_of (LongLine line) = unit_message (codes "line ") line (codes ": too long\n")
+message_of (BadItem line) = unit_message (codes "line ") line (codes ": not a number\n")
+message_of (BadField number) = unit_message (codes "record ") number (codes ": not a number\n")
+message_of (BadEvent line) = unit_message (codes "line ") line (codes ": bad event\n")
+message_of OpenFault = codes "open fault\n"
+message_of (BadCsv number) = unit_message (codes "record ") number (codes ": bad csv\n")
 message_of TooMuch = codes "too much\n"
 
--- the fault that a fault of reading makes
-abbrev pub fault_by : ReadingFault → Fault
-fault_by reading.OutOfMemory = OutOfMemory
-fault_by reading.ReadFault = ReadFault
-fault_by (reading.LongLine line) = LongLine line
-fault_by (reading.BadItem line) = BadItem line
-fault_by reading.TooMuch = TooMuch
+-- a line or the field of a record that is no item
+abbrev pub bad_unit : ℕ → ℕ → Fault
+bad_unit zero number = BadItem number
+bad_unit (suc column) number = BadField number
 
--- a status that the program may end with
-abbrev pub IsStatus : ℕ → Type 0
-IsStatus status = (status ≡ 0) ⊎ ((fault : Fault) × (status ≡ status_of fault))
-
--- a fault that speaks of no line
-abbrev pub HasNoLine : Fault → Type 0
-HasNoLine (LongLine line) = ⊥
-HasNoLine (BadItem line) = ⊥
-HasNoLine fault = Unit {0}
+-- the fault that a fault of reading makes, at column 0 of lines, else of records
+abbrev pub fault_by : ℕ → ReadingFault → Fault
+fault_by column reading.OutOfMemory = OutOfMemory
+fault_by column reading.ReadFault = ReadFault
+fault_by column (reading.LongLine number) = LongLine number
+fault_by column (reading.BadItem number) = bad_unit column number
+fault_by column (reading.BadCsv number) = BadCsv number
+fault_by column reading.TooMuch = TooMuch
 
 -- the fault that a fault of lines makes
 abbrev pub fault_by_line : LineFault → Fault

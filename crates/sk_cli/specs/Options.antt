@@ -4,9 +4,9 @@ use Rattle.std.specs.declared.string.String.{String}
 use Rattle.std.specs.declared.alloc.Global.{Global}
 use Rattle.sk_model.specs.Numbers.{number_of}
 use Rattle.sk_cli.specs.declared.options.Verb.{Verb}
-use Rattle.sk_cli.specs.declared.options.Verb.TheVariants.{Count, Hash}
+use Rattle.sk_cli.specs.declared.options.Verb.TheVariants.{Count, Hash, Replay}
 use Rattle.sk_cli.specs.declared.options.Name.{Name}
-use Rattle.sk_cli.specs.declared.options.Name.TheVariants.{K, Raw, Seed}
+use Rattle.sk_cli.specs.declared.options.Name.TheVariants.{Csv, File, K, Raw, Seed}
 
 -- a word, as its bytes
 abbrev pub Word : Type 0
@@ -18,12 +18,16 @@ texts_of words = map string_bytes words
 -- the option that a word names
 abbrev pub name_of : Word → Option Name
 name_of word =
+    if bytes_eq word (codes "--csv") then Some Csv else (
+    if bytes_eq word (codes "--file") then Some File else (
     if bytes_eq word (codes "--k") then Some K else (
     if bytes_eq word (codes "--raw") then Some Raw else (
-    if bytes_eq word (codes "--seed") then Some Seed else None))
+    if bytes_eq word (codes "--seed") then Some Seed else None))))
 
 -- whether a value stands behind a name
 abbrev pub takes_value : Name → Bool
+takes_value Csv = true
+takes_value File = true
 takes_value K = true
 takes_value Seed = true
 takes_value Raw = false
@@ -31,8 +35,11 @@ takes_value Raw = false
 -- the options that a command has
 abbrev pub allows : Verb → Name → Bool
 allows Count name = true
+allows Hash File = true
 allows Hash Seed = true
 allows Hash name = false
+allows Replay File = true
+allows Replay name = false
 
 -- an option: its name, and the value behind it, empty for a flag
 abbrev pub Given : Type 0
@@ -40,9 +47,11 @@ Given = Name × Word
 
 -- a number for each name, by which names are told apart
 abbrev pub place_of : Name → ℕ
-place_of K = 0
-place_of Raw = 1
-place_of Seed = 2
+place_of Csv = 0
+place_of File = 1
+place_of K = 2
+place_of Raw = 3
+place_of Seed = 4
 
 -- the name, where the command has it
 abbrev pub allowed_by : Verb → Option Name → Option Name

@@ -1,117 +1,119 @@
--- What a command reads and writes, and why it ends.
-use Rattle.std.specs.Prelude.{◌≡◌, ◌≢◌, ℕ, zero, suc, ◌+◌, ◌/◌, ◌%◌, nat_lt, if◌then◌else◌, flat_map, ◌∷◌, ◌-◌, ◌<◌, Bool, true, false, List, [], ◌++◌, codes, decimal, length, take, Option, IfSome, Result, Err, OnOk, IsErrOf, MatchBool}
+-- How a run goes: what it reads and writes, and why it ends.
+use Rattle.std.specs.Prelude.{◌≡◌, ◌⊎◌, ℕ, ◌<◌, List, length, Option, None, Some, IfSome, Result, MatchResult}
 use Rattle.std.specs.Bool.{OnTrue}
 use Rattle.std.specs.Io.KnownBytes.{Appends, Consumes, IsAtEnd}
 use Rattle.sk_model.specs.Causes.{Rose, AppendsFront}
-use Rattle.sk_model.specs.Lines.{lines_of, filled}
-use Rattle.sk_model.specs.Murmur.{hash_of}
-use Rattle.sk_model.specs.Sketch.{estimate_of}
-use Rattle.sk_ingest.specs.Items.{items_by, AreGood, IsLongAt, IsBadAt, IsGoodSoFar, complete_lines_of}
-use Rattle.sk_ingest.specs.declared.kind.Kind.{Kind}
-use Rattle.sk_ingest.specs.declared.kind.Kind.TheVariants as kind
-use Rattle.sk_cli.specs.declared.help.TheConstants.{HELP, VERSION}
+use Rattle.sk_io.specs.Files.{told_file}
+use Rattle.sk_cli.specs.Options.{Word}
+use Rattle.sk_cli.specs.Command.{Asked}
+use Rattle.sk_cli.specs.Due.{reads, text_for, IsDue, IsDueSoFar, IsDueBefore, IsLong, IsBadItem, IsBadField, IsBadEvent, IsUneven, Writes, WritesFront}
 use Rattle.sk_cli.specs.declared.command.Command.{Command}
-use Rattle.sk_cli.specs.declared.command.Command.TheVariants.{Count, Hash, Help, Version}
 use Rattle.sk_cli.specs.declared.fault.Fault.{Fault}
-use Rattle.sk_cli.specs.declared.fault.Fault.TheVariants as fault
+use Rattle.sk_cli.specs.declared.fault.Fault.TheVariants.{OutOfMemory, Usage, ReadFault, WriteFault, LongLine, BadItem, BadField, BadEvent, OpenFault, BadCsv, TooMuch}
 
--- the line of an estimate, a numerator and a denominator
-abbrev pub estimate_line : ℕ × ℕ → List ℕ
-estimate_line estimate = codes "estimate " ++ decimal estimate.0 ++ codes "/" ++ decimal estimate.1 ++ codes "\n"
+-- a source and a sink: the bytes that are left and those that were written, where they tell them, and their counts
+-- of faults
+pub record Streams : Type 0 where
+  pub left : Option (List ℕ)
+  pub read_faults : ℕ
+  pub written : Option (List ℕ)
+  pub write_faults : ℕ
 
--- a hexadecimal digit, lower case
-abbrev pub hex_digit : ℕ → ℕ
-hex_digit digit = if nat_lt digit 10 then 48 + digit else 87 + digit
+abbrev pub streams : Option (List ℕ) → ℕ → Option (List ℕ) → ℕ → Streams
+streams left read_faults written write_faults = record { left = left; read_faults = read_faults; written = written; write_faults = write_faults }
 
--- the last digits of a number in base 16, so many
-unfoldable pub hex : ℕ → ℕ → List ℕ
-hex zero n = []
-hex (suc width) n = hex width (n / 16) ++ hex_digit (n % 16) ∷ []
+-- ---- one command over a source and a sink
 
--- the line of a hash
-abbrev pub hash_line : ℕ → List ℕ
-hash_line hash = hex 12 hash ++ 10 ∷ []
+-- the source was read to its end, none of its lines is refused, and the whole text that is due was written
+pub record Finishes (command : Command) (most : ℕ) (old new : Streams) : Type 0 where
+  pub output : IfSome (text_for command old.left) (λ text. Writes (IsDue command text) old.written new.written)
+  pub end : OnTrue (reads command) (IsAtEnd new.left)
+  pub size : OnTrue (reads command) (IfSome old.left (λ text. length text < most))
 
--- the hash of each line that is not empty, a line each
-unfoldable pub hash_text : ℕ → List (List ℕ) → List ℕ
-hash_text seed lines = flat_map (λ line. hash_line (hash_of seed line)) (filled lines)
+-- these bytes were taken, none of their lines is refused, and what is due for those that have ended was written
+pub record Stops (command : Command) (old new : Streams) (taken : List ℕ) : Type 0 where
+  pub consumed : Consumes old.left new.left taken
+  pub written : Writes (IsDueSoFar command taken) old.written new.written
 
--- whether a command reads its input
-abbrev pub reads : Command → Bool
-reads (Count k kind) = true
-reads (Hash seed) = true
-reads Help = false
-reads Version = false
+-- a front was written of a text that is due for all that is read, or for its first lines
+abbrev pub EndsWithin : Command → Streams → Streams → Type 0
+EndsWithin command old new = IfSome (text_for command old.left) (λ text. WritesFront (λ due. IsDue command text due ⊎ IsDueBefore command text due) old.written new.written)
 
--- how its lines become items
-abbrev pub kind_of : Command → Kind
-kind_of (Count k kind) = kind
-kind_of (Hash seed) = kind.Hash seed
-kind_of Help = kind.Raw
-kind_of Version = kind.Raw
+-- a line or a record is refused, and what is due for those before it was written
+abbrev pub Refuses : Command → (List ℕ → List ℕ → Type 0) → Streams → Streams → Type 0
+Refuses command IsRefused old new = IfSome (text_for command old.left) (λ text. Writes (IsRefused text) old.written new.written)
 
--- the whole text that a command writes, from the lines of its input
-abbrev pub output_of : Command → List (List ℕ) → List ℕ
-output_of (Count k kind) lines = estimate_line (estimate_of k (items_by kind lines))
-output_of (Hash seed) lines = hash_text seed lines
-output_of Help lines = HELP.now
-output_of Version lines = VERSION.now
+-- where a command may end by a fault
+abbrev pub Ends : Command → ℕ → Streams → Streams → Fault → Type 0
+Ends command most old new OutOfMemory = EndsWithin command old new
+Ends command most old new Usage = ⊥
+Ends command most old new ReadFault = Rose old.read_faults new.read_faults × ((taken : List ℕ) × Stops command old new taken × (length taken < most))
+Ends command most old new WriteFault = Rose old.write_faults new.write_faults × EndsWithin command old new
+Ends command most old new (LongLine n) = Refuses command (IsLong command n) old new
+Ends command most old new (BadItem n) = Refuses command (IsBadItem command n) old new
+Ends command most old new (BadField n) = Refuses command (IsBadField command n) old new
+Ends command most old new (BadEvent n) = Refuses command (IsBadEvent command n) old new
+Ends command most old new OpenFault = ⊥
+Ends command most old new (BadCsv n) = Refuses command (IsUneven command n) old new
+Ends command most old new TooMuch = (taken : List ℕ) × Stops command old new taken × (length taken ≡ most)
 
--- what of it is written before the input's end, behind these lines
-abbrev pub output_before : Command → List (List ℕ) → List ℕ
-output_before (Count k kind) lines = []
-output_before (Hash seed) lines = hash_text seed lines
-output_before Help lines = []
-output_before Version lines = []
+-- how a command went
+abbrev pub Executes : Command → ℕ → Streams → Streams → Result (Unit {0}) Fault → Type 0
+Executes command most old new result = MatchResult result (λ _. Finishes command most old new) (λ fault. Ends command most old new fault)
 
--- the whole text was written
-abbrev pub Outputs : Command → Option (List ℕ) → Option (List ℕ) → Option (List ℕ) → Type 0
-Outputs command left old new =
-    MatchBool (reads command) (IfSome left (λ text. Appends old new (output_of command (lines_of text)))) (Appends old new (output_of command []))
+-- ---- a run over the standard input or a file
 
--- a part of it was written, from its front
-abbrev pub OutputsFront : Command → Option (List ℕ) → Option (List ℕ) → Option (List ℕ) → Type 0
-OutputsFront command left old new =
-    MatchBool (reads command) (IfSome left (λ text. AppendsFront old new (output_of command (lines_of text)))) (AppendsFront old new (output_of command []))
+-- what a run has around it: the standard input, the files and the output
+pub record Outside : Type 0 where
+  pub input : Option (List ℕ)
+  pub input_faults : ℕ
+  pub files : Option (List (List ℕ × List ℕ))
+  pub open_faults : ℕ
+  pub file_faults : ℕ
+  pub written : Option (List ℕ)
+  pub write_faults : ℕ
 
--- the input was taken as far as here, with no line that is refused, and what was due was written
-pub record Stops (command : Command) (left rest old new : Option (List ℕ)) : Type 0 where
-  pub taken : List ℕ
-  pub consumed : Consumes left rest taken
-  pub good : IsGoodSoFar (kind_of command) taken
-  pub written : Appends old new (output_before command (complete_lines_of taken))
+abbrev pub outside : Option (List ℕ) → ℕ → Option (List (List ℕ × List ℕ)) → ℕ → ℕ → Option (List ℕ) → ℕ → Outside
+outside input input_faults files open_faults file_faults written write_faults = record {
+  input = input;
+  input_faults = input_faults;
+  files = files;
+  open_faults = open_faults;
+  file_faults = file_faults;
+  written = written;
+  write_faults = write_faults;
+}
 
--- line n, counted from 1, is the first that is not good, and too long; what was due before it was written
-abbrev pub RefusesLong : Command → ℕ → Option (List ℕ) → Option (List ℕ) → Option (List ℕ) → Type 0
-RefusesLong command n left old new =
-    IfSome left (λ text. IsLongAt (kind_of command) n (lines_of text) × Appends old new (output_before command (take (n - 1) (lines_of text))))
+-- the standard input beside the output
+abbrev pub over_input : Outside → Streams
+over_input o = streams o.input o.input_faults o.written o.write_faults
 
--- line n, counted from 1, is the first that is not good, and no item; what was due before it was written
-abbrev pub RefusesBad : Command → ℕ → Option (List ℕ) → Option (List ℕ) → Option (List ℕ) → Type 0
-RefusesBad command n left old new =
-    IfSome left (λ text. IsBadAt (kind_of command) n (lines_of text) × Appends old new (output_before command (take (n - 1) (lines_of text))))
+-- a file of which this is left, beside the output
+abbrev pub over_file : Option (List ℕ) → Outside → Streams
+over_file left o = streams left o.file_faults o.written o.write_faults
+
+-- a fact of the streams that a command is over: the file of this name, of which something may be left afterwards,
+-- or the standard input
+abbrev pub Over : Option Word → (Streams → Streams → Type 0) → Outside → Outside → Type 0
+Over None P old new = P (over_input old) (over_input new)
+Over (Some name) P old new = (rest : Option (List ℕ)) × P (over_file (told_file old.files name) old) (over_file rest new)
+
+-- a file could not be opened, and nothing was read or written
+abbrev pub CannotOpen : Option Word → Outside → Outside → Type 0
+CannotOpen None old new = ⊥
+CannotOpen (Some name) old new = Rose old.open_faults new.open_faults × (new.file_faults ≡ old.file_faults) × (new.written ≡ old.written)
+
+-- where a run may end by a fault, once its words are accepted
+abbrev pub Fails : Asked → ℕ → Outside → Outside → Fault → Type 0
+Fails asked most old new OpenFault = CannotOpen asked.file old new
+Fails asked most old new fault = Over asked.file (λ a b. Ends asked.command most a b fault) old new
+
+-- how a run went
+abbrev pub Performs : Asked → ℕ → Outside → Outside → Result (Unit {0}) Fault → Type 0
+Performs asked most old new result =
+    MatchResult result (λ _. Over asked.file (λ a b. Finishes asked.command most a b) old new) (λ fault. Fails asked most old new fault)
 
 -- what a sink got of a text: its front, and the whole where its count of faults stays
 pub record Reports (old new : Option (List ℕ)) (before now : ℕ) (text : List ℕ) : Type 0 where
   pub front : AppendsFront old new text
   pub whole : ¬ Rose before now → Appends old new text
-
--- how a command went: what it read and wrote, and what each fault comes from
-pub record Executes (command : Command) (most : ℕ) (left rest : Option (List ℕ)) (read_before read_now : ℕ)
-    (old new : Option (List ℕ)) (write_before write_now : ℕ) (result : Result (Unit {0}) Fault) : Type 0 where
-  -- the whole input was read, all its lines are good, and the whole text was written
-  pub output : OnOk result (Outputs command left old new)
-  pub end : OnOk result (OnTrue (reads command) (IsAtEnd rest))
-  pub good : OnOk result (OnTrue (reads command) (IfSome left (λ text. AreGood (kind_of command) (lines_of text))))
-  pub size : OnOk result (OnTrue (reads command) (IfSome left (λ text. length text < most)))
-  -- the first line that is not good, and what was due before it
-  pub long_line : (n : ℕ) → result ≡ Err (fault.LongLine n) → RefusesLong command n left old new
-  pub bad_item : (n : ℕ) → result ≡ Err (fault.BadItem n) → RefusesBad command n left old new
-  -- the other faults, each with its cause
-  pub read_fault : IsErrOf result fault.ReadFault → Rose read_before read_now
-  pub read_fault_at : IsErrOf result fault.ReadFault → (stop : Stops command left rest old new) × (length stop.taken < most)
-  pub too_much : IsErrOf result fault.TooMuch → (stop : Stops command left rest old new) × (length stop.taken ≡ most)
-  pub write_fault : IsErrOf result fault.WriteFault → Rose write_before write_now
-  pub write_fault_at : IsErrOf result fault.WriteFault → OutputsFront command left old new
-  pub memory : IsErrOf result fault.OutOfMemory → OutputsFront command left old new
-  pub no_usage : result ≢ Err fault.Usage

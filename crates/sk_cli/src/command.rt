@@ -1,7 +1,8 @@
-// The words of a command line as a command.
+// The words of a command line as what is asked.
 ghost use Rattle.std.specs.Prelude.{◌≡◌, IfSome};
+ghost use Rattle.std.specs.Option.{option_map, option_copied};
 ghost use Rattle.sk_cli.specs.Options.{texts_of};
-ghost use Rattle.sk_cli.specs.Command.{command_of, count_by, hash_by, seed_by, alone, IsWithin};
+ghost use Rattle.sk_cli.specs.Command.{request_of, asked_of, count_by, hash_by, replay_by, seed_by, column_by, file_by, asked_by, alone, IsWithin};
 
 use crate::options::{Name, Options, Verb};
 use sk_ingest::Kind;
@@ -9,30 +10,72 @@ use sk_ingest::Kind;
 /// What the program is asked to do.
 #[derive(Clone, Copy, Debug, PartialEq, Eq)]
 pub enum Command {
-    /// Estimate how many distinct items there are, by the k smallest.
-    Count { k: u32, kind: Kind },
+    /// Estimate how many distinct items there are, by the k smallest: those of the lines at column 0,
+    /// else of the fields in this column, counted from 1.
+    Count { k: u32, kind: Kind, column: u32 },
     /// Write the hash of each line that is not empty, under a seed.
     Hash { seed: u32 },
+    /// Play a schedule and write the answer to each event.
+    Replay,
     Help,
     Version,
 }
 
-impl Command {
+/// A command, and the name of the file that it reads in place of the standard input.
+#[derive(Clone, Copy)]
+pub struct Request<'a> {
+    pub command: Command,
+    pub file: Option<&'a str>,
+}
+
+impl<'a> Request<'a> {
     /// What the words ask for, or `None` where they are no command with its options.
-    pub fn of(words: &[String]) -> Option<Command>
-        ensures value { result ≡ command_of (texts_of words.now) }
-        ensures limits { IfSome result IsWithin }
+    pub fn of(words: &'a [String]) -> Option<Request<'a>>
+        ensures value { option_map asked_of result ≡ request_of (texts_of words.now) }
+        ensures limits { IfSome result (λ request. IsWithin request.command) }
     {
         let (verb, behind) = words.split_first()?;
         match verb.as_str() {
-            "count" => Command::count(&Options::new(Verb::Count, behind)?),
-            "hash" => Command::hash(&Options::new(Verb::Hash, behind)?),
+            "count" => Request::count(&Options::new(Verb::Count, behind)?),
+            "hash" => Request::hash(&Options::new(Verb::Hash, behind)?),
+            "replay" => Request::replay(&Options::new(Verb::Replay, behind)?),
             "--help" => alone(Command::Help, behind),
             "--version" => alone(Command::Version, behind),
             _ => None,
         }
     }
 
+    fn count(options: &Options<'a>) -> Option<Request<'a>>
+        ensures value { option_map asked_of result ≡ asked_by count_by options.now }
+        ensures limits { IfSome result (λ request. IsWithin request.command) }
+    {
+        let command = Command::count(options)?;
+        let file = file_in(options)?;
+        Some(Request { command, file })
+    }
+
+    fn hash(options: &Options<'a>) -> Option<Request<'a>>
+        ensures value { option_map asked_of result ≡ asked_by hash_by options.now }
+        ensures limits { IfSome result (λ request. IsWithin request.command) }
+    {
+        let command = Command::hash(options)?;
+        let file = file_in(options)?;
+        Some(Request { command, file })
+    }
+
+    fn replay(options: &Options<'a>) -> Option<Request<'a>>
+        ensures value { option_map asked_of result ≡ asked_by replay_by options.now }
+        ensures limits { IfSome result (λ request. IsWithin request.command) }
+    {
+        let file = file_in(options)?;
+        Some(Request {
+            command: Command::Replay,
+            file,
+        })
+    }
+}
+
+impl Command {
     fn count(options: &Options<'_>) -> Option<Command>
         ensures value { result ≡ count_by options.now }
         ensures limits { IfSome result IsWithin }
@@ -44,7 +87,8 @@ impl Command {
         } else {
             Kind::Hash(seed)
         };
-        Some(Command::Count { k, kind })
+        let column = column_in(options)?;
+        Some(Command::Count { k, kind, column })
     }
 
     fn hash(options: &Options<'_>) -> Option<Command>
@@ -58,12 +102,15 @@ impl Command {
 }
 
 // The command, where no word stands behind it.
-fn alone(command: Command, behind: &[String]) -> Option<Command>
-    ensures value { result ≡ alone command (texts_of behind.now) }
-    ensures same { IfSome result (λ c. c ≡ command) }
+fn alone<'a>(command: Command, behind: &[String]) -> Option<Request<'a>>
+    ensures value { option_map asked_of result ≡ alone command (texts_of behind.now) }
+    ensures same { IfSome result (λ request. request.command ≡ command) }
 {
     if behind.is_empty() {
-        Some(command)
+        Some(Request {
+            command,
+            file: None,
+        })
     } else {
         None
     }
@@ -74,4 +121,31 @@ fn seed_in(options: &Options<'_>) -> Option<u32>
     ensures { result ≡ seed_by options.now }
 {
     Some(options.number(Name::Seed, 0, u64::from(u32::MAX), 0)? as u32)
+}
+
+// The column of the records that are read in place of lines; 0 for lines.
+fn column_in(options: &Options<'_>) -> Option<u32>
+    ensures { result ≡ column_by options.now }
+{
+    if options.has(Name::Csv) {
+        Some(options.number(Name::Csv, 1, 4_096, 1)? as u32)
+    } else {
+        Some(0)
+    }
+}
+
+// The name of the file, if there is one. `None` where it is empty.
+fn file_in<'a>(options: &Options<'a>) -> Option<Option<&'a str>>
+    ensures { option_map option_copied result ≡ file_by options.now }
+{
+    match options.value(Name::File) {
+        None => Some(None),
+        Some(name) => {
+            if name.is_empty() {
+                None
+            } else {
+                Some(Some(name))
+            }
+        }
+    }
 }

@@ -1,12 +1,15 @@
 // The command that estimates how many distinct items there are.
-ghost use Rattle.std.specs.Prelude.{◌≡◌, ◌≤◌, ◌^◌, OnOk, IfOk, string_bytes};
-ghost use Rattle.sk_cli.specs.Run.{estimate_line, Executes};
+ghost use Rattle.std.specs.Prelude.{◌≡◌, ◌≤◌, ◌^◌, Ok, Err, IfOk, MatchResult, string_bytes};
+ghost use Rattle.sk_cli.specs.Count.{estimate_line};
+ghost use Rattle.sk_cli.specs.Fault.{fault_by};
+ghost use Rattle.sk_cli.specs.Run.{streams, Executes};
 ghost use Rattle.sk_cli.specs.declared.command.Command.TheVariants as command;
 
 use crate::fault::Fault;
+use crate::write::write_text;
 use sk_heap::HeapTheta;
-use sk_ingest::{Intake, Kind, read_items};
-use sk_io::{Sink, Source, write_all};
+use sk_ingest::{Fault as ReadingFault, Intake, Kind, read_items};
+use sk_io::{Sink, Source};
 use std::alloc::{AllocError, Global};
 
 // The line of an estimate.
@@ -16,25 +19,35 @@ fn line_of(alloc: Global, n: u64, d: u64) -> Result<String, AllocError>
     format!(in alloc; "estimate {n}/{d}\n")
 }
 
-/// Reads the input to its end, and then writes the estimate of its distinct items.
+// The answer of a reading, with its fault as one of the program.
+fn answer_of(column: u32, read: Result<u64, ReadingFault>) -> Result<u64, Fault>
+    ensures { MatchResult read (λ n. result ≡ Ok n) (λ fault. result ≡ Err (fault_by column fault)) }
+{
+    read.map_err(|fault| Fault::of_reading(column, fault))
+}
+
+/// Reads the source to its end, and then writes the estimate of its distinct items.
 pub fn count<S: Source, O: Sink>(
     alloc: Global,
     k: u32,
     kind: Kind,
+    column: u32,
     most: u64,
-    input: &mut S,
+    source: &mut S,
     out: &mut O,
 ) -> Result<(), Fault>
     requires least { 2 ≤ k }
     requires most { k ≤ 32768 }
     requires bound { most ≤ 2 ^ 40 }
-    ensures { Executes (command.Count k kind) most (S.left input.old) (S.left input.new) (S.faults input.old) (S.faults input.new)
-        (O.written out.old) (O.written out.new) (O.faults out.old) (O.faults out.new) result }
+    ensures done { Executes (command.Count k kind column) most
+        (streams (S.left source.old) (S.faults source.old) (O.written out.old) (O.faults out.old))
+        (streams (S.left source.new) (S.faults source.new) (O.written out.new) (O.faults out.new)) result }
+    ensures stays { S.stands_on source.new ≡ S.stands_on source.old }
 {
     let mut sketch = HeapTheta::new(alloc, k)?;
-    let plan = Intake { kind, most };
-    read_items(alloc, &plan, input, &mut sketch)?;
+    let plan = Intake { kind, column, most };
+    answer_of(column, read_items(alloc, &plan, source, &mut sketch))?;
     let (n, d) = sketch.fraction();
     let line = line_of(alloc, n, d)?;
-    write_all(out, line.as_bytes()).map_err(|_| Fault::WriteFault)
+    write_text(out, line.as_bytes())
 }

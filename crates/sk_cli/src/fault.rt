@@ -2,7 +2,7 @@
 ghost use Rattle.std.specs.Prelude.{◌≡◌, OnOk, OnErr};
 ghost use Rattle.std.specs.Io.KnownBytes.{Appends};
 ghost use Rattle.sk_model.specs.Causes.{HasCause, AppendsFront};
-ghost use Rattle.sk_cli.specs.Fault.{status_of, message_of, line_message, fault_by};
+ghost use Rattle.sk_cli.specs.Fault.{status_of, message_of, unit_message, fault_by};
 
 use itoa::Buffer;
 use sk_ingest::{Fault as ReadingFault, LineFault};
@@ -10,15 +10,25 @@ use sk_io::{Failed, Sink, write_all};
 use sk_model::OutOfMemory;
 use std::alloc::AllocError;
 
-/// Why the program ends by a status other than 0. Lines are counted from 1.
+/// Why the program ends by a status other than 0. Lines and records are counted from 1.
 #[derive(Clone, Copy, Debug, PartialEq, Eq)]
 pub enum Fault {
     OutOfMemory,
     Usage,
     ReadFault,
     WriteFault,
+    /// A line, or the field of a record, has too many bytes.
     LongLine(u64),
+    /// A line is not empty and no item.
     BadItem(u64),
+    /// The field of a record is not empty and no item.
+    BadField(u64),
+    /// A line of a schedule is no event that is enabled.
+    BadEvent(u64),
+    OpenFault,
+    /// A record has not as many fields as the first, or no such column.
+    BadCsv(u64),
+    /// As many bytes were taken as are too much.
     TooMuch,
 }
 
@@ -56,23 +66,22 @@ impl From<LineFault> for Fault {
     }
 }
 
-impl From<ReadingFault> for Fault {
-    ghost use Rattle.sk_cli.specs.Fault.{fault_by};
-
-    ghost from_gives = { λ reading e. e ≡ fault_by reading };
-
-    fn from(fault: ReadingFault) -> Self {
+impl Fault {
+    /// The fault that a fault of reading makes, at column 0 of lines, else of records.
+    pub fn of_reading(column: u32, fault: ReadingFault) -> Fault
+        ensures { result ≡ fault_by column fault }
+    {
         match fault {
             ReadingFault::OutOfMemory => Fault::OutOfMemory,
             ReadingFault::ReadFault => Fault::ReadFault,
-            ReadingFault::LongLine(line) => Fault::LongLine(line),
-            ReadingFault::BadItem(line) => Fault::BadItem(line),
+            ReadingFault::LongLine(number) => Fault::LongLine(number),
+            ReadingFault::BadItem(number) if column == 0 => Fault::BadItem(number),
+            ReadingFault::BadItem(number) => Fault::BadField(number),
+            ReadingFault::BadCsv(number) => Fault::BadCsv(number),
             ReadingFault::TooMuch => Fault::TooMuch,
         }
     }
-}
 
-impl Fault {
     /// The exit status.
     pub fn status(self) -> u8
         ensures { result ≡ status_of self }
@@ -84,6 +93,10 @@ impl Fault {
             Fault::WriteFault => 4,
             Fault::LongLine(_) => 5,
             Fault::BadItem(_) => 6,
+            Fault::BadField(_) => 6,
+            Fault::BadEvent(_) => 7,
+            Fault::OpenFault => 8,
+            Fault::BadCsv(_) => 12,
             Fault::TooMuch => 13,
         }
     }
@@ -102,20 +115,24 @@ impl Fault {
             ),
             Fault::ReadFault => write_all(err, b"read fault\n"),
             Fault::WriteFault => write_all(err, b"write fault\n"),
-            Fault::LongLine(line) => tell_line(err, line, b": too long\n"),
-            Fault::BadItem(line) => tell_line(err, line, b": not a number\n"),
+            Fault::LongLine(line) => tell_unit(err, b"line ", line, b": too long\n"),
+            Fault::BadItem(line) => tell_unit(err, b"line ", line, b": not a number\n"),
+            Fault::BadField(number) => tell_unit(err, b"record ", number, b": not a number\n"),
+            Fault::BadEvent(line) => tell_unit(err, b"line ", line, b": bad event\n"),
+            Fault::OpenFault => write_all(err, b"open fault\n"),
+            Fault::BadCsv(number) => tell_unit(err, b"record ", number, b": bad csv\n"),
             Fault::TooMuch => write_all(err, b"too much\n"),
         }
     }
 }
 
-// Writes what is wrong with a line.
-fn tell_line<E: Sink>(err: &mut E, line: u64, what: &[u8]) -> Result<(), Failed>
-    ensures ok { OnOk result (Appends (E.written err.old) (E.written err.new) (line_message line what.now)) }
-    ensures front { OnErr result (AppendsFront (E.written err.old) (E.written err.new) (line_message line what.now)) }
+// Writes what is wrong with a line or a record.
+fn tell_unit<E: Sink>(err: &mut E, unit: &[u8], number: u64, what: &[u8]) -> Result<(), Failed>
+    ensures ok { OnOk result (Appends (E.written err.old) (E.written err.new) (unit_message unit.now number what.now)) }
+    ensures front { OnErr result (AppendsFront (E.written err.old) (E.written err.new) (unit_message unit.now number what.now)) }
     ensures cause { HasCause (E.faults err.old) (E.faults err.new) result }
 {
-    write_all(err, b"line ")?;
-    write_all(err, Buffer::new().format(line).as_bytes())?;
+    write_all(err, unit)?;
+    write_all(err, Buffer::new().format(number).as_bytes())?;
     write_all(err, what)
 }

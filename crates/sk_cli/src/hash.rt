@@ -1,14 +1,16 @@
 // The command that writes the hash of each line.
 ghost use Rattle.std.specs.Prelude.{◌≡◌, ◌≤◌, ◌<◌, ◌^◌, ◌∷◌, [], OnOk, OnErr, IfErr};
 ghost use Rattle.std.specs.Io.KnownBytes.{Appends};
-ghost use Rattle.sk_model.specs.Causes.{Rose, AppendsFront};
-ghost use Rattle.sk_cli.specs.Run.{Executes, hash_line, hash_text, hex_digit};
+ghost use Rattle.sk_model.specs.Causes.{HasCause, AppendsFront};
+ghost use Rattle.sk_cli.specs.Hash.{hash_line, hash_text, hex_digit};
+ghost use Rattle.sk_cli.specs.Run.{streams, Executes};
 ghost use Rattle.sk_cli.specs.declared.command.Command.TheVariants as command;
 
 use crate::fault::Fault;
+use crate::write::write_text;
 use sk_hash::hash48;
 use sk_ingest::LineReader;
-use sk_io::{Sink, Source, write_all};
+use sk_io::{Sink, Source};
 use std::alloc::Global;
 
 // A hash has so many digits.
@@ -46,14 +48,13 @@ fn line_of(hash: u64) -> [u8; LINE_LEN]
 fn put_hash<O: Sink>(seed: u32, line: &[u8], out: &mut O) -> Result<(), Fault>
     ensures ok { OnOk result (Appends (O.written out.old) (O.written out.new) (hash_text seed (line.now ∷ []))) }
     ensures front { OnErr result (AppendsFront (O.written out.old) (O.written out.new) (hash_text seed (line.now ∷ []))) }
-    ensures rose { OnErr result (Rose (O.faults out.old) (O.faults out.new)) }
+    ensures cause { HasCause (O.faults out.old) (O.faults out.new) result }
     ensures err { IfErr result (λ fault. fault ≡ Fault.WriteFault) }
-    ensures later { O.faults out.old ≤ O.faults out.new }
 {
     if line.is_empty() {
         return Ok(());
     }
-    write_all(out, &line_of(hash48(seed, line))).map_err(|_| Fault::WriteFault)
+    write_text(out, &line_of(hash48(seed, line)))
 }
 
 /// Writes the hash of each line that is not empty, before the next line is examined.
@@ -61,15 +62,17 @@ pub fn hash<S: Source, O: Sink>(
     alloc: Global,
     seed: u32,
     most: u64,
-    input: &mut S,
+    source: &mut S,
     out: &mut O,
 ) -> Result<(), Fault>
     requires bound { most ≤ 2 ^ 40 }
-    ensures { Executes (command.Hash seed) most (S.left input.old) (S.left input.new) (S.faults input.old) (S.faults input.new)
-        (O.written out.old) (O.written out.new) (O.faults out.old) (O.faults out.new) result }
+    ensures done { Executes (command.Hash seed) most
+        (streams (S.left source.old) (S.faults source.old) (O.written out.old) (O.faults out.old))
+        (streams (S.left source.new) (S.faults source.new) (O.written out.new) (O.faults out.new)) result }
+    ensures stays { S.stands_on source.new ≡ S.stands_on source.old }
 {
     let mut reader = LineReader::new(alloc, most)?;
-    'line: while reader.next(input)? {
+    'line: while reader.next(source)? {
         put_hash(seed, reader.line(), out)?;
     }
     Ok(())

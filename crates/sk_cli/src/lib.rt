@@ -3,11 +3,14 @@
 
 mod command;
 mod count;
+mod execute;
 mod fault;
 mod hash;
 mod help;
 mod options;
 mod program;
+mod replay;
+mod write;
 
 pub use program::run;
 

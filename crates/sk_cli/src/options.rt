@@ -11,11 +11,14 @@ use std::marker::Model;
 pub enum Verb {
     Count,
     Hash,
+    Replay,
 }
 
 /// The name of an option.
 #[derive(Clone, Copy, Debug, PartialEq, Eq)]
 pub enum Name {
+    Csv,
+    File,
     K,
     Raw,
     Seed,
@@ -27,6 +30,8 @@ impl Name {
         ensures { result ≡ name_of word.now }
     {
         match word {
+            "--csv" => Some(Name::Csv),
+            "--file" => Some(Name::File),
             "--k" => Some(Name::K),
             "--raw" => Some(Name::Raw),
             "--seed" => Some(Name::Seed),
@@ -39,7 +44,7 @@ impl Name {
         ensures { result ≡ takes_value self }
     {
         match self {
-            Name::K | Name::Seed => true,
+            Name::Csv | Name::File | Name::K | Name::Seed => true,
             Name::Raw => false,
         }
     }
@@ -52,7 +57,8 @@ impl Verb {
     {
         match self {
             Verb::Count => true,
-            Verb::Hash => name == Name::Seed,
+            Verb::Hash => name == Name::File || name == Name::Seed,
+            Verb::Replay => name == Name::File,
         }
     }
 }

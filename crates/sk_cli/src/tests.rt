@@ -1,9 +1,13 @@
+mod columns;
+mod files;
+mod replays;
+
 use super::*;
 use crate::command::Command;
+use crate::execute::execute;
 use crate::fault::Fault;
-use crate::program::execute;
 use sk_ingest::Kind;
-use sk_io::{MemSink, MemSource};
+use sk_io::{MemShelf, MemSink, MemSource, Shelf};
 use std::alloc::Global;
 use std::process::Abort;
 use std::test::Fail;
@@ -16,19 +20,32 @@ struct Ran {
     err: Vec<u8>,
 }
 
+// The words of a line; `''` stands for an empty one.
 fn words_of(alloc: Global, line: &str) -> Result<Vec<String>, Fail> {
     let mut words = Vec::new(alloc);
     for word in line.split_whitespace() {
+        let word = if word == "''" { "" } else { word };
         words.push(String::from_str(alloc, word)?)?;
     }
     Ok(words)
 }
 
-fn run_on(alloc: Global, line: &str, mut input: MemSource, room: usize) -> Result<Ran, Fail> {
+fn run_on(alloc: Global, line: &str, input: MemSource, room: usize) -> Result<Ran, Fail> {
+    let mut shelf = MemShelf::new(Vec::new(alloc), Vec::new(alloc), Vec::new(alloc));
+    run_beside(alloc, line, input, room, &mut shelf)
+}
+
+fn run_beside<F: Shelf>(
+    alloc: Global,
+    line: &str,
+    mut input: MemSource,
+    room: usize,
+    shelf: &mut F,
+) -> Result<Ran, Fail> {
     let words = words_of(alloc, line)?;
     let mut out = MemSink::new(alloc, room, 7, Vec::new(alloc))?;
     let mut err = MemSink::new(alloc, 1000, 1000, Vec::new(alloc))?;
-    let status = run(alloc, &words, &mut input, &mut out, &mut err);
+    let status = run(alloc, &words, &mut input, &mut out, &mut err, shelf);
     Ok(Ran {
         status,
         out: out.written().to_vec(alloc)?,
@@ -189,6 +206,18 @@ fn words_that_are_no_command(rt: HostRuntime) -> Result<(), Fail> {
         "count --raw --raw",
         "count --k --raw",
         "count --seed 4294967296",
+        "count --csv",
+        "count --csv 0",
+        "count --csv 4097",
+        "count --csv 1 --csv 1",
+        "hash --csv 1",
+        "count --file",
+        "count --file ''",
+        "count --file a --file a",
+        "count --file none --k 1",
+        "--help --file a",
+        "replay --seed 1",
+        "replay --file a --file b",
         "hash --k 4",
         "hash --seed",
         "count --k=4",
@@ -258,6 +287,7 @@ fn too_much(rt: HostRuntime) -> Result<(), Fail> {
         let command = Command::Count {
             k: 4,
             kind: Kind::Raw,
+            column: 0,
         };
         assert_eq!(rt; execute(alloc, command, 8, &mut input, &mut out), want);
     }

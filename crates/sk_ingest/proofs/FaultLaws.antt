@@ -6,16 +6,13 @@ use Rattle.sk_ingest.specs.declared.items.Fault.{Fault}
 use Rattle.sk_ingest.specs.declared.items.Fault.TheVariants as fault
 use Rattle.sk_ingest.specs.Faults.{fault_by}
 
-abbrev failed : Fault → Result ℕ Fault
-failed f = Err f
-
-one_fault : (e f : Fault) → failed e ≡ failed f → e ≡ f
-one_fault e f same = cc
+one_fault : {A : Type 0} (e f : Fault) (r : Result A Fault) → r ≡ Err e → r ≡ Err f → e ≡ f
+one_fault e f r one other = cc
 
 -- the fault that a result has is the one that it was given
-pub given_fault : (r : Result ℕ Fault) (f e : Fault) → IsErrAnd r (λ x. x ≡ f) → r ≡ Err e → f ≡ e
+pub given_fault : {A : Type 0} (r : Result A Fault) (f e : Fault) → IsErrAnd r (λ x. x ≡ f) → r ≡ Err e → f ≡ e
 given_fault (Ok n) f e given is = absurd given
-given_fault (Err x) f e given is = sym given ∙ one_fault x e is
+given_fault (Err x) f e given is = sym given ∙ one_fault x e (Err x) refl is
 
 pub long_is : (s : LineFault) (n : ℕ) → fault_by s ≡ fault.LongLine n → s ≡ stop.LongLine n
 long_is stop.ReadFault n is = cc

@@ -2,21 +2,25 @@
 ghost use Rattle.std.specs.Prelude.{◌≡◌, ◌≢◌, ◌≤◌, ◌<◌, ◌+◌, ◌-◌, ◌^◌, ℕ, List, [], ◌∷◌, ◌++◌, Ok, Err, OnOk, OnErr, IfOk, IfErr, IfSome, IsErrOf, IsNone, length, take};
 ghost use Rattle.std.specs.Io.KnownBytes.{Consumes, IsAtEnd};
 ghost use Rattle.sk_model.specs.Causes.{Rose};
-ghost use Rattle.sk_model.specs.Lines.{lines_of};
 ghost use Rattle.sk_model.specs.Width.{item_end};
-ghost use Rattle.sk_ingest.specs.Items.{items_by, item_of, IsGood, AreGood, IsLongAt, IsBadAt, IsGoodSoFar, complete_lines_of};
+ghost use Rattle.sk_ingest.specs.Items.{items_by, item_of, IsGood};
+ghost use Rattle.sk_ingest.specs.Units.{units_of, complete_units_of, IsReadable, IsReadableSoFar, IsLongUnit, IsBadUnit, IsUnevenUnit};
 
 use crate::kind::Kind;
-use crate::reader::{LineFault, LineReader};
-use sk_io::Source;
+use crate::lines::read_lines;
+use crate::reader::LineFault;
+use crate::records::read_records;
+use sk_io::{Failed, Source};
 use sk_model::OutOfMemory;
-use std::alloc::Global;
+use std::alloc::{AllocError, Global};
 
 /// What is read, and how much at most.
 #[derive(Clone, Copy, Debug, PartialEq, Eq)]
 pub struct Intake {
-    /// How a line becomes an item.
+    /// How a unit becomes an item.
     pub kind: Kind,
+    /// The units: the lines at 0, else the fields in this column, counted from 1, of the records.
+    pub column: u32,
     /// As many bytes as this are too much.
     pub most: u64,
 }
@@ -28,10 +32,13 @@ pub enum Fault {
     OutOfMemory,
     /// A read failed.
     ReadFault,
-    /// The line of this number, counted from 1, has more than 65,536 bytes.
+    /// The unit of this number, counted from 1, has more than 65,536 bytes.
     LongLine(u64),
-    /// The line of this number, counted from 1, is not empty and no item.
+    /// The unit of this number, counted from 1, is not empty and no item.
     BadItem(u64),
+    /// The record of this number, counted from 1, has not as many fields as the first, or has no
+    /// such column.
+    BadCsv(u64),
     /// As many bytes were taken as are too much.
     TooMuch,
 }
@@ -43,6 +50,26 @@ impl From<OutOfMemory> for Fault {
 
     fn from(_: OutOfMemory) -> Self {
         Fault::OutOfMemory
+    }
+}
+
+impl From<AllocError> for Fault {
+    ghost use Rattle.sk_ingest.specs.declared.items.Fault.TheVariants as fault;
+
+    ghost from_gives = { λ _ e. e ≡ fault.OutOfMemory };
+
+    fn from(_: AllocError) -> Self {
+        Fault::OutOfMemory
+    }
+}
+
+impl From<Failed> for Fault {
+    ghost use Rattle.sk_ingest.specs.declared.items.Fault.TheVariants as fault;
+
+    ghost from_gives = { λ _ e. e ≡ fault.ReadFault };
+
+    fn from(_: Failed) -> Self {
+        Fault::ReadFault
     }
 }
 
@@ -76,7 +103,8 @@ pub trait Taker {
         ensures numbers { numbers self.new ≡ numbers self.old };
 }
 
-/// Gives the items of a source to the taker, in order, and answers how many lines there were.
+/// Gives the items of a source to the taker, in order, and answers how many units there were: lines
+/// at column 0, else records. Records have commas and double quotes, and the first is like any other.
 pub fn read_items<S: Source, T: Taker>(
     alloc: Global,
     plan: &Intake,
@@ -86,54 +114,63 @@ pub fn read_items<S: Source, T: Taker>(
     requires bound { plan.now.most ≤ 2 ^ 40 }
     requires empty { T.stands_for taker.old [] }
 
-    // At `Ok` the whole source was read, and all its lines are good.
+    // At `Ok` the whole source was read, and none of its units is refused.
     ensures end { OnOk result (IsAtEnd (S.left source.new)) }
-    ensures lines { IfOk result (λ n. IfSome (S.left source.old) (λ text. n ≡ length (lines_of text))) }
-    ensures good { OnOk result (IfSome (S.left source.old) (λ text. AreGood plan.now.kind (lines_of text))) }
+    ensures units { IfOk result (λ n. IfSome (S.left source.old) (λ text. n ≡ length (units_of plan.now.column text))) }
+    ensures good { OnOk result (IfSome (S.left source.old) (λ text. IsReadable plan.now.kind plan.now.column text)) }
     ensures size { OnOk result (IfSome (S.left source.old) (λ text. length text < plan.now.most)) }
-    ensures items { OnOk result (IfSome (S.left source.old) (λ text. T.stands_for taker.new (items_by plan.now.kind (lines_of text)))) }
+    ensures items { OnOk result (IfSome (S.left source.old) (λ text. T.stands_for taker.new (items_by plan.now.kind (units_of plan.now.column text)))) }
 
-    // A refused line comes before every other fault that stands behind it.
+    // A refused unit comes before every other fault that stands behind it.
     ensures long_line { (n : ℕ) → result ≡ Err (Fault.LongLine n) → IfSome (S.left source.old) (λ text.
-        IsLongAt plan.now.kind n (lines_of text) × T.stands_for taker.new (items_by plan.now.kind (take (n - 1) (lines_of text)))) }
+        IsLongUnit plan.now.kind plan.now.column n text × T.stands_for taker.new (items_by plan.now.kind (take (n - 1) (units_of plan.now.column text)))) }
     ensures bad_item { (n : ℕ) → result ≡ Err (Fault.BadItem n) → IfSome (S.left source.old) (λ text.
-        IsBadAt plan.now.kind n (lines_of text) × T.stands_for taker.new (items_by plan.now.kind (take (n - 1) (lines_of text)))) }
+        IsBadUnit plan.now.kind plan.now.column n text × T.stands_for taker.new (items_by plan.now.kind (take (n - 1) (units_of plan.now.column text)))) }
+    ensures bad_csv { (n : ℕ) → result ≡ Err (Fault.BadCsv n) → IfSome (S.left source.old) (λ text.
+        IsUnevenUnit plan.now.kind plan.now.column n text × T.stands_for taker.new (items_by plan.now.kind (take (n - 1) (units_of plan.now.column text)))) }
 
-    // The other faults come where no line of the bytes taken is refused.
+    // The other faults come where no unit of the bytes taken is refused.
     ensures read_fault { IsErrOf result Fault.ReadFault → Rose (S.faults source.old) (S.faults source.new) }
     ensures read_fault_at { IsErrOf result Fault.ReadFault → (taken : List ℕ) × Consumes (S.left source.old) (S.left source.new) taken
-        × (length taken < plan.now.most) × IsGoodSoFar plan.now.kind taken × T.stands_for taker.new (items_by plan.now.kind (complete_lines_of taken)) }
+        × (length taken < plan.now.most) × IsReadableSoFar plan.now.kind plan.now.column taken
+        × T.stands_for taker.new (items_by plan.now.kind (complete_units_of plan.now.column taken)) }
     ensures too_much { IsErrOf result Fault.TooMuch → (taken : List ℕ) × Consumes (S.left source.old) (S.left source.new) taken
-        × (length taken ≡ plan.now.most) × IsGoodSoFar plan.now.kind taken × T.stands_for taker.new (items_by plan.now.kind (complete_lines_of taken)) }
+        × (length taken ≡ plan.now.most) × IsReadableSoFar plan.now.kind plan.now.column taken
+        × T.stands_for taker.new (items_by plan.now.kind (complete_units_of plan.now.column taken)) }
     ensures memory { IsErrOf result Fault.OutOfMemory → IfSome (S.left source.old) (λ text.
-        (n : ℕ) × T.stands_for taker.new (items_by plan.now.kind (take n (lines_of text)))) }
+        (n : ℕ) × T.stands_for taker.new (items_by plan.now.kind (take n (units_of plan.now.column text)))) }
 
     ensures later { S.faults source.old ≤ S.faults source.new }
     ensures stays { S.stands_on source.new ≡ S.stands_on source.old }
     ensures numbers { T.numbers taker.new ≡ T.numbers taker.old }
 {
-    let mut reader = LineReader::new(alloc, plan.most)?;
-    'line: while reader.next(source)? {
-        take_line(plan.kind, reader.line(), reader.number(), taker)?;
+    if plan.column == 0 {
+        read_lines(alloc, plan.kind, plan.most, source, taker)
+    } else {
+        read_records(alloc, plan, source, taker)
     }
-    Ok(reader.number())
 }
 
-// Gives the item of a line, if it has one, to the taker.
+// Gives the item of a unit, if it has one, to the taker.
 #[inline(always)]
-fn take_line<T: Taker>(kind: Kind, line: &[u8], number: u64, taker: &mut T) -> Result<(), Fault>
-    requires room { (lines : List (List ℕ)) × (length lines < 2 ^ 40) × T.stands_for taker.old (items_by kind lines) }
-    ensures good { OnOk result (IsGood kind line.now) }
-    ensures stands { OnOk result ((lines : List (List ℕ)) → length lines < 2 ^ 40 → T.stands_for taker.old (items_by kind lines)
-        → T.stands_for taker.new (items_by kind (lines ++ line.now ∷ []))) }
-    ensures bad { OnErr result ((0 < length line.now) × IsNone (item_of kind line.now) × (taker.new ≡ taker.old)) }
+pub(crate) fn take_unit<T: Taker>(
+    kind: Kind,
+    unit: &[u8],
+    number: u64,
+    taker: &mut T,
+) -> Result<(), Fault>
+    requires room { (units : List (List ℕ)) × (length units < 2 ^ 40) × T.stands_for taker.old (items_by kind units) }
+    ensures good { OnOk result (IsGood kind unit.now) }
+    ensures stands { OnOk result ((units : List (List ℕ)) → length units < 2 ^ 40 → T.stands_for taker.old (items_by kind units)
+        → T.stands_for taker.new (items_by kind (units ++ unit.now ∷ []))) }
+    ensures bad { OnErr result ((0 < length unit.now) × IsNone (item_of kind unit.now) × (taker.new ≡ taker.old)) }
     ensures err { IfErr result (λ fault. fault ≡ Fault.BadItem number) }
     ensures numbers { T.numbers taker.new ≡ T.numbers taker.old }
 {
-    if line.is_empty() {
+    if unit.is_empty() {
         return Ok(());
     }
-    match kind.item(line) {
+    match kind.item(unit) {
         Some(item) => {
             taker.take(item);
             Ok(())

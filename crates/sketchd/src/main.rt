@@ -1,8 +1,8 @@
-//! The program `sketchd`: the words of its command line and its standard streams, over `sk_cli`.
+//! The program `sketchd`: the words of its command line, its standard streams and the files, over `sk_cli`.
 #![tactic(auto)]
 
 use sk_cli::run;
-use sk_io::{StdSink, StdSource};
+use sk_io::{FileShelf, StdSink, StdSource};
 use std::alloc::{AllocError, Global};
 use std::env::FillError;
 use std::io::writer;
@@ -50,5 +50,8 @@ fn main(rt: HostRuntime) -> ExitCode {
     let mut input = StdSource::new(rt.stdin());
     let mut out = StdSink::new(writer(&stdout));
     let mut err = StdSink::new(writer(&stderr));
-    ExitCode::from(run(alloc, &words, &mut input, &mut out, &mut err))
+    let mut shelf = FileShelf::new(&rt);
+    ExitCode::from(run(
+        alloc, &words, &mut input, &mut out, &mut err, &mut shelf,
+    ))
 }

@@ -1,5 +1,5 @@
 use Rattle.std.proofs.Common.{◌≡◌, ◌+◌, ◌-◌, ◌<◌, ◌≤◌, ◌/◌, ◌%◌, ◌++◌, ◌∷◌, [], ℕ, length, drop, set, sym, ap, ◌∙◌, arith, rules}
-use Rattle.sk_cli.specs.Run.{hex, hex_digit, hash_line}
+use Rattle.sk_cli.specs.Hash.{hex, hex_digit, hash_line}
 use Rattle.sk_cli.proofs.Hashing.{digit_more, no_hex}
 use Rattle.sk_cli.proofs.hash.line_of.Goals as goal
 

@@ -1,5 +1,5 @@
 use Rattle.std.proofs.Common.{◌≡◌, ◌≤◌, ◌++◌, ◌∷◌, [], drop, length}
-use Rattle.sk_cli.specs.Run.{hex, hash_line}
+use Rattle.sk_cli.specs.Hash.{hex, hash_line}
 use Rattle.sk_cli.proofs.hash.line_of.Given as goal
 
 abbrev pub invariant-digit : goal.invariant-digit

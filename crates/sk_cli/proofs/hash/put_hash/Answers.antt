@@ -2,7 +2,7 @@ use Rattle.std.proofs.Common.{◌≡◌, ◌<◌, ◌∷◌, [], ℕ, List, leng
 use Rattle.std.specs.Io.KnownBytes.{Appends}
 use Rattle.std.proofs.KnownBytes.{Appends-nil}
 use Rattle.sk_model.specs.Causes.{AppendsFront}
-use Rattle.sk_cli.specs.Run.{hash_line, hash_text}
+use Rattle.sk_cli.specs.Hash.{hash_line, hash_text}
 use Rattle.sk_cli.proofs.Hashing.{hash_text_one, hash_text_empty}
 use Rattle.sk_cli.proofs.hash.put_hash.Goals as goal
 
@@ -16,13 +16,13 @@ returns-clause-ok g c =
     let some : 0 < length c.args.line.now = search rules in
     let text : c.line_of.result ≡ hash_text c.args.seed (c.args.line.now ∷ []) =
     c.line_of.ensures ∙ ap (λ (h : ℕ). hash_line h) c.hash48.ensures.value ∙ sym (hash_text_one c.args.seed c.args.line.now some) in
-    let wrote : OnOk c.map_err.result (Appends (g.O.Sink.written c.args.out.now) (g.O.Sink.written c.write_all.new.out) c.line_of.result) = search rules in
-    subst (λ (l : List ℕ). OnOk c.map_err.result (Appends (g.O.Sink.written c.args.out.now) (g.O.Sink.written c.write_all.new.out) l)) text wrote
+    let wrote : OnOk c.write_text.result (Appends (g.O.Sink.written c.args.out.now) (g.O.Sink.written c.write_text.new.out) c.line_of.result) = search rules in
+    subst (λ (l : List ℕ). OnOk c.write_text.result (Appends (g.O.Sink.written c.args.out.now) (g.O.Sink.written c.write_text.new.out) l)) text wrote
 
 pub returns-clause-front : goal.returns-clause-front
 returns-clause-front g c =
     let some : 0 < length c.args.line.now = search rules in
     let text : c.line_of.result ≡ hash_text c.args.seed (c.args.line.now ∷ []) =
     c.line_of.ensures ∙ ap (λ (h : ℕ). hash_line h) c.hash48.ensures.value ∙ sym (hash_text_one c.args.seed c.args.line.now some) in
-    let wrote : OnErr c.map_err.result (AppendsFront (g.O.Sink.written c.args.out.now) (g.O.Sink.written c.write_all.new.out) c.line_of.result) = search rules in
-    subst (λ (l : List ℕ). OnErr c.map_err.result (AppendsFront (g.O.Sink.written c.args.out.now) (g.O.Sink.written c.write_all.new.out) l)) text wrote
+    let wrote : OnErr c.write_text.result (AppendsFront (g.O.Sink.written c.args.out.now) (g.O.Sink.written c.write_text.new.out) c.line_of.result) = search rules in
+    subst (λ (l : List ℕ). OnErr c.write_text.result (AppendsFront (g.O.Sink.written c.args.out.now) (g.O.Sink.written c.write_text.new.out) l)) text wrote

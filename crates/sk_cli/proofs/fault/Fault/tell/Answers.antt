@@ -15,20 +15,52 @@ returns-in-ReadFault-clause-front g c =
 
 pub returns-in-LongLine-clause-ok : goal.returns-in-LongLine-clause-ok
 returns-in-LongLine-clause-ok g c =
-    subst (λ (f : Fault). OnOk c.tell_line.result (Appends (g.E.Sink.written c.args.err.now) (g.E.Sink.written c.tell_line.new.err) (message_of f))) (sym c.in-LongLine.is) c.tell_line.ensures.ok
+    subst (λ (f : Fault). OnOk c.tell_unit.result (Appends (g.E.Sink.written c.args.err.now) (g.E.Sink.written c.tell_unit.new.err) (message_of f))) (sym c.in-LongLine.is) c.tell_unit.ensures.ok
 
 pub returns-in-LongLine-clause-front : goal.returns-in-LongLine-clause-front
 returns-in-LongLine-clause-front g c =
-    subst (λ (f : Fault). OnErr c.tell_line.result (AppendsFront (g.E.Sink.written c.args.err.now) (g.E.Sink.written c.tell_line.new.err) (message_of f))) (sym c.in-LongLine.is) c.tell_line.ensures.front
+    subst (λ (f : Fault). OnErr c.tell_unit.result (AppendsFront (g.E.Sink.written c.args.err.now) (g.E.Sink.written c.tell_unit.new.err) (message_of f))) (sym c.in-LongLine.is) c.tell_unit.ensures.front
 
 pub returns-in-BadItem-clause-ok : goal.returns-in-BadItem-clause-ok
 returns-in-BadItem-clause-ok g c =
-    subst (λ (f : Fault). OnOk c.tell_line-in-BadItem.result (Appends (g.E.Sink.written c.args.err.now) (g.E.Sink.written c.tell_line-in-BadItem.new.err) (message_of f))) (sym c.in-BadItem.is) c.tell_line-in-BadItem.ensures.ok
+    subst (λ (f : Fault). OnOk c.tell_unit-in-BadItem.result (Appends (g.E.Sink.written c.args.err.now) (g.E.Sink.written c.tell_unit-in-BadItem.new.err) (message_of f))) (sym c.in-BadItem.is) c.tell_unit-in-BadItem.ensures.ok
 
 pub returns-in-BadItem-clause-front : goal.returns-in-BadItem-clause-front
 returns-in-BadItem-clause-front g c =
-    subst (λ (f : Fault). OnErr c.tell_line-in-BadItem.result (AppendsFront (g.E.Sink.written c.args.err.now) (g.E.Sink.written c.tell_line-in-BadItem.new.err) (message_of f))) (sym c.in-BadItem.is) c.tell_line-in-BadItem.ensures.front
+    subst (λ (f : Fault). OnErr c.tell_unit-in-BadItem.result (AppendsFront (g.E.Sink.written c.args.err.now) (g.E.Sink.written c.tell_unit-in-BadItem.new.err) (message_of f))) (sym c.in-BadItem.is) c.tell_unit-in-BadItem.ensures.front
 
 pub returns-in-Usage-clause-front : goal.returns-in-Usage-clause-front
 returns-in-Usage-clause-front g c =
     subst (λ (f : Fault). OnErr c.write_all-in-Usage.result (AppendsFront (g.E.Sink.written c.args.err.now) (g.E.Sink.written c.write_all-in-Usage.new.out) (message_of f))) (sym c.in-Usage.is) c.write_all-in-Usage.ensures.err
+
+pub returns-in-BadEvent-clause-ok : goal.returns-in-BadEvent-clause-ok
+returns-in-BadEvent-clause-ok g c =
+    subst (λ (f : Fault). OnOk c.tell_unit-in-BadEvent.result (Appends (g.E.Sink.written c.args.err.now) (g.E.Sink.written c.tell_unit-in-BadEvent.new.err) (message_of f))) (sym c.in-BadEvent.is) c.tell_unit-in-BadEvent.ensures.ok
+
+pub returns-in-BadEvent-clause-front : goal.returns-in-BadEvent-clause-front
+returns-in-BadEvent-clause-front g c =
+    subst (λ (f : Fault). OnErr c.tell_unit-in-BadEvent.result (AppendsFront (g.E.Sink.written c.args.err.now) (g.E.Sink.written c.tell_unit-in-BadEvent.new.err) (message_of f))) (sym c.in-BadEvent.is) c.tell_unit-in-BadEvent.ensures.front
+
+pub returns-in-OpenFault-clause-ok : goal.returns-in-OpenFault-clause-ok
+returns-in-OpenFault-clause-ok g c =
+    subst (λ (f : Fault). OnOk c.write_all-in-OpenFault.result (Appends (g.E.Sink.written c.args.err.now) (g.E.Sink.written c.write_all-in-OpenFault.new.out) (message_of f))) (sym c.in-OpenFault.is) c.write_all-in-OpenFault.ensures.ok
+
+pub returns-in-OpenFault-clause-front : goal.returns-in-OpenFault-clause-front
+returns-in-OpenFault-clause-front g c =
+    subst (λ (f : Fault). OnErr c.write_all-in-OpenFault.result (AppendsFront (g.E.Sink.written c.args.err.now) (g.E.Sink.written c.write_all-in-OpenFault.new.out) (message_of f))) (sym c.in-OpenFault.is) c.write_all-in-OpenFault.ensures.err
+
+pub returns-in-BadField-clause-ok : goal.returns-in-BadField-clause-ok
+returns-in-BadField-clause-ok g c =
+    subst (λ (f : Fault). OnOk c.tell_unit-in-BadField.result (Appends (g.E.Sink.written c.args.err.now) (g.E.Sink.written c.tell_unit-in-BadField.new.err) (message_of f))) (sym c.in-BadField.is) c.tell_unit-in-BadField.ensures.ok
+
+pub returns-in-BadField-clause-front : goal.returns-in-BadField-clause-front
+returns-in-BadField-clause-front g c =
+    subst (λ (f : Fault). OnErr c.tell_unit-in-BadField.result (AppendsFront (g.E.Sink.written c.args.err.now) (g.E.Sink.written c.tell_unit-in-BadField.new.err) (message_of f))) (sym c.in-BadField.is) c.tell_unit-in-BadField.ensures.front
+
+pub returns-in-BadCsv-clause-ok : goal.returns-in-BadCsv-clause-ok
+returns-in-BadCsv-clause-ok g c =
+    subst (λ (f : Fault). OnOk c.tell_unit-in-BadCsv.result (Appends (g.E.Sink.written c.args.err.now) (g.E.Sink.written c.tell_unit-in-BadCsv.new.err) (message_of f))) (sym c.in-BadCsv.is) c.tell_unit-in-BadCsv.ensures.ok
+
+pub returns-in-BadCsv-clause-front : goal.returns-in-BadCsv-clause-front
+returns-in-BadCsv-clause-front g c =
+    subst (λ (f : Fault). OnErr c.tell_unit-in-BadCsv.result (AppendsFront (g.E.Sink.written c.args.err.now) (g.E.Sink.written c.tell_unit-in-BadCsv.new.err) (message_of f))) (sym c.in-BadCsv.is) c.tell_unit-in-BadCsv.ensures.front

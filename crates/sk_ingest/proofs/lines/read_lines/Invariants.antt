@@ -2,7 +2,7 @@ use Rattle.std.proofs.Common.{◌≡◌, ◌≤◌, List, ℕ, true, All}
 use Rattle.std.specs.Io.KnownBytes.{Consumes, IsAtEnd}
 use Rattle.sk_ingest.specs.Items.{items_by, IsGood}
 use Rattle.sk_ingest.specs.Reading.{HasGiven, remaining_of}
-use Rattle.sk_ingest.proofs.items.read_items.Given as goal
+use Rattle.sk_ingest.proofs.lines.read_lines.Given as goal
 
 abbrev pub invariant-line : goal.invariant-line
 invariant-line g l = record {
@@ -10,10 +10,10 @@ invariant-line g l = record {
   taken : List ℕ;
   has : HasGiven l.reader given taken;
   consumed : Consumes (g.S.Source.left l.initial.source) (g.S.Source.left l.source) taken;
-  items : All (IsGood l.plan.kind) given;
-  stands : g.T.Taker.stands_for l.taker (items_by l.plan.kind given);
+  items : All (IsGood l.kind) given;
+  stands : g.T.Taker.stands_for l.taker (items_by l.kind given);
   limit : l.reader.cutter.limit ≡ 65536;
-  most : l.reader.most ≡ l.plan.most;
+  most : l.reader.most ≡ l.most;
   end : l.reader.ended ≡ true → IsAtEnd (g.S.Source.left l.source);
   later : g.S.Source.faults l.initial.source ≤ g.S.Source.faults l.source;
   stays : g.S.Source.stands_on l.source ≡ g.S.Source.stands_on l.initial.source;

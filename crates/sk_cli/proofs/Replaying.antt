@@ -1,0 +1,128 @@
+-- How `replay` goes.
+use Rattle.std.proofs.Common.{◌≡◌, ℕ, ◌+◌, ◌-◌, true, List, [], ◌∷◌, ◌++◌, length, take, map, flat_map, get_or, Option, Some, None, refl, sym, ap, ◌∙◌, subst, arith, append-nil, append_assoc, length-append}
+use Rattle.std.proofs.lemmas.Grind.{flat_map-append}
+use Rattle.std.proofs.lemmas.List.{map-append}
+use Rattle.std.specs.Io.KnownBytes.{Appends, Consumes, IsAtEnd}
+use Rattle.std.proofs.KnownBytes.{Appends-nil, Consumes-trans}
+use Rattle.sk_model.specs.Causes.{AppendsFront}
+use Rattle.sk_model.specs.Missing.{Begins}
+use Rattle.sk_model.specs.Lines.{lines_of, AreWithin}
+use Rattle.sk_machine.specs.Fine.{Fine}
+use Rattle.sk_core.specs.Runs.{MeetsAll, IsRun}
+use Rattle.sk_core.specs.Texts.{event_of, fields_of}
+use Rattle.sk_core.specs.declared.event.Event.{Event}
+use Rattle.sk_core.specs.declared.event.Answer.{Answer}
+use Rattle.sk_core.proofs.Runs.{run_more, run_empty}
+use Rattle.sk_ingest.specs.Items.{line_limit}
+use Rattle.sk_ingest.specs.Reading.{Reading, GivesNone}
+use Rattle.sk_ingest.proofs.ItemLaws.{told_by, with_rest, has_begun, read_whole}
+use Rattle.sk_cli.specs.declared.command.Command.TheVariants.{Replay}
+use Rattle.sk_cli.specs.Replay.{start_of, IsPlay, Played, answer_line, answers_text, IsAnswered, IsNoMore}
+use Rattle.sk_cli.specs.Due.{IsDueBefore, IsBadLine, IsBadEvent, Writes}
+use Rattle.sk_cli.specs.Run.{Streams, Refuses, EndsWithin}
+use Rattle.sk_cli.proofs.Endings.{none_within}
+use Rattle.sk_cli.proofs.Fronts.{front_behind}
+use Rattle.sk_cli.proofs.Reading.{ByLines, Reads, within_given, first_are, cut_short}
+
+pub answers_more : (answers : List Answer) (a : Answer) → answers_text (answers ++ a ∷ []) ≡ answers_text answers ++ answer_line a
+unfolding answers_text
+answers_more answers a =
+    flat_map-append answer_line answers (a ∷ []) ∙ ap (λ (l : List ℕ). flat_map answer_line answers ++ l) (append-nil (answer_line a))
+
+pub no_answers : answers_text [] ≡ []
+unfolding answers_text
+no_answers = refl
+
+-- ---- schedules
+
+pub played_none : (k : ℕ) (first : List ℕ) (start : Fine) → start_of first ≡ Some (k, start) → MeetsAll k start → Played k first [] [] start
+played_none k first start named invariant = record {
+  start = start;
+  events = [];
+  named_start = named;
+  named = refl;
+  run = run_empty k start;
+  invariant = invariant;
+}
+
+pub played_more : (k : ℕ) (first : List ℕ) (lines : List (List ℕ)) (answers : List Answer) (from : Fine) (line : List ℕ) (a : Answer) (to : Fine) → Played k first lines answers from → IsPlay line k from a to →
+    Played k first (lines ++ line ∷ []) (answers ++ a ∷ []) to
+played_more k first lines answers from line a to played play = record {
+  start = played.start;
+  events = played.events ++ play.event ∷ [];
+  named_start = played.named_start;
+  named =
+      map-append event_of lines (line ∷ []) ∙ ap (λ (l : List (Option Event)). l ++ event_of line ∷ []) played.named
+      ∙ ap (λ (o : Option Event). map (λ (e : Event). Some e) played.events ++ o ∷ []) play.named ∙ sym (map-append (λ (e : Event). Some e) played.events (play.event ∷ []));
+  run = subst (λ (f : Fine). IsRun k (played.events ++ play.event ∷ []) (answers ++ a ∷ []) played.start f) (sym play.machine) (run_more k played.events answers played.start from play.event a played.run play.step);
+  invariant = play.invariant;
+}
+
+-- what is due for the lines of a schedule that were played
+pub answered : (k : ℕ) (first : List ℕ) (lines : List (List ℕ)) (answers : List Answer) (reached : Fine) → Played k first lines answers reached → IsAnswered (first ∷ lines) (answers_text answers)
+answered k first lines answers reached played = (k, answers, reached, played, refl)
+
+-- `replay` examines line by line
+pub replay_by_lines : ByLines Replay IsAnswered
+replay_by_lines = record { reads_it = refl; so_far = λ taken due within is. (within, is); before = λ n text due within is. (n, within, is); long = λ n text due long is. (long, is) }
+
+pub no_answer_yet : (text : List ℕ) → IsDueBefore Replay text []
+no_answer_yet text = (0, none_within, refl)
+
+-- ---- refusals
+
+at_length : (xs : List (List ℕ)) (y : List ℕ) (zs : List (List ℕ)) → get_or (xs ++ y ∷ zs) (length xs) [] ≡ y
+at_length [] y zs = refl
+at_length (x ∷ xs) y zs = at_length xs y zs
+
+bad_line : (n : ℕ) (given : List (List ℕ)) (line : List ℕ) (lines : List (List ℕ)) → n ≡ length given + 1 → AreWithin line_limit (given ++ line ∷ []) → IsNoMore given line →
+    Begins (given ++ line ∷ []) lines → IsBadLine n lines × (take (n - 1) lines ≡ given)
+bad_line n given line lines is within bad begins =
+    let place : n - 1 ≡ length given = omega arith in
+    let behind : lines ≡ given ++ line ∷ begins.0 = begins.1 ∙ append_assoc given (line ∷ []) begins.0 in
+    let front : take (n - 1) lines ≡ given = first_are given lines (n - 1) place (line ∷ begins.0, behind) in
+    let up_to : take n lines ≡ given ++ line ∷ [] = first_are (given ++ line ∷ []) lines n (omega (arith, length-append given (line ∷ []))) begins in
+    let here : get_or lines (n - 1) [] ≡ line = ap (λ (m : ℕ). get_or lines m []) place ∙ ap (λ (l : List (List ℕ)). get_or l (length given) []) behind ∙ at_length given line begins.0 in (
+      record {
+        from = omega arith;
+        to = omega (arith, ap length behind, length-append given (line ∷ begins.0));
+        within = subst (AreWithin line_limit) (sym up_to) within;
+        bad = subst (λ (l : List (List ℕ)). IsNoMore l (get_or lines (n - 1) [])) (sym front) (subst (λ (l : List ℕ). IsNoMore given l) (sym here) bad);
+      },
+      front,
+    )
+
+-- a line that is refused, behind those that were played
+pub refuses : (a b : Streams) (most n : ℕ) (r : Reading) (given : List (List ℕ)) (line due taken : List ℕ) → Reads r a.left b.left most (given ++ line ∷ []) taken → n ≡ length given + 1 →
+    IsAnswered given due → Appends a.written b.written due → IsNoMore given line → Refuses Replay (IsBadEvent Replay n) a b
+refuses a b most n r given line due taken read is so_far written bad =
+    told_by a.left b.left taken (λ (text : List ℕ). Writes (IsBadEvent Replay n text) a.written b.written) read.consumed
+    (with_rest b.left (λ (rest : List ℕ). Begins (given ++ line ∷ []) (lines_of (taken ++ rest))) (λ (rest : List ℕ). Writes (IsBadEvent Replay n (taken ++ rest)) a.written b.written)
+    (λ rest begins.
+    let found = bad_line n given line (lines_of (taken ++ rest)) is (within_given r a.left b.left most (given ++ line ∷ []) taken read) bad begins in
+    (due, (found.0, subst (λ (l : List (List ℕ)). IsAnswered l due) (sym found.1) so_far), written))
+    (has_begun r (given ++ line ∷ []) taken b.left read.has read.end))
+
+no_first_line : start_of [] ≡ None
+unfolding fields_of
+no_first_line = refl
+
+-- a text of no line
+pub refuses_nothing : (a b : Streams) (most : ℕ) (r s : Reading) (now : Option (List ℕ)) → Reads r a.left now most [] [] → (more : List ℕ) × Consumes now b.left more × GivesNone r s more → s.ended ≡ true →
+    ((r.ended ≡ true → IsAtEnd now) → s.ended ≡ true → IsAtEnd b.left) → b.written ≡ a.written → Refuses Replay (IsBadEvent Replay 1) a b
+refuses_nothing a b most r s now read none ended end same =
+    let all = none.2 [] [] read.has in
+    let bad : IsBadLine 1 [] = record { from = omega arith; to = omega arith; within = none_within; bad = no_first_line } in
+    let nothing : Appends a.written b.written [] = subst (λ (w : Option (List ℕ)). Appends a.written w []) (sym same) (Appends-nil a.written) in
+    read_whole a.left b.left none.0 (λ (text : List ℕ). Writes (IsBadEvent Replay 1 text) a.written b.written) (Consumes-trans a.left now b.left [] none.0 read.consumed none.1) (end read.end ended)
+    ([], subst (λ (lines : List (List ℕ)). IsBadLine 1 lines × IsAnswered (take 0 lines) []) (sym all.0) (bad, refl), nothing)
+
+-- a line that was played, and whose answer was not written whole
+pub answer_cut_short : (a b : Streams) (most k : ℕ) (r : Reading) (first : List ℕ) (lines : List (List ℕ)) (answers : List Answer) (from to : Fine) (line taken : List ℕ) (said : Answer) (mid : Option (List ℕ)) →
+    Played k first lines answers from → IsPlay line k from said to → Reads r a.left b.left most (first ∷ (lines ++ line ∷ [])) taken → Appends a.written mid (answers_text answers) →
+    AppendsFront mid b.written (answer_line said) → EndsWithin Replay a b
+answer_cut_short a b most k r first lines answers from to line taken said mid played play read written front =
+    cut_short Replay IsAnswered replay_by_lines most a b r (first ∷ (lines ++ line ∷ [])) (answers_text (answers ++ said ∷ [])) taken read
+    (answered k first (lines ++ line ∷ []) (answers ++ said ∷ []) to (played_more k first lines answers from line said to played play))
+    (subst (λ (l : List ℕ). AppendsFront a.written b.written l) (sym (answers_more answers said))
+    (front_behind a.written mid b.written (answers_text answers) (answer_line said) written front))
