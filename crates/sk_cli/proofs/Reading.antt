@@ -35,6 +35,7 @@ long_is reading.OutOfMemory n is = cc
 long_is reading.ReadFault n is = cc
 long_is (reading.LongLine m) n is = cc
 long_is (reading.BadItem m) n is = cc
+long_is (reading.BadCsv m) n is = cc
 long_is reading.TooMuch n is = cc
 
 bad_is : (s : ReadingFault) (n : ℕ) → fault_by s ≡ fault.BadItem n → s ≡ reading.BadItem n
@@ -42,6 +43,7 @@ bad_is reading.OutOfMemory n is = cc
 bad_is reading.ReadFault n is = cc
 bad_is (reading.LongLine m) n is = cc
 bad_is (reading.BadItem m) n is = cc
+bad_is (reading.BadCsv m) n is = cc
 bad_is reading.TooMuch n is = cc
 
 read_fault_is : (s : ReadingFault) → fault_by s ≡ fault.ReadFault → s ≡ reading.ReadFault
@@ -49,6 +51,7 @@ read_fault_is reading.OutOfMemory is = cc
 read_fault_is reading.ReadFault is = refl
 read_fault_is (reading.LongLine m) is = cc
 read_fault_is (reading.BadItem m) is = cc
+read_fault_is (reading.BadCsv m) is = cc
 read_fault_is reading.TooMuch is = cc
 
 too_much_is : (s : ReadingFault) → fault_by s ≡ fault.TooMuch → s ≡ reading.TooMuch
@@ -56,6 +59,7 @@ too_much_is reading.OutOfMemory is = cc
 too_much_is reading.ReadFault is = cc
 too_much_is (reading.LongLine m) is = cc
 too_much_is (reading.BadItem m) is = cc
+too_much_is (reading.BadCsv m) is = cc
 too_much_is reading.TooMuch is = refl
 
 no_write_fault : (s : ReadingFault) → fault_by s ≡ fault.WriteFault → ⊥
@@ -63,6 +67,7 @@ no_write_fault reading.OutOfMemory is = cc
 no_write_fault reading.ReadFault is = cc
 no_write_fault (reading.LongLine m) is = cc
 no_write_fault (reading.BadItem m) is = cc
+no_write_fault (reading.BadCsv m) is = cc
 no_write_fault reading.TooMuch is = cc
 
 no_usage : (s : ReadingFault) → fault_by s ≡ fault.Usage → ⊥
@@ -70,6 +75,7 @@ no_usage reading.OutOfMemory is = cc
 no_usage reading.ReadFault is = cc
 no_usage (reading.LongLine m) is = cc
 no_usage (reading.BadItem m) is = cc
+no_usage (reading.BadCsv m) is = cc
 no_usage reading.TooMuch is = cc
 
 -- what was found of a text, without who took its items

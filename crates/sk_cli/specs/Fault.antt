@@ -36,6 +36,7 @@ fault_by reading.OutOfMemory = OutOfMemory
 fault_by reading.ReadFault = ReadFault
 fault_by (reading.LongLine line) = LongLine line
 fault_by (reading.BadItem line) = BadItem line
+fault_by (reading.BadCsv n) = OutOfMemory
 fault_by reading.TooMuch = TooMuch
 
 -- a status that the program may end with

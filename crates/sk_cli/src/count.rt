@@ -32,7 +32,11 @@ pub fn count<S: Source, O: Sink>(
         (O.written out.old) (O.written out.new) (O.faults out.old) (O.faults out.new) result }
 {
     let mut sketch = HeapTheta::new(alloc, k)?;
-    let plan = Intake { kind, most };
+    let plan = Intake {
+        kind,
+        column: 0,
+        most,
+    };
     read_items(alloc, &plan, input, &mut sketch)?;
     let (n, d) = sketch.fraction();
     let line = line_of(alloc, n, d)?;

@@ -67,6 +67,8 @@ impl From<ReadingFault> for Fault {
             ReadingFault::ReadFault => Fault::ReadFault,
             ReadingFault::LongLine(line) => Fault::LongLine(line),
             ReadingFault::BadItem(line) => Fault::BadItem(line),
+            // Lines are read, and no record.
+            ReadingFault::BadCsv(_) => Fault::OutOfMemory,
             ReadingFault::TooMuch => Fault::TooMuch,
         }
     }
