@@ -6,8 +6,8 @@ use Rattle.csv.specs.declared.parser.State.{State}
 use Rattle.csv.specs.declared.parser.State.TheVariants as st
 use Rattle.sk_ingest.specs.declared.place.Place.{Place}
 use Rattle.sk_ingest.specs.declared.place.Place.TheVariants as place
-use Rattle.sk_ingest.specs.Places.{state_of, settled, is_inside, state_after, StaysInside, IsCut}
-use Rattle.sk_ingest.proofs.Steps.{settled_goes_on, settled_twice, inside_settled, IsEnd, between_is_end}
+use Rattle.sk_ingest.specs.Places.{IsEnd, state_of, settled, is_inside, state_after, StaysInside, IsCut}
+use Rattle.sk_ingest.proofs.Steps.{settled_goes_on, settled_twice, inside_settled, between_is_end}
 
 pub place_settled : (p : Place) → settled (state_of p) ≡ state_of p
 place_settled place.Between = refl

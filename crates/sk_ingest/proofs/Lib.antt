@@ -3,6 +3,7 @@ pub mod EndLaws
 pub mod FaultLaws
 pub mod ItemLaws
 pub mod PartLaws
+pub mod Plain
 pub mod Readings
 pub mod RowLaws
 pub mod Runs

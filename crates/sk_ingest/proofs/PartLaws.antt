@@ -9,10 +9,10 @@ use Rattle.csv.specs.Machine.{next_record}
 use Rattle.csv.specs.declared.parser.State.{State}
 use Rattle.csv.specs.declared.parser.State.TheVariants as st
 use Rattle.sk_ingest.specs.declared.parts.Parts.{Parts}
-use Rattle.sk_ingest.specs.Places.{state_of, settled, state_after, StaysInside, IsCut}
+use Rattle.sk_ingest.specs.Places.{IsEnd, state_of, settled, state_after, StaysInside, IsCut}
 use Rattle.sk_ingest.specs.Records.{Row, records_of, open_records_of, complete_records_of}
 use Rattle.sk_ingest.specs.Parts.{IsLed, HasStarted, HasTaken, Holds, is_mark_front, mark, IsWithoutMark}
-use Rattle.sk_ingest.proofs.Steps.{IsEnd, end_is_skipped}
+use Rattle.sk_ingest.proofs.Steps.{end_is_skipped}
 use Rattle.sk_ingest.proofs.Runs.{records_append, records_led, open_is_one, records_few}
 use Rattle.sk_ingest.proofs.Cuts.{after_append, after_byte, last_is_end, cut_later, cut_stays}
 

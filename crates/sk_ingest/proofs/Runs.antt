@@ -7,9 +7,9 @@ use Rattle.csv.specs.Reading.{default_config, records, records_from, records_nex
 use Rattle.csv.specs.declared.parser.State.{State}
 use Rattle.csv.specs.declared.parser.State.TheVariants as st
 use Rattle.csv.specs.declared.parser.Action.{Action}
-use Rattle.sk_ingest.specs.Places.{settled, is_inside, state_after, StaysInside}
+use Rattle.sk_ingest.specs.Places.{IsEnd, settled, is_inside, state_after, StaysInside}
 use Rattle.sk_ingest.specs.Records.{Row}
-use Rattle.sk_ingest.proofs.Steps.{after_cr, not_both, ends_between, stays_inside, between_goes_on, IsEnd, end_is_skipped, between_ends_none}
+use Rattle.sk_ingest.proofs.Steps.{after_cr, not_both, ends_between, stays_inside, between_goes_on, end_is_skipped, between_ends_none}
 
 -- the records of a text from a state, with the fields and the bytes of the field at hand
 unfoldable pub run : State → Row → List ℕ → List ℕ → List Row

@@ -7,7 +7,7 @@ use Rattle.csv.specs.declared.parser.State.{State}
 use Rattle.csv.specs.declared.parser.State.TheVariants as st
 use Rattle.csv.specs.declared.parser.Action.{Action}
 use Rattle.csv.specs.declared.parser.Action.TheVariants as act
-use Rattle.sk_ingest.specs.Places.{settled, is_inside}
+use Rattle.sk_ingest.specs.Places.{settled, is_inside, IsEnd}
 
 -- the state behind a CR that ended a record goes on as that between two records
 pub after_cr : (c : ℕ) → step default_config st.AfterCr c ≡ step default_config st.StartRecord c
@@ -174,10 +174,6 @@ between_goes_on st.InQuoted c between = absurd (not_both st.InQuoted refl betwee
 between_goes_on st.AfterQuote c between = absurd (not_both st.AfterQuote refl between)
 between_goes_on st.InEscape c between = cc
 between_goes_on st.InComment c between = cc
-
--- LF and CR
-abbrev pub IsEnd : ℕ → Type 0
-IsEnd c = (c ≡ 10) ⊎ (c ≡ 13)
 
 pub end_is_skipped : (c : ℕ) → IsEnd c → step default_config st.StartRecord c ≡ (st.StartRecord, act.Skip)
 end_is_skipped c (inl lf) = subst (λ (b : ℕ). step default_config st.StartRecord b ≡ (st.StartRecord, act.Skip)) (sym lf) refl

@@ -1,5 +1,5 @@
 -- Where a text of records stands, byte by byte, and where it may be cut.
-use Rattle.std.specs.Prelude.{◌≡◌, ℕ, ◌<◌, Bool, true, false, List, [], ◌∷◌, ◌++◌, length, ⊤}
+use Rattle.std.specs.Prelude.{◌≡◌, ◌⊎◌, ℕ, ◌<◌, Bool, true, false, List, [], ◌∷◌, ◌++◌, length, ⊤}
 use Rattle.csv.specs.Machine.{step}
 use Rattle.csv.specs.Reading.{default_config}
 use Rattle.csv.specs.declared.parser.State.{State}
@@ -25,6 +25,10 @@ settled st.InQuoted = st.InQuoted
 settled st.AfterQuote = st.AfterQuote
 settled st.InEscape = st.InEscape
 settled st.InComment = st.InComment
+
+-- LF and CR
+abbrev pub IsEnd : ℕ → Type 0
+IsEnd byte = (byte ≡ 10) ⊎ (byte ≡ 13)
 
 -- a state inside a record
 abbrev pub is_inside : State → Bool

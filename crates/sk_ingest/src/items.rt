@@ -129,6 +129,8 @@ pub fn read_items<S: Source, T: Taker>(
     ensures bad_csv { (n : ℕ) → result ≡ Err (Fault.BadCsv n) → IfSome (S.left source.old) (λ text.
         IsUnevenUnit plan.now.kind plan.now.column n text × T.stands_for taker.new (items_by plan.now.kind (take (n - 1) (units_of plan.now.column text)))) }
 
+    ensures only_records { (n : ℕ) → result ≡ Err (Fault.BadCsv n) → 1 ≤ plan.now.column }
+
     // The other faults come where no unit of the bytes taken is refused.
     ensures read_fault { IsErrOf result Fault.ReadFault → Rose (S.faults source.old) (S.faults source.new) }
     ensures read_fault_at { IsErrOf result Fault.ReadFault → (taken : List ℕ) × Consumes (S.left source.old) (S.left source.new) taken

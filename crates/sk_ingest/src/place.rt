@@ -1,9 +1,10 @@
 // Where a text of records stands, byte by byte.
-ghost use Rattle.std.specs.Prelude.{◌≡◌, ◌≤◌, length, true, false};
+ghost use Rattle.std.specs.Prelude.{◌≡◌, ◌≢◌, ◌≤◌, ◌<◌, ◌-◌, All, length, take, drop, slice_index};
 ghost use Rattle.csv.specs.Machine.{step};
 ghost use Rattle.csv.specs.Reading.{default_config};
-ghost use Rattle.csv.specs.declared.parser.State.TheVariants as st;
-ghost use Rattle.sk_ingest.specs.Places.{state_of, settled, is_inside, IsCut};
+ghost use Rattle.sk_ingest.specs.Places.{state_of, settled, IsEnd, IsCut};
+
+use memchr::{memchr, memrchr2};
 
 // A place of a text of records.
 #[derive(Clone, Copy, Debug, PartialEq, Eq)]
@@ -52,15 +53,60 @@ fn unquoted(byte: u8) -> Place
     }
 }
 
-#[inline(always)]
-fn is_between(place: Place) -> bool
-    ensures between { result ≡ true → state_of place ≡ st.StartRecord }
-    ensures inside { result ≡ false → is_inside (state_of place) ≡ true }
+// How many bytes come before the first quote.
+#[inline]
+fn plain_len(bytes: &[u8]) -> usize
+    ensures within { result ≤ length bytes.now }
+    ensures plain { All (λ byte. byte ≢ 34) (take result bytes.now) }
+    ensures quote { result < length bytes.now → slice_index bytes.now result ≡ 34 }
 {
-    match place {
-        Place::Between => true,
-        _ => false,
+    memchr(b'"', bytes).unwrap_or(bytes.len())
+}
+
+// How many bytes there are up to the last LF or CR.
+#[inline]
+fn end_len(bytes: &[u8]) -> usize
+    ensures within { result ≤ length bytes.now }
+    ensures end { 0 < result → IsEnd (slice_index bytes.now (result - 1)) }
+    ensures none { All (λ byte. ¬ IsEnd byte) (drop result bytes.now) }
+{
+    match memrchr2(b'\n', b'\r', bytes) {
+        Some(place) => place + 1,
+        None => 0,
     }
+}
+
+// What `scan` answers for bytes without a quote.
+#[inline]
+fn scan_plain(start: Place, bytes: &[u8]) -> (Place, usize)
+    requires { All (λ byte. byte ≢ 34) bytes.now }
+    ensures cut { IsCut (state_of start) bytes.now (state_of result.0) result.1 }
+    ensures within { result.1 ≤ length bytes.now }
+{
+    if let Place::InQuotes = start {
+        return (start, 0);
+    }
+    if bytes.is_empty() {
+        return (start, 0);
+    }
+    (unquoted(bytes[bytes.len() - 1]), end_len(bytes))
+}
+
+// What `scan` answers up to the first quote, which it includes, and how many bytes these are.
+#[inline]
+fn scan_run(start: Place, bytes: &[u8]) -> (Place, usize, usize)
+    requires { 0 < length bytes.now }
+    ensures cut { IsCut (state_of start) (take result.2 bytes.now) (state_of result.0) result.1 }
+    ensures within { result.1 ≤ result.2 }
+    ensures some { 0 < result.2 }
+    ensures len { result.2 ≤ length bytes.now }
+{
+    let len = plain_len(bytes);
+    let (place, cut) = scan_plain(start, &bytes[..len]);
+    if len == bytes.len() {
+        return (place, cut, len);
+    }
+    (behind(place, bytes[len]), cut, len + 1)
 }
 
 // The place behind a piece, and how many bytes of it lie before the last place between two records
@@ -71,11 +117,14 @@ pub(crate) fn scan(start: Place, piece: &[u8]) -> (Place, usize)
 {
     let mut place = start;
     let mut cut = 0;
-    'byte: for i in 0..piece.len() {
-        place = behind(place, piece[i]);
-        if is_between(place) {
-            cut = i + 1;
+    let mut at = 0;
+    'run: while at < piece.len() {
+        let (next, found, len) = scan_run(place, &piece[at..]);
+        if found > 0 {
+            cut = at + found;
         }
+        place = next;
+        at += len;
     }
     (place, cut)
 }

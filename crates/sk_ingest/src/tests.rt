@@ -1,4 +1,4 @@
-ghost use Rattle.std.specs.Prelude.{[], ⊤};
+ghost use Rattle.std.specs.Prelude.{◌≤◌, ◌^◌, [], ⊤};
 
 use crate::{Fault, Intake, Kind, Taker, read_items};
 use sk_hash::hash48;
@@ -27,14 +27,18 @@ fn read(
     plan: Intake,
     text: &[u8],
     piece: usize,
-) -> Result<(Result<u64, Fault>, Items), Fail> {
+) -> Result<(Result<u64, Fault>, Items), Fail>
+    requires { plan.most ≤ 2 ^ 40 }
+{
     let mut source = MemSource::new(text.to_vec(alloc)?, piece.max(1), Vec::new(alloc));
     let mut items = Items(Vec::new(alloc));
     let result = read_items(alloc, &plan, &mut source, &mut items);
     Ok((result, items))
 }
 
-fn plan(kind: Kind, column: u32) -> Intake {
+fn plan(kind: Kind, column: u32) -> Intake
+    ensures { result.most ≤ 2 ^ 40 }
+{
     Intake {
         kind,
         column,
@@ -178,26 +182,20 @@ fn long_fields(rt: HostRuntime) -> Result<(), Fail> {
 fn faults_of_the_source(rt: HostRuntime) -> Result<(), Fail> {
     let alloc = rt.alloc();
     for (call, items) in [(0, 0), (1, 0), (4, 1), (8, 2)] {
-        let mut source = MemSource::new(
-            b"1,2\n3,4\n".to_vec(alloc)?,
-            1,
-            [call].to_vec(alloc)?,
-        );
+        let mut source = MemSource::new(b"1,2\n3,4\n".to_vec(alloc)?, 1, [call].to_vec(alloc)?);
         let mut taken = Items(Vec::new(alloc));
         let result = read_items(alloc, &plan(Kind::Raw, 1), &mut source, &mut taken);
         assert_eq!(rt; result, Err(Fault::ReadFault));
         assert_eq!(rt; taken.0.len(), items);
     }
-    for (most, want) in [(8, Err(Fault::TooMuch)), (9, Ok(2))] {
-        let limited = Intake {
-            kind: Kind::Raw,
-            column: 1,
-            most,
-        };
-        let (result, taken) = read(alloc, limited, b"1,2\n3,4\n", 1000)?;
-        assert_eq!(rt; result, want);
-        assert_eq!(rt; taken.0.len(), 2);
-    }
+    let mut limited = plan(Kind::Raw, 1);
+    limited.most = 8;
+    let (result, taken) = read(alloc, limited, b"1,2\n3,4\n", 1000)?;
+    assert_eq!(rt; result, Err(Fault::TooMuch));
+    assert_eq!(rt; taken.0.len(), 2);
+    limited.most = 9;
+    let (result, _) = read(alloc, limited, b"1,2\n3,4\n", 1000)?;
+    assert_eq!(rt; result, Ok(2));
     Ok(())
 }
 
@@ -240,7 +238,12 @@ fn distinct_fields(rt: HostRuntime) -> Result<(), Fail> {
         for piece in [1, 7, 1000] {
             let mut source = MemSource::new(text.clone()?, piece, Vec::new(alloc));
             let mut sketch = Theta::new(alloc, 4096)?;
-            let result = read_items(alloc, &plan(Kind::Hash(9), column), &mut source, &mut sketch);
+            let result = read_items(
+                alloc,
+                &plan(Kind::Hash(9), column),
+                &mut source,
+                &mut sketch,
+            );
             assert_eq!(rt; result, Ok(400));
             assert_eq!(rt; sketch.fraction(), (distinct, 1));
         }
