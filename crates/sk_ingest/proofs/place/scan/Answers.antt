@@ -1,4 +1,4 @@
-use Rattle.std.proofs.Common.{◌≡◌, ◌+◌, ◌-◌, ◌<◌, ◌≤◌, ◌++◌, ℕ, List, length, take, drop, sym, ap, ◌∙◌, subst, arith, length-drop, length-take, take-add}
+use Rattle.std.proofs.Common.{◌≡◌, ◌+◌, ◌-◌, ◌≤◌, ◌++◌, ℕ, List, length, take, drop, sym, ap, subst, arith, length-drop, take-add}
 use Rattle.std.proofs.lemmas.List.{take_all, length-take-le}
 use Rattle.sk_ingest.specs.Places.{state_of, IsCut}
 use Rattle.sk_ingest.proofs.Cuts.{cut_none, cut_later, cut_stays}
