@@ -1,0 +1,11 @@
+//! The shared table of a hub: its rule, its steps, and the seats that take them.
+#![tactic(auto)]
+
+mod load;
+mod plays;
+mod rule;
+mod seat;
+
+pub use load::{Held, Load, Trunk};
+pub use seat::{HeartSeat, OfHeart, OfUpdater, Propagator, Role, UpdaterSeat};
+pub use sk_model::OutOfMemory;
