@@ -1,1 +1,2 @@
 pub mod Rotated
+pub mod Common
