@@ -1,2 +1,7 @@
-pub mod Rotated
 pub mod Common
+pub mod Rotated
+pub mod Rounds
+pub mod Seats
+pub mod Standing
+pub mod Turns
+pub mod Updaters
