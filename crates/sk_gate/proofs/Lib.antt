@@ -1,5 +1,6 @@
 pub mod Common
 pub mod Rotated
+pub mod Merged
 pub mod Rounds
 pub mod Seats
 pub mod Standing
