@@ -3,6 +3,7 @@ pub mod Rotated
 pub mod Merged
 pub mod Rounds
 pub mod Seats
+pub mod Shows
 pub mod Standing
 pub mod Turns
 pub mod Updaters

@@ -4,3 +4,4 @@ pub mod Rule
 pub mod Moves
 pub mod Plays
 pub mod Hands
+pub mod Shows
