@@ -1,5 +1,5 @@
 -- The steps of any seat and of an updater keep the rule.
-use Rattle.std.proofs.Common.{◌≡◌, ◌≢◌, ◌⊎◌, ℕ, ◌+◌, ◌<◌, ◌≤◌, eqb, Bool, true, false, true≢false, List, [], ◌∷◌, ◌++◌, length, get_or, set, Contains, Option, Some, None, sym, refl, ap, ◌∙◌, subst, ⊎_elim, inl, inr, arith, length-set, get_or-set_other, get_or-set_same}
+use Rattle.std.proofs.Common.{◌≡◌, ◌≢◌, ◌⊎◌, ℕ, zero, suc, ◌+◌, ◌<◌, ◌≤◌, eqb, ne_eqb, if◌then◌else◌, Bool, true, false, true≢false, List, [], ◌∷◌, ◌++◌, length, get_or, set, Contains, Option, Some, None, sym, refl, ap, ◌∙◌, subst, ⊎_elim, inl, inr, arith, length-set, get_or-set_other, get_or-set_same}
 use Rattle.std.specs.Prelude.{slice_index, slice_index_or}
 use mathlib.Core.Option.{some, none}
 use mathlib.Core.Option as maybe
@@ -36,7 +36,7 @@ use Rattle.sk_gate.specs.Rule.{left_home, SlotOk, PostOk, DutyOk, DrainedOk, Kno
 use Rattle.sk_gate.specs.Moves.{LacksOwn, AsksAt, looked_mine, RenewsAt, WaitsAt, LooksAt, AdmitsAt, handed_mine, HandsAt, ResumesAt, TakesTurnAt, MissesTurnAt, TurnsAt, YieldsAt, FindsBatchAt, FindsAt, LeavesAt, PublishesAt, GivesBackAt}
 use Rattle.sk_gate.specs.Plays.{Sat, asked, IsRested, LookHand, looked, is_picked, rested_mine, rested, admitted, handed, turned, yielded, found, left_it, published, gave_back}
 use Rattle.sk_gate.specs.Hands.{StageHand, StageKnown, TrunkHand, LeadsBy, IsEmptyOwn, IsFullOwn, OwnHand, IsPost, Holds}
-use Rattle.sk_gate.proofs.Common.{seats_stay, has_stays, Stays, SameUpdater, viewed, others_know, updater_step, propagator_step, bool_cases, index_within, longer_right, longer_left, longer_in, longer_same}
+use Rattle.sk_gate.proofs.Common.{seats_stay, has_stays, Stays, SameUpdater, viewed, others_know, updater_step, propagator_step, at_within, bool_cases, index_within, longer_right, longer_left, longer_in, longer_same}
 
 -- a seat that has seen more
 pub post_sees : (n : ℕ) (m : Coarse) (owner : ℕ → ℕ) (j : ℕ) (seen seen' : List Entry) (sizes drained : List ℕ) (p : Post) → Begins seen seen' → PostOk n m owner j seen sizes drained p → PostOk n m owner j seen' sizes drained p
@@ -44,14 +44,26 @@ post_sees n m owner j seen seen' sizes drained Guest b t = tt
 post_sees n m owner j seen seen' sizes drained (Root made) b t = t
 post_sees n m owner j seen seen' sizes drained (Updater i mine) b t = (t.0, t.1, t.2, begins_trans _ _ _ t.3 b, t.4, t.5)
 
-pub duty_sees : (n : ℕ) (m : Coarse) (left : Bool) (leader j : ℕ) (seen seen' : List Entry) (p : Post) (d : Duty) → seen' ≡ m.published → DutyOk n m left leader j seen p d → DutyOk n m left leader j seen' p d
+pub duty_sees : (n : ℕ) (m : Coarse) (left : Bool) (leader j : ℕ) (seen seen' : List Entry) (p : Post) (d : Duty) → (seen ≡ m.published → seen' ≡ m.published) → DutyOk n m left leader j seen p d → DutyOk n m left leader j seen' p d
 duty_sees n m left leader j seen seen' p Free e t = tt
-duty_sees n m left leader j seen seen' p (Leads stage its) e t = (t.0, t.1, t.2, t.3, e)
+duty_sees n m left leader j seen seen' p (Leads stage its) e t = (t.0, t.1, t.2, t.3, e t.4)
+
+-- an updater's own step leaves what it knows as whoever propagates
+pub duty_same : (n i : ℕ) (m m' : Coarse) (left : Bool) (leader j : ℕ) (seen seen' : List Entry) (mine mine' : Mine) (p : Post) (d : Duty) → p ≡ Updater i mine → m'.turn ≡ m.turn → m'.stage ≡ m.stage → m'.published ≡ m.published → (seen ≡ m.published → seen' ≡ m.published)
+    → DutyOk n m left leader j seen p d → DutyOk n m' left leader j seen' (Updater i mine') d
+duty_same n i m m' left leader j seen seen' mine mine' p Free is turn stage published e t = tt
+duty_same n i m m' left leader j seen seen' mine mine' p (Leads stage its) is same_turn same_stage published e t = (t.0, same_turn ∙ t.1 ∙ ap (λ q. seat_in n q + 1) is, t.2 ∙ sym same_stage, t.3, e t.4 ∙ sym published)
+
+pub none_drained : {P : Type 0} (l : List ℕ) (i : ℕ) → l ≡ [] → Contains l i → P
+none_drained l i e d = let c : Contains [] i = subst (λ q. Contains q i) e d in let no = c.1 in absurd (omega arith)
 
 -- whoever propagates has seen all
 pub duty_seen : (n : ℕ) (m : Coarse) (left : Bool) (leader j : ℕ) (seen : List Entry) (p : Post) (d : Duty) → leads d ≡ true → DutyOk n m left leader j seen p d → m.published ≡ seen
 duty_seen n m left leader j seen p Free leads t = absurd (true≢false (sym leads))
 duty_seen n m left leader j seen p (Leads stage its) leads t = sym t.4
+
+pub room_there : (b : ℕ) → b ≢ 0 → room b ≡ b
+room_there b n = ap (λ c. if c then 1 else b) (ne_eqb b 0 n)
 
 module _ {C T : Type 0} (hint packed : List ℕ → List Entry → ℕ) (g : Sketching C) (k : Telling T) where
   abbrev Rule : State (Slot C T) View → Type 0
@@ -80,7 +92,7 @@ module _ {C T : Type 0} (hint packed : List ℕ → List Entry → ℕ) (g : Ske
           known_with_size = o.known_with_size;
           given_is = o.given_is;
           post_is = post_sees r.n m r.owner id v.seen h v.sizes v.drained v.post o.seen_is o.post_is;
-          duty_is = duty_sees r.n m r.left r.leader id v.seen h v.post v.duty refl o.duty_is;
+          duty_is = duty_sees r.n m r.left r.leader id v.seen h v.post v.duty (λ _. refl) o.duty_is;
           drained_is = o.drained_is;
         }) (record { live = live; seen = λ _. refl; given = λ _ _ e. e; leads = λ e. e; speaks = λ _ t. t }),
         (
@@ -99,7 +111,117 @@ module _ {C T : Type 0} (hint packed : List ℕ → List Entry → ℕ) (g : Ske
       )
 
   pub looks : (slots id n : ℕ) (me : Sat C T) (i : ℕ) → slots ≡ n + 1 → me.0.live ≡ true → me.0.post ≡ Updater i (mine_of me.0) → size_of me.0 i ≢ 0 → Allows Rule slots id me (i + 1) (λ x. x) (looked k hint (step slots (i + 1) 0 0 none) me)
-  looks slots id n me i size live is there s r deep at _ = ?
+  looks slots id n me i size live is there s r deep at _ = let v : View = me.0 in let m = r.machine in let x : ℕ = get_or s.words (i + 1) 0 in let o = r.each_seat id v at live in
+      let mine : Mine = mine_of v in let own = subst (PostOk r.n m r.owner id v.seen v.sizes v.drained) is o.post_is in let inside : i < r.n = own.0 in let u = m.updaters i in let ok = r.meets.each i inside in let slot = r.each_slot i inside in
+      let word : x ≡ u.word = r.words_are i inside in let b : size_of v i ≡ m.sizes i = own.4 in let admitted : m.sizes i ≢ 0 = λ z. there (b ∙ z) in
+      let here : (j : ℕ) → i + 1 ≡ j + 1 → i ≡ j = λ j e. omega arith in
+      dite (ℕ_discrete x 0)
+      (λ closed. let w : View = record v { steps = v.steps ++ Look i x ∷ [] } in let z : u.word ≡ 0 = sym word ∙ closed in (
+        w,
+        keeps,
+        tt,
+        viewed hint packed g k s r (i + 1) id v w at (record {
+          numbers_are = o.numbers_are;
+          name_is = o.name_is;
+          sized = o.sized;
+          known_sized = o.known_sized;
+          given_sized = o.given_sized;
+          sizes_are = o.sizes_are;
+          seen_is = o.seen_is;
+          known_is = o.known_is;
+          known_with_size = o.known_with_size;
+          given_is = o.given_is;
+          post_is = o.post_is;
+          duty_is = o.duty_is;
+          drained_is = o.drained_is;
+        }) (record { live = live; seen = λ e. e; given = λ _ _ e. e; leads = λ e. e; speaks = λ _ t. t }),
+        λ j _ at-j _. subst (λ a. LooksAt hint v x w a × LookHand k me x (w, me.1) a) (here j at-j) (
+          (
+            (λ ne. absurd (ne closed)),
+            λ _. record {
+              view = refl;
+              unready = ap (λ (y : Mine). y.ready) own.2 ∙ ok.closed_ready z;
+              more = subst (λ (y : Mine). length (entries_by i y.base) < length y.handed) (sym own.2) (let a = ok.closed_more z in let c = event.entries_by_longer i u.mine.base u.given ok.base_is in omega arith);
+            },
+          ),
+          record { waits = λ _. refl; stays = λ _. refl; takes = λ ne _. absurd (ne closed) },
+        ),
+      ))
+      (λ ne. let open_word : u.word ≢ 0 = λ z. ne (word ∙ z) in let base : List Entry = u.given in let w : View = record v { seen = longer v.seen base; steps = v.steps ++ Look i x ∷ []; post = Updater i (looked_mine mine base) } in
+      let u' : CoarseUpdater = record u { mine = looked_mine u.mine base } in let ups : ℕ → CoarseUpdater = put m.updaters i u' in let m' : Coarse = record m { updaters = ups } in
+      let now = event.looks (hint r.numbers) r.n m i r.meets inside admitted open_word in
+      let still : v.seen ≡ m.published → longer v.seen base ≡ m.published = λ e. longer_same v.seen base (subst (Begins base) (sym e) ok.given_is) ∙ e in
+      let knows : Knows r.n r.numbers r.name m' r.left r.owner r.leader id w = record {
+        numbers_are = o.numbers_are;
+        name_is = o.name_is;
+        sized = o.sized;
+        known_sized = o.known_sized;
+        given_sized = o.given_sized;
+        sizes_are = o.sizes_are;
+        seen_is = longer_in v.seen base m.published o.seen_is ok.given_is;
+        known_is = λ a. each_put (λ c (y : CoarseUpdater). Begins (known_of v c) y.mine.handed) m.updaters i u' a (o.known_is i) (λ _. o.known_is a);
+        known_with_size = o.known_with_size;
+        given_is = λ a. each_put (λ c (y : CoarseUpdater). Begins (given_of v c) y.given) m.updaters i u' a (o.given_is i) (λ _. o.given_is a);
+        post_is = (inside, own.1, ap (λ y. looked_mine y base) own.2 ∙ ap (λ (y : CoarseUpdater). y.mine) (sym (put_here m.updaters i u')), longer_right v.seen base m.published o.seen_is ok.given_is, b, own.5);
+        duty_is = duty_same r.n i m m' r.left r.leader id v.seen (longer v.seen base) mine (looked_mine mine base) v.post v.duty is refl refl refl still o.duty_is;
+        drained_is = λ a d. none_drained v.drained a own.5 d;
+      } in
+      let stays : Stays r.n m m' v w = record {
+        live = live;
+        seen = still;
+        given = λ a l e. each_put (λ c (y : CoarseUpdater). given_of v c ≡ (m.updaters c).given → given_of v c ≡ y.given) m.updaters i u' a (λ q. q) (λ _ q. q) e;
+        leads = λ e. e;
+        speaks = λ a t. subst (SpeaksBy a v.drained) is t;
+      } in
+      let renews : RenewsAt hint v x w i = record {
+        view = refl;
+        hint_is = word ∙ ok.open_hint open_word ∙ ap (λ l. hint l base) (sym o.numbers_are);
+        grows = subst (λ (y : Mine). Begins y.base base) (sym own.2) ok.base_is;
+        all = ok.open_given open_word ∙ ap (λ (y : Mine). y.handed) (sym own.2);
+        leads = λ e. let d = duty_seen r.n m r.left r.leader id v.seen v.post v.duty e o.duty_is in still (sym d) ∙ d;
+      } in
+      let go : (homes' : List (maybe.Option (Slot C T))) → length homes' ≡ length s.homes → get_elem? homes' i ≡ some none → ((j : ℕ) → j ≢ i → get_elem? homes' j ≡ get_elem? s.homes j)
+      → Rule record { words = set s.words (i + 1) x; homes = homes'; views = set s.views id w }
+      = λ homes' long out others. updater_step hint packed g k s r i id x v w u' m.sizes homes' inside own.1 at long (λ _ _. refl) (λ _ _. refl) now word refl (begins_refl u.mine.handed) (record {
+        ready = λ _. out;
+        resting = λ _ off. absurd (true≢false off);
+        waiting = λ z. absurd (open_word z);
+        led = λ a. absurd (ok.open_apart open_word a);
+      })
+          others knows stays in
+      ⊎_elim
+      (λ (on : u.mine.ready ≡ true). (
+        w,
+        keeps,
+        tt,
+        go s.homes refl (slot.ready on) (λ _ _. refl),
+        λ j _ at-j _. subst (λ a. LooksAt hint v x w a × LookHand k me x (w, me.1) a) (here j at-j) (
+          ((λ _. renews), λ closed. absurd (ne closed)),
+          record { waits = λ _. refl; stays = λ _. refl; takes = λ _ off. absurd (true≢false (sym (ap (λ (y : Mine). y.ready) own.2 ∙ on) ∙ off)) },
+        ),
+      ))
+      (λ (off : u.mine.ready ≡ false). let p = slot.resting open_word off in (
+        w,
+        takes i (full p.0),
+        p.1,
+        go (set s.homes i none) (length-set s.homes i none) (set_here s.homes i none (at_within s.homes i (some (full p.0)) p.1)) (λ j n. set_else s.homes i j none n),
+        λ j _ at-j _. subst (λ a. LooksAt hint v x w a × LookHand k me x (w, (i, full p.0) ∷ me.1) a) (here j at-j) (
+          ((λ _. renews), λ closed. absurd (ne closed)),
+          record {
+            waits = λ closed. absurd (ne closed);
+            stays = λ on. absurd (true≢false (sym on ∙ ap (λ (y : Mine). y.ready) own.2 ∙ off));
+            takes = λ _ _. (
+              p.0,
+              refl,
+              (
+                p.2 ∙ ap (λ c. contents [] c) (room_there (m.sizes i) admitted ∙ sym b),
+                λ unpicked. subst (λ (y : List ℕ × List ℕ). ToldOk k y.0 p.0 y.1 base) (λ a. (sym o.name_is a, (ap (λ (y : Mine). y.handed) (sym own.2)) a)) (p.3 (ap (λ (y : Mine). y.picked) (sym own.2) ∙ unpicked)),
+              ),
+            );
+          },
+        ),
+      ))
+      (bool_cases u.mine.ready))
 
   -- p: the empty parcel that lies in the slot in hand
   pub rests : (slots id n : ℕ) (v : View) (i : ℕ) (p : Parcel T) (more : List (ℕ × Slot C T)) → slots ≡ n + 1 → v.live ≡ true → v.post ≡ Updater i (mine_of v) → (mine_of v).ready ≡ true → size_of v i ≢ 0 → p.buffer ≡ contents [] (size_of v i)
