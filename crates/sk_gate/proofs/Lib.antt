@@ -1,4 +1,5 @@
 pub mod Common
+pub mod Own
 pub mod Rotated
 pub mod Merged
 pub mod Rounds

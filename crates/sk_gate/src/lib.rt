@@ -1,11 +1,13 @@
 //! The shared table of a hub: its rule, its steps, and the seats that take them.
 #![tactic(auto)]
 
+mod ask;
 pub mod laws;
 mod load;
 mod plays;
 mod rule;
 mod seat;
+mod updater;
 
 pub use load::{Held, Load, Trunk};
 pub use seat::{HeartSeat, OfHeart, OfUpdater, Propagator, Role, UpdaterSeat};
