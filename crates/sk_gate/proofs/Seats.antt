@@ -26,6 +26,9 @@ use Rattle.sk_gate.specs.declared.load.Trunk.{Trunk}
 use Rattle.sk_gate.specs.Slots.{Slot, full, trunk, contents, room, Sketching, Telling}
 use Rattle.sk_gate.specs.Views.{known_of, given_of, size_of, mine_of, leads, longer, merged, sizes_merged, sizes_of, blanks, first_view, made_in, after_making, new_updater, after_split, copy_of, told_on, known_with, drained_with, after_join, spent, SpeaksBy, SpeaksFor}
 use Rattle.sk_gate.specs.Rule.{PostOk, DutyOk, DrainedOk, Knows, Has, HasSeen, IsLed, HasGiven, Kept}
+use Rattle.sk_gate.specs.Plays.{Sat}
+use Rattle.sk_gate.specs.Hands.{Holds}
+use Rattle.sk_gate.proofs.Own.{same_holds}
 use Rattle.sk_gate.proofs.Common.{seats_stay, at_within, has_stays}
 use Rattle.sk_gate.proofs.Merged.{blank_at, blanks_length, set_begins, longer_either, longer_left, whole_first, whole_second, merged_length, merged_either, merged_first, merged_second, sizes_length, sizes_either, size_first, size_second}
 
@@ -451,3 +454,7 @@ module _ {C T : Type 0} (hint packed : List ℕ → List Entry → ℕ) (g : Ske
           })
           (cases_eq a i))
           (λ j u _ ne e alive. owned_else r.n r.numbers r.name m r.left r.owner r.leader i other id j u p.1 ne (r.each_seat j u e alive))
+
+-- what stays true of a seat's slots where it splits a note off
+pub split_holds : {C T : Type 0} (g : Sketching C) (k : Telling T) (heart : Bool) (n number front : ℕ) (own : Bool) (m : Sat C T) → Holds g k heart n number front own m → Holds g k heart n number front own (after_split m.0, m.1)
+split_holds g k heart n number front own m h = same_holds g k heart n number front own m (after_split m.0, m.1) h refl refl refl refl refl refl (λ _. refl) refl

@@ -7,8 +7,10 @@ mod load;
 mod plays;
 mod rule;
 mod seat;
+mod token;
 mod updater;
 
 pub use load::{Held, Load, Trunk};
 pub use seat::{HeartSeat, OfHeart, OfUpdater, Propagator, Role, UpdaterSeat};
 pub use sk_model::OutOfMemory;
+pub use token::{NoteSeat, TokenSeat};
