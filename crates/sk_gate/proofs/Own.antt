@@ -23,7 +23,7 @@ use Rattle.sk_gate.specs.Views.{size_of, mine_in, mine_of, leads, longer}
 use Rattle.sk_gate.specs.Moves.{AsksAt, looked_mine, RenewsAt, LooksAt, AdmitsAt, handed_mine, HandsAt}
 use Rattle.sk_gate.specs.Plays.{Sat, asked, IsRested, LookHand, looked, admitted, handed}
 use Rattle.atomic_table.specs.Seated.{TableId}
-use Rattle.sk_gate.specs.Hands.{is_empty, Own, own_looked, Standing, standing_of, own_in, IsPost, StageHand, LeadsBy, OwnHand, IsEmptyOwn, IsFullOwn, Holds}
+use Rattle.sk_gate.specs.Hands.{is_empty, Own, own_looked, Standing, standing_of, IsAt, IsPut, own_in, IsPost, StageHand, LeadsBy, OwnHand, IsEmptyOwn, IsFullOwn, Holds}
 use Rattle.sk_gate.proofs.Common.{bool_cases}
 use Rattle.sk_gate.proofs.Standing.{shown_with}
 
@@ -113,6 +113,16 @@ module _ {C T : Type 0} (g : Sketching C) (k : Telling T) where
     own_is = h.own_is;
     owned = subst (λ b. OwnHand m.0 {C = C} {T = T} k number b ((number, full q) ∷ [])) (sym on) (q, refl, has, t.3);
   }
+
+  -- its place in hand
+  pub own_placed : (heart : Bool) (n number front : ℕ) (own : Bool) (m : Sat C T) → (h : Holds g k heart n number front own m) → own ≡ true → IsAt number front 0 m.1
+  own_placed heart n number front own m h on = let p = own_at heart n number front own m h on in (h.first ++ h.second, full p.0, [], p.2, length-append h.first h.second ∙ h.counted, refl)
+
+  -- what an exchange there gives
+  pub own_put : (heart : Bool) (n number front : ℕ) (own : Bool) (m : Sat C T) (old new : Slot C T) (hand : List (ℕ × Slot C T)) → (h : Holds g k heart n number front own m) → own ≡ true → IsPut number front 0 m.1 old new hand
+      → (p : Parcel T) × (old ≡ full p) × (own_in h.third ≡ own_in {C = C} {T = T} ((number, full p) ∷ [])) × (IsEmptyOwn m.0 k number p ⊎ IsFullOwn m.0 number p) × (hand ≡ (h.first ++ h.second) ++ (number, new) ∷ [])
+  own_put heart n number front own m old new hand h on put = let p = own_at heart n number front own m h on in
+      let t = put (h.first ++ h.second) (full p.0) [] p.2 (length-append h.first h.second ∙ h.counted) refl in (p.0, t.0, ap own_in p.1, p.3, t.1)
 
   -- it has not
   pub none_own : (heart : Bool) (n number front : ℕ) (own : Bool) (m : Sat C T) → (h : Holds g k heart n number front own m) → own ≡ false → (h.third ≡ []) × (m.1 ≡ h.first ++ h.second)
