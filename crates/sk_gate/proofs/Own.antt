@@ -18,6 +18,7 @@ use Rattle.sk_machine.specs.declared.views.Duty.{Duty}
 use Rattle.sk_machine.specs.declared.views.Duty.TheVariants.{Free, Leads}
 use Rattle.sk_machine.specs.declared.views.View.{View}
 use Rattle.sk_gate.specs.declared.load.Trunk.{Trunk}
+use Rattle.sk_gate.specs.declared.load.Load.TheVariants as load
 use Rattle.sk_gate.specs.Slots.{Slot, full, trunk, contents, Sketching, Telling, TellsList, ToldOk, TrunkOk}
 use Rattle.sk_gate.specs.Views.{size_of, mine_in, mine_of, leads, longer}
 use Rattle.sk_gate.specs.Moves.{AsksAt, looked_mine, RenewsAt, LooksAt, AdmitsAt, handed_mine, HandsAt}
@@ -25,7 +26,7 @@ use Rattle.sk_gate.specs.Plays.{Sat, asked, IsRested, LookHand, looked, admitted
 use Rattle.atomic_table.specs.Seated.{TableId}
 use Rattle.sk_gate.specs.Hands.{is_empty, Own, own_looked, Standing, standing_of, IsAt, IsPut, own_in, IsPost, StageHand, LeadsBy, OwnHand, IsEmptyOwn, IsFullOwn, Holds}
 use Rattle.sk_gate.proofs.Common.{bool_cases}
-use Rattle.sk_gate.proofs.Standing.{shown_with}
+use Rattle.sk_gate.proofs.Standing.{shown_with, own_shown}
 
 -- a new view that speaks for the same seat
 pub post_keeps : (v w : View) (heart : Bool) (n number : ℕ) → w.post ≡ v.post → IsPost v heart n number → IsPost w heart n number
@@ -35,8 +36,16 @@ post_keeps v w false n number e t = (e ∙ t.0 ∙ ap (λ p. Updater number (min
 cons_is_not : {A : Type 0} {x : A} {xs : List A} → x ∷ xs ≡ [] → ⊥
 cons_is_not e = cc
 
-some_is_not : {A : Type 0} {a : A} → None ≡ Some a → ⊥
+pub some_is_not : {A : Type 0} {a : A} → None ≡ Some a → ⊥
 some_is_not e = cc
+
+abbrev parcel_of : {C T : Type 0} → Parcel T → Slot C T → Parcel T
+parcel_of p None = p
+parcel_of p (Some (load.Parcel q)) = q
+parcel_of p (Some (load.Trunk t)) = p
+
+same_full : {C T : Type 0} {p q : Parcel T} → full {C = C} p ≡ full q → p ≡ q
+same_full {p = p} e = ap (parcel_of p) e
 
 module _ {C T : Type 0} (g : Sketching C) (k : Telling T) where
   -- and knows the same as whoever propagates
@@ -123,6 +132,27 @@ module _ {C T : Type 0} (g : Sketching C) (k : Telling T) where
       → (p : Parcel T) × (old ≡ full p) × (own_in h.third ≡ own_in {C = C} {T = T} ((number, full p) ∷ [])) × (IsEmptyOwn m.0 k number p ⊎ IsFullOwn m.0 number p) × (hand ≡ (h.first ++ h.second) ++ (number, new) ∷ [])
   own_put heart n number front own m old new hand h on put = let p = own_at heart n number front own m h on in
       let t = put (h.first ++ h.second) (full p.0) [] p.2 (length-append h.first h.second ∙ h.counted) refl in (p.0, t.0, ap own_in p.1, p.3, t.1)
+
+  -- what lay there
+  pub own_gave : (heart : Bool) (n number front : ℕ) (own : Bool) (m : Sat C T) (old new : Slot C T) (q : Parcel T) (hand : List (ℕ × Slot C T)) → (h : Holds g k heart n number front own m) → own ≡ true → IsPut number front 0 m.1 old new hand → old ≡ full q
+      → (own_in h.third ≡ record { items = q.buffer.items; capacity = q.buffer.capacity; told = is_some q.told }) × (IsEmptyOwn m.0 k number q ⊎ IsFullOwn m.0 number q) × (hand ≡ (h.first ++ h.second) ++ (number, new) ∷ [])
+  own_gave heart n number front own m old new q hand h on put is = let t = own_put heart n number front own m old new hand h on put in let e : t.0 ≡ q = same_full (sym t.1 ∙ is) in
+      (t.2 ∙ (λ a. record { items = (e a).buffer.items; capacity = (e a).buffer.capacity; told = is_some (e a).told }), subst (λ p. IsEmptyOwn m.0 k number p ⊎ IsFullOwn m.0 number p) e t.3, t.4)
+
+  -- of an empty parcel
+  pub own_taken : (heart : Bool) (n number front : ℕ) (own : Bool) (m : Sat C T) (table : TableId) (now : Standing) (old new : Slot C T) (q : Parcel T) (hand : List (ℕ × Slot C T)) → (h : Holds g k heart n number front own m) → own ≡ true → standing_of m.0 table number front m.1 ≡ now
+      → now.own.items ≡ [] → IsPut number front 0 m.1 old new hand → old ≡ full q → (now.own ≡ record { items = q.buffer.items; capacity = q.buffer.capacity; told = is_some q.told }) × IsEmptyOwn m.0 k number q
+  own_taken heart n number front own m table now old new q hand h on is unswapped put gives =
+      let t = own_gave heart n number front own m old new q hand h on put gives in
+      let e = sym (own_shown g k heart n number front own m table now h is) ∙ t.0 in
+      (e, empty_at m.0 number q t.1 (ap (λ (o : Own). o.items) (sym e) ∙ unswapped))
+
+  -- a seat whose own parcel was exchanged, and which now shows another
+  pub exchanged_shown : (heart : Bool) (n number front : ℕ) (own : Bool) (m m' : Sat C T) (table : TableId) (now : Standing) (q : Parcel T) → (h : Holds g k heart n number front own m) → standing_of m.0 table number front m.1 ≡ now → m'.0 ≡ m.0 → m'.1 ≡ (h.first ++ h.second) ++ (number, full q) ∷ []
+      → standing_of m'.0 table number front m'.1 ≡ record now { own = record { items = q.buffer.items; capacity = q.buffer.capacity; told = is_some q.told } }
+  exchanged_shown heart n number front own m m' table now q h is same cut =
+      shown_with g k heart n number front own m table now h is m'.0 m'.1 ((number, full q) ∷ []) cut
+      ∙ λ a. record now { view = (same ∙ ap (λ (s : Standing). s.view) is) a; own = record { items = q.buffer.items; capacity = q.buffer.capacity; told = is_some q.told } }
 
   -- it has not
   pub none_own : (heart : Bool) (n number front : ℕ) (own : Bool) (m : Sat C T) → (h : Holds g k heart n number front own m) → own ≡ false → (h.third ≡ []) × (m.1 ≡ h.first ++ h.second)

@@ -7,6 +7,7 @@ mod plays;
 mod rule;
 mod seat;
 mod slots;
+mod updater;
 
 pub use load::{Held, Load, Trunk};
 pub use seat::{HeartSeat, OfHeart, OfUpdater, Propagator, Role, UpdaterSeat};
