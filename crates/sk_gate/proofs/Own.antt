@@ -368,3 +368,14 @@ module _ {C T : Type 0} (g : Sketching C) (k : Telling T) where
           λ z. omega arith,
         );
       }
+
+  -- one that is not admitted has not its own slot
+  pub own_vacant : (heart : Bool) (n number front : ℕ) (own : Bool) (m : Sat C T) → Holds g k heart n number front own m → size_of m.0 number ≡ 0 → own ≡ false
+  own_vacant heart n number front own m h vacant = ⊎_elim (λ (on : own ≡ true). absurd ((own_at heart n number front own m h on).4 vacant)) (λ e. e) (bool_cases own)
+
+  pub admitted_shown : (n number front : ℕ) (own : Bool) (m m' : Sat C T) (table : TableId) (now : Standing) (p : Parcel T) → (h : Holds g k false n number front own m) → standing_of m.0 table number front m.1 ≡ now → size_of m.0 number ≡ 0
+      → m'.1 ≡ (number, full p) ∷ m.1 → p.buffer ≡ contents [] 1 → p.told ≡ None → standing_of m'.0 table number front (turned m'.1) ≡ record now { view = m'.0; own = record { items = []; capacity = 1; told = false } }
+  admitted_shown n number front own m m' table now p h is vacant has empty told =
+      let none_there = none_own false n number front own m h (own_vacant false n number front own m h vacant) in
+      shown_with g k false n number front own m table now h is m'.0 (turned m'.1) ((number, full p) ∷ []) (ap turned has ∙ ap (λ l. l ++ (number, full p) ∷ []) none_there.1)
+      ∙ λ a. record now { view = m'.0; own = record { items = (empty a).items; capacity = (empty a).capacity; told = is_some (told a) } }

@@ -20,6 +20,24 @@ use sk_compose::{Composable, Parcel};
 use sk_machine::views::View;
 use std::marker::Brand;
 
+// A look that admits an updater, with a size that the proof of the call picks.
+fn admitted_look<C: Composable, K: Size>(
+    hub: &Hub<C>,
+    seat: &mut Seat<Slot<C>, View>,
+    word: usize,
+    b: u32,
+) -> u64
+    requires size { K.size ≡ b }
+    requires table { seat.old.table_id ≡ hub.now.shared.table_id }
+    requires word { word < hub.now.shared.table_id.words }
+    requires may { Allows (Kept C.hint_of C.packed_of (sketching C.is_of C.numbers C.name) (telling C.tells C.told_name C.told_of)) hub.now.shared.table_id.slots seat.old.id seat.old.me word (λ n. n) (admitted C.hint_of b (step hub.now.shared.table_id.slots word 0 0 none) seat.old.me) }
+    ensures table { seat.new.table_id ≡ seat.old.table_id }
+    ensures id { seat.new.id ≡ seat.old.id }
+    ensures told { admitted C.hint_of b (step hub.now.shared.table_id.slots word 0 0 none) seat.old.me result seat.new.me }
+{
+    hub.shared.load::<Admit<C, K>>(seat, word)
+}
+
 impl<C: Composable> Propagator<C, OfUpdater> {
     /// One load of the own word. Where it gives a number other than 0, that is the hint of the new base.
     pub fn look(&mut self) -> u64
@@ -87,5 +105,21 @@ impl<C: Composable> Propagator<C, OfUpdater> {
         let empty = Some(Load::Parcel(empty));
         let picked = exchange(&self.hub, &mut self.seat, slot, self.front, 0, empty);
         parcel_in(picked)
+    }
+
+    /// One load of the own word, by which the updater is admitted, with buffers of b items. It gives the hint
+    /// of the empty list. The placeholder in the slot is to be picked before a swap.
+    pub fn admit(&mut self, b: u32) -> u64
+        requires vacant { size_of self.old.view self.old.number ≡ 0 }
+        requires least { 1 ≤ b }
+        requires most { b ≤ 4096 }
+        ensures told { AdmitsAt C.hint_of self.old.view result self.new.view self.old.number b }
+        ensures seat { self.new ≡ record self.old { view = self.new.view; own = record { items = []; capacity = 1; told = false } } }
+    {
+        let word = self.number as usize + 1;
+        let hint = admitted_look::<C, Brand>(&self.hub, &mut self.seat, word, b);
+        self.seat.turn();
+        self.own = true;
+        hint
     }
 }
