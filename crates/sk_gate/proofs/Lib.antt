@@ -1,8 +1,10 @@
 pub mod Common
 pub mod Own
 pub mod Rotated
+pub mod Merged
 pub mod Rounds
 pub mod Seats
+pub mod Shows
 pub mod Standing
 pub mod Turns
 pub mod Updaters
