@@ -1,4 +1,5 @@
 pub mod Common
+pub mod Known
 pub mod Rotated
 pub mod Rounds
 pub mod Seats
