@@ -249,6 +249,7 @@ module _ {C T : Type 0} (hint packed : List ℕ → List Entry → ℕ) (g : Ske
                         refl,
                         subst (λ c. IsBatch c batch) (sym size_now) behind.0,
                         event.entries_are_few (hint r.numbers) r.n m i batch r.meets (omega arith) busy.2,
+                        (λ e. size_now ∙ sym (o.sizes_are i e)),
                       );
                     }),
                     (λ ne. absurd (ne zero)),

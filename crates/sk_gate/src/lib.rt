@@ -3,6 +3,7 @@
 
 mod load;
 mod plays;
+mod propagate;
 mod rule;
 mod seat;
 
