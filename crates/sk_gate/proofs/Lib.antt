@@ -1,5 +1,6 @@
 pub mod Common
 pub mod Known
+pub mod Own
 pub mod Rotated
 pub mod Rounds
 pub mod Seats

@@ -197,6 +197,7 @@ module _ {C T : Type 0} (hint packed : List ℕ → List Entry → ℕ) (g : Ske
         view = refl;
         hint_is = word ∙ ok.open_hint open_word ∙ ap (λ l. hint l base) (sym o.numbers_are);
         grows = subst (λ (y : Mine). Begins y.base base) (sym own.2) ok.base_is;
+        again = λ on. sym (ok.ready_base (ap (λ (y : Mine). y.ready) (sym own.2) ∙ on)) ∙ ap (λ (y : Mine). y.base) (sym own.2);
         all = ok.open_given open_word ∙ ap (λ (y : Mine). y.handed) (sym own.2);
         leads = λ e. let d = duty_seen r.n m r.left r.leader id v.seen v.post v.duty e o.duty_is in still (sym d) ∙ d;
       } in

@@ -42,6 +42,7 @@ pub record RenewsAt (hint : List ℕ → List Entry → ℕ) (v : View) (word : 
   pub view : w ≡ record v { seen = longer v.seen (mine_of w).base; steps = v.steps ++ Look i word ∷ []; post = Updater i (looked_mine (mine_of v) (mine_of w).base) }
   pub hint_is : word ≡ hint v.numbers (mine_of w).base
   pub grows : Begins (mine_of v).base (mine_of w).base
+  pub again : (mine_of v).ready ≡ true → (mine_of w).base ≡ (mine_of v).base
   pub all : entries_by i (mine_of w).base ≡ (mine_of v).handed
   pub leads : leads v.duty ≡ true → w.seen ≡ v.seen
 

@@ -1,6 +1,7 @@
 //! The shared table of a hub: its rule, its steps, and the seats that take them.
 #![tactic(auto)]
 
+mod ask;
 mod load;
 mod plays;
 mod propagate;
