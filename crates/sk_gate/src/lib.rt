@@ -4,7 +4,6 @@
 mod ask;
 mod load;
 mod plays;
-mod propagate;
 mod rule;
 mod seat;
 
