@@ -1,5 +1,5 @@
 -- What stays true of the slots that a seat has, over an ask and over the calls of an updater.
-use Rattle.std.proofs.Common.{◌≡◌, ◌≢◌, ◌⊎◌, ℕ, zero, suc, ◌+◌, ◌<◌, ◌≤◌, Bool, true, false, true≢false, not, List, [], ◌∷◌, ◌++◌, length, Option, Some, None, sym, refl, ap, ◌∙◌, subst, ⊎_elim, inl, inr, arith, append_assoc, append-nil, length-append, length-set, set, get_or-set_same, get_or-set_other}
+use Rattle.std.proofs.Common.{◌≡◌, ◌≢◌, ◌⊎◌, ℕ, zero, suc, ◌+◌, ◌<◌, ◌≤◌, Bool, true, false, true≢false, not, List, [], ◌∷◌, ◌++◌, length, Option, Some, None, sym, refl, ap, ◌∙◌, subst, ⊎_elim, inl, inr, arith, append_assoc, append-nil, length-append, length-set, set, drop, is_some, if◌then◌else◌, ne_eqb, get_or-set_same, get_or-set_other}
 use Rattle.std.specs.Prelude.{slice_index}
 use mathlib.Core.Logic.{dite}
 use native.Mathlib.Decide.{ℕ_discrete}
@@ -22,13 +22,18 @@ use Rattle.sk_gate.specs.Slots.{Slot, full, trunk, contents, Sketching, Telling,
 use Rattle.sk_gate.specs.Views.{size_of, mine_in, mine_of, leads, longer}
 use Rattle.sk_gate.specs.Moves.{AsksAt, looked_mine, RenewsAt, LooksAt, AdmitsAt, handed_mine, HandsAt}
 use Rattle.sk_gate.specs.Plays.{Sat, asked, IsRested, LookHand, looked, admitted, handed}
-use Rattle.sk_gate.specs.Hands.{own_in, IsPost, StageHand, LeadsBy, OwnHand, IsEmptyOwn, IsFullOwn, Holds}
+use Rattle.atomic_table.specs.Seated.{TableId}
+use Rattle.sk_gate.specs.Hands.{is_empty, Own, own_looked, Standing, standing_of, IsAt, IsPut, own_in, IsPost, StageHand, LeadsBy, OwnHand, IsEmptyOwn, IsFullOwn, Holds}
 use Rattle.sk_gate.proofs.Common.{bool_cases}
+use Rattle.sk_gate.proofs.Standing.{shown_with}
 
 -- a new view that speaks for the same seat
 pub post_keeps : (v w : View) (heart : Bool) (n number : ℕ) → w.post ≡ v.post → IsPost v heart n number → IsPost w heart n number
 post_keeps v w true n number e t = (e ∙ t.0, t.1)
 post_keeps v w false n number e t = (e ∙ t.0 ∙ ap (λ p. Updater number (mine_in p)) (sym e), t.1, ap (λ p. (mine_in p).rested) e ∙ t.2, ap (λ p. (mine_in p).picked) e ∙ t.3)
+
+cons_is_not : {A : Type 0} {x : A} {xs : List A} → x ∷ xs ≡ [] → ⊥
+cons_is_not e = cc
 
 some_is_not : {A : Type 0} {a : A} → None ≡ Some a → ⊥
 some_is_not e = cc
@@ -108,6 +113,16 @@ module _ {C T : Type 0} (g : Sketching C) (k : Telling T) where
     own_is = h.own_is;
     owned = subst (λ b. OwnHand m.0 {C = C} {T = T} k number b ((number, full q) ∷ [])) (sym on) (q, refl, has, t.3);
   }
+
+  -- its place in hand
+  pub own_placed : (heart : Bool) (n number front : ℕ) (own : Bool) (m : Sat C T) → (h : Holds g k heart n number front own m) → own ≡ true → IsAt number front 0 m.1
+  own_placed heart n number front own m h on = let p = own_at heart n number front own m h on in (h.first ++ h.second, full p.0, [], p.2, length-append h.first h.second ∙ h.counted, refl)
+
+  -- what an exchange there gives
+  pub own_put : (heart : Bool) (n number front : ℕ) (own : Bool) (m : Sat C T) (old new : Slot C T) (hand : List (ℕ × Slot C T)) → (h : Holds g k heart n number front own m) → own ≡ true → IsPut number front 0 m.1 old new hand
+      → (p : Parcel T) × (old ≡ full p) × (own_in h.third ≡ own_in {C = C} {T = T} ((number, full p) ∷ [])) × (IsEmptyOwn m.0 k number p ⊎ IsFullOwn m.0 number p) × (hand ≡ (h.first ++ h.second) ++ (number, new) ∷ [])
+  own_put heart n number front own m old new hand h on put = let p = own_at heart n number front own m h on in
+      let t = put (h.first ++ h.second) (full p.0) [] p.2 (length-append h.first h.second ∙ h.counted) refl in (p.0, t.0, ap own_in p.1, p.3, t.1)
 
   -- it has not
   pub none_own : (heart : Bool) (n number front : ℕ) (own : Bool) (m : Sat C T) → (h : Holds g k heart n number front own m) → own ≡ false → (h.third ≡ []) × (m.1 ≡ h.first ++ h.second)
@@ -215,6 +230,29 @@ module _ {C T : Type 0} (g : Sketching C) (k : Telling T) where
           λ z. there (sym size ∙ z),
         );
       }
+
+  told_there : (p : Parcel T) (name handed : List ℕ) (base : List Entry) → ToldOk k name p handed base → is_some p.told ≡ not (is_empty handed)
+  told_there p name handed base told = go p.told handed told.0 (λ t e. (told.1 t e).0)
+    where
+      go : (x : Option T) (xs : List ℕ) → (x ≡ None → xs ≡ []) → ((t : T) → x ≡ Some t → xs ≢ []) → is_some x ≡ not (is_empty xs)
+      go None [] a b = refl
+      go None (y ∷ ys) a b = absurd (cons_is_not (a refl))
+      go (Some t) [] a b = absurd (b t refl refl)
+      go (Some t) (y ∷ ys) a b = refl
+
+  looked_own : (v : View) (r i : ℕ) (o : Own) → r ≢ 0 → (mine_of v).ready ≡ false → own_looked r v i o ≡ record { items = []; capacity = size_of v i; told = not (is_empty (mine_of v).handed) }
+  looked_own v r i o ne off = (λ a. if ne_eqb r 0 ne a then o else (if off a then o else record { items = []; capacity = size_of v i; told = not (is_empty (mine_of v).handed) }))
+
+  pub looked_shown : (hint : List ℕ → List Entry → ℕ) (n number front r : ℕ) (own : Bool) (m m' : Sat C T) (table : TableId) (now : Standing) → (h : Holds g k false n number front own m) → standing_of m.0 table number front m.1 ≡ now → LooksAt hint m.0 r m'.0 number → LookHand k m r m' number → r ≢ 0
+      → own ≡ false → standing_of m'.0 table number front (turned m'.1) ≡ record now { view = m'.0; own = own_looked r now.view now.number now.own }
+  looked_shown hint n number front r own m m' table now h is t hand ne off =
+      let v : View = m.0 in let ready : (mine_of v).ready ≡ false = sym h.own_is ∙ off in let p = hand.takes ne ready in let none_there = none_own false n number front own m h off in
+      let third : List (ℕ × Slot C T) = (number, full p.0) ∷ [] in
+      let cut : turned m'.1 ≡ h.first ++ h.second ++ third = ap turned p.1 ∙ ap (λ l. l ++ (number, full p.0) ∷ []) none_there.1 in
+      let told = told_there p.0 v.name (mine_of v).handed (mine_of m'.0).base (p.2.1 h.post.3) in
+      let has : own_in third ≡ record { items = []; capacity = size_of v number; told = not (is_empty (mine_of v).handed) } = λ a. record { items = (p.2.0 a).items; capacity = (p.2.0 a).capacity; told = told a } in
+      let o : own_in third ≡ own_looked r now.view now.number now.own = has ∙ sym (looked_own v r number (own_in (drop front m.1)) ne ready) ∙ ap (λ (s : Standing). own_looked r s.view s.number s.own) is in
+      shown_with g k false n number front own m table now h is m'.0 (turned m'.1) third cut ∙ λ a. record now { view = m'.0; own = o a }
 
   -- ---- a hand
 

@@ -67,3 +67,15 @@ module _ {C T : Type 0} where
   pub standing_at : (g : Sketching C) (k : Telling T) (heart : Bool) (n number front : ℕ) (own : Bool) (m : Sat C T) (table : TableId) (h : Holds g k heart n number front own m)
       → standing_of m.0 table number front m.1 ≡ shown_of m.0 table number h.first h.second h.third
   standing_at g k heart n number front own m table h = standing_parts m.0 table number front m.1 h.first h.second h.third h.hand h.counted (leads_shape m.0 g k n m.0.duty h.first h.second h.leading)
+
+  -- with a new view, and another parcel in its own slot, or that slot given back
+  pub shown_with : (g : Sketching C) (k : Telling T) (heart : Bool) (n number front : ℕ) (own : Bool) (m : Sat C T) (table : TableId) (now : Standing) (h : Holds g k heart n number front own m)
+      → standing_of m.0 table number front m.1 ≡ now → (w : View) (hand third : List (ℕ × Slot C T)) → hand ≡ h.first ++ h.second ++ third → standing_of w table number front hand ≡ record now { view = w; own = own_in third }
+  shown_with g k heart n number front own m table now h is w hand third cut =
+      let st : shown_of m.0 table number h.first h.second h.third ≡ now = sym (standing_at g k heart n number front own m table h) ∙ is in
+      standing_parts w table number front hand h.first h.second third cut h.counted (leads_shape m.0 g k n m.0.duty h.first h.second h.leading)
+      ∙ λ a. record { view = w; table = (st a).table; number = (st a).number; own = own_in third; filled = (st a).filled; lifted = (st a).lifted }
+
+  -- what lies in its own slot
+  pub own_shown : (g : Sketching C) (k : Telling T) (heart : Bool) (n number front : ℕ) (own : Bool) (m : Sat C T) (table : TableId) (now : Standing) (h : Holds g k heart n number front own m) → standing_of m.0 table number front m.1 ≡ now → own_in h.third ≡ now.own
+  own_shown g k heart n number front own m table now h is = ap (λ (s : Standing). s.own) (sym (standing_at g k heart n number front own m table h) ∙ is)

@@ -6,6 +6,7 @@ mod load;
 mod plays;
 mod rule;
 mod seat;
+mod slots;
 
 pub use load::{Held, Load, Trunk};
 pub use seat::{HeartSeat, OfHeart, OfUpdater, Propagator, Role, UpdaterSeat};
