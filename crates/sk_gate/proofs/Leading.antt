@@ -17,7 +17,7 @@ use Rattle.sk_machine.specs.declared.views.Duty.TheVariants.{Free, Leads}
 use Rattle.sk_machine.specs.declared.views.View.{View}
 use Rattle.sk_gate.specs.declared.load.Trunk.{Trunk}
 use Rattle.sk_gate.specs.Slots.{Slot, full, trunk, contents, Sketching, Telling, TellsList, TrunkOk}
-use Rattle.sk_gate.specs.Views.{size_of, mine_in, mine_of, leads, stage_of, left_of, batch_of, MayYield}
+use Rattle.sk_gate.specs.Views.{size_of, mine_in, mine_of, seat_in, leads, stage_of, left_of, batch_of, MayYield}
 use Rattle.sk_gate.specs.Moves.{ResumesAt, TakesTurnAt, MissesTurnAt, YieldsAt, FindsBatchAt, FindsAt, LeavesAt, PublishesAt, GivesBackAt}
 use Rattle.sk_gate.specs.Plays.{Sat}
 use Rattle.sk_gate.specs.Hands.{own_in, has_parcel, has_trunk, IsAt, IsPut, Standing, standing_of, StageHand, StageKnown, TrunkHand, LeadsBy, OwnHand, IsPost, Holds}
@@ -47,6 +47,11 @@ sized_own : (l : List ℕ) (j b i : ℕ) → j < length l → (slice_index l j �
 sized_own l j b i inside same there = dite (ℕ_discrete i j)
     (λ e. ap (slice_index (set l j b)) e ∙ get_or-set_same l j b 0 inside ∙ same (λ z. there (ap (slice_index l) e ∙ z)) ∙ ap (slice_index l) (sym e))
     (λ ne. get_or-set_other l j i b 0 ne)
+
+-- the number of the seat, as the turn has it
+pub seat_at : (v : View) (heart : Bool) (n number : ℕ) → IsPost v heart n number → (number ≡ seat_in n v.post) × (number ≤ n)
+seat_at v true n number t = let same = t.1 in (t.1 ∙ ap (seat_in n) (sym t.0), omega arith)
+seat_at v false n number t = let less = t.1 in (ap (seat_in n) (sym t.0), omega arith)
 
 led_duty : (d : Duty) → leads d ≡ true → d ≡ Leads (stage_of d) (left_of d)
 led_duty Free led = absurd (true≢false (sym led))

@@ -4,6 +4,7 @@
 mod ask;
 mod load;
 mod plays;
+mod propagate;
 mod rule;
 mod seat;
 mod slots;
