@@ -1,6 +1,7 @@
 -- What stays true of the slots of whoever propagates, over its calls.
 use Rattle.std.proofs.Common.{◌≡◌, ◌≢◌, ◌⊎◌, ℕ, zero, suc, ◌+◌, ◌-◌, ◌<◌, ◌≤◌, eqb, eq-eqb, ne_eqb, Bool, cond, true, false, true≢false, not, List, [], ◌∷◌, ◌++◌, length, Option, Some, None, sym, refl, ap, ◌∙◌, subst, ⊎_elim, inl, inr, arith, append_assoc, length-append, length-set, get_or-set_same, get_or-set_other, set}
 use Rattle.std.specs.Prelude.{slice_index}
+use mir.Val.{bool_byte}
 use mathlib.Core.Logic.{dite}
 use native.Mathlib.Decide.{ℕ_discrete}
 use Rattle.atomic_table.specs.Table.{rest}
@@ -15,6 +16,7 @@ use Rattle.sk_machine.specs.declared.views.Move.TheVariants.{Find, Publish, Give
 use Rattle.sk_machine.specs.declared.views.Duty.{Duty}
 use Rattle.sk_machine.specs.declared.views.Duty.TheVariants.{Free, Leads}
 use Rattle.sk_machine.specs.declared.views.View.{View}
+use Rattle.sk_gate.specs.declared.load.Load.TheVariants as load
 use Rattle.sk_gate.specs.declared.load.Trunk.{Trunk}
 use Rattle.sk_gate.specs.Slots.{Slot, full, trunk, contents, Sketching, Telling, TellsList, TrunkOk}
 use Rattle.sk_gate.specs.Views.{size_of, mine_in, mine_of, seat_in, leads, stage_of, left_of, batch_of, MayYield}
@@ -58,6 +60,22 @@ led_duty Free led = absurd (true≢false (sym led))
 led_duty (Leads stage left) led = refl
 
 module _ {C T : Type 0} where
+  abbrev trunk_or : Trunk C T → Slot C T → Trunk C T
+  trunk_or t None = t
+  trunk_or t (Some (load.Parcel p)) = t
+  trunk_or t (Some (load.Trunk u)) = u
+
+  pub same_trunk : {t u : Trunk C T} → trunk {C = C} {T = T} t ≡ trunk u → t ≡ u
+  same_trunk {t = t} e = ap (trunk_or t) e
+
+  abbrev parcel_or : Parcel T → Slot C T → Parcel T
+  parcel_or p None = p
+  parcel_or p (Some (load.Parcel q)) = q
+  parcel_or p (Some (load.Trunk t)) = p
+
+  pub same_parcel : {p q : Parcel T} → full {C = C} {T = T} p ≡ full q → p ≡ q
+  same_parcel {p = p} e = ap (parcel_or p) e
+
   own_sized : (k : Telling T) (v w : View) (i : ℕ) (own : Bool) (hand : List (ℕ × Slot C T)) → KeepsOwn v w i → OwnHand v k i own hand → OwnHand w k i own hand
   own_sized k v w i false hand same t = t
   own_sized k v w i true hand same t = own_keeps (record { is_of = λ (c : C) _. ⊥; numbers = λ _. []; name = λ _. [] }) k v w i true hand (ap mine_in same.post) (same.size t.3) same.name t
@@ -126,6 +144,14 @@ module _ {C T : Type 0} (g : Sketching C) (k : Telling T) {heart : Bool} {n numb
 
   lifted_is : is_lifted h.second ≡ old.lifted
   lifted_is = ap (λ (z : Standing). z.lifted) shown
+
+  -- it has its own slot or not, as its field says
+  own_behind : (b : Bool) (hand : List (ℕ × Slot C T)) → OwnHand m.0 k number b hand → bool_byte b ≡ length hand
+  own_behind false hand t = ap length (sym t)
+  own_behind true hand t = ap length (sym t.1)
+
+  behind_is : bool_byte own ≡ length h.third
+  behind_is = own_behind own h.third h.owned
 
   -- what is true of it, and seen of it, after a call
   abbrev pub Next : Sat C T → TableId → ℕ → View → Bool → Bool → Type 0
@@ -209,10 +235,10 @@ module _ {C T : Type 0} (g : Sketching C) (k : Telling T) {heart : Bool} {n numb
   trunk_place : (x : Slot C T) → h.second ≡ (n, x) ∷ [] → (m.1 ≡ h.first ++ (n, x) ∷ h.third) × (length h.first ≡ front - 1)
   trunk_place x is = (h.hand ∙ ap (λ l. h.first ++ l ++ h.third) is ∙ append_assoc h.first ((n, x) ∷ []) h.third, let c = h.counted in let one = ap length is in omega arith)
 
-  pub trunk_at : (behind : ℕ) → leads old.view.duty ≡ true → behind ≡ length h.third → IsAt n (front - 1) behind m.1
-  trunk_at behind is long = let l = led is in let x = trunk_one g m.0 n (stage_of m.0.duty) h.second (parts _ _ l).2 in let p = trunk_place x.0 x.1 in (h.first, x.0, h.third, p.0, p.1, sym long)
+  pub trunk_at : (behind : ℕ) → leads old.view.duty ≡ true → behind ≡ bool_byte own → IsAt n (front - 1) behind m.1
+  trunk_at behind is long = let l = led is in let x = trunk_one g m.0 n (stage_of m.0.duty) h.second (parts _ _ l).2 in let p = trunk_place x.0 x.1 in (h.first, x.0, h.third, p.0, p.1, sym (long ∙ behind_is))
 
-  pub lifted_next : (m' : Sat C T) (table' : TableId) (behind : ℕ) (result : Slot C T) → leads old.view.duty ≡ true → old.lifted ≡ false → behind ≡ length h.third → table' ≡ table → m'.0 ≡ m.0 → IsPut n (front - 1) behind m.1 result None m'.1
+  pub lifted_next : (m' : Sat C T) (table' : TableId) (behind : ℕ) (result : Slot C T) → leads old.view.duty ≡ true → old.lifted ≡ false → behind ≡ bool_byte own → table' ≡ table → m'.0 ≡ m.0 → IsPut n (front - 1) behind m.1 result None m'.1
       → ((t : Trunk C T) × (result ≡ trunk t) × TrunkOk g old.view.numbers old.view.name old.view.seen (stage_of old.view.duty) (size_of old.view) t) × StageKnown old.view (stage_of old.view.duty) (left_of old.view.duty) × Next m' table' front old.view old.filled true
   lifted_next m' table' behind result is laid long tables views put =
       let l = led is in
@@ -221,7 +247,7 @@ module _ {C T : Type 0} (g : Sketching C) (k : Telling T) {heart : Bool} {n numb
       let its = parts stage left l in
       let t = trunk_in g m.0 n stage h.second its.2 (lifted_is ∙ laid) in
       let p = trunk_place (trunk t.0) t.1 in
-      let now = put h.first (trunk t.0) h.third p.0 p.1 (sym long) in (
+      let now = put h.first (trunk t.0) h.third p.0 p.1 (sym (long ∙ behind_is)) in (
         (t.0, now.0, subst (λ (y : View). TrunkOk g y.numbers y.name y.seen (stage_of y.duty) (size_of y) t.0) view_is t.2),
         subst (λ (y : View). StageKnown y (stage_of y.duty) (left_of y.duty)) view_is its.1,
         next m' table' front old.view h.first ((n, None) ∷ []) old.filled true tables (same_view m' views) (views ∙ view_is)
@@ -230,7 +256,7 @@ module _ {C T : Type 0} (g : Sketching C) (k : Telling T) {heart : Bool} {n numb
       )
 
   pub laid_next : (m' : Sat C T) (table' : TableId) (behind : ℕ) (result : Slot C T) (t : Trunk C T) → leads old.view.duty ≡ true → old.lifted ≡ true → TrunkOk g old.view.numbers old.view.name old.view.seen (stage_of old.view.duty) (size_of old.view) t
-      → behind ≡ length h.third → table' ≡ table → m'.0 ≡ m.0 → IsPut n (front - 1) behind m.1 result (trunk t) m'.1 → Next m' table' front old.view old.filled false
+      → behind ≡ bool_byte own → table' ≡ table → m'.0 ≡ m.0 → IsPut n (front - 1) behind m.1 result (trunk t) m'.1 → Next m' table' front old.view old.filled false
   laid_next m' table' behind result t is out ok long tables views put =
       let l = led is in
       let stage : Stage = stage_of m.0.duty in
@@ -238,13 +264,13 @@ module _ {C T : Type 0} (g : Sketching C) (k : Telling T) {heart : Bool} {n numb
       let its = parts stage left l in
       let away = trunk_out g m.0 n stage h.second its.2 (lifted_is ∙ out) in
       let p = trunk_place None away in
-      let now = put h.first None h.third p.0 p.1 (sym long) in
+      let now = put h.first None h.third p.0 p.1 (sym (long ∙ behind_is)) in
       let laid = subst (λ (y : View). TrunkOk g y.numbers y.name y.seen (stage_of y.duty) (size_of y) t) (sym view_is) ok in
       next m' table' front old.view h.first ((n, trunk t) ∷ []) old.filled false tables (same_view m' views) (views ∙ view_is)
           (by_view m'.0 m.0 h.first ((n, trunk t) ∷ []) views (join stage left h.first ((n, trunk t) ∷ []) l its.0 its.1 (inr (t, refl, laid))))
           (now.1 ∙ sym (append_assoc h.first ((n, trunk t) ∷ []) h.third)) (let c = h.counted in let one = ap length away in omega arith) filled_is refl
 
-  duty_as : (d : Duty) → old.view.duty ≡ d → m.0.duty ≡ d
+  pub duty_as : (d : Duty) → old.view.duty ≡ d → m.0.duty ≡ d
   duty_as d is = ap (λ (y : View). y.duty) view_is ∙ is
 
   -- ---- the slot of the stage
@@ -296,14 +322,14 @@ module _ {C T : Type 0} (g : Sketching C) (k : Telling T) {heart : Bool} {n numb
     (let c = h.counted in let a = ap length is in let b = ap length second in omega arith),
   )
 
-  pub taken_at : (i behind : ℕ) → old.view.duty ≡ Leads (Busy i (batch_of old.view)) false → old.filled ≡ true → behind ≡ 1 + length h.third → IsAt i 0 behind m.1
+  pub taken_at : (i behind : ℕ) → old.view.duty ≡ Leads (Busy i (batch_of old.view)) false → old.filled ≡ true → behind ≡ 1 + bool_byte own → IsAt i 0 behind m.1
   taken_at i behind is there long =
       let its = parts _ _ (duty_as _ is) in
       let p = busy_in k m.0 i (batch_of old.view) h.first its.0 (filled_is ∙ there) in
       let x = trunk_one g m.0 n _ h.second its.2 in
-      let place = first_place i (full p.0) x.0 p.1 x.1 in ([], full p.0, h.second ++ h.third, place.0, refl, place.1 ∙ sym long)
+      let place = first_place i (full p.0) x.0 p.1 x.1 in ([], full p.0, h.second ++ h.third, place.0, refl, place.1 ∙ sym (long ∙ ap (λ a. 1 + a) behind_is))
 
-  pub taken_next : (m' : Sat C T) (table' : TableId) (i behind : ℕ) (result : Slot C T) → old.view.duty ≡ Leads (Busy i (batch_of old.view)) false → old.filled ≡ true → behind ≡ 1 + length h.third → table' ≡ table → m'.0 ≡ m.0 → IsPut i 0 behind m.1 result None m'.1
+  pub taken_next : (m' : Sat C T) (table' : TableId) (i behind : ℕ) (result : Slot C T) → old.view.duty ≡ Leads (Busy i (batch_of old.view)) false → old.filled ≡ true → behind ≡ 1 + bool_byte own → table' ≡ table → m'.0 ≡ m.0 → IsPut i 0 behind m.1 result None m'.1
       → ((p : Parcel T) × (result ≡ full p) × (p.buffer ≡ contents (batch_of old.view) (size_of old.view i))) × IsBatch (size_of old.view i) (batch_of old.view) × (length old.view.seen + length (batch_of old.view) ≤ most_entries) × Next m' table' front old.view false old.lifted
   taken_next m' table' i behind result is there long tables views put =
       let batch : List ℕ = batch_of old.view in
@@ -312,7 +338,7 @@ module _ {C T : Type 0} (g : Sketching C) (k : Telling T) {heart : Bool} {n numb
       let p = busy_in k m.0 i batch h.first its.0 (filled_is ∙ there) in
       let x = trunk_one g m.0 n (Busy i batch) h.second its.2 in
       let place = first_place i (full p.0) x.0 p.1 x.1 in
-      let now = put [] (full p.0) (h.second ++ h.third) place.0 refl (place.1 ∙ sym long) in (
+      let now = put [] (full p.0) (h.second ++ h.third) place.0 refl (place.1 ∙ sym (long ∙ ap (λ a. 1 + a) behind_is)) in (
         (p.0, now.0, p.2 ∙ ap (λ (y : View). contents batch (size_of y i)) view_is),
         subst (λ (y : View). IsBatch (size_of y i) batch) view_is its.1.2,
         subst (λ (y : View). length y.seen + length batch ≤ most_entries) view_is its.1.3,
@@ -355,22 +381,22 @@ module _ {C T : Type 0} (g : Sketching C) (k : Telling T) {heart : Bool} {n numb
           done t.0 (t.1 ∙ h.hand ∙ ap (λ l. l ++ h.second ++ h.third) none-in))
       (bool_cases left)
 
-  pub put_at : (i behind : ℕ) → old.view.duty ≡ Leads (Published i) false → old.filled ≡ false → behind ≡ 1 + length h.third → IsAt i 0 behind m.1
+  pub put_at : (i behind : ℕ) → old.view.duty ≡ Leads (Published i) false → old.filled ≡ false → behind ≡ 1 + bool_byte own → IsAt i 0 behind m.1
   put_at i behind is away long =
       let its = parts _ _ (duty_as _ is) in
       let none-in = published_out k m.0 i false h.first its.0 (filled_is ∙ away) in
       let x = trunk_one g m.0 n _ h.second its.2 in
-      let place = first_place i None x.0 none-in x.1 in ([], None, h.second ++ h.third, place.0, refl, place.1 ∙ sym long)
+      let place = first_place i None x.0 none-in x.1 in ([], None, h.second ++ h.third, place.0, refl, place.1 ∙ sym (long ∙ ap (λ a. 1 + a) behind_is))
 
   pub put_next : (m' : Sat C T) (table' : TableId) (i behind : ℕ) (result : Slot C T) (p : Parcel T) (t : T) → old.view.duty ≡ Leads (Published i) false → old.filled ≡ false → p.buffer ≡ contents [] (size_of old.view i) → p.told ≡ Some t → TellsList k old.view.name t old.view.seen
-      → behind ≡ 1 + length h.third → table' ≡ table → m'.0 ≡ m.0 → IsPut i 0 behind m.1 result (full p) m'.1 → Next m' table' front old.view true old.lifted
+      → behind ≡ 1 + bool_byte own → table' ≡ table → m'.0 ≡ m.0 → IsPut i 0 behind m.1 result (full p) m'.1 → Next m' table' front old.view true old.lifted
   put_next m' table' i behind result p t is away empty told tells long tables views put =
       let l = duty_as _ is in
       let its = parts (Published i) false l in
       let none-in = published_out k m.0 i false h.first its.0 (filled_is ∙ away) in
       let x = trunk_one g m.0 n (Published i) h.second its.2 in
       let place = first_place i None x.0 none-in x.1 in
-      let now = put [] None (h.second ++ h.third) place.0 refl (place.1 ∙ sym long) in
+      let now = put [] None (h.second ++ h.third) place.0 refl (place.1 ∙ sym (long ∙ ap (λ a. 1 + a) behind_is)) in
       next m' table' front old.view ((i, full p) ∷ []) h.second true old.lifted tables (same_view m' views) (views ∙ view_is)
           (by_view m'.0 m.0 ((i, full p) ∷ []) h.second views (join (Published i) false ((i, full p) ∷ []) h.second l
           (inr (p, t, refl, empty ∙ ap (λ (y : View). contents [] (size_of y i)) (sym view_is), told, subst (λ (y : View). TellsList k y.name t y.seen) (sym view_is) tells)) its.1 its.2))

@@ -49,4 +49,22 @@ impl<C: Composable, R: Role> Propagator<C, R> {
         let trunk = exchange(&self.hub, &mut self.seat, slot, self.front - 1, own, None);
         trunk_in(trunk)
     }
+
+    /// One load of the word of an updater.
+    pub fn find(&mut self, i: u32) -> u64
+        requires idle { self.old.view.duty ≡ Leads Idle false }
+        requires lifted { self.old.lifted ≡ true }
+        requires within { i < length self.old.view.sizes }
+        ensures told { FindsAt self.old.view result self.new.view i }
+        ensures seat { self.new ≡ record self.old { view = self.new.view; filled = result == 0 } }
+    {
+        let hub = &self.hub;
+        let found = hub
+            .shared
+            .load::<Find<C>>(&mut self.seat, i as usize + 1);
+        if found == 0 {
+            self.front = 2;
+        }
+        found
+    }
 }
