@@ -139,6 +139,9 @@ module _ {C T : Type 0} (g : Sketching C) (k : Telling T) {heart : Bool} {n numb
   pub view_is : m.0 ≡ old.view
   view_is = ap (λ (z : Standing). z.view) e
 
+  pub within : (i : ℕ) → i < length old.view.sizes → i < n
+  within i inside = subst (λ z. i < z) (ap (λ (y : View). length y.sizes) (sym view_is) ∙ h.sized) inside
+
   filled_is : has_parcel h.first ≡ old.filled
   filled_is = ap (λ (z : Standing). z.filled) shown
 

@@ -67,4 +67,19 @@ impl<C: Composable, R: Role> Propagator<C, R> {
         }
         found
     }
+
+    /// Takes the batch that was found out of its slot.
+    pub fn take(&mut self, i: u32) -> Parcel<C::Told>
+        requires found { self.old.view.duty ≡ Leads (Busy i (batch_of self.old.view)) false }
+        requires there { self.old.filled ≡ true }
+        requires lifted { self.old.lifted ≡ true }
+        ensures buffer { result.buffer ≡ contents (batch_of self.old.view) (size_of self.old.view i) }
+        ensures batch { IsBatch (size_of self.old.view i) (batch_of self.old.view) }
+        ensures few { length self.old.view.seen + length (batch_of self.old.view) ≤ most_entries }
+        ensures seat { self.new ≡ record self.old { filled = false } }
+    {
+        let behind = 1 + u32::from(self.own);
+        let parcel = exchange(&self.hub, &mut self.seat, i as usize, 0, behind, None);
+        parcel_in(parcel)
+    }
 }
