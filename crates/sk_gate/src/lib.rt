@@ -5,6 +5,7 @@ mod ask;
 pub mod laws;
 mod load;
 mod plays;
+mod propagate;
 mod rule;
 mod seat;
 mod slots;
