@@ -1,4 +1,6 @@
 pub mod Common
+pub mod Known
+pub mod Leading
 pub mod Own
 pub mod Rotated
 pub mod Merged

@@ -73,7 +73,7 @@ HandsAt v w i batch = w ≡ record v { steps = v.steps ++ Hand i ∷ []; post = 
 -- where a turn finds the propagator
 abbrev pub ResumesAt : View → View → Stage → Type 0
 ResumesAt v w Idle = (w.sizes ≡ v.sizes) × (left_of w.duty ≡ false)
-ResumesAt v w (Busy i batch) = (i < length v.sizes) × (w.sizes ≡ slice_set v.sizes i (size_of w i)) × (left_of w.duty ≡ true) × IsBatch (size_of w i) batch × (length w.seen + length batch ≤ most_entries)
+ResumesAt v w (Busy i batch) = (i < length v.sizes) × (w.sizes ≡ slice_set v.sizes i (size_of w i)) × (left_of w.duty ≡ true) × IsBatch (size_of w i) batch × (length w.seen + length batch ≤ most_entries) × (size_of v i ≢ 0 → size_of w i ≡ size_of v i)
 ResumesAt v w (Published i) = ⊥
 
 -- a turn that found 0

@@ -5,8 +5,10 @@ mod ask;
 pub mod laws;
 mod load;
 mod plays;
+mod propagate;
 mod rule;
 mod seat;
+mod slots;
 mod token;
 mod updater;
 

@@ -1,0 +1,85 @@
+//! The calls of whoever propagates. They come in the order in which they stand here.
+ghost use Rattle.std.specs.Prelude.{◌≡◌, ◌+◌, ◌<◌, ◌≤◌, ◌++◌, length, true, false, ◌==◌, Some, IfOk, IfErr};
+ghost use Rattle.sk_model.specs.Entries.{tagged};
+ghost use Rattle.sk_machine.specs.Coarse.{IsBatch, most_entries};
+ghost use Rattle.sk_machine.specs.declared.views.Stage.TheVariants.{Idle, Busy, Published};
+ghost use Rattle.sk_machine.specs.declared.views.Duty.TheVariants.{Leads};
+ghost use Rattle.sk_gate.specs.Slots.{contents, sketching, telling, TellsList, TrunkOk};
+ghost use Rattle.sk_gate.specs.Views.{size_of, batch_of, stage_of, left_of, leads, MayYield};
+ghost use Rattle.sk_gate.specs.Hands.{StageKnown};
+ghost use Rattle.sk_gate.specs.Moves.{AsksAt, TakesTurnAt, MissesTurnAt, YieldsAt, FindsAt, LeavesAt, PublishesAt, GivesBackAt};
+
+use crate::load::{Load, Trunk};
+use crate::plays::{Ask, Find, GiveBack, Leave, Publish, Turn, Yield};
+use crate::seat::{Propagator, Role, exchange};
+use crate::slots::{parcel_in, trunk_in};
+use sk_compose::{Composable, Parcel};
+
+impl<C: Composable, R: Role> Propagator<C, R> {
+    /// One compare-exchange of the turn. An `Err` has the number of the seat that holds it.
+    pub fn turn(&mut self) -> Result<(), u32>
+        requires free { leads self.old.view.duty ≡ false }
+        ensures ok { IfOk result (λ _. TakesTurnAt self.old.view self.new.view) }
+        ensures err { IfErr result (λ other. MissesTurnAt self.old.view (other + 1) self.new.view) }
+        ensures seat { self.new ≡ record self.old { view = self.new.view } }
+    {
+        let hub = &self.hub;
+        let word = self.updaters as usize + 1;
+        let mine = u64::from(self.number) + 1;
+        let found = hub
+            .shared
+            .compare_exchange::<Turn<C>>(&mut self.seat, word, 0, mine);
+        if found != 0 {
+            return Err((found - 1) as u32);
+        }
+        self.front = 1;
+        Ok(())
+    }
+
+    /// Takes the trunk out of its slot.
+    pub fn lift(&mut self) -> Trunk<C>
+        requires led { leads self.old.view.duty ≡ true }
+        requires laid { self.old.lifted ≡ false }
+        ensures trunk { TrunkOk (sketching C.is_of C.numbers C.name) self.old.view.numbers self.old.view.name self.old.view.seen (stage_of self.old.view.duty) (size_of self.old.view) result }
+        ensures known { StageKnown self.old.view (stage_of self.old.view.duty) (left_of self.old.view.duty) }
+        ensures seat { self.new ≡ record self.old { lifted = true } }
+    {
+        let own = u32::from(self.own);
+        let slot = self.updaters as usize;
+        let trunk = exchange(&self.hub, &mut self.seat, slot, self.front - 1, own, None);
+        trunk_in(trunk)
+    }
+
+    /// One load of the word of an updater.
+    pub fn find(&mut self, i: u32) -> u64
+        requires idle { self.old.view.duty ≡ Leads Idle false }
+        requires lifted { self.old.lifted ≡ true }
+        requires within { i < length self.old.view.sizes }
+        ensures told { FindsAt self.old.view result self.new.view i }
+        ensures seat { self.new ≡ record self.old { view = self.new.view; filled = result == 0 } }
+    {
+        let hub = &self.hub;
+        let found = hub
+            .shared
+            .load::<Find<C>>(&mut self.seat, i as usize + 1);
+        if found == 0 {
+            self.front = 2;
+        }
+        found
+    }
+
+    /// Takes the batch that was found out of its slot.
+    pub fn take(&mut self, i: u32) -> Parcel<C::Told>
+        requires found { self.old.view.duty ≡ Leads (Busy i (batch_of self.old.view)) false }
+        requires there { self.old.filled ≡ true }
+        requires lifted { self.old.lifted ≡ true }
+        ensures buffer { result.buffer ≡ contents (batch_of self.old.view) (size_of self.old.view i) }
+        ensures batch { IsBatch (size_of self.old.view i) (batch_of self.old.view) }
+        ensures few { length self.old.view.seen + length (batch_of self.old.view) ≤ most_entries }
+        ensures seat { self.new ≡ record self.old { filled = false } }
+    {
+        let behind = 1 + u32::from(self.own);
+        let parcel = exchange(&self.hub, &mut self.seat, i as usize, 0, behind, None);
+        parcel_in(parcel)
+    }
+}
