@@ -2,6 +2,7 @@
 #![tactic(auto)]
 
 mod ask;
+mod heart;
 pub mod laws;
 mod load;
 mod plays;
