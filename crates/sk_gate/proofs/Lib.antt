@@ -3,11 +3,13 @@ pub mod Known
 pub mod Leading
 pub mod Own
 pub mod Rotated
+pub mod Elements
 pub mod Merged
 pub mod Rounds
 pub mod Seats
 pub mod Shows
 pub mod Standing
+pub mod Starts
 pub mod Taken
 pub mod Turns
 pub mod Updaters

@@ -172,7 +172,7 @@ known_at known i xs a P inside here others = ⊎_elim
 
 -- ---- sizes at the start
 
-sizes_of_length : {T : Type 0} (admitted : ℕ) (ps : List (Parcel T)) → length (sizes_of admitted ps) ≡ length ps
+pub sizes_of_length : {T : Type 0} (admitted : ℕ) (ps : List (Parcel T)) → length (sizes_of admitted ps) ≡ length ps
 sizes_of_length admitted [] = refl
 sizes_of_length zero (p ∷ ps) = ap suc (sizes_of_length zero ps)
 sizes_of_length (suc admitted) (p ∷ ps) = ap suc (sizes_of_length admitted ps)

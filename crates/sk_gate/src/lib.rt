@@ -10,10 +10,12 @@ mod propagate;
 mod rule;
 mod seat;
 mod slots;
+mod start;
 mod token;
 mod updater;
 
 pub use load::{Held, Load, Trunk};
+pub use start::{Made, make};
 pub use seat::{HeartSeat, OfHeart, OfUpdater, Propagator, Role, UpdaterSeat};
 pub use sk_model::OutOfMemory;
 pub use token::{NoteSeat, TokenSeat};
