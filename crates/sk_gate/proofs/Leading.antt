@@ -4,7 +4,8 @@ use Rattle.std.specs.Prelude.{slice_index}
 use mir.Val.{bool_byte}
 use mathlib.Core.Logic.{dite}
 use native.Mathlib.Decide.{ℕ_discrete}
-use Rattle.atomic_table.specs.Table.{rest}
+use mathlib.Core.Option.{none}
+use Rattle.atomic_table.specs.Table.{Allows, step, rest}
 use Rattle.atomic_table.specs.Seated.{TableId}
 use Rattle.sk_model.specs.Entries.{Entry, tagged}
 use Rattle.sk_compose.specs.declared.buffer.Parcel.{Parcel}
@@ -21,10 +22,13 @@ use Rattle.sk_gate.specs.declared.load.Trunk.{Trunk}
 use Rattle.sk_gate.specs.Slots.{Slot, full, trunk, contents, Sketching, Telling, TellsList, TrunkOk}
 use Rattle.sk_gate.specs.Views.{size_of, mine_in, mine_of, seat_in, leads, stage_of, left_of, batch_of, MayYield}
 use Rattle.sk_gate.specs.Moves.{ResumesAt, TakesTurnAt, MissesTurnAt, YieldsAt, FindsBatchAt, FindsAt, LeavesAt, PublishesAt, GivesBackAt}
-use Rattle.sk_gate.specs.Plays.{Sat}
+use Rattle.sk_gate.specs.Plays.{Sat, gave_back, left_it, yielded}
+use Rattle.sk_gate.specs.Rule.{Kept}
 use Rattle.sk_gate.specs.Hands.{own_in, has_parcel, has_trunk, IsAt, IsPut, Standing, standing_of, StageHand, StageKnown, TrunkHand, LeadsBy, OwnHand, IsPost, Holds}
 use Rattle.sk_gate.proofs.Known.{some_none, bool_cases}
 use Rattle.sk_gate.proofs.Own.{post_keeps, leads_keeps, own_keeps}
+use Rattle.sk_gate.proofs.Rounds.{leaves, gives_back}
+use Rattle.sk_gate.proofs.Turns.{yields}
 use Rattle.sk_gate.proofs.Standing.{is_lifted, IsShape, shown_of, standing_parts, standing_at, leads_shape}
 
 -- a new view that says the same of the seat's own updater
@@ -470,3 +474,31 @@ module _ {C T : Type 0} (g : Sketching C) (k : Telling T) {heart : Bool} {n numb
       next m' table' 0 m'.0 [] [] old.filled old.lifted tables (keeps_own v m'.0 number v.seen steps' Free v.given told) refl
           (by_view m'.0 (record v { steps = steps'; duty = Free }) [] [] told (refl, refl))
           (hand ∙ ap rest place.1) refl (ap has_parcel (sym place.5) ∙ filled_is) (sym laid)
+
+  -- ---- steps that give the first slot back
+
+  pub found_as : (i : ℕ) (left : View → Bool) → old.view.duty ≡ Leads (Busy i (batch_of old.view)) (left old.view) → m.0.duty ≡ Leads (Busy i (batch_of m.0)) (left m.0)
+  found_as i left is = subst (λ (y : View). y.duty ≡ Leads (Busy i (batch_of y)) (left y)) (sym view_is) is
+
+  pub gives_back_at : (hint packed : List ℕ → List Entry → ℕ) (slots id i x : ℕ) → slots ≡ n + 1 → old.view.duty ≡ Leads (Published i) false → old.filled ≡ true → x ≡ hint old.view.numbers old.view.seen → 1 ≤ x
+      → Allows (Kept hint packed g k) slots id m (i + 1) (λ _. x) (λ _. gave_back (step slots (i + 1) x 0 none) m x)
+  gives_back_at hint packed slots id i x size is there value lower =
+      let p = given_at i is there in
+      let whole : m ≡ (m.0, (i, full p.0) ∷ (h.second ++ h.third)) = λ a. (m.0, p.2 a) in
+      subst (λ (y : Sat C T). Allows (Kept hint packed g k) slots id y (i + 1) (λ _. x) (λ _. gave_back (step slots (i + 1) x 0 none) y x)) (sym whole)
+          (gives_back hint packed g k slots id n i x m.0 p.0 p.1 (h.second ++ h.third) size p.6 h.live (duty_as _ is) p.7 (value ∙ ap (λ (y : View). hint y.numbers y.seen) (sym view_is)) (λ z. omega arith) p.3 p.4 p.5)
+
+  pub leaves_at : (hint packed : List ℕ → List Entry → ℕ) (slots id i : ℕ) → slots ≡ n + 1 → old.view.duty ≡ Leads (Busy i (batch_of old.view)) false → old.filled ≡ false
+      → Allows (Kept hint packed g k) slots id m (i + 1) (λ x. x) (left_it (step slots (i + 1) 0 0 none) m)
+  leaves_at hint packed slots id i size is away =
+      let p = left_at i is away in
+      let whole : m ≡ (m.0, (i, None) ∷ (h.second ++ h.third)) = λ a. (m.0, p.0 a) in
+      subst (λ (y : Sat C T). Allows (Kept hint packed g k) slots id y (i + 1) (λ x. x) (left_it (step slots (i + 1) 0 0 none) y)) (sym whole)
+          (leaves hint packed g k slots id n i m.0 (h.second ++ h.third) size p.1 h.live p.2)
+
+  pub yields_at : (hint packed : List ℕ → List Entry → ℕ) (slots id : ℕ) → slots ≡ n + 1 → MayYield old.view.duty → old.lifted ≡ false → Allows (Kept hint packed g k) slots id m (n + 1) (λ _. 0) (λ _. yielded (step slots (n + 1) 0 0 none) m 0)
+  yields_at hint packed slots id size may laid =
+      let p = yielded_at may laid in
+      let whole : m ≡ (m.0, (n, trunk p.0) ∷ h.third) = λ a. (m.0, p.1 a) in
+      subst (λ (y : Sat C T). Allows (Kept hint packed g k) slots id y (n + 1) (λ _. 0) (λ _. yielded (step slots (n + 1) 0 0 none) y 0)) (sym whole)
+          (yields hint packed g k slots id n m.0 p.0 h.third size h.live p.4 p.3 p.2)
