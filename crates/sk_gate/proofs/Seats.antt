@@ -24,7 +24,7 @@ use Rattle.sk_machine.proofs.Numbered.{put_here, put_else, each_put}
 use Rattle.sk_machine.proofs.Coarse as event
 use Rattle.sk_gate.specs.declared.load.Trunk.{Trunk}
 use Rattle.sk_gate.specs.Slots.{Slot, full, trunk, contents, room, Sketching, Telling}
-use Rattle.sk_gate.specs.Views.{known_of, given_of, size_of, mine_of, leads, longer, merged, sizes_merged, sizes_of, blanks, first_view, made_in, after_making, new_updater, after_split, copy_of, told_on, known_with, drained_with, after_join, spent, SpeaksBy, SpeaksFor}
+use Rattle.sk_gate.specs.Views.{known_of, given_of, size_of, mine_of, leads, longer, merged, sizes_merged, sizes_of, blanks, first_view, made_in, after_making, new_updater, after_split, copy_of, told_on, known_with, drained_with, seen_with, after_join, spent, SpeaksBy, SpeaksFor}
 use Rattle.sk_gate.specs.Rule.{PostOk, DutyOk, DrainedOk, Knows, Has, HasSeen, IsLed, HasGiven, Kept}
 use Rattle.sk_gate.specs.Plays.{Sat}
 use Rattle.sk_gate.specs.Hands.{Holds}
@@ -148,9 +148,20 @@ post_joined n m owner j seen seen' sizes sizes' drained Guest b same t = tt
 post_joined n m owner j seen seen' sizes sizes' drained (Root made) b same t = λ i le lt. let y = t i le lt in (y.0, y.1, same i y.2)
 post_joined n m owner j seen seen' sizes sizes' drained (Updater i mine) b same t = (t.0, t.1, t.2, begins_trans _ _ _ t.3 b, same i t.4, t.5)
 
-duty_joined : (n : ℕ) (m : Coarse) (left : Bool) (leader j : ℕ) (seen more : List Entry) (post : Post) (d : Duty) → Begins more m.published → DutyOk n m left leader j seen post d → DutyOk n m left leader j (longer seen more) post d
-duty_joined n m left leader j seen more post Free b t = tt
-duty_joined n m left leader j seen more post (Leads stage its) b t = (t.0, t.1, t.2, t.3, whole_first seen more m.published t.4 b)
+-- what a seat has seen that took in one that has seen more
+record SeenBoth (h seen more seen' : List Entry) : Type 0 where
+  within : Begins seen' h
+  grows : Begins seen seen'
+  first : seen ≡ h → seen' ≡ h
+  second : more ≡ h → seen' ≡ h
+
+seen_joined : (n : ℕ) (m : Coarse) (left : Bool) (leader j : ℕ) (seen more : List Entry) (post : Post) (d : Duty) → Begins seen m.published → Begins more m.published → DutyOk n m left leader j seen post d → SeenBoth m.published seen more (seen_with seen more d)
+seen_joined n m left leader j seen more post Free a b t = record { within = longer_either seen more (λ l. Begins l m.published) a b; grows = longer_left seen more m.published a b; first = λ e. whole_first seen more m.published e b; second = λ e. whole_second seen more m.published e a }
+seen_joined n m left leader j seen more post (Leads stage its) a b t = record { within = a; grows = begins_refl seen; first = λ e. e; second = λ _. t.4 }
+
+duty_joined : (n : ℕ) (m : Coarse) (left : Bool) (leader j : ℕ) (seen more : List Entry) (post : Post) (d : Duty) → DutyOk n m left leader j seen post d → DutyOk n m left leader j (seen_with seen more d) post d
+duty_joined n m left leader j seen more post Free t = tt
+duty_joined n m left leader j seen more post (Leads stage its) t = t
 
 -- an updater's list in a joined view
 known_at : (known : List (List ℕ)) (i : ℕ) (xs : List ℕ) (a : ℕ) (P : List ℕ → Type 0) → i < length known → (a ≡ i → P xs) → (a ≢ i → P (get_or known a [])) → P (get_or (set known i xs) a [])
@@ -375,10 +386,11 @@ module _ {C T : Type 0} (hint packed : List ℕ → List Entry → ℕ) (g : Ske
       → Rule record { words = s.words; homes = s.homes; views = set (set s.views id (after_join v w)) other spent }
   joined id v other w s r owner' live live' free apart at here speaks long known sized post drained others =
       let m = r.machine in let h = m.published in let v' : View = after_join v w in let o = r.each_seat id v at live in let q = r.each_seat other w here live' in
+      let both = seen_joined r.n m r.left r.leader id v.seen w.seen v.post v.duty o.seen_is q.seen_is o.duty_is in
       let sizes : (i : ℕ) → size_of v i ≡ m.sizes i → size_of v' i ≡ m.sizes i = λ i e. sizes_either (λ x. x ≡ m.sizes i) v.sizes w.sizes i (λ _. e) (λ z. ⊎_elim (λ (y : size_of w i ≡ 0). y ∙ sym z ∙ e) (λ ne. q.sizes_are i ne) (cases_eq (size_of w i) 0)) in
       reviewed s r (set (set s.views id v') other spent) owner' (put (λ x. x) other id r.seer) (λ i. put (λ x. x) other id (r.giver i))
           (has_kept s.views id other v w v' IsLed IsLed r.leader at here (λ p. p) (λ p. true≢false (sym p.1 ∙ ap leads free)) (λ u p. p))
-          (has_joined s.views id other v w v' (HasSeen h) (HasSeen h) r.seer apart at here (λ p. (live, whole_first v.seen w.seen h p.1 q.seen_is)) (λ p. (live, whole_second v.seen w.seen h p.1 o.seen_is)) (λ u p. p) r.seen)
+          (has_joined s.views id other v w v' (HasSeen h) (HasSeen h) r.seer apart at here (λ p. (live, both.first p.1)) (λ p. (live, both.second p.1)) (λ u p. p) r.seen)
           (λ i l. has_joined s.views id other v w v' (HasGiven i (m.updaters i).given) (HasGiven i (m.updaters i).given) (r.giver i) apart at here
           (λ p. (live, merged_first v.given w.given i (m.updaters i).given p.1 (q.given_is i))) (λ p. (live, merged_second v.given w.given i (m.updaters i).given p.1 (o.given_is i))) (λ u p. p) (r.given i l))
           speaks
@@ -389,12 +401,12 @@ module _ {C T : Type 0} (hint packed : List ℕ → List Entry → ℕ) (g : Ske
             known_sized = long;
             given_sized = merged_length r.n v.given w.given o.given_sized q.given_sized;
             sizes_are = λ i. sizes_either (λ x. x ≢ 0 → x ≡ m.sizes i) v.sizes w.sizes i (λ _. o.sizes_are i) (λ _. q.sizes_are i);
-            seen_is = longer_either v.seen w.seen (λ l. Begins l h) o.seen_is q.seen_is;
+            seen_is = both.within;
             known_is = known;
             known_with_size = sized;
             given_is = λ i. merged_either (λ l. Begins l (m.updaters i).given) v.given w.given i (o.given_is i) (q.given_is i);
-            post_is = post sizes (longer_left v.seen w.seen h o.seen_is q.seen_is);
-            duty_is = duty_joined r.n m r.left r.leader id v.seen w.seen v.post v.duty q.seen_is o.duty_is;
+            post_is = post sizes both.grows;
+            duty_is = duty_joined r.n m r.left r.leader id v.seen w.seen v.post v.duty o.duty_is;
             drained_is = drained;
           }) others)
 
