@@ -2,6 +2,7 @@ pub mod Fields
 pub mod Lines
 pub mod Machine
 pub mod Propagator
+pub mod Reached
 pub mod Runs
 pub mod Start
 pub mod Tokens

@@ -19,12 +19,16 @@ use Rattle.sk_core.specs.Runs.{MeetsAll}
 use Rattle.sk_core.specs.declared.token.Token.{Token}
 use Rattle.sk_core.proofs.Machine.{hint_positive}
 
-pub replicate_more : {A : Type 0} (n : ℕ) (x : A) → replicate n x ++ x ∷ [] ≡ replicate (n + 1) x
+replicate_more : {A : Type 0} (n : ℕ) (x : A) → replicate n x ++ x ∷ [] ≡ replicate (n + 1) x
 replicate_more n x = let e : suc n ≡ n + 1 = omega arith in go n x ∙ ap (λ k. replicate k x) e
   where
     go : {A : Type 0} (n : ℕ) (x : A) → replicate n x ++ x ∷ [] ≡ replicate (suc n) x
     go zero x = refl
     go (suc n) x = ap (λ l. x ∷ l) (go n x)
+
+-- one more is pushed
+pub replicate_pushed : {A : Type 0} (n : ℕ) (x y : A) (xs ys : List A) → ys ≡ xs ++ y ∷ [] → y ≡ x → xs ≡ replicate n x → ys ≡ replicate (n + 1) x
+replicate_pushed n x y xs ys pushed same all = pushed ∙ ap (λ z. xs ++ z ∷ []) same ∙ ap (λ l. l ++ x ∷ []) all ∙ replicate_more n x
 
 pub no_items : items_of_entries [] ≡ []
 unfolding items_of_entries

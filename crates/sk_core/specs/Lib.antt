@@ -3,3 +3,4 @@ pub mod Events
 pub mod Inside
 pub mod Runs
 pub mod Texts
+pub mod Reached

@@ -3,6 +3,7 @@
 
 mod answer;
 mod event;
+pub mod laws;
 mod state;
 mod text;
 mod token;

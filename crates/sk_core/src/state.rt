@@ -64,6 +64,7 @@ impl State {
         ensures sketch { self.new.k ≡ self.old.k }
         ensures invariant { MeetsAll self.new.k (machine_of self.new) }
     {
+        // From here on the machine's invariant is known.
         let _ = &self.word;
         self.play(event)
     }

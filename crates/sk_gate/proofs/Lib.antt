@@ -3,8 +3,10 @@ pub mod Known
 pub mod Leading
 pub mod Own
 pub mod Rotated
+pub mod Merged
 pub mod Rounds
 pub mod Seats
+pub mod Shows
 pub mod Standing
 pub mod Turns
 pub mod Updaters

@@ -1,9 +1,10 @@
 -- What stays true of the slots that a seat has, over an ask and over the calls of an updater.
 use Rattle.std.proofs.Common.{◌≡◌, ◌≢◌, ◌⊎◌, ℕ, zero, suc, ◌+◌, ◌<◌, ◌≤◌, Bool, true, false, true≢false, not, List, [], ◌∷◌, ◌++◌, length, Option, Some, None, sym, refl, ap, ◌∙◌, subst, ⊎_elim, inl, inr, arith, append_assoc, append-nil, length-append, length-set, set, drop, is_some, if◌then◌else◌, ne_eqb, get_or-set_same, get_or-set_other}
 use Rattle.std.specs.Prelude.{slice_index}
+use mathlib.Core.Option.{none}
 use mathlib.Core.Logic.{dite}
 use native.Mathlib.Decide.{ℕ_discrete}
-use Rattle.atomic_table.specs.Table.{step, rest, turned}
+use Rattle.atomic_table.specs.Table.{step, Allows, rest, turned}
 use Rattle.sk_model.specs.Entries.{Entry}
 use Rattle.sk_model.specs.Width.{AreItems}
 use Rattle.sk_compose.specs.Buffers.{Contents}
@@ -18,14 +19,18 @@ use Rattle.sk_machine.specs.declared.views.Duty.{Duty}
 use Rattle.sk_machine.specs.declared.views.Duty.TheVariants.{Free, Leads}
 use Rattle.sk_machine.specs.declared.views.View.{View}
 use Rattle.sk_gate.specs.declared.load.Trunk.{Trunk}
+use Rattle.sk_gate.specs.declared.load.Load.TheVariants as load
 use Rattle.sk_gate.specs.Slots.{Slot, full, trunk, contents, Sketching, Telling, TellsList, ToldOk, TrunkOk}
 use Rattle.sk_gate.specs.Views.{size_of, mine_in, mine_of, leads, longer}
 use Rattle.sk_gate.specs.Moves.{AsksAt, looked_mine, RenewsAt, LooksAt, AdmitsAt, handed_mine, HandsAt}
 use Rattle.sk_gate.specs.Plays.{Sat, asked, IsRested, LookHand, looked, admitted, handed}
 use Rattle.atomic_table.specs.Seated.{TableId}
-use Rattle.sk_gate.specs.Hands.{is_empty, Own, own_looked, Standing, standing_of, IsAt, IsPut, own_in, IsPost, StageHand, LeadsBy, OwnHand, IsEmptyOwn, IsFullOwn, Holds}
+use Rattle.sk_gate.specs.Hands.{is_empty, Own, own_looked, Standing, standing_of, rotated, IsAt, IsPut, own_in, IsPost, StageHand, LeadsBy, OwnHand, IsEmptyOwn, IsFullOwn, Holds}
 use Rattle.sk_gate.proofs.Common.{bool_cases}
-use Rattle.sk_gate.proofs.Standing.{shown_with}
+use Rattle.sk_gate.specs.Rule.{Kept}
+use Rattle.sk_gate.proofs.Rotated.{placed_first}
+use Rattle.sk_gate.proofs.Updaters.{hands}
+use Rattle.sk_gate.proofs.Standing.{shown_with, own_shown}
 
 -- a new view that speaks for the same seat
 pub post_keeps : (v w : View) (heart : Bool) (n number : ℕ) → w.post ≡ v.post → IsPost v heart n number → IsPost w heart n number
@@ -35,8 +40,16 @@ post_keeps v w false n number e t = (e ∙ t.0 ∙ ap (λ p. Updater number (min
 cons_is_not : {A : Type 0} {x : A} {xs : List A} → x ∷ xs ≡ [] → ⊥
 cons_is_not e = cc
 
-some_is_not : {A : Type 0} {a : A} → None ≡ Some a → ⊥
+pub some_is_not : {A : Type 0} {a : A} → None ≡ Some a → ⊥
 some_is_not e = cc
+
+abbrev parcel_of : {C T : Type 0} → Parcel T → Slot C T → Parcel T
+parcel_of p None = p
+parcel_of p (Some (load.Parcel q)) = q
+parcel_of p (Some (load.Trunk t)) = p
+
+same_full : {C T : Type 0} {p q : Parcel T} → full {C = C} p ≡ full q → p ≡ q
+same_full {p = p} e = ap (parcel_of p) e
 
 module _ {C T : Type 0} (g : Sketching C) (k : Telling T) where
   -- and knows the same as whoever propagates
@@ -92,7 +105,7 @@ module _ {C T : Type 0} (g : Sketching C) (k : Telling T) where
 
   -- with an empty one, where no items are seen there
   pub empty_at : (v : View) (i : ℕ) (p : Parcel T) → IsEmptyOwn v k i p ⊎ IsFullOwn v i p → p.buffer.items ≡ [] → IsEmptyOwn v k i p
-  empty_at v i p t none-there = ⊎_elim (λ e. e) (λ e. let some = e.0.0 in let nothing = ap length none-there in absurd (omega arith)) t
+  empty_at v i p t none_there = ⊎_elim (λ e. e) (λ e. let some = e.0.0 in let nothing = ap length none_there in absurd (omega arith)) t
 
   pub full_at : (v : View) (i : ℕ) (p : Parcel T) → IsEmptyOwn v k i p ⊎ IsFullOwn v i p → p.buffer.items ≢ [] → IsFullOwn v i p
   full_at v i p t some-there = ⊎_elim (λ e. absurd (some-there e.0)) (λ e. e) t
@@ -123,6 +136,27 @@ module _ {C T : Type 0} (g : Sketching C) (k : Telling T) where
       → (p : Parcel T) × (old ≡ full p) × (own_in h.third ≡ own_in {C = C} {T = T} ((number, full p) ∷ [])) × (IsEmptyOwn m.0 k number p ⊎ IsFullOwn m.0 number p) × (hand ≡ (h.first ++ h.second) ++ (number, new) ∷ [])
   own_put heart n number front own m old new hand h on put = let p = own_at heart n number front own m h on in
       let t = put (h.first ++ h.second) (full p.0) [] p.2 (length-append h.first h.second ∙ h.counted) refl in (p.0, t.0, ap own_in p.1, p.3, t.1)
+
+  -- what lay there
+  pub own_gave : (heart : Bool) (n number front : ℕ) (own : Bool) (m : Sat C T) (old new : Slot C T) (q : Parcel T) (hand : List (ℕ × Slot C T)) → (h : Holds g k heart n number front own m) → own ≡ true → IsPut number front 0 m.1 old new hand → old ≡ full q
+      → (own_in h.third ≡ record { items = q.buffer.items; capacity = q.buffer.capacity; told = is_some q.told }) × (IsEmptyOwn m.0 k number q ⊎ IsFullOwn m.0 number q) × (hand ≡ (h.first ++ h.second) ++ (number, new) ∷ [])
+  own_gave heart n number front own m old new q hand h on put is = let t = own_put heart n number front own m old new hand h on put in let e : t.0 ≡ q = same_full (sym t.1 ∙ is) in
+      (t.2 ∙ (λ a. record { items = (e a).buffer.items; capacity = (e a).buffer.capacity; told = is_some (e a).told }), subst (λ p. IsEmptyOwn m.0 k number p ⊎ IsFullOwn m.0 number p) e t.3, t.4)
+
+  -- of an empty parcel
+  pub own_taken : (heart : Bool) (n number front : ℕ) (own : Bool) (m : Sat C T) (table : TableId) (now : Standing) (old new : Slot C T) (q : Parcel T) (hand : List (ℕ × Slot C T)) → (h : Holds g k heart n number front own m) → own ≡ true → standing_of m.0 table number front m.1 ≡ now
+      → now.own.items ≡ [] → IsPut number front 0 m.1 old new hand → old ≡ full q → (now.own ≡ record { items = q.buffer.items; capacity = q.buffer.capacity; told = is_some q.told }) × IsEmptyOwn m.0 k number q
+  own_taken heart n number front own m table now old new q hand h on is unswapped put gives =
+      let t = own_gave heart n number front own m old new q hand h on put gives in
+      let e = sym (own_shown g k heart n number front own m table now h is) ∙ t.0 in
+      (e, empty_at m.0 number q t.1 (ap (λ (o : Own). o.items) (sym e) ∙ unswapped))
+
+  -- a seat whose own parcel was exchanged, and which now shows another
+  pub exchanged_shown : (heart : Bool) (n number front : ℕ) (own : Bool) (m m' : Sat C T) (table : TableId) (now : Standing) (q : Parcel T) → (h : Holds g k heart n number front own m) → standing_of m.0 table number front m.1 ≡ now → m'.0 ≡ m.0 → m'.1 ≡ (h.first ++ h.second) ++ (number, full q) ∷ []
+      → standing_of m'.0 table number front m'.1 ≡ record now { own = record { items = q.buffer.items; capacity = q.buffer.capacity; told = is_some q.told } }
+  exchanged_shown heart n number front own m m' table now q h is same cut =
+      shown_with g k heart n number front own m table now h is m'.0 m'.1 ((number, full q) ∷ []) cut
+      ∙ λ a. record now { view = (same ∙ ap (λ (s : Standing). s.view) is) a; own = record { items = q.buffer.items; capacity = q.buffer.capacity; told = is_some q.told } }
 
   -- it has not
   pub none_own : (heart : Bool) (n number front : ℕ) (own : Bool) (m : Sat C T) → (h : Holds g k heart n number front own m) → own ≡ false → (h.third ≡ []) × (m.1 ≡ h.first ++ h.second)
@@ -206,7 +240,7 @@ module _ {C T : Type 0} (g : Sketching C) (k : Telling T) where
   pub looked_takes : (hint : List ℕ → List Entry → ℕ) (n number front r : ℕ) (own : Bool) (m m' : Sat C T) → (h : Holds g k false n number front own m) → LooksAt hint m.0 r m'.0 number → LookHand k m r m' number → r ≢ 0 → own ≡ false → size_of m.0 number ≢ 0
       → Holds g k false n number front true (m'.0, turned m'.1)
   looked_takes hint n number front r own m m' h t hand ne off there =
-      let v : View = m.0 in let w : View = m'.0 in let y = t.0 ne in let at = y.view in let p = hand.takes ne (sym h.own_is ∙ off) in let none-there = none_own false n number front own m h off in
+      let v : View = m.0 in let w : View = m'.0 in let y = t.0 ne in let at = y.view in let p = hand.takes ne (sym h.own_is ∙ off) in let none_there = none_own false n number front own m h off in
       let size : size_of w number ≡ size_of v number = ap (λ (q : View). size_of q number) at in let mine : mine_of w ≡ looked_mine (mine_of v) (mine_of w).base = ap mine_of at in
       let told = p.2.1 h.post.3 in record {
         live = ap (λ (q : View). q.live) at ∙ h.live;
@@ -215,7 +249,7 @@ module _ {C T : Type 0} (g : Sketching C) (k : Telling T) where
         first = h.first;
         second = h.second;
         third = (number, full p.0) ∷ [];
-        hand = ap turned p.1 ∙ ap (λ l. l ++ (number, full p.0) ∷ []) none-there.1;
+        hand = ap turned p.1 ∙ ap (λ l. l ++ (number, full p.0) ∷ []) none_there.1;
         counted = h.counted;
         leading = looked_sees hint v w r number h.first h.second n y h.leading;
         own_is = ap (λ (q : Mine). q.ready) (sym mine);
@@ -272,12 +306,43 @@ module _ {C T : Type 0} (g : Sketching C) (k : Telling T) where
     owned = refl;
   }
 
+  -- items are seen in its own slot
+  pub own_there : (heart : Bool) (n number front : ℕ) (own : Bool) (m : Sat C T) (table : TableId) (now : Standing) (h : Holds g k heart n number front own m) → standing_of m.0 table number front m.1 ≡ now → now.own.items ≢ [] → own ≡ true
+  own_there heart n number front own m table now h is some_there = ⊎_elim (λ e. e)
+      (λ (off : own ≡ false). absurd (some_there (ap (λ (o : Own). o.items) (sym (own_shown g k heart n number front own m table now h is) ∙ ap own_in (none_own heart n number front own m h off).0))))
+      (bool_cases own)
+
+  rotated_own : (heart : Bool) (n number front : ℕ) (own : Bool) (m m₁ : Sat C T) → (h : Holds g k heart n number front own m) → own ≡ true → m₁ ≡ (m.0, rotated front m.1)
+      → (p : Parcel T) × (m₁ ≡ (m.0, (number, full p) ∷ (h.first ++ h.second))) × (own_in h.third ≡ own_in {C = C} {T = T} ((number, full p) ∷ [])) × (IsEmptyOwn m.0 k number p ⊎ IsFullOwn m.0 number p) × (size_of m.0 number ≢ 0)
+  rotated_own heart n number front own m m₁ h on turned = let t = own_at heart n number front own m h on in
+      let first = placed_first front m.1 (h.first ++ h.second) number (full t.0) [] t.2 (length-append h.first h.second ∙ h.counted) in
+      (t.0, turned ∙ (λ a. (m.0, first a)), ap own_in t.1, t.3, t.4)
+
+  pub hands_at : (hint packed : List ℕ → List Entry → ℕ) (slots id n number front : ℕ) (own : Bool) (m m₁ : Sat C T) (table : TableId) (now : Standing) → (h : Holds g k false n number front own m) → standing_of m.0 table number front m.1 ≡ now → now.own.items ≢ [] → slots ≡ n + 1 → m₁ ≡ (m.0, rotated front m.1)
+      → Allows (Kept hint packed g k) slots id m₁ (number + 1) (λ _. 0) (λ _. handed (step slots (number + 1) 0 0 none) m₁ 0)
+  hands_at hint packed slots id n number front own m m₁ table now h is some_there size turned =
+      let on = own_there false n number front own m table now h is some_there in let t = rotated_own false n number front own m m₁ h on turned in let p : Parcel T = t.0 in
+      let items : p.buffer.items ≢ [] = λ e. some_there (ap (λ (o : Own). o.items) (sym (own_shown g k false n number front own m table now h is) ∙ t.2) ∙ e) in
+      let has = full_at m.0 number p t.3 items in
+      subst (λ (x : Sat C T). Allows (Kept hint packed g k) slots id x (number + 1) (λ _. 0) (λ _. handed (step slots (number + 1) 0 0 none) x 0)) (sym t.1)
+      (hands hint packed g k slots id n m.0 number p (h.first ++ h.second) size h.live h.post.0 (sym h.own_is ∙ on) t.4 has.3 has.0 has.1 has.2)
+
+  pub handed_after : (n number front : ℕ) (own : Bool) (m m₁ m' : Sat C T) (table : TableId) (now : Standing) → (h : Holds g k false n number front own m) → standing_of m.0 table number front m.1 ≡ now → now.own.items ≢ [] → m₁ ≡ (m.0, rotated front m.1) → handed (step 0 0 0 0 none) m₁ 0 m'
+      → HandsAt m.0 m'.0 number now.own.items × (m'.1 ≡ h.first ++ h.second)
+  handed_after n number front own m m₁ m' table now h is some_there turned t =
+      let on = own_there false n number front own m table now h is some_there in let r = rotated_own false n number front own m m₁ h on turned in let p : Parcel T = r.0 in
+      let view : m₁.0 ≡ m.0 = ap (λ (x : Sat C T). x.0) r.1 in
+      let post : m₁.0.post ≡ Updater number (mine_of m₁.0) = ap (λ (v : View). v.post) view ∙ h.post.0 ∙ ap (λ (v : View). Updater number (mine_of v)) (sym view) in
+      let y = t number p (h.first ++ h.second) post (ap (λ (x : Sat C T). x.1) r.1) in
+      let items : p.buffer.items ≡ now.own.items = ap (λ (o : Own). o.items) (sym r.2 ∙ own_shown g k false n number front own m table now h is) in
+      (subst (λ (z : View × List ℕ). HandsAt z.0 m'.0 number z.1) (λ a. (view a, items a)) y.0, y.1)
+
   -- ---- the look by which it is admitted
 
   pub admitted_holds : (hint : List ℕ → List Entry → ℕ) (n number front r b : ℕ) (own : Bool) (m m' : Sat C T) (p : Parcel T) → (h : Holds g k false n number front own m) → own ≡ false → size_of m.0 number ≡ 0 → 1 ≤ b → AdmitsAt hint m.0 r m'.0 number b
       → m'.1 ≡ (number, full p) ∷ m.1 → p.buffer ≡ contents [] 1 → p.told ≡ None → Holds g k false n number front true (m'.0, turned m'.1)
   admitted_holds hint n number front r b own m m' p h off vacant least t has empty told =
-      let v : View = m.0 in let w : View = m'.0 in let at = t.view in let none-there = none_own false n number front own m h off in let long = h.sized in let inside = h.post.1 in
+      let v : View = m.0 in let w : View = m'.0 in let at = t.view in let none_there = none_own false n number front own m h off in let long = h.sized in let inside = h.post.1 in
       let mine : mine_of w ≡ looked_mine (mine_of v) [] = ap mine_of at in let sizes : w.sizes ≡ set v.sizes number b = ap (λ (q : View). q.sizes) at in
       let size : size_of w number ≡ b = ap (λ l. slice_index l number) sizes ∙ get_or-set_same v.sizes number b 0 (omega arith) in record {
         live = ap (λ (q : View). q.live) at ∙ h.live;
@@ -286,7 +351,7 @@ module _ {C T : Type 0} (g : Sketching C) (k : Telling T) where
         first = h.first;
         second = h.second;
         third = (number, full p) ∷ [];
-        hand = ap turned has ∙ ap (λ l. l ++ (number, full p) ∷ []) none-there.1;
+        hand = ap turned has ∙ ap (λ l. l ++ (number, full p) ∷ []) none_there.1;
         counted = h.counted;
         leading = subst (λ d. LeadsBy w g k n d h.first h.second) (ap (λ (q : View). q.duty) (sym at))
             (leads_sizes v w n v.duty h.first h.second (ap (λ (q : View). q.seen) at) (ap (λ (q : View). q.numbers) at) (ap (λ (q : View). q.name) at) (ap length sizes ∙ length-set v.sizes number b)
@@ -303,3 +368,14 @@ module _ {C T : Type 0} (g : Sketching C) (k : Telling T) where
           λ z. omega arith,
         );
       }
+
+  -- one that is not admitted has not its own slot
+  pub own_vacant : (heart : Bool) (n number front : ℕ) (own : Bool) (m : Sat C T) → Holds g k heart n number front own m → size_of m.0 number ≡ 0 → own ≡ false
+  own_vacant heart n number front own m h vacant = ⊎_elim (λ (on : own ≡ true). absurd ((own_at heart n number front own m h on).4 vacant)) (λ e. e) (bool_cases own)
+
+  pub admitted_shown : (n number front : ℕ) (own : Bool) (m m' : Sat C T) (table : TableId) (now : Standing) (p : Parcel T) → (h : Holds g k false n number front own m) → standing_of m.0 table number front m.1 ≡ now → size_of m.0 number ≡ 0
+      → m'.1 ≡ (number, full p) ∷ m.1 → p.buffer ≡ contents [] 1 → p.told ≡ None → standing_of m'.0 table number front (turned m'.1) ≡ record now { view = m'.0; own = record { items = []; capacity = 1; told = false } }
+  admitted_shown n number front own m m' table now p h is vacant has empty told =
+      let none_there = none_own false n number front own m h (own_vacant false n number front own m h vacant) in
+      shown_with g k false n number front own m table now h is m'.0 (turned m'.1) ((number, full p) ∷ []) (ap turned has ∙ ap (λ l. l ++ (number, full p) ∷ []) none_there.1)
+      ∙ λ a. record now { view = m'.0; own = record { items = (empty a).items; capacity = (empty a).capacity; told = is_some (told a) } }

@@ -4,3 +4,5 @@ pub mod Rule
 pub mod Moves
 pub mod Plays
 pub mod Hands
+pub mod Readers
+pub mod Shows

@@ -169,10 +169,15 @@ drained_with drained Guest = drained
 drained_with drained (Root made) = drained
 drained_with drained (Updater i mine) = drained ++ i ∷ []
 
+-- whoever leads has seen all
+abbrev pub seen_with : List Entry → List Entry → Duty → List Entry
+seen_with seen others Free = longer seen others
+seen_with seen others (Leads stage left) = seen
+
 -- a seat that has taken in another, which is an updater's or a note's
 abbrev pub after_join : View → View → View
 after_join v w = record v {
-  seen = longer v.seen w.seen;
+  seen = seen_with v.seen w.seen v.duty;
   known = known_with v.known w.known w.post;
   steps = v.steps ++ Join ∷ [];
   given = merged v.given w.given;

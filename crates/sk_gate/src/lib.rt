@@ -2,13 +2,17 @@
 #![tactic(auto)]
 
 mod ask;
+pub mod laws;
 mod load;
 mod plays;
 mod propagate;
 mod rule;
 mod seat;
 mod slots;
+mod token;
+mod updater;
 
 pub use load::{Held, Load, Trunk};
 pub use seat::{HeartSeat, OfHeart, OfUpdater, Propagator, Role, UpdaterSeat};
 pub use sk_model::OutOfMemory;
+pub use token::{NoteSeat, TokenSeat};

@@ -5,3 +5,4 @@ pub mod Updaters
 pub mod Propagator
 pub mod Tokens
 pub mod Parts
+pub mod Shown

@@ -63,6 +63,14 @@ unfolding sum_below
 sum_below_most zero most f le = omega arith
 sum_below_most (suc n) most f le = let e = sum_below_most n most f (λ i l. le i (omega arith)) in let l = le n (omega arith) in omega arith
 
+-- one of the numbers is no more than all
+pub sum_below_one : (n i : ℕ) (f : ℕ → ℕ) → i < n → f i ≤ sum_below n f
+unfolding sum_below
+sum_below_one zero i f inside = absurd (omega arith)
+sum_below_one (suc n) i f inside = dite (ℕ_discrete i n)
+    (λ e. let same : f i ≡ f n = ap f e in omega arith)
+    (λ ne. let less : f i ≤ sum_below n f = sum_below_one n i f (omega arith) in omega arith)
+
 -- how many entries each updater has, with one more entry
 by_cons : (j : ℕ) (e : Entry) (es : List Entry) → entries_by j (e ∷ es) ≡ entries_by j (tagged e.0 (e.1 ∷ [])) ++ entries_by j es
 by_cons j e es = entries_by_append j (tagged e.0 (e.1 ∷ [])) es

@@ -2,3 +2,4 @@
 
 pub mod coarse;
 pub mod fine;
+pub mod shown;

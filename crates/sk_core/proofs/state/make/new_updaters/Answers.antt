@@ -1,7 +1,7 @@
-use Rattle.std.proofs.Common.{arith, ap, ◌∙◌, ◌++◌, ◌∷◌, [], length}
+use Rattle.std.proofs.Common.{arith, ap, ◌∙◌, length}
 use Rattle.std.proofs.lemmas.List.{length-replicate}
 use Rattle.sk_core.specs.Stored.{blank_updater}
-use Rattle.sk_core.proofs.Start.{replicate_more}
+use Rattle.sk_core.proofs.Start.{replicate_pushed}
 use Rattle.sk_core.proofs.state.make.new_updaters.Goals as goal
 
 pub push_reserved-requires : goal.push_reserved-requires
@@ -17,6 +17,6 @@ pub updaters-preserved : goal.updaters-preserved
 updaters-preserved c =
     let inv = c.updaters.invariant in
     record {
-      items = c.push_reserved.ensures.items ∙ ap (λ u. c.updaters.updaters.items ++ u ∷ []) c.in_ok-new.ensures ∙ ap (λ l. l ++ blank_updater c.args.size ∷ []) inv.items ∙ replicate_more c.updaters.counter (blank_updater c.args.size);
+      items = replicate_pushed c.updaters.counter (blank_updater c.args.size) _ _ _ c.push_reserved.ensures.items c.in_ok-new.ensures inv.items;
       room = c.push_reserved.ensures.capacity ∙ inv.room;
     }
