@@ -1,5 +1,5 @@
 //! The calls of whoever propagates. They come in the order in which they stand here.
-ghost use Rattle.std.specs.Prelude.{◌≡◌, ◌+◌, ◌<◌, ◌≤◌, ◌++◌, length, true, false, ◌==◌, Some, IfOk, IfErr};
+ghost use Rattle.std.specs.Prelude.{◌≡◌, ◌+◌, ◌<◌, ◌≤◌, ◌++◌, [], length, true, false, ◌==◌, Some, IfOk, IfErr};
 ghost use Rattle.sk_model.specs.Entries.{tagged};
 ghost use Rattle.sk_machine.specs.Coarse.{IsBatch, most_entries};
 ghost use Rattle.sk_machine.specs.declared.views.Stage.TheVariants.{Idle, Busy, Published};
