@@ -6,6 +6,7 @@ pub mod Rotated
 pub mod Merged
 pub mod Rounds
 pub mod Seats
+pub mod Served
 pub mod Shows
 pub mod Standing
 pub mod Turns

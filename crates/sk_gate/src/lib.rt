@@ -6,6 +6,7 @@ pub mod laws;
 mod load;
 mod plays;
 mod propagate;
+mod round;
 mod rule;
 mod seat;
 mod slots;
