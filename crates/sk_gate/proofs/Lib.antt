@@ -1,12 +1,12 @@
 pub mod Common
 pub mod Known
 pub mod Leading
+pub mod Merging
 pub mod Own
 pub mod Rotated
 pub mod Merged
 pub mod Rounds
 pub mod Seats
-pub mod Served
 pub mod Shows
 pub mod Standing
 pub mod Turns

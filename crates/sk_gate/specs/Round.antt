@@ -8,7 +8,7 @@ use Rattle.sk_machine.specs.declared.views.Move.{Move}
 use Rattle.sk_machine.specs.declared.views.Move.TheVariants.{Find, Publish, GiveBack, Turn, Yield}
 use Rattle.sk_machine.specs.declared.views.Duty.TheVariants.{Free, Leads}
 use Rattle.sk_machine.specs.declared.views.View.{View}
-use Rattle.sk_gate.specs.Views.{given_of, size_of, batch_of}
+use Rattle.sk_gate.specs.Views.{size_of, batch_of}
 use Rattle.sk_gate.specs.Moves.{MissesTurnAt}
 use Rattle.sk_gate.specs.declared.round.Served.{Served}
 use Rattle.sk_gate.specs.declared.round.Served.TheVariants.{Elsewhere, Nothing, Merged}
@@ -41,7 +41,6 @@ pub record MergedIn (hint packed : List ℕ → List Entry → ℕ) (v w : View)
   pub whole : IsBatch (size_of w place) batch
   pub counted : count ≡ length batch
   pub appended : w.seen ≡ found ++ tagged place batch
-  pub given : given_of w place ≡ w.seen
   pub free : w.duty ≡ Free
   -- its last steps
   pub steps : (before : List Move) × (w.steps ≡ before ++ Publish (packed v.numbers w.seen) count ∷ GiveBack place (hint v.numbers w.seen) ∷ Yield ∷ [])

@@ -14,6 +14,7 @@ mod token;
 mod updater;
 
 pub use load::{Held, Load, Trunk};
+pub use round::{Served, serve};
 pub use seat::{HeartSeat, OfHeart, OfUpdater, Propagator, Role, UpdaterSeat};
 pub use sk_model::OutOfMemory;
 pub use token::{NoteSeat, TokenSeat};

@@ -6,7 +6,7 @@ ghost use Rattle.sk_machine.specs.declared.views.Move.TheVariants.{Find, Yield};
 ghost use Rattle.sk_machine.specs.declared.views.Duty.TheVariants.{Leads};
 ghost use Rattle.sk_gate.specs.Slots.{contents, sketching, TrunkOk};
 ghost use Rattle.sk_gate.specs.Views.{size_of, batch_of, stage_of, left_of, leads};
-ghost use Rattle.sk_gate.specs.Round.{MergesAt, EndsAt, RestsAt};
+ghost use Rattle.sk_gate.specs.Round.{MergesAt, EndsAt, RestsAt, Refused, ServesAt};
 
 use crate::load::{Held, Trunk};
 use crate::seat::{Propagator, Role};
@@ -123,4 +123,33 @@ fn serve_found<C: Composable, R: Role, W: Wait>(
             Err(error)
         }
     }
+}
+
+/// One round: takes the turn, merges the batch that the last propagator left in the trunk, or the one that waits
+/// at the updater `i`, and yields the turn. Where the merge has no memory the batch stays in the trunk.
+pub fn serve<C: Composable, R: Role, W: Wait>(
+    rt: &W,
+    seat: &mut Propagator<C, R>,
+    i: u32,
+) -> Result<Served, OutOfMemory>
+    requires free { leads seat.old.view.duty ≡ false }
+    requires within { i < length seat.old.view.sizes }
+    ensures served { IfOk result (λ served. ServesAt C.hint_of C.packed_of seat.old.view seat.new.view i served) }
+    ensures refused { IfErr result (λ _. Refused seat.old.view seat.new.view) }
+    ensures cause { IfErr result (λ _. IsTrue C.TAKES_MEMORY) }
+    ensures seat { seat.new ≡ record seat.old { view = seat.new.view } }
+{
+    if let Err(other) = seat.turn() {
+        return Ok(Served::Elsewhere(other));
+    }
+    let mut trunk = seat.lift();
+    if let Some(held) = trunk.held.take() {
+        return Ok(Served::Merged(serve_held(rt, seat, trunk, held)?));
+    }
+    if seat.find(i) != 0 {
+        seat.lay(trunk);
+        seat.yield_turn();
+        return Ok(Served::Nothing);
+    }
+    Ok(Served::Merged(serve_found(rt, seat, trunk, i)?))
 }

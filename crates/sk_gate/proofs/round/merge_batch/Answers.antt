@@ -1,5 +1,5 @@
 use Rattle.std.proofs.Common.{ap}
-use Rattle.sk_gate.proofs.Served.{merges_by}
+use Rattle.sk_gate.proofs.Merging.{merges_by}
 use Rattle.sk_gate.proofs.round.merge_batch.Goals as goal
 
 pub returns-clause-merged : goal.returns-clause-merged
