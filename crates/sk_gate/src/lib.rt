@@ -2,6 +2,7 @@
 #![tactic(auto)]
 
 mod ask;
+pub mod late;
 pub mod laws;
 mod load;
 mod plays;
