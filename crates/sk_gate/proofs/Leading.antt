@@ -199,6 +199,11 @@ module _ {C T : Type 0} (g : Sketching C) (k : Telling T) {heart : Bool} {n numb
   free_hand Free first second free t = t
   free_hand (Leads stage left) first second free t = absurd (true≢false free)
 
+  -- a seat that does not propagate has none of these slots
+  pub free_shown : leads old.view.duty ≡ false → (old.filled ≡ false) × (old.lifted ≡ false)
+  free_shown free = let none-there = free_hand m.0.duty h.first h.second (ap (λ (y : View). leads y.duty) view_is ∙ free) h.leading in
+      (sym filled_is ∙ ap has_parcel none-there.0, sym lifted_is ∙ ap is_lifted none-there.1)
+
   pub turned_next : (m' : Sat C T) (table' : TableId) (t : Trunk C T) → leads old.view.duty ≡ false → table' ≡ table → TakesTurnAt m.0 m'.0 → m'.1 ≡ (n, trunk t) ∷ m.1
       → TrunkOk g m'.0.numbers m'.0.name m'.0.seen (stage_of m'.0.duty) (size_of m'.0) t → Next m' table' 1 m'.0 old.filled old.lifted
   turned_next m' table' t free tables told hand laid =

@@ -6,3 +6,4 @@ pub mod Plays
 pub mod Hands
 pub mod Readers
 pub mod Shows
+pub mod Round

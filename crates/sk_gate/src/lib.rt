@@ -7,6 +7,7 @@ pub mod laws;
 mod load;
 mod plays;
 mod propagate;
+mod round;
 mod rule;
 mod seat;
 mod slots;
@@ -14,6 +15,7 @@ mod token;
 mod updater;
 
 pub use load::{Held, Load, Trunk};
+pub use round::{Served, serve};
 pub use seat::{HeartSeat, OfHeart, OfUpdater, Propagator, Role, UpdaterSeat};
 pub use sk_model::OutOfMemory;
 pub use token::{NoteSeat, TokenSeat};

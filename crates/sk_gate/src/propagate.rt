@@ -22,6 +22,7 @@ impl<C: Composable, R: Role> Propagator<C, R> {
         ensures ok { IfOk result (λ _. TakesTurnAt self.old.view self.new.view) }
         ensures err { IfErr result (λ other. MissesTurnAt self.old.view (other + 1) self.new.view) }
         ensures seat { self.new ≡ record self.old { view = self.new.view } }
+        ensures slots { (self.new.filled ≡ false) × (self.new.lifted ≡ false) }
     {
         let hub = &self.hub;
         let word = self.updaters as usize + 1;
