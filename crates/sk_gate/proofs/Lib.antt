@@ -9,5 +9,6 @@ pub mod Rounds
 pub mod Seats
 pub mod Shows
 pub mod Standing
+pub mod Taken
 pub mod Turns
 pub mod Updaters

@@ -2,7 +2,8 @@
 #![tactic(auto)]
 
 mod ask;
-pub mod late;
+mod heart;
+mod late;
 pub mod laws;
 mod load;
 mod plays;
@@ -14,6 +15,7 @@ mod slots;
 mod token;
 mod updater;
 
+pub use late::first_batch;
 pub use load::{Held, Load, Trunk};
 pub use round::{Served, serve};
 pub use seat::{HeartSeat, OfHeart, OfUpdater, Propagator, Role, UpdaterSeat};
