@@ -25,14 +25,14 @@ merges_by hint packed v u u' w i told same gave =
     let last : List Move = GiveBack i (hint v.numbers list) ∷ [] in
     let now : View = record v { seen = list; steps = v.steps ++ first; duty = Leads (Published i) false } in
     subst (λ (y : View). GivesBackAt y (hint y.numbers y.seen) w i) (same ∙ told) gave
-        ∙ ap (λ (steps' : List Move). record v { seen = list; steps = steps'; duty = Leads Idle false; given = set v.given i list }) (append_assoc v.steps first last)
+    ∙ ap (λ (steps' : List Move). record v { seen = list; steps = steps'; duty = Leads Idle false; given = set v.given i list }) (append_assoc v.steps first last)
 
 pub ends_by : (hint packed : List ℕ → List Entry → ℕ) (v u u' w : View) (i : ℕ) → MergesAt hint packed v u i → u' ≡ u → YieldsAt u' w → EndsAt hint packed v w i
 ends_by hint packed v u u' w i merged same told =
     let list : List Entry = v.seen ++ tagged i (batch_of v) in
     let done : List Move = Publish (packed v.numbers list) (length (batch_of v)) ∷ GiveBack i (hint v.numbers list) ∷ [] in
     subst (λ (y : View). YieldsAt y w) (same ∙ merged) told
-        ∙ ap (λ (steps' : List Move). record v { seen = list; steps = steps'; duty = Free; given = set v.given i list }) (append_assoc v.steps done (Yield ∷ []))
+    ∙ ap (λ (steps' : List Move). record v { seen = list; steps = steps'; duty = Free; given = set v.given i list }) (append_assoc v.steps done (Yield ∷ []))
 
 pub rests_by : (v u w : View) (i : ℕ) → LeavesAt v u i → YieldsAt u w → RestsAt v w (Find i 0 ∷ Yield ∷ [])
 rests_by v u w i left told = subst (λ (y : View). YieldsAt y w) left told

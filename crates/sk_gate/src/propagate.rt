@@ -60,9 +60,7 @@ impl<C: Composable, R: Role> Propagator<C, R> {
         ensures seat { self.new ≡ record self.old { view = self.new.view; filled = result == 0 } }
     {
         let hub = &self.hub;
-        let found = hub
-            .shared
-            .load::<Find<C>>(&mut self.seat, i as usize + 1);
+        let found = hub.shared.load::<Find<C>>(&mut self.seat, i as usize + 1);
         if found == 0 {
             self.front = 2;
         }
@@ -154,8 +152,7 @@ impl<C: Composable, R: Role> Propagator<C, R> {
         ensures seat { self.new ≡ record self.old { view = self.new.view } }
     {
         let hub = &self.hub;
-        hub.shared
-            .load::<Leave<C>>(&mut self.seat, i as usize + 1);
+        hub.shared.load::<Leave<C>>(&mut self.seat, i as usize + 1);
         self.front = 1;
     }
 
