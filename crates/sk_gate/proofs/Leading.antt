@@ -4,7 +4,8 @@ use Rattle.std.specs.Prelude.{slice_index}
 use mir.Val.{bool_byte}
 use mathlib.Core.Logic.{dite}
 use native.Mathlib.Decide.{ℕ_discrete}
-use Rattle.atomic_table.specs.Table.{rest}
+use mathlib.Core.Option.{none}
+use Rattle.atomic_table.specs.Table.{Allows, step, rest}
 use Rattle.atomic_table.specs.Seated.{TableId}
 use Rattle.sk_model.specs.Entries.{Entry, tagged}
 use Rattle.sk_compose.specs.declared.buffer.Parcel.{Parcel}
@@ -21,10 +22,13 @@ use Rattle.sk_gate.specs.declared.load.Trunk.{Trunk}
 use Rattle.sk_gate.specs.Slots.{Slot, full, trunk, contents, Sketching, Telling, TellsList, TrunkOk}
 use Rattle.sk_gate.specs.Views.{size_of, mine_in, mine_of, seat_in, leads, stage_of, left_of, batch_of, MayYield}
 use Rattle.sk_gate.specs.Moves.{ResumesAt, TakesTurnAt, MissesTurnAt, YieldsAt, FindsBatchAt, FindsAt, LeavesAt, PublishesAt, GivesBackAt}
-use Rattle.sk_gate.specs.Plays.{Sat}
+use Rattle.sk_gate.specs.Plays.{Sat, gave_back, left_it, yielded}
+use Rattle.sk_gate.specs.Rule.{Kept}
 use Rattle.sk_gate.specs.Hands.{own_in, has_parcel, has_trunk, IsAt, IsPut, Standing, standing_of, StageHand, StageKnown, TrunkHand, LeadsBy, OwnHand, IsPost, Holds}
 use Rattle.sk_gate.proofs.Known.{some_none, bool_cases}
 use Rattle.sk_gate.proofs.Own.{post_keeps, leads_keeps, own_keeps}
+use Rattle.sk_gate.proofs.Rounds.{leaves, gives_back}
+use Rattle.sk_gate.proofs.Turns.{yields}
 use Rattle.sk_gate.proofs.Standing.{is_lifted, IsShape, shown_of, standing_parts, standing_at, leads_shape}
 
 -- a new view that says the same of the seat's own updater
@@ -178,13 +182,13 @@ module _ {C T : Type 0} (g : Sketching C) (k : Telling T) {heart : Bool} {n numb
     },
     standing_parts m'.0 table' number front' m'.1 first second h.third hand counted (leads_shape m'.0 g k n m'.0.duty first second leading)
         ∙ (λ a. record {
-      view = views a;
-      table = (tables ∙ ap (λ (z : Standing). z.table) shown) a;
-      number = ap (λ (z : Standing). z.number) shown a;
-      own = ap (λ (z : Standing). z.own) shown a;
-      filled = fills a;
-      lifted = lifts a;
-    }),
+          view = views a;
+          table = (tables ∙ ap (λ (z : Standing). z.table) shown) a;
+          number = ap (λ (z : Standing). z.number) shown a;
+          own = ap (λ (z : Standing). z.own) shown a;
+          filled = fills a;
+          lifted = lifts a;
+        }),
   )
 
   -- a step after which the view is this, and its own updater's part of it as before
@@ -194,6 +198,11 @@ module _ {C T : Type 0} (g : Sketching C) (k : Telling T) {heart : Bool} {n numb
   free_hand : (d : Duty) (first second : List (ℕ × Slot C T)) → leads d ≡ false → LeadsBy m.0 g k n d first second → (first ≡ []) × (second ≡ [])
   free_hand Free first second free t = t
   free_hand (Leads stage left) first second free t = absurd (true≢false free)
+
+  -- a seat that does not propagate has none of these slots
+  pub free_shown : leads old.view.duty ≡ false → (old.filled ≡ false) × (old.lifted ≡ false)
+  free_shown free = let none-there = free_hand m.0.duty h.first h.second (ap (λ (y : View). leads y.duty) view_is ∙ free) h.leading in
+      (sym filled_is ∙ ap has_parcel none-there.0, sym lifted_is ∙ ap is_lifted none-there.1)
 
   pub turned_next : (m' : Sat C T) (table' : TableId) (t : Trunk C T) → leads old.view.duty ≡ false → table' ≡ table → TakesTurnAt m.0 m'.0 → m'.1 ≡ (n, trunk t) ∷ m.1
       → TrunkOk g m'.0.numbers m'.0.name m'.0.seen (stage_of m'.0.duty) (size_of m'.0) t → Next m' table' 1 m'.0 old.filled old.lifted
@@ -206,10 +215,10 @@ module _ {C T : Type 0} (g : Sketching C) (k : Telling T) {heart : Bool} {n numb
       let sizes = resumed_own m.0 w stage number told.resumes in
       let whole : m.1 ≡ h.third = h.hand ∙ (λ a. none-there.0 a ++ none-there.1 a ++ h.third) in
       next m' table' 1 w [] ((n, trunk t) ∷ []) old.filled old.lifted tables
-          (record { live = ap (λ (y : View). y.live) is; post = ap (λ (y : View). y.post) is; name = ap (λ (y : View). y.name) is; long = sizes.0; size = sizes.1 })
-          refl
-          (subst (λ d. LeadsBy w g k n d [] ((n, trunk t) ∷ [])) (sym (ap (λ (y : View). y.duty) is)) (resumed_hand C k m.0 w stage left told.resumes refl, resumed_known m.0 w stage left sizes.0 told.resumes, inr (t, refl, laid)))
-          (hand ∙ ap (λ l. (n, trunk t) ∷ l) whole) refl (ap has_parcel (sym none-there.0) ∙ filled_is) (ap is_lifted (sym none-there.1) ∙ lifted_is)
+      (record { live = ap (λ (y : View). y.live) is; post = ap (λ (y : View). y.post) is; name = ap (λ (y : View). y.name) is; long = sizes.0; size = sizes.1 })
+      refl
+      (subst (λ d. LeadsBy w g k n d [] ((n, trunk t) ∷ [])) (sym (ap (λ (y : View). y.duty) is)) (resumed_hand C k m.0 w stage left told.resumes refl, resumed_known m.0 w stage left sizes.0 told.resumes, inr (t, refl, laid)))
+      (hand ∙ ap (λ l. (n, trunk t) ∷ l) whole) refl (ap has_parcel (sym none-there.0) ∙ filled_is) (ap is_lifted (sym none-there.1) ∙ lifted_is)
 
   pub missed_next : (m' : Sat C T) (table' : TableId) (found : ℕ) → leads old.view.duty ≡ false → table' ≡ table → MissesTurnAt m.0 found m'.0 → m'.1 ≡ m.1 → Next m' table' front m'.0 old.filled old.lifted
   missed_next m' table' found free tables told hand =
@@ -217,8 +226,8 @@ module _ {C T : Type 0} (g : Sketching C) (k : Telling T) {heart : Bool} {n numb
       let steps' : List Move = v.steps ++ Turn found ∷ [] in
       let none-there = free_hand v.duty h.first h.second (ap (λ (y : View). leads y.duty) view_is ∙ free) h.leading in
       next m' table' front m'.0 h.first h.second old.filled old.lifted tables (keeps_own v m'.0 number v.seen steps' v.duty v.given told.view) refl
-          (by_view m'.0 (record v { steps = steps' }) h.first h.second told.view (leads_keeps g k v (record v { steps = steps' }) n v.duty h.first h.second (λ _. refl) refl refl refl h.leading))
-          (hand ∙ h.hand) h.counted filled_is lifted_is
+      (by_view m'.0 (record v { steps = steps' }) h.first h.second told.view (leads_keeps g k v (record v { steps = steps' }) n v.duty h.first h.second (λ _. refl) refl refl refl h.leading))
+      (hand ∙ h.hand) h.counted filled_is lifted_is
 
   -- ---- slots in hand
 
@@ -270,8 +279,8 @@ module _ {C T : Type 0} (g : Sketching C) (k : Telling T) {heart : Bool} {n numb
       let now = put h.first None h.third p.0 p.1 (sym (long ∙ behind_is)) in
       let laid = subst (λ (y : View). TrunkOk g y.numbers y.name y.seen (stage_of y.duty) (size_of y) t) (sym view_is) ok in
       next m' table' front old.view h.first ((n, trunk t) ∷ []) old.filled false tables (same_view m' views) (views ∙ view_is)
-          (by_view m'.0 m.0 h.first ((n, trunk t) ∷ []) views (join stage left h.first ((n, trunk t) ∷ []) l its.0 its.1 (inr (t, refl, laid))))
-          (now.1 ∙ sym (append_assoc h.first ((n, trunk t) ∷ []) h.third)) (let c = h.counted in let one = ap length away in omega arith) filled_is refl
+      (by_view m'.0 m.0 h.first ((n, trunk t) ∷ []) views (join stage left h.first ((n, trunk t) ∷ []) l its.0 its.1 (inr (t, refl, laid))))
+      (now.1 ∙ sym (append_assoc h.first ((n, trunk t) ∷ []) h.third)) (let c = h.counted in let one = ap length away in omega arith) filled_is refl
 
   pub duty_as : (d : Duty) → old.view.duty ≡ d → m.0.duty ≡ d
   duty_as d is = ap (λ (y : View). y.duty) view_is ∙ is
@@ -292,20 +301,20 @@ module _ {C T : Type 0} (g : Sketching C) (k : Telling T) {heart : Bool} {n numb
       let seen : w.seen ≡ v.seen = ap (λ (y : View). y.seen) view in
       let rest_is : m.1 ≡ h.second ++ h.third = h.hand ∙ ap (λ l. l ++ h.second ++ h.third) its.0 in
       next m' table' 2 w ((i, full p) ∷ []) h.second (eqb x 0) old.lifted tables
-          (record {
+      (record {
         live = ap (λ (y : View). y.live) view;
         post = ap (λ (y : View). y.post) view;
         name = ap (λ (y : View). y.name) view;
         long = long;
         size = λ there. ap (λ (y : View). size_of y number) view ∙ sized_own v.sizes i b number wide told.same there;
       })
-          refl
-          (subst (λ d. LeadsBy w g k n d ((i, full p) ∷ []) h.second) (sym (ap (λ (y : View). y.duty) view)) (
+      refl
+      (subst (λ d. LeadsBy w g k n d ((i, full p) ∷ []) h.second) (sym (ap (λ (y : View). y.duty) view)) (
         inr (p, refl, buffer),
         (subst (λ z. i < z) (sym long) wide, (λ z. let least = told.batch.0 in let most = told.batch.1 in omega arith), told.batch, subst (λ (l : List Entry). length l + length (batch_of w) ≤ most_entries) (sym seen) told.few),
         inl away,
       ))
-          (hand ∙ ap (λ l. (i, full p) ∷ l) rest_is) (let one = ap length away in omega arith) (sym (eq-eqb x 0 nil)) lifted_is
+      (hand ∙ ap (λ l. (i, full p) ∷ l) rest_is) (let one = ap length away in omega arith) (sym (eq-eqb x 0 nil)) lifted_is
 
   pub unfound_next : (m' : Sat C T) (table' : TableId) (x i : ℕ) → old.view.duty ≡ Leads Idle false → old.lifted ≡ true → table' ≡ table → x ≢ 0 → FindsAt m.0 x m'.0 i → m'.1 ≡ m.1 → Next m' table' front m'.0 (eqb x 0) old.lifted
   unfound_next m' table' x i is out tables ne told hand =
@@ -314,8 +323,8 @@ module _ {C T : Type 0} (g : Sketching C) (k : Telling T) {heart : Bool} {n numb
       let view = told.0 ne in
       let its = parts Idle false (duty_as (Leads Idle false) is) in
       next m' table' front m'.0 h.first h.second (eqb x 0) old.lifted tables (keeps_own v m'.0 number v.seen steps' v.duty v.given view) refl
-          (by_view m'.0 (record v { steps = steps' }) h.first h.second view (leads_keeps g k v (record v { steps = steps' }) n v.duty h.first h.second (λ _. refl) refl refl refl h.leading))
-          (hand ∙ h.hand) h.counted (ap has_parcel its.0 ∙ sym (ne_eqb x 0 ne)) lifted_is
+      (by_view m'.0 (record v { steps = steps' }) h.first h.second view (leads_keeps g k v (record v { steps = steps' }) n v.duty h.first h.second (λ _. refl) refl refl refl h.leading))
+      (hand ∙ h.hand) h.counted (ap has_parcel its.0 ∙ sym (ne_eqb x 0 ne)) lifted_is
 
   -- the slot of the stage is the first, with the trunk's and its own behind it
   first_place : (i : ℕ) (x y : Slot C T) → h.first ≡ (i, x) ∷ [] → h.second ≡ (n, y) ∷ [] → (m.1 ≡ (i, x) ∷ (h.second ++ h.third)) × (length (h.second ++ h.third) ≡ 1 + length h.third) × (front ≡ 2)
@@ -371,17 +380,20 @@ module _ {C T : Type 0} (g : Sketching C) (k : Telling T) {heart : Bool} {n numb
       let its = parts (Busy i batch) left l in
       let lay = trunk_out g v n (Busy i batch) h.second its.2 (lifted_is ∙ out) in
       let done : (told : PublishesAt v x m'.0 i) → m'.1 ≡ (i, None) ∷ (h.second ++ h.third) → PublishesAt v x m'.0 i × Next m' table' 2 m'.0 old.filled old.lifted
-          = λ told hand. (told, next m' table' 2 m'.0 ((i, None) ∷ []) h.second old.filled old.lifted tables (keeps_own v m'.0 number seen' steps' (Leads (Published i) false) v.given told) refl (published_leads m'.0 x i left is told out)
-          hand (let b = ap length lay in omega arith) (sym away) lifted_is) in
+      = λ told hand. (
+        told,
+        next m' table' 2 m'.0 ((i, None) ∷ []) h.second old.filled old.lifted tables (keeps_own v m'.0 number seen' steps' (Leads (Published i) false) v.given told) refl (published_leads m'.0 x i left is told out)
+            hand (let b = ap length lay in omega arith) (sym away) lifted_is,
+      ) in
       ⊎_elim
       (λ (on : left ≡ true).
-          let t = took (l ∙ (λ a. Leads (Busy i (same a)) (on a))) in
-          let nothing : h.first ≡ [] = subst (λ b. StageHand v k (Busy i batch) b h.first) on its.0 in
-          done t.0 (t.1 ∙ ap (λ l. (i, None) ∷ l) (h.hand ∙ ap (λ l. l ++ h.second ++ h.third) nothing)))
+      let t = took (l ∙ (λ a. Leads (Busy i (same a)) (on a))) in
+      let nothing : h.first ≡ [] = subst (λ b. StageHand v k (Busy i batch) b h.first) on its.0 in
+      done t.0 (t.1 ∙ ap (λ l. (i, None) ∷ l) (h.hand ∙ ap (λ l. l ++ h.second ++ h.third) nothing)))
       (λ (off : left ≡ false).
-          let t = kept (l ∙ (λ a. Leads (Busy i (same a)) (off a))) in
-          let none-in : h.first ≡ (i, None) ∷ [] = busy_out k v i batch h.first (subst (λ b. StageHand v k (Busy i batch) b h.first) off its.0) (filled_is ∙ away) in
-          done t.0 (t.1 ∙ h.hand ∙ ap (λ l. l ++ h.second ++ h.third) none-in))
+      let t = kept (l ∙ (λ a. Leads (Busy i (same a)) (off a))) in
+      let none-in : h.first ≡ (i, None) ∷ [] = busy_out k v i batch h.first (subst (λ b. StageHand v k (Busy i batch) b h.first) off its.0) (filled_is ∙ away) in
+      done t.0 (t.1 ∙ h.hand ∙ ap (λ l. l ++ h.second ++ h.third) none-in))
       (bool_cases left)
 
   pub put_at : (i behind : ℕ) → old.view.duty ≡ Leads (Published i) false → old.filled ≡ false → behind ≡ 1 + bool_byte own → IsAt i 0 behind m.1
@@ -401,9 +413,9 @@ module _ {C T : Type 0} (g : Sketching C) (k : Telling T) {heart : Bool} {n numb
       let place = first_place i None x.0 none-in x.1 in
       let now = put [] None (h.second ++ h.third) place.0 refl (place.1 ∙ sym (long ∙ ap (λ a. 1 + a) behind_is)) in
       next m' table' front old.view ((i, full p) ∷ []) h.second true old.lifted tables (same_view m' views) (views ∙ view_is)
-          (by_view m'.0 m.0 ((i, full p) ∷ []) h.second views (join (Published i) false ((i, full p) ∷ []) h.second l
-          (inr (p, t, refl, empty ∙ ap (λ (y : View). contents [] (size_of y i)) (sym view_is), told, subst (λ (y : View). TellsList k y.name t y.seen) (sym view_is) tells)) its.1 its.2))
-          now.1 (let c = place.2 in let b = ap length x.1 in omega arith) refl lifted_is
+      (by_view m'.0 m.0 ((i, full p) ∷ []) h.second views (join (Published i) false ((i, full p) ∷ []) h.second l
+      (inr (p, t, refl, empty ∙ ap (λ (y : View). contents [] (size_of y i)) (sym view_is), told, subst (λ (y : View). TellsList k y.name t y.seen) (sym view_is) tells)) its.1 its.2))
+      now.1 (let c = place.2 in let b = ap length x.1 in omega arith) refl lifted_is
 
   -- the parcel that lies in the slot of the stage, to be given back
   pub given_at : (i : ℕ) → old.view.duty ≡ Leads (Published i) false → old.filled ≡ true
@@ -422,8 +434,8 @@ module _ {C T : Type 0} (g : Sketching C) (k : Telling T) {heart : Bool} {n numb
       let steps' : List Move = v.steps ++ GiveBack i x ∷ [] in
       let given' : List (List Entry) = set v.given i v.seen in
       next m' table' 1 m'.0 [] h.second false old.lifted tables (keeps_own v m'.0 number v.seen steps' (Leads Idle false) given' told) refl
-          (by_view m'.0 (record v { steps = steps'; duty = Leads Idle false; given = given' }) [] h.second told (refl, tt, inl away))
-          (hand ∙ ap rest (h.hand ∙ ap (λ l. l ++ h.second ++ h.third) p.2)) (let b = ap length away in omega arith) refl lifted_is
+      (by_view m'.0 (record v { steps = steps'; duty = Leads Idle false; given = given' }) [] h.second told (refl, tt, inl away))
+      (hand ∙ ap rest (h.hand ∙ ap (λ l. l ++ h.second ++ h.third) p.2)) (let b = ap length away in omega arith) refl lifted_is
 
   -- the slot of the updater that is left, without its parcel
   pub left_at : (i : ℕ) → old.view.duty ≡ Leads (Busy i (batch_of old.view)) false → old.filled ≡ false → (m.1 ≡ (i, None) ∷ (h.second ++ h.third)) × (i < n) × (m.0.duty ≡ Leads (Busy i (batch_of m.0)) false)
@@ -443,8 +455,8 @@ module _ {C T : Type 0} (g : Sketching C) (k : Telling T) {heart : Bool} {n numb
       let t = trunk_in g v n (Busy i batch) h.second its.2 (lifted_is ∙ laid) in
       let steps' : List Move = v.steps ++ Find i 0 ∷ [] in
       next m' table' 1 m'.0 [] h.second old.filled old.lifted tables (keeps_own v m'.0 number v.seen steps' (Leads (Busy i batch) true) v.given told) refl
-          (by_view m'.0 (record v { steps = steps'; duty = Leads (Busy i batch) true }) [] h.second told (refl, its.1, inr (t.0, t.1, record { of_it = t.2.of_it; numbers_are = t.2.numbers_are; name_is = t.2.name_is; held_is = t.2.held_is })))
-          (hand ∙ ap rest place.0) (let b = ap length t.1 in omega arith) (sym away) lifted_is
+      (by_view m'.0 (record v { steps = steps'; duty = Leads (Busy i batch) true }) [] h.second told (refl, its.1, inr (t.0, t.1, record { of_it = t.2.of_it; numbers_are = t.2.numbers_are; name_is = t.2.name_is; held_is = t.2.held_is })))
+      (hand ∙ ap rest place.0) (let b = ap length t.1 in omega arith) (sym away) lifted_is
 
   -- the trunk that is given back, where nothing of the stage is in hand
   pub yielded_at : MayYield old.view.duty → old.lifted ≡ false
@@ -468,5 +480,33 @@ module _ {C T : Type 0} (g : Sketching C) (k : Telling T) {heart : Bool} {n numb
       let place = yielded_at may laid in
       let steps' : List Move = v.steps ++ Yield ∷ [] in
       next m' table' 0 m'.0 [] [] old.filled old.lifted tables (keeps_own v m'.0 number v.seen steps' Free v.given told) refl
-          (by_view m'.0 (record v { steps = steps'; duty = Free }) [] [] told (refl, refl))
-          (hand ∙ ap rest place.1) refl (ap has_parcel (sym place.5) ∙ filled_is) (sym laid)
+      (by_view m'.0 (record v { steps = steps'; duty = Free }) [] [] told (refl, refl))
+      (hand ∙ ap rest place.1) refl (ap has_parcel (sym place.5) ∙ filled_is) (sym laid)
+
+  -- ---- steps that give the first slot back
+
+  pub found_as : (i : ℕ) (left : View → Bool) → old.view.duty ≡ Leads (Busy i (batch_of old.view)) (left old.view) → m.0.duty ≡ Leads (Busy i (batch_of m.0)) (left m.0)
+  found_as i left is = subst (λ (y : View). y.duty ≡ Leads (Busy i (batch_of y)) (left y)) (sym view_is) is
+
+  pub gives_back_at : (hint packed : List ℕ → List Entry → ℕ) (slots id i x : ℕ) → slots ≡ n + 1 → old.view.duty ≡ Leads (Published i) false → old.filled ≡ true → x ≡ hint old.view.numbers old.view.seen → 1 ≤ x
+      → Allows (Kept hint packed g k) slots id m (i + 1) (λ _. x) (λ _. gave_back (step slots (i + 1) x 0 none) m x)
+  gives_back_at hint packed slots id i x size is there value lower =
+      let p = given_at i is there in
+      let whole : m ≡ (m.0, (i, full p.0) ∷ (h.second ++ h.third)) = λ a. (m.0, p.2 a) in
+      subst (λ (y : Sat C T). Allows (Kept hint packed g k) slots id y (i + 1) (λ _. x) (λ _. gave_back (step slots (i + 1) x 0 none) y x)) (sym whole)
+      (gives_back hint packed g k slots id n i x m.0 p.0 p.1 (h.second ++ h.third) size p.6 h.live (duty_as _ is) p.7 (value ∙ ap (λ (y : View). hint y.numbers y.seen) (sym view_is)) (λ z. omega arith) p.3 p.4 p.5)
+
+  pub leaves_at : (hint packed : List ℕ → List Entry → ℕ) (slots id i : ℕ) → slots ≡ n + 1 → old.view.duty ≡ Leads (Busy i (batch_of old.view)) false → old.filled ≡ false
+      → Allows (Kept hint packed g k) slots id m (i + 1) (λ x. x) (left_it (step slots (i + 1) 0 0 none) m)
+  leaves_at hint packed slots id i size is away =
+      let p = left_at i is away in
+      let whole : m ≡ (m.0, (i, None) ∷ (h.second ++ h.third)) = λ a. (m.0, p.0 a) in
+      subst (λ (y : Sat C T). Allows (Kept hint packed g k) slots id y (i + 1) (λ x. x) (left_it (step slots (i + 1) 0 0 none) y)) (sym whole)
+      (leaves hint packed g k slots id n i m.0 (h.second ++ h.third) size p.1 h.live p.2)
+
+  pub yields_at : (hint packed : List ℕ → List Entry → ℕ) (slots id : ℕ) → slots ≡ n + 1 → MayYield old.view.duty → old.lifted ≡ false → Allows (Kept hint packed g k) slots id m (n + 1) (λ _. 0) (λ _. yielded (step slots (n + 1) 0 0 none) m 0)
+  yields_at hint packed slots id size may laid =
+      let p = yielded_at may laid in
+      let whole : m ≡ (m.0, (n, trunk p.0) ∷ h.third) = λ a. (m.0, p.1 a) in
+      subst (λ (y : Sat C T). Allows (Kept hint packed g k) slots id y (n + 1) (λ _. 0) (λ _. yielded (step slots (n + 1) 0 0 none) y 0)) (sym whole)
+      (yields hint packed g k slots id n m.0 p.0 h.third size h.live p.4 p.3 p.2)

@@ -1,6 +1,7 @@
 pub mod Common
 pub mod Known
 pub mod Leading
+pub mod Merging
 pub mod Own
 pub mod Rotated
 pub mod Elements

@@ -64,73 +64,73 @@ module _ {C T : Type 0} (hint packed : List ℕ → List Entry → ℕ) (g : Ske
       let here : (j : ℕ) → i + 1 ≡ j + 1 → i ≡ j = λ j e. omega arith in
       dite (ℕ_discrete x 0)
       (λ zero.
-          let z : u.word ≡ 0 = sym word ∙ zero in
-          let idle : m.stage ≡ Idle = sym duty.2 in
-          let apart : ¬ At m.stage i = λ a. subst (λ t. At t i) idle a in
-          let p = slot.waiting z apart in
-          let b : ℕ = m.sizes i in
-          let there : b ≢ 0 = λ e. event.open_vacant _ _ _ _ _ _ ok e z in
-          let m' : Coarse = after_find i m in
-          let homes' : List (maybe.Option (Slot C T)) = set s.homes i none in
-          let w : View = record v { steps = v.steps ++ Find i 0 ∷ []; duty = Leads (Busy i u.waiting) false; sizes = set v.sizes i b } in
-          let wide_i : i < length v.sizes = let e = o.sized in omega arith in
-          let same-words : set s.words (i + 1) x ≡ s.words = set-get_or s.words (i + 1) 0 in
-          let meets' = event.finds (hint r.numbers) r.n m i r.meets near idle z in
-          let shut : IsBehindBy b m.published i u u.waiting = subst (IsClosed b m.published i u) idle (ok.closed z) in
-          let size_now : slice_index (set v.sizes i b) i ≡ b = get_or-set_same v.sizes i b 0 wide_i in (
-            w,
-            takes i (full p.0),
-            p.1,
-            propagator_step hint packed g k s r (i + 1) id x v w m.published (Busy i u.waiting) m.updaters false r.seer r.giver homes'
-                duty.0 (λ e. let t = duty.1 in omega arith) refl live (λ j e. e) at (length-set s.homes i none)
-                (ap (λ ws. get_or ws 0 0) same-words ∙ r.published_is) (ap (λ ws. get_or ws (r.n + 1) 0) same-words ∙ r.turn_is) (λ j l. ap (λ ws. get_or ws (j + 1) 0) same-words ∙ r.words_are j l)
-                meets' r.vacant
-                (λ j l. dite (ℕ_discrete j i)
-                (λ e. subst (λ a. SlotOk k r.name (m.sizes a) (Busy i u.waiting) false a (m.updaters a) (get_elem? homes' a)) (sym e) (record {
-                  ready = λ _. set_here s.homes i none (omega arith);
-                  resting = λ ne. absurd (ne z);
-                  waiting = λ _ off. absurd (off refl);
-                  led = λ _. set_here s.homes i none (omega arith);
-                }))
-                (λ ne. subst (SlotOk k r.name (m.sizes j) (Busy i u.waiting) false j (m.updaters j)) (sym (set_else s.homes i j none ne)) (let q = r.each_slot j l in record {
-                  ready = q.ready;
-                  resting = q.resting;
-                  waiting = λ a _. q.waiting a (λ t. subst (λ y. At y j) idle t);
-                  led = λ e. absurd (ne (sym e));
-                })))
-                (set_else s.homes i r.n none (λ e. omega arith))
-                (begins_refl m.published) (λ j. begins_refl (m.updaters j).given) (λ j. record { mine = refl; word = λ e. e })
-                (has_stays (HasSeen m.published) (HasSeen m.published) s.views id r.seer v w at (λ e. e) (λ _ e. e) r.seen)
-                (λ j l. has_stays (HasGiven j (m.updaters j).given) (HasGiven j (m.updaters j).given) s.views id (r.giver j) v w at (λ e. e) (λ _ e. e) (r.given j l))
-                (record {
-                  numbers_are = o.numbers_are;
-                  name_is = o.name_is;
-                  sized = length-set v.sizes i b ∙ o.sized;
-                  known_sized = o.known_sized;
-                  given_sized = o.given_sized;
-                  sizes_are = sizes_set v.sizes i b m.sizes wide_i refl o.sizes_are;
-                  seen_is = o.seen_is;
-                  known_is = o.known_is;
-                  known_with_size = λ j e. set_there v.sizes i b wide_i there j (o.known_with_size j e);
-                  given_is = o.given_is;
-                  post_is = post_same r.n m m' r.owner id v.seen v.seen v.sizes (set v.sizes i b) v.drained v.post (λ _. refl) (size_set v.sizes i b m.sizes wide_i refl) (begins_refl v.seen) o.post_is;
-                  duty_is = (duty.0, duty.1, refl, refl, duty.4);
-                  drained_is = λ j e. drained_same r.n m m' r.owner id (known_of v j) j (record { mine = refl; word = λ a. a }) (o.drained_is j e);
-                }),
-            λ j at-j. subst (FoundBy me x (w, (i, full p.0) ∷ me.1)) (here j at-j) (
-              (
-                (λ ne. absurd (ne zero)),
-                λ _. record {
-                  view = λ a. record v { steps = v.steps ++ Find i 0 ∷ []; duty = Leads (Busy i u.waiting) false; sizes = set v.sizes i (sym size_now a) };
-                  batch = subst (λ c. IsBatch c u.waiting) (sym size_now) shut.0;
-                  few = subst (λ (l : List Entry). length l + length u.waiting ≤ most_entries) (sym duty.4) (event.entries_are_few (hint r.numbers) r.n m' i u.waiting meets' (omega arith) refl);
-                  same = λ e. size_now ∙ sym (o.sizes_are i e);
-                },
-              ),
-              (λ ne. absurd (ne zero)),
-              λ _. (p.0, refl, p.2 ∙ ap (contents u.waiting) (sym size_now)),
-            ),
-          ))
+      let z : u.word ≡ 0 = sym word ∙ zero in
+      let idle : m.stage ≡ Idle = sym duty.2 in
+      let apart : ¬ At m.stage i = λ a. subst (λ t. At t i) idle a in
+      let p = slot.waiting z apart in
+      let b : ℕ = m.sizes i in
+      let there : b ≢ 0 = λ e. event.open_vacant _ _ _ _ _ _ ok e z in
+      let m' : Coarse = after_find i m in
+      let homes' : List (maybe.Option (Slot C T)) = set s.homes i none in
+      let w : View = record v { steps = v.steps ++ Find i 0 ∷ []; duty = Leads (Busy i u.waiting) false; sizes = set v.sizes i b } in
+      let wide_i : i < length v.sizes = let e = o.sized in omega arith in
+      let same-words : set s.words (i + 1) x ≡ s.words = set-get_or s.words (i + 1) 0 in
+      let meets' = event.finds (hint r.numbers) r.n m i r.meets near idle z in
+      let shut : IsBehindBy b m.published i u u.waiting = subst (IsClosed b m.published i u) idle (ok.closed z) in
+      let size_now : slice_index (set v.sizes i b) i ≡ b = get_or-set_same v.sizes i b 0 wide_i in (
+        w,
+        takes i (full p.0),
+        p.1,
+        propagator_step hint packed g k s r (i + 1) id x v w m.published (Busy i u.waiting) m.updaters false r.seer r.giver homes'
+            duty.0 (λ e. let t = duty.1 in omega arith) refl live (λ j e. e) at (length-set s.homes i none)
+            (ap (λ ws. get_or ws 0 0) same-words ∙ r.published_is) (ap (λ ws. get_or ws (r.n + 1) 0) same-words ∙ r.turn_is) (λ j l. ap (λ ws. get_or ws (j + 1) 0) same-words ∙ r.words_are j l)
+            meets' r.vacant
+            (λ j l. dite (ℕ_discrete j i)
+            (λ e. subst (λ a. SlotOk k r.name (m.sizes a) (Busy i u.waiting) false a (m.updaters a) (get_elem? homes' a)) (sym e) (record {
+              ready = λ _. set_here s.homes i none (omega arith);
+              resting = λ ne. absurd (ne z);
+              waiting = λ _ off. absurd (off refl);
+              led = λ _. set_here s.homes i none (omega arith);
+            }))
+            (λ ne. subst (SlotOk k r.name (m.sizes j) (Busy i u.waiting) false j (m.updaters j)) (sym (set_else s.homes i j none ne)) (let q = r.each_slot j l in record {
+              ready = q.ready;
+              resting = q.resting;
+              waiting = λ a _. q.waiting a (λ t. subst (λ y. At y j) idle t);
+              led = λ e. absurd (ne (sym e));
+            })))
+            (set_else s.homes i r.n none (λ e. omega arith))
+            (begins_refl m.published) (λ j. begins_refl (m.updaters j).given) (λ j. record { mine = refl; word = λ e. e })
+            (has_stays (HasSeen m.published) (HasSeen m.published) s.views id r.seer v w at (λ e. e) (λ _ e. e) r.seen)
+            (λ j l. has_stays (HasGiven j (m.updaters j).given) (HasGiven j (m.updaters j).given) s.views id (r.giver j) v w at (λ e. e) (λ _ e. e) (r.given j l))
+            (record {
+              numbers_are = o.numbers_are;
+              name_is = o.name_is;
+              sized = length-set v.sizes i b ∙ o.sized;
+              known_sized = o.known_sized;
+              given_sized = o.given_sized;
+              sizes_are = sizes_set v.sizes i b m.sizes wide_i refl o.sizes_are;
+              seen_is = o.seen_is;
+              known_is = o.known_is;
+              known_with_size = λ j e. set_there v.sizes i b wide_i there j (o.known_with_size j e);
+              given_is = o.given_is;
+              post_is = post_same r.n m m' r.owner id v.seen v.seen v.sizes (set v.sizes i b) v.drained v.post (λ _. refl) (size_set v.sizes i b m.sizes wide_i refl) (begins_refl v.seen) o.post_is;
+              duty_is = (duty.0, duty.1, refl, refl, duty.4);
+              drained_is = λ j e. drained_same r.n m m' r.owner id (known_of v j) j (record { mine = refl; word = λ a. a }) (o.drained_is j e);
+            }),
+        λ j at-j. subst (FoundBy me x (w, (i, full p.0) ∷ me.1)) (here j at-j) (
+          (
+            (λ ne. absurd (ne zero)),
+            λ _. record {
+              view = λ a. record v { steps = v.steps ++ Find i 0 ∷ []; duty = Leads (Busy i u.waiting) false; sizes = set v.sizes i (sym size_now a) };
+              batch = subst (λ c. IsBatch c u.waiting) (sym size_now) shut.0;
+              few = subst (λ (l : List Entry). length l + length u.waiting ≤ most_entries) (sym duty.4) (event.entries_are_few (hint r.numbers) r.n m' i u.waiting meets' (omega arith) refl);
+              same = λ e. size_now ∙ sym (o.sizes_are i e);
+            },
+          ),
+          (λ ne. absurd (ne zero)),
+          λ _. (p.0, refl, p.2 ∙ ap (contents u.waiting) (sym size_now)),
+        ),
+      ))
       (λ ne. let w : View = record v { steps = v.steps ++ Find i x ∷ [] } in (
         w,
         keeps,
@@ -239,42 +239,42 @@ module _ {C T : Type 0} (hint packed : List ℕ → List Entry → ℕ) (g : Ske
       let more : Begins v.seen seen' = (tagged i batch, refl) in
       let homes' : List (maybe.Option (Slot C T)) = homes_after s.homes me.1 act in
       propagator_step hint packed g k s r 0 id x v w h' (Published i) m.updaters false id r.giver homes'
-          duty.0 turns refl live (λ j e. e) at as_deep
-          (get_or-set_same s.words 0 x 0 (omega arith) ∙ is ∙ (λ a. packed (o.numbers_are a) (seen a)))
-          (get_or-set_other s.words 0 (r.n + 1) x 0 (λ e. omega arith) ∙ r.turn_is) (λ j l. get_or-set_other s.words 0 (j + 1) x 0 (λ e. omega arith) ∙ r.words_are j l)
-          (event.publishes (hint r.numbers) r.n m i batch r.meets turns busy) r.vacant
-          (λ j l. let q = r.each_slot j l in dite (ℕ_discrete j i)
-          (λ e. subst (λ a. SlotOk k r.name (m.sizes a) (Published i) false a (m.updaters a) (get_elem? homes' a)) (sym e) (let z = event.closed_at (hint r.numbers) (m.sizes i) h m.stage i (m.updaters i) (r.meets.each i near) (subst (λ t. At t i) duty.2 refl) in record {
-            ready = λ _. out;
-            resting = λ ne. absurd (ne z);
-            waiting = λ _ off. absurd (off refl);
-            led = λ _. out;
-          }))
-          (λ ne. subst (SlotOk k r.name (m.sizes j) (Published i) false j (m.updaters j)) (sym (others j ne)) (record {
-            ready = q.ready;
-            resting = q.resting;
-            waiting = λ a off. q.waiting a (λ t. off (subst (λ y. At y j) busy t));
-            led = λ e. absurd (ne (sym e));
-          })))
-          (others r.n (λ e. omega arith))
-          (tagged i batch, refl) (λ j. begins_refl (m.updaters j).given) (λ j. record { mine = refl; word = λ e. e })
-          (has_own (HasSeen h') s.views id v w at (live, seen))
-          (λ j l. has_stays (HasGiven j (m.updaters j).given) (HasGiven j (m.updaters j).given) s.views id (r.giver j) v w at (λ e. e) (λ _ e. e) (r.given j l))
-          (record {
-            numbers_are = o.numbers_are;
-            name_is = o.name_is;
-            sized = o.sized;
-            known_sized = o.known_sized;
-            given_sized = o.given_sized;
-            sizes_are = o.sizes_are;
-            seen_is = subst (Begins seen') seen (begins_refl seen');
-            known_is = o.known_is;
-            known_with_size = o.known_with_size;
-            given_is = o.given_is;
-            post_is = post_same r.n m m' r.owner id v.seen seen' v.sizes v.sizes v.drained v.post (λ _. refl) (λ j e. e) more o.post_is;
-            duty_is = (duty.0, duty.1, refl, refl, seen);
-            drained_is = λ j e. drained_same r.n m m' r.owner id (known_of v j) j (record { mine = refl; word = λ a. a }) (o.drained_is j e);
-          })
+      duty.0 turns refl live (λ j e. e) at as_deep
+      (get_or-set_same s.words 0 x 0 (omega arith) ∙ is ∙ (λ a. packed (o.numbers_are a) (seen a)))
+      (get_or-set_other s.words 0 (r.n + 1) x 0 (λ e. omega arith) ∙ r.turn_is) (λ j l. get_or-set_other s.words 0 (j + 1) x 0 (λ e. omega arith) ∙ r.words_are j l)
+      (event.publishes (hint r.numbers) r.n m i batch r.meets turns busy) r.vacant
+      (λ j l. let q = r.each_slot j l in dite (ℕ_discrete j i)
+      (λ e. subst (λ a. SlotOk k r.name (m.sizes a) (Published i) false a (m.updaters a) (get_elem? homes' a)) (sym e) (let z = event.closed_at (hint r.numbers) (m.sizes i) h m.stage i (m.updaters i) (r.meets.each i near) (subst (λ t. At t i) duty.2 refl) in record {
+        ready = λ _. out;
+        resting = λ ne. absurd (ne z);
+        waiting = λ _ off. absurd (off refl);
+        led = λ _. out;
+      }))
+      (λ ne. subst (SlotOk k r.name (m.sizes j) (Published i) false j (m.updaters j)) (sym (others j ne)) (record {
+        ready = q.ready;
+        resting = q.resting;
+        waiting = λ a off. q.waiting a (λ t. off (subst (λ y. At y j) busy t));
+        led = λ e. absurd (ne (sym e));
+      })))
+      (others r.n (λ e. omega arith))
+      (tagged i batch, refl) (λ j. begins_refl (m.updaters j).given) (λ j. record { mine = refl; word = λ e. e })
+      (has_own (HasSeen h') s.views id v w at (live, seen))
+      (λ j l. has_stays (HasGiven j (m.updaters j).given) (HasGiven j (m.updaters j).given) s.views id (r.giver j) v w at (λ e. e) (λ _ e. e) (r.given j l))
+      (record {
+        numbers_are = o.numbers_are;
+        name_is = o.name_is;
+        sized = o.sized;
+        known_sized = o.known_sized;
+        given_sized = o.given_sized;
+        sizes_are = o.sizes_are;
+        seen_is = subst (Begins seen') seen (begins_refl seen');
+        known_is = o.known_is;
+        known_with_size = o.known_with_size;
+        given_is = o.given_is;
+        post_is = post_same r.n m m' r.owner id v.seen seen' v.sizes v.sizes v.drained v.post (λ _. refl) (λ j e. e) more o.post_is;
+        duty_is = (duty.0, duty.1, refl, refl, seen);
+        drained_is = λ j e. drained_same r.n m m' r.owner id (known_of v j) j (record { mine = refl; word = λ a. a }) (o.drained_is j e);
+      })
 
   pub publishes : (slots id n i x : ℕ) (me : Sat C T) → slots ≡ n + 1 → me.0.live ≡ true → me.0.duty ≡ Leads (Busy i (batch_of me.0)) (left_of me.0.duty) → x ≡ packed me.0.numbers (me.0.seen ++ tagged i (batch_of me.0))
       → Allows Rule slots id me 0 (λ _. x) (λ _. published (step slots 0 x 0 none) me x)

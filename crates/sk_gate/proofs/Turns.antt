@@ -194,72 +194,72 @@ module _ {C T : Type 0} (hint packed : List ℕ → List Entry → ℕ) (g : Ske
       let word : x ≡ m.turn = ap (λ a. get_or s.words (a + 1) 0) (sym same_n) ∙ r.turn_is in
       let long : length v.sizes ≡ r.n = o.sized in
       let numbered : (t : Trunk C T) (w : View) → TrunkOk g r.numbers r.name w.seen (stage_of w.duty) (size_of w) t → w.numbers ≡ v.numbers → w.name ≡ v.name → (j : ℕ) → n + 1 ≡ j + 1 → Lifts me (w, (r.n, trunk t) ∷ me.1) j
-          = λ t w ok e f j l. (t, ap (λ a. (a, trunk t) ∷ me.1) (let same : r.n ≡ j = omega arith in same), subst (λ (y : List ℕ × List ℕ). TrunkOk g y.0 y.1 w.seen (stage_of w.duty) (size_of w) t) (λ a. (sym (e ∙ o.numbers_are) a, sym (f ∙ o.name_is) a)) ok) in
+      = λ t w ok e f j l. (t, ap (λ a. (a, trunk t) ∷ me.1) (let same : r.n ≡ j = omega arith in same), subst (λ (y : List ℕ × List ℕ). TrunkOk g y.0 y.1 w.seen (stage_of w.duty) (size_of w) t) (λ a. (sym (e ∙ o.numbers_are) a, sym (f ∙ o.name_is) a)) ok) in
       exchanged x 0 (who + 1) (Goes s (n + 1) id me then)
       (λ zero.
-          let z : m.turn ≡ 0 = sym word ∙ zero in
-          let may = r.meets.turn_free z in
-          let t = r.rests z in
-          ⊎_elim
-          (λ (idle : m.stage ≡ Idle). let w : View = taken_view v m.published m.stage false v.sizes in (
-            w,
-            takes r.n (trunk t.0),
-            t.1,
-            takes_turn id n who v false v.sizes t.0 me.1 is within live s r same_n at z long o.sizes_are (λ _ e. e) (λ _ e. e) (λ j a. absurd (subst (λ y. At y j) idle a)),
-            (
-              (
-                (λ _. record {
-                  view = refl;
-                  grows = o.seen_is;
-                  resumes = subst (ResumesAt v w) (sym idle) (refl, refl);
-                }),
-                (λ ne. absurd (ne zero)),
-              ),
-              (λ ne. absurd (ne zero)),
-              λ _ j l. numbered t.0 w (trunk_same g r.numbers r.name m.published m.stage m.sizes (size_of v) t.0 (λ i a. absurd (subst (λ y. At y i) idle a)) t.2) refl refl j l,
-            ),
-          ))
-          (λ (busy : (i : ℕ) × (batch : List ℕ) × (m.stage ≡ Busy i batch)).
-              let i : ℕ = busy.0 in
-              let batch : List ℕ = busy.1 in
-              let b : ℕ = m.sizes i in
-              let at_i : At m.stage i = subst (λ y. At y i) (sym busy.2) refl in
-              let near : i < r.n = r.meets.stage_at i at_i in
-              let wide_i : i < length v.sizes = omega arith in
-              let ok = r.meets.each i near in
-              let closed = event.closed_at (hint r.numbers) b m.published m.stage i (m.updaters i) ok at_i in
-              let there : b ≢ 0 = λ e. event.open_vacant _ _ _ _ _ _ ok e closed in
-              let sizes' : List ℕ = set v.sizes i b in
-              let w : View = taken_view v m.published m.stage true sizes' in
-              let size_now : slice_index sizes' i ≡ b = get_or-set_same v.sizes i b 0 wide_i in
-              let behind = event.busy_batch (hint r.numbers) r.n m i batch r.meets busy.2 in (
-                w,
-                takes r.n (trunk t.0),
-                t.1,
-                takes_turn id n who v true sizes' t.0 me.1 is within live s r same_n at z (length-set v.sizes i b ∙ long) (sizes_set v.sizes i b m.sizes wide_i refl o.sizes_are) (set_there v.sizes i b wide_i there) (size_set v.sizes i b m.sizes wide_i refl)
-                    (λ j a. t.3 (busy_at m.stage j may a)),
-                (
-                  (
-                    (λ _. record {
-                      view = refl;
-                      grows = o.seen_is;
-                      resumes = subst (ResumesAt v w) (sym busy.2) (
-                        wide_i,
-                        (λ a. set v.sizes i (sym size_now a)),
-                        refl,
-                        subst (λ c. IsBatch c batch) (sym size_now) behind.0,
-                        event.entries_are_few (hint r.numbers) r.n m i batch r.meets (omega arith) busy.2,
-                        (λ e. size_now ∙ sym (o.sizes_are i e)),
-                      );
-                    }),
-                    (λ ne. absurd (ne zero)),
-                  ),
-                  (λ ne. absurd (ne zero)),
-                  λ _ j l. numbered t.0 w (trunk_same g r.numbers r.name m.published m.stage m.sizes (slice_index sizes') t.0
-                      (λ a e. let same : i ≡ a = subst (λ y. At y a) busy.2 e in ap m.sizes (sym same) ∙ sym size_now ∙ ap (slice_index sizes') same) t.2) refl refl j l,
-                ),
-              ))
-          (stage_cases m.stage may))
+      let z : m.turn ≡ 0 = sym word ∙ zero in
+      let may = r.meets.turn_free z in
+      let t = r.rests z in
+      ⊎_elim
+      (λ (idle : m.stage ≡ Idle). let w : View = taken_view v m.published m.stage false v.sizes in (
+        w,
+        takes r.n (trunk t.0),
+        t.1,
+        takes_turn id n who v false v.sizes t.0 me.1 is within live s r same_n at z long o.sizes_are (λ _ e. e) (λ _ e. e) (λ j a. absurd (subst (λ y. At y j) idle a)),
+        (
+          (
+            (λ _. record {
+              view = refl;
+              grows = o.seen_is;
+              resumes = subst (ResumesAt v w) (sym idle) (refl, refl);
+            }),
+            (λ ne. absurd (ne zero)),
+          ),
+          (λ ne. absurd (ne zero)),
+          λ _ j l. numbered t.0 w (trunk_same g r.numbers r.name m.published m.stage m.sizes (size_of v) t.0 (λ i a. absurd (subst (λ y. At y i) idle a)) t.2) refl refl j l,
+        ),
+      ))
+      (λ (busy : (i : ℕ) × (batch : List ℕ) × (m.stage ≡ Busy i batch)).
+      let i : ℕ = busy.0 in
+      let batch : List ℕ = busy.1 in
+      let b : ℕ = m.sizes i in
+      let at_i : At m.stage i = subst (λ y. At y i) (sym busy.2) refl in
+      let near : i < r.n = r.meets.stage_at i at_i in
+      let wide_i : i < length v.sizes = omega arith in
+      let ok = r.meets.each i near in
+      let closed = event.closed_at (hint r.numbers) b m.published m.stage i (m.updaters i) ok at_i in
+      let there : b ≢ 0 = λ e. event.open_vacant _ _ _ _ _ _ ok e closed in
+      let sizes' : List ℕ = set v.sizes i b in
+      let w : View = taken_view v m.published m.stage true sizes' in
+      let size_now : slice_index sizes' i ≡ b = get_or-set_same v.sizes i b 0 wide_i in
+      let behind = event.busy_batch (hint r.numbers) r.n m i batch r.meets busy.2 in (
+        w,
+        takes r.n (trunk t.0),
+        t.1,
+        takes_turn id n who v true sizes' t.0 me.1 is within live s r same_n at z (length-set v.sizes i b ∙ long) (sizes_set v.sizes i b m.sizes wide_i refl o.sizes_are) (set_there v.sizes i b wide_i there) (size_set v.sizes i b m.sizes wide_i refl)
+            (λ j a. t.3 (busy_at m.stage j may a)),
+        (
+          (
+            (λ _. record {
+              view = refl;
+              grows = o.seen_is;
+              resumes = subst (ResumesAt v w) (sym busy.2) (
+                wide_i,
+                (λ a. set v.sizes i (sym size_now a)),
+                refl,
+                subst (λ c. IsBatch c batch) (sym size_now) behind.0,
+                event.entries_are_few (hint r.numbers) r.n m i batch r.meets (omega arith) busy.2,
+                (λ e. size_now ∙ sym (o.sizes_are i e)),
+              );
+            }),
+            (λ ne. absurd (ne zero)),
+          ),
+          (λ ne. absurd (ne zero)),
+          λ _ j l. numbered t.0 w (trunk_same g r.numbers r.name m.published m.stage m.sizes (slice_index sizes') t.0
+              (λ a e. let same : i ≡ a = subst (λ y. At y a) busy.2 e in ap m.sizes (sym same) ∙ sym size_now ∙ ap (slice_index sizes') same) t.2) refl refl j l,
+        ),
+      ))
+      (stage_cases m.stage may))
       (λ ne. let w : View = record v { steps = v.steps ++ Turn x ∷ [] } in (
         w,
         keeps,
@@ -295,7 +295,7 @@ module _ {C T : Type 0} (hint packed : List ℕ → List Entry → ℕ) (g : Ske
       let words' : List ℕ = set s.words (n + 1) 0 in
       let w : View = record v { steps = v.steps ++ Yield ∷ []; duty = Free } in
       let trunk_ok : TrunkOk g r.numbers r.name m.published m.stage m.sizes t = subst (λ (y : List ℕ × List ℕ × List Entry × Stage). TrunkOk g y.0 y.1 y.2 y.3 m.sizes t) (λ a. (o.numbers_are a, o.name_is a, duty.4 a, duty.2 a))
-          (trunk_same g v.numbers v.name v.seen stage (size_of v) m.sizes t (λ i a. o.sizes_are i (known_at v stage its i known a)) laid) in
+      (trunk_same g v.numbers v.name v.seen stage (size_of v) m.sizes t (λ i a. o.sizes_are i (known_at v stage its i known a)) laid) in
       let known' : Knows r.n r.numbers r.name m' r.left r.owner r.leader id w = record {
         numbers_are = o.numbers_are;
         name_is = o.name_is;

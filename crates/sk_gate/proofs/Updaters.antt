@@ -358,6 +358,7 @@ module _ {C T : Type 0} (hint packed : List ℕ → List Entry → ℕ) (g : Ske
         λ j _ at-j _. let here : i ≡ j = omega arith in subst (λ a. AdmitsAt hint v x w a b × ((q : Parcel T) × ((i, full p.0) ∷ me.1 ≡ (a, full q) ∷ me.1) × (q.buffer ≡ contents [] 1) × (q.told ≡ None))) here (
           record {
             view = refl;
+            size = set_size;
             hint_is = word ∙ ok.open_hint open_word ∙ (λ a. hint (sym o.numbers_are a) (given a));
             lower = λ z. open_word (sym word ∙ z);
             none = ap (λ (y : Mine). y.handed) own.2 ∙ nothing.0;

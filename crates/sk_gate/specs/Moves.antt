@@ -58,6 +58,7 @@ LooksAt hint v word w i = (word ≢ 0 → RenewsAt hint v word w i) × (word ≡
 -- the look by which an updater is admitted, with buffers of b items
 pub record AdmitsAt (hint : List ℕ → List Entry → ℕ) (v : View) (word : ℕ) (w : View) (i b : ℕ) : Type 0 where
   pub view : w ≡ record v { steps = v.steps ++ Look i word ∷ []; post = Updater i (looked_mine (mine_of v) []); sizes = slice_set v.sizes i b }
+  pub size : size_of w i ≡ b
   pub hint_is : word ≡ hint v.numbers []
   pub lower : word ≢ 0
   pub none : (mine_of v).handed ≡ []

@@ -3,10 +3,12 @@
 
 mod ask;
 mod heart;
+mod late;
 pub mod laws;
 mod load;
 mod plays;
 mod propagate;
+mod round;
 mod rule;
 mod seat;
 mod slots;
@@ -14,8 +16,10 @@ mod start;
 mod token;
 mod updater;
 
+pub use late::first_batch;
 pub use load::{Held, Load, Trunk};
-pub use start::{Made, make};
+pub use round::{Served, serve};
 pub use seat::{HeartSeat, OfHeart, OfUpdater, Propagator, Role, UpdaterSeat};
 pub use sk_model::OutOfMemory;
+pub use start::{Made, make};
 pub use token::{NoteSeat, TokenSeat};

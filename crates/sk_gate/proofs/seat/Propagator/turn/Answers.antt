@@ -1,5 +1,6 @@
-use Rattle.std.proofs.Common.{rules, ◌≡◌, ◌+◌, ◌∙◌, refl}
+use Rattle.std.proofs.Common.{rules, ◌≡◌, ◌+◌, ◌∙◌, not, ap, refl}
 use Rattle.sk_gate.specs.Slots.{sketching, telling}
+use Rattle.sk_gate.specs.Hands.{has_trunk}
 use Rattle.sk_gate.proofs.Turns.{turns}
 use Rattle.sk_gate.proofs.Leading.{seat_at, turned_next, missed_next}
 use Rattle.sk_gate.proofs.seat.Propagator.turn.Goals as goal
@@ -32,3 +33,6 @@ invariant_of-self-2 g c = let k = g.C.Composable in let i = c.self.invariant in 
 pub returns-clause-seat : goal.returns-clause-seat
 returns-clause-seat g c = let k = g.C.Composable in let i = c.self.invariant in let e = c.compare_exchange-found.ensures in let z = c.if-found-ne0.false in let t = e.2.2 z _ refl in
     (turned_next (sketching k.is_of k.numbers k.name) (telling k.tells k.told_name k.told_of) i.4 c.self.view_is _ _ t.0 c.requires.free e.0 (e.2.0.0 z) t.1 t.2).1
+
+pub returns-clause-slots : goal.returns-clause-slots
+returns-clause-slots g c = let t = c.compare_exchange-found.ensures.2.2 c.if-found-ne0.false _ refl in (refl, ap (λ l. not (has_trunk l)) t.1)
