@@ -110,6 +110,7 @@ module _ {C T : Type 0} (hint packed : List ℕ → List Entry → ℕ) (g : Ske
               given_sized = o.given_sized;
               sizes_are = sizes_set v.sizes i b m.sizes wide_i refl o.sizes_are;
               seen_is = o.seen_is;
+              heard_is = o.heard_is;
               known_is = o.known_is;
               known_with_size = λ j e. set_there v.sizes i b wide_i there j (o.known_with_size j e);
               given_is = o.given_is;
@@ -195,6 +196,7 @@ module _ {C T : Type 0} (hint packed : List ℕ → List Entry → ℕ) (g : Ske
               given_sized = o.given_sized;
               sizes_are = o.sizes_are;
               seen_is = o.seen_is;
+              heard_is = o.heard_is;
               known_is = o.known_is;
               known_with_size = o.known_with_size;
               given_is = o.given_is;
@@ -268,6 +270,7 @@ module _ {C T : Type 0} (hint packed : List ℕ → List Entry → ℕ) (g : Ske
         given_sized = o.given_sized;
         sizes_are = o.sizes_are;
         seen_is = subst (Begins seen') seen (begins_refl seen');
+        heard_is = λ x d. begins_trans _ _ _ (o.heard_is x d) (tagged i batch, refl);
         known_is = o.known_is;
         known_with_size = o.known_with_size;
         given_is = o.given_is;
@@ -389,6 +392,7 @@ module _ {C T : Type 0} (hint packed : List ℕ → List Entry → ℕ) (g : Ske
               given_sized = length-set v.given i v.seen ∙ o.given_sized;
               sizes_are = o.sizes_are;
               seen_is = o.seen_is;
+              heard_is = o.heard_is;
               known_is = λ j. subst (λ (y : Mine). Begins (known_of v j) y.handed) (same_mine j) (o.known_is j);
               known_with_size = o.known_with_size;
               given_is = λ j. each_put (λ a (c : CoarseUpdater). Begins (slice_index_or (set v.given i v.seen) a []) c.given) m.updaters i u' j (set_begins v.given i v.seen h o.seen_is)
