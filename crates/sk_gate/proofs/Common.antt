@@ -198,16 +198,16 @@ module _ {C T : Type 0} (hint packed : List ℕ → List Entry → ℕ) (g : Ske
         each_slot = λ j l. each_put (λ a (b : CoarseUpdater). SlotOk k r.name (sizes a) m.stage r.left a b (get_elem? homes' a)) m.updaters i u j slot
             (λ ne. subst (λ (y : ℕ × maybe.Option (maybe.Option (Slot C T))). SlotOk k r.name y.0 m.stage r.left j (m.updaters j) y.1) (λ a. (sym (same-sizes j ne) a, sym (slots j ne) a)) (r.each_slot j l));
         rests = λ z. let t = r.rests z in (
-          t.0,
-          slots r.n (λ e. omega arith) ∙ t.1,
-          record {
-            of_it = t.2.of_it;
-            numbers_are = t.2.numbers_are;
-            name_is = t.2.name_is;
-            held_is = held_sizes m.stage m.sizes sizes t.0.held (λ j a. grow j (led_size (hint r.numbers) r.n m j r.meets a)) t.2.held_is;
-          },
-          t.3,
-        );
+              t.0,
+              slots r.n (λ e. omega arith) ∙ t.1,
+              record {
+                of_it = t.2.of_it;
+                numbers_are = t.2.numbers_are;
+                name_is = t.2.name_is;
+                held_is = held_sizes m.stage m.sizes sizes t.0.held (λ j a. grow j (led_size (hint r.numbers) r.n m j r.meets a)) t.2.held_is;
+              },
+              t.3,
+            );
         led = λ turn. let l = r.led turn in (slots r.n (λ e. omega arith) ∙ l.0, led_stays s.views id r.leader v w at stays.live stays.leads l.1);
         seen = seen_stays s.views id r.seer v w m.published m.published at stays.live stays.seen refl r.seen;
         given = λ j l. given_stays s.views id (r.giver j) j v w (m.updaters j).given (ups j).given at stays.live (stays.given j l) (given_same j) (r.given j l);

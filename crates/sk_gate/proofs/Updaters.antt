@@ -209,7 +209,7 @@ module _ {C T : Type 0} (hint packed : List ℕ → List Entry → ℕ) (g : Ske
         waiting = λ z. absurd (open_word z);
         led = λ a. absurd (ok.open_apart open_word a);
       })
-      others knows stays in
+          others knows stays in
       ⊎_elim
       (λ (on : u.mine.ready ≡ true). (
         w,
@@ -329,13 +329,13 @@ module _ {C T : Type 0} (hint packed : List ℕ → List Entry → ℕ) (g : Ske
               known_sized = o.known_sized;
               given_sized = o.given_sized;
               sizes_are = λ a there. dite (ℕ_discrete a i)
-                  (λ e. ap (size_of w) e ∙ set_size ∙ sym (put_here m.sizes i b) ∙ ap sizes (sym e))
-                  (λ ne. let same = get_or-set_other v.sizes i a b 0 ne in same ∙ o.sizes_are a (λ z. there (same ∙ z)) ∙ sym (put_else m.sizes i b a ne));
+              (λ e. ap (size_of w) e ∙ set_size ∙ sym (put_here m.sizes i b) ∙ ap sizes (sym e))
+              (λ ne. let same = get_or-set_other v.sizes i a b 0 ne in same ∙ o.sizes_are a (λ z. there (same ∙ z)) ∙ sym (put_else m.sizes i b a ne));
               seen_is = o.seen_is;
               known_is = λ a. each_put (λ c (y : CoarseUpdater). Begins (known_of v c) y.mine.handed) m.updaters i u' a (o.known_is i) (λ _. o.known_is a);
               known_with_size = λ a some-known z. dite (ℕ_discrete a i)
-                  (λ e. let q : size_of w i ≡ 0 = ap (size_of w) (sym e) ∙ z in omega arith)
-                  (λ ne. o.known_with_size a some-known (sym (get_or-set_other v.sizes i a b 0 ne) ∙ z));
+              (λ e. let q : size_of w i ≡ 0 = ap (size_of w) (sym e) ∙ z in omega arith)
+              (λ ne. o.known_with_size a some-known (sym (get_or-set_other v.sizes i a b 0 ne) ∙ z));
               given_is = λ a. each_put (λ c (y : CoarseUpdater). Begins (given_of v c) y.given) m.updaters i u' a (o.given_is i) (λ _. o.given_is a);
               post_is = (
                 inside,
