@@ -7,7 +7,7 @@ ghost use Rattle.sk_machine.specs.declared.views.Duty.TheVariants.{Leads};
 ghost use Rattle.sk_gate.specs.Slots.{contents, sketching, telling, TellsList};
 ghost use Rattle.sk_gate.specs.Views.{size_of, batch_of, stage_of, left_of, leads, MayYield};
 ghost use Rattle.sk_gate.specs.Hands.{IsTrunk, StageKnown};
-ghost use Rattle.sk_gate.specs.Moves.{AsksAt, TakesTurnAt, MissesTurnAt, YieldsAt, FindsAt, LeavesAt, PublishesAt, GivesBackAt};
+ghost use Rattle.sk_gate.specs.Moves.{IsSeen, AsksAt, TakesTurnAt, MissesTurnAt, YieldsAt, FindsAt, LeavesAt, PublishesAt, GivesBackAt};
 
 use crate::load::{Load, Trunk};
 use crate::plays::{Ask, Find, GiveBack, Leave, Publish, Turn, Yield};
@@ -95,6 +95,7 @@ impl<C: Composable, R: Role> Propagator<C, R> {
         ensures told { PublishesAt self.old.view
             (C.packed_of self.old.view.numbers (self.old.view.seen ++ tagged i (batch_of self.old.view)))
             self.new.view i }
+        ensures seen { IsSeen self.old.view self.new.view.seen }
         ensures seat { self.new ≡ record self.old { view = self.new.view } }
     {
         let hub = &self.hub;
