@@ -42,6 +42,7 @@ fn full_parcel(alloc: Global, item: u64) -> Result<Parcel<()>, OutOfMemory>
 #[tactic(auto, unfolding(sk_model::specs::Entries::items_of_entries))]
 fn one_updater(alloc: Global) -> Result<Seats, OutOfMemory>
     ensures heart { IfOk result (λ seats. seats.heart ≡ empty_handed (blank_view (1 ∷ []) (2 ∷ []) [] (Root 1) 2) seats.heart.table 1) }
+    ensures token { IfOk result (λ seats. seats.token.table ≡ seats.heart.table) }
     ensures updater { IfOk result (λ seats. seats.updater ≡ empty_handed (blank_view (1 ∷ []) (2 ∷ []) [] (Updater 0 blank_mine) 1) seats.heart.table 0) }
 {
     let global = Theta::new(alloc, 2)?;
