@@ -142,6 +142,7 @@ module _ {C T : Type 0} (hint packed : List ℕ → List Entry → ℕ) (g : Ske
     given_sized = o.given_sized;
     sizes_are = λ i known. let is = o.sizes_are i known in is ∙ sym (sizes i (λ z. known (is ∙ z)));
     seen_is = begins_trans _ _ _ o.seen_is more-published;
+    heard_is = λ h d. begins_trans _ _ _ (o.heard_is h d) more-published;
     known_is = λ i. begins_trans _ _ _ (o.known_is i) (more-handed i);
     known_with_size = o.known_with_size;
     given_is = λ i. begins_trans _ _ _ (o.given_is i) (more-given i);

@@ -91,6 +91,7 @@ stepped_knows n numbers name m left owner leader j v steps' o = record {
   given_sized = o.given_sized;
   sizes_are = o.sizes_are;
   seen_is = o.seen_is;
+  heard_is = o.heard_is;
   known_is = o.known_is;
   known_with_size = o.known_with_size;
   given_is = o.given_is;

@@ -3,6 +3,7 @@ pub mod Known
 pub mod Leading
 pub mod Merging
 pub mod Own
+pub mod Published
 pub mod Rotated
 pub mod Elements
 pub mod Merged

@@ -206,7 +206,7 @@ module _ {C T : Type 0} (g : Sketching C) (k : Telling T) where
   looked_holds hint n number front r own m m' h unswapped t hand why = dite (ℕ_discrete r 0)
       (λ z. let at = (t.1 z).view in
       same_holds false n number front own m m' h (ap (λ (y : View). y.live) at) (ap (λ (y : View). y.sizes) at) (ap (λ (y : View). y.post) at) (ap (λ (y : View). y.duty) at) (ap (λ (y : View). y.numbers) at) (ap (λ (y : View). y.name) at)
-          (λ _. ap (λ (y : View). y.seen) at) (hand.waits z))
+      (λ _. ap (λ (y : View). y.seen) at) (hand.waits z))
       (λ ne. let on : own ≡ true = ⊎_elim (λ z. absurd (ne z)) (λ e. e) why in
       let v : View = m.0 in let w : View = m'.0 in let y = t.0 ne in let at = y.view in let p = own_at false n number front own m h on in
       let empty = empty_at v number p.0 p.3 (ap (λ l. (own_in l).items) (sym p.1) ∙ unswapped) in
@@ -222,18 +222,18 @@ module _ {C T : Type 0} (g : Sketching C) (k : Telling T) where
         leading = looked_sees hint v w r number h.first h.second n y h.leading;
         own_is = on ∙ ap (λ (q : Mine). q.ready) (sym mine);
         owned = subst (λ b. OwnHand w k number b h.third) (sym on) (
-              p.0,
-              p.1,
-              inl (
-                empty.0,
-                (λ x is. let q = empty.1 x is in (
-                  (λ e. q.0 (ap (λ (z : Mine). z.handed) (sym mine) ∙ e)),
-                  subst (λ (z : List ℕ × List Entry). TellsList k z.0 x z.1) (λ a. ((ap (λ (u : View). u.name) (sym at)) a, sym (y.again ready) a)) q.1,
-                )),
-                ⊎_elim (λ c. inl (c ∙ sym size)) (λ c. inr (c.0, c.1, ap (λ (z : Mine). z.handed) mine ∙ c.2)) empty.2,
-              ),
-              λ z. p.4 (sym size ∙ z),
-            );
+          p.0,
+          p.1,
+          inl (
+            empty.0,
+            (λ x is. let q = empty.1 x is in (
+              (λ e. q.0 (ap (λ (z : Mine). z.handed) (sym mine) ∙ e)),
+              subst (λ (z : List ℕ × List Entry). TellsList k z.0 x z.1) (λ a. ((ap (λ (u : View). u.name) (sym at)) a, sym (y.again ready) a)) q.1,
+            )),
+            ⊎_elim (λ c. inl (c ∙ sym size)) (λ c. inr (c.0, c.1, ap (λ (z : Mine). z.handed) mine ∙ c.2)) empty.2,
+          ),
+          λ z. p.4 (sym size ∙ z),
+        );
       })
 
   -- that took its slot, which then goes behind the others

@@ -33,10 +33,11 @@ use Rattle.sk_gate.specs.declared.load.Held.{Held}
 use Rattle.sk_gate.specs.Slots.{Slot, full, trunk, contents, room, Sketching, Telling, TellsList, ToldOk, HeldOk, TrunkOk}
 use Rattle.sk_gate.specs.Views.{known_of, given_of, size_of, mine_in, mine_of, seat_in, leads, stage_of, left_of, batch_in, batch_of, is_busy, MayYield, longer, SpeaksBy, SpeaksFor}
 use Rattle.sk_gate.specs.Rule.{left_home, SlotOk, PostOk, DutyOk, DrainedOk, Knows, Has, HasSeen, IsLed, HasGiven, Kept}
-use Rattle.sk_gate.specs.Moves.{LacksOwn, AsksAt, looked_mine, RenewsAt, WaitsAt, LooksAt, AdmitsAt, handed_mine, HandsAt, ResumesAt, TakesTurnAt, MissesTurnAt, TurnsAt, YieldsAt, FindsBatchAt, FindsAt, LeavesAt, PublishesAt, GivesBackAt}
+use Rattle.sk_gate.specs.Moves.{IsSeen, LacksOwn, AsksAt, looked_mine, RenewsAt, WaitsAt, LooksAt, AdmitsAt, handed_mine, HandsAt, ResumesAt, TakesTurnAt, MissesTurnAt, TurnsAt, YieldsAt, FindsBatchAt, FindsAt, LeavesAt, PublishesAt, GivesBackAt}
 use Rattle.sk_gate.specs.Plays.{Sat, asked, IsRested, LookHand, looked, is_picked, rested_mine, rested, admitted, handed, turned, yielded, found, left_it, published, gave_back}
 use Rattle.sk_gate.specs.Hands.{StageHand, StageKnown, TrunkHand, LeadsBy, IsEmptyOwn, IsFullOwn, OwnHand, IsPost, Holds}
 use Rattle.sk_gate.proofs.Known.{bool_cases, some_none, some_same, set_own, has_own, room_some, sizes_set, size_set, set_there, set_begins, post_same, drained_same, stepped_knows, stepped_stays}
+use Rattle.sk_gate.proofs.Published.{published_seen}
 use Rattle.sk_gate.proofs.Common.{seats_stay, has_stays, Stays, SameUpdater, viewed, others_know, updater_step, propagator_step}
 
 module _ {C T : Type 0} (hint packed : List ℕ → List Entry → ℕ) (g : Sketching C) (k : Telling T) where
@@ -110,6 +111,7 @@ module _ {C T : Type 0} (hint packed : List ℕ → List Entry → ℕ) (g : Ske
               given_sized = o.given_sized;
               sizes_are = sizes_set v.sizes i b m.sizes wide_i refl o.sizes_are;
               seen_is = o.seen_is;
+              heard_is = o.heard_is;
               known_is = o.known_is;
               known_with_size = λ j e. set_there v.sizes i b wide_i there j (o.known_with_size j e);
               given_is = o.given_is;
@@ -195,6 +197,7 @@ module _ {C T : Type 0} (hint packed : List ℕ → List Entry → ℕ) (g : Ske
               given_sized = o.given_sized;
               sizes_are = o.sizes_are;
               seen_is = o.seen_is;
+              heard_is = o.heard_is;
               known_is = o.known_is;
               known_with_size = o.known_with_size;
               given_is = o.given_is;
@@ -268,6 +271,7 @@ module _ {C T : Type 0} (hint packed : List ℕ → List Entry → ℕ) (g : Ske
         given_sized = o.given_sized;
         sizes_are = o.sizes_are;
         seen_is = subst (Begins seen') seen (begins_refl seen');
+        heard_is = λ x d. begins_trans _ _ _ (o.heard_is x d) (tagged i batch, refl);
         known_is = o.known_is;
         known_with_size = o.known_with_size;
         given_is = o.given_is;
@@ -289,6 +293,9 @@ module _ {C T : Type 0} (hint packed : List ℕ → List Entry → ℕ) (g : Ske
       let w : View = record v { seen = v.seen ++ tagged i (batch_of v); steps = v.steps ++ Publish x (length (batch_of v)) ∷ []; duty = Leads (Published i) false } in
       let lies : get_elem? s.homes i ≡ some (left_home (left_of v.duty)) = (r.each_slot i near).led at_i ∙ ap (λ b. some (left_home b)) (sym duty.3) in
       let place : (j : ℕ) (b : Bool) → v.duty ≡ Leads (Busy j (batch_of v)) b → i ≡ j = λ j b e. ap (λ d. place_in (stage_of d)) (sym leads ∙ e) in
+      let turns : m.turn ≢ 0 = λ e. let t = duty.1 in omega arith in
+      let next = published_seen (hint r.numbers) r.n (after_publish i (batch_of v) m) r.owner id v o.sized (event.publishes (hint r.numbers) r.n m i (batch_of v) r.meets turns (sym duty.2)) o.post_is in
+      let seen : IsSeen v w.seen = subst (IsSeen v) (ap (λ l. l ++ tagged i (batch_of v)) (sym duty.4)) next in
       ⊎_elim
       (λ (on : left_of v.duty ≡ true). let home : get_elem? s.homes i ≡ some (some None) = lies ∙ ap (λ b. some (left_home b)) on in (
         w,
@@ -298,6 +305,7 @@ module _ {C T : Type 0} (hint packed : List ℕ → List Entry → ℕ) (g : Ske
         λ j. (
           (λ e. absurd (true≢false (sym on ∙ ap left_of e))),
           (λ e. subst (λ a. PublishesAt v x w a × ((i, None) ∷ me.1 ≡ (a, None) ∷ me.1)) (place j true e) (refl, refl)),
+          seen,
         ),
       ))
       (λ (off : left_of v.duty ≡ false). let home : get_elem? s.homes i ≡ some none = lies ∙ ap (λ b. some (left_home b)) off in (
@@ -308,6 +316,7 @@ module _ {C T : Type 0} (hint packed : List ℕ → List Entry → ℕ) (g : Ske
         λ j. (
           (λ e. subst (λ a. PublishesAt v x w a × (me.1 ≡ me.1)) (place j false e) (refl, refl)),
           (λ e. absurd (true≢false (sym (ap left_of e) ∙ off))),
+          seen,
         ),
       ))
       (bool_cases (left_of v.duty))
@@ -389,6 +398,7 @@ module _ {C T : Type 0} (hint packed : List ℕ → List Entry → ℕ) (g : Ske
               given_sized = length-set v.given i v.seen ∙ o.given_sized;
               sizes_are = o.sizes_are;
               seen_is = o.seen_is;
+              heard_is = o.heard_is;
               known_is = λ j. subst (λ (y : Mine). Begins (known_of v j) y.handed) (same_mine j) (o.known_is j);
               known_with_size = o.known_with_size;
               given_is = λ j. each_put (λ a (c : CoarseUpdater). Begins (slice_index_or (set v.given i v.seen) a []) c.given) m.updaters i u' j (set_begins v.given i v.seen h o.seen_is)

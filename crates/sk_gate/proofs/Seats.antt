@@ -2,7 +2,7 @@
 use Rattle.std.proofs.Common.{◌≡◌, ◌≢◌, ◌⊎◌, ℕ, zero, suc, ◌+◌, ◌<◌, ◌≤◌, if◌then◌else◌, Bool, true, false, List, [], ◌∷◌, ◌++◌, map, length, get_or, set, Contains, Option, Some, None, sym, refl, ap, ◌∙◌, subst, ⊎_elim, inl, inr, arith, length-set, length-append, get_or-set_other, get_or-set_same}
 use Rattle.std.proofs.lemmas.List.{length-map}
 use Rattle.std.proofs.lemmas.Bool.{true≢false, cases_eq, ne_eqb}
-use Rattle.std.proofs.lemmas.List.Elements.{Contains-push, Contains-push_cases, Contains-append_left}
+use Rattle.std.proofs.lemmas.List.Elements.{Contains-push, Contains-push_cases, Contains-append_left, Contains-append_cases}
 use mathlib.Core.Option.{some, none, some-injective, some-ne-none}
 use mathlib.Core.Option as maybe
 use lib.ListN.{get_elem?}
@@ -92,6 +92,7 @@ owned_else n numbers name m left owner leader i had new j u was apart o = record
   given_sized = o.given_sized;
   sizes_are = o.sizes_are;
   seen_is = o.seen_is;
+  heard_is = o.heard_is;
   known_is = o.known_is;
   known_with_size = o.known_with_size;
   given_is = o.given_is;
@@ -147,6 +148,15 @@ post_joined : (n : ℕ) (m : Coarse) (owner : ℕ → ℕ) (j : ℕ) (seen seen'
 post_joined n m owner j seen seen' sizes sizes' drained Guest b same t = tt
 post_joined n m owner j seen seen' sizes sizes' drained (Root made) b same t = λ i le lt. let y = t i le lt in (y.0, y.1, same i y.2)
 post_joined n m owner j seen seen' sizes sizes' drained (Updater i mine) b same t = (t.0, t.1, t.2, begins_trans _ _ _ t.3 b, same i t.4, t.5)
+
+heard_both : {A : Type 0} (xs ys : List A) (x y : A) (P : A → Type 0) → ((a : A) → Contains xs a → P a) → P x → P y → ((a : A) → Contains ys a → P a) → (a : A) → Contains (xs ++ x ∷ y ∷ ys) a → P a
+heard_both xs ys x y P front first second back a c = ⊎_elim (front a)
+    (λ d. ⊎_elim (λ e. subst P e first) (λ d. ⊎_elim (λ e. subst P e second) (back a) (first_or_rest y ys a d)) (first_or_rest x (y ∷ ys) a d))
+    (Contains-append_cases xs (x ∷ y ∷ ys) a c)
+  where
+    first_or_rest : {A : Type 0} (x : A) (xs : List A) (a : A) → Contains (x ∷ xs) a → (x ≡ a) ⊎ Contains xs a
+    first_or_rest x xs a (zero, l, e) = inl e
+    first_or_rest x xs a (suc k, l, e) = inr (k, omega arith, e)
 
 -- what a seat has seen that took in one that has seen more
 record SeenBoth (h seen more seen' : List Entry) : Type 0 where
@@ -245,6 +255,7 @@ module _ {C T : Type 0} (hint packed : List ℕ → List Entry → ℕ) (g : Ske
           given_sized = blanks_length _ (length sizes) ∙ size;
           sizes_are = λ i _. refl;
           seen_is = begins_refl [];
+          heard_is = λ h d. absurd (omega (arith, d.1));
           known_is = λ i. subst (λ l. Begins l []) (sym (blank_at (length sizes) i)) (begins_refl []);
           known_with_size = λ i ne. absurd (ne (blank_at (length sizes) i));
           given_is = λ i. subst (λ l. Begins l []) (sym (blank_at (length sizes) i)) (begins_refl []);
@@ -315,6 +326,7 @@ module _ {C T : Type 0} (hint packed : List ℕ → List Entry → ℕ) (g : Ske
             given_sized = o.given_sized;
             sizes_are = o.sizes_are;
             seen_is = o.seen_is;
+            heard_is = o.heard_is;
             known_is = o.known_is;
             known_with_size = o.known_with_size;
             given_is = o.given_is;
@@ -329,6 +341,7 @@ module _ {C T : Type 0} (hint packed : List ℕ → List Entry → ℕ) (g : Ske
             given_sized = blanks_length _ (length v.sizes) ∙ o.sized;
             sizes_are = o.sizes_are;
             seen_is = o.seen_is;
+            heard_is = o.heard_is;
             known_is = λ i. subst (λ l. Begins l (m.updaters i).mine.handed) (sym (blank_at (length v.sizes) i)) (begins_nil (m.updaters i).mine.handed);
             known_with_size = λ i ne. absurd (ne (blank_at (length v.sizes) i));
             given_is = λ i. subst (λ l. Begins l (m.updaters i).given) (sym (blank_at (length v.sizes) i)) (begins_nil (m.updaters i).given);
@@ -354,6 +367,7 @@ module _ {C T : Type 0} (hint packed : List ℕ → List Entry → ℕ) (g : Ske
             given_sized = o.given_sized;
             sizes_are = o.sizes_are;
             seen_is = o.seen_is;
+            heard_is = o.heard_is;
             known_is = o.known_is;
             known_with_size = o.known_with_size;
             given_is = o.given_is;
@@ -368,6 +382,7 @@ module _ {C T : Type 0} (hint packed : List ℕ → List Entry → ℕ) (g : Ske
             given_sized = blanks_length _ (length v.sizes) ∙ o.sized;
             sizes_are = o.sizes_are;
             seen_is = o.seen_is;
+            heard_is = o.heard_is;
             known_is = told_known r.n m r.owner id v.seen v.sizes v.drained (length v.sizes) v.known v.post o.post_is o.known_is;
             known_with_size = told_sized r.n m r.owner id v.seen v.sizes v.drained (length v.sizes) v.known (hint r.numbers) r.meets v.post o.post_is o.known_with_size;
             given_is = λ i. subst (λ l. Begins l (m.updaters i).given) (sym (blank_at (length v.sizes) i)) (begins_nil (m.updaters i).given);
@@ -402,6 +417,7 @@ module _ {C T : Type 0} (hint packed : List ℕ → List Entry → ℕ) (g : Ske
             given_sized = merged_length r.n v.given w.given o.given_sized q.given_sized;
             sizes_are = λ i. sizes_either (λ x. x ≢ 0 → x ≡ m.sizes i) v.sizes w.sizes i (λ _. o.sizes_are i) (λ _. q.sizes_are i);
             seen_is = both.within;
+            heard_is = λ x d. heard_both v.heard w.heard v.seen w.seen (λ l. Begins l h) o.heard_is o.seen_is q.seen_is q.heard_is x d;
             known_is = known;
             known_with_size = sized;
             given_is = λ i. merged_either (λ l. Begins l (m.updaters i).given) v.given w.given i (o.given_is i) (q.given_is i);

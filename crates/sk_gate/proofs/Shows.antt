@@ -101,12 +101,15 @@ module _ {C T : Type 0} (hint packed : List ℕ → List Entry → ℕ) (g : Ske
         (λ (z : u.word ≡ 0). let y = c.waiting z (λ at. apart (is_at f.updaters f.in_hand f.progress i (subst (λ t. At t i) (sym stage) at))) in (y.0, y.1))
         (λ (ne : u.word ≢ 0). let y = c.resting ne off in (y.0, y.1))
         (cases_eq u.word 0);
-    items = λ p has. (x.home (apart p has), ⊎_elim
-        (λ (z : u.word ≡ 0). let y = c.waiting z (apart p has) in
-        let admitted : m.sizes i ≢ 0 = λ vacant. event.open_vacant (hint r.numbers) (m.sizes i) m.published m.stage i u ok vacant z in
-        ap (λ (q : Parcel T). q.buffer) (sym (same_parcel home y.0 p y.1 has)) ∙ y.2 ∙ (λ a. contents (sym (x.waiting (apart p has) z) a) (room_there (m.sizes i) admitted a)) ∙ ap (λ b. contents whole.slot (room b)) (sym x.size))
-        (λ (ne : u.word ≢ 0). let y = c.resting ne (off p has) in ap (λ (q : Parcel T). q.buffer) (sym (same_parcel home y.0 p y.1 has)) ∙ y.2 ∙ (λ a. contents (sym (x.empty ne) a) (room (sym x.size a))))
-        (cases_eq u.word 0));
+    items = λ p has. (
+      x.home (apart p has),
+      ⊎_elim
+          (λ (z : u.word ≡ 0). let y = c.waiting z (apart p has) in
+          let admitted : m.sizes i ≢ 0 = λ vacant. event.open_vacant (hint r.numbers) (m.sizes i) m.published m.stage i u ok vacant z in
+          ap (λ (q : Parcel T). q.buffer) (sym (same_parcel home y.0 p y.1 has)) ∙ y.2 ∙ (λ a. contents (sym (x.waiting (apart p has) z) a) (room_there (m.sizes i) admitted a)) ∙ ap (λ b. contents whole.slot (room b)) (sym x.size))
+          (λ (ne : u.word ≢ 0). let y = c.resting ne (off p has) in ap (λ (q : Parcel T). q.buffer) (sym (same_parcel home y.0 p y.1 has)) ∙ y.2 ∙ (λ a. contents (sym (x.empty ne) a) (room (sym x.size a))))
+          (cases_eq u.word 0),
+    );
     told = λ p has open_now free. let ne : u.word ≢ 0 = λ z. open_now (x.word ∙ z) in let y = c.resting ne (off p has) in
         subst (λ (t : Parcel T × List ℕ × List Entry). ToldOk k r.name t.0 t.1 t.2) (λ a. (same_parcel home y.0 p y.1 has a, sym x.handed a, sym x.given a)) (y.3 (unpicked i l free));
   }
@@ -179,12 +182,16 @@ module _ {C T : Type 0} (hint packed : List ℕ → List Entry → ℕ) (g : Ske
         slots = λ i l. slot_shown f x.stage i (within i l) (x.updaters i (within i l));
         trunk_is = subst (λ n. ShowsTrunk g r.numbers r.name f (get_elem? s.homes n)) (sym x.count) (record {
           taken = λ on. (r.led (λ z. on (x.turn ∙ z))).0;
-          lies = λ z. let t = r.rests (sym x.turn ∙ z) in (t.0, t.1, record {
-            of_it = subst (g.is_of t.0.global) (sym x.published) t.2.of_it;
-            numbers_are = t.2.numbers_are;
-            name_is = t.2.name_is;
-            held_is = subst (λ stage. HeldOk stage (λ i. (f.updaters i).size) t.0.held) (sym x.stage) (held_sizes m.stage m.sizes (λ i. (f.updaters i).size) t.0.held (λ i at. (x.updaters i (r.meets.stage_at i at)).size) t.2.held_is);
-          });
+          lies = λ z. let t = r.rests (sym x.turn ∙ z) in (
+            t.0,
+            t.1,
+            record {
+              of_it = subst (g.is_of t.0.global) (sym x.published) t.2.of_it;
+              numbers_are = t.2.numbers_are;
+              name_is = t.2.name_is;
+              held_is = subst (λ stage. HeldOk stage (λ i. (f.updaters i).size) t.0.held) (sym x.stage) (held_sizes m.stage m.sizes (λ i. (f.updaters i).size) t.0.held (λ i at. (x.updaters i (r.meets.stage_at i at)).size) t.2.held_is);
+            },
+          );
         });
         seats = record {
           each = view_shown f x.count x.published x.stage x.turn x.updaters;

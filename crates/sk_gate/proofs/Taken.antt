@@ -76,14 +76,7 @@ rested_says w i r picked w' e live free = record {
 
 -- what is taken in does not depend on that
 pub same_join : (v w : View) (i r : ℕ) (picked : Bool) (w' : View) → w' ≡ rested_view w i r picked → w.post ≡ Updater i (mine_of w) → after_join v w' ≡ after_join v w
-same_join v w i r picked w' e is = ap (after_join v) e ∙ λ a. record v {
-  seen = seen_with v.seen w.seen v.duty;
-  known = known_with v.known w.known (sym is a);
-  steps = v.steps ++ Join ∷ [];
-  given = (after_join v w).given;
-  drained = drained_with v.drained (sym is a);
-  sizes = sizes_merged v.sizes w.sizes;
-}
+same_join v w i r picked w' e is = ap (after_join v) e ∙ λ a. record (after_join v w) { known = known_with v.known w.known (sym is a); drained = drained_with v.drained (sym is a) }
 
 module _ {C T : Type 0} (hint packed : List ℕ → List Entry → ℕ) (g : Sketching C) (k : Telling T) where
   pub gives_up : (slots id n number : ℕ) (m : Sat C T) → slots ≡ n + 1 → m.0.live ≡ true → m.0.post ≡ Updater number (mine_of m.0) → (mine_of m.0).ready ≡ true → (x : Resting g k n number m)

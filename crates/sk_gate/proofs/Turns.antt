@@ -37,6 +37,7 @@ use Rattle.sk_gate.specs.Moves.{LacksOwn, AsksAt, looked_mine, RenewsAt, WaitsAt
 use Rattle.sk_gate.specs.Plays.{Sat, asked, IsRested, LookHand, looked, is_picked, rested_mine, rested, admitted, handed, turned, yielded, found, left_it, published, gave_back}
 use Rattle.sk_gate.specs.Hands.{StageHand, StageKnown, TrunkHand, LeadsBy, IsEmptyOwn, IsFullOwn, OwnHand, IsPost, Holds}
 use Rattle.sk_gate.proofs.Known.{has_own, sizes_set, size_set, set_there, post_same, drained_same, stepped_knows, stepped_stays}
+use Rattle.sk_gate.proofs.Published.{published_seen}
 use Rattle.sk_gate.proofs.Common.{seats_stay, has_stays, Stays, SameUpdater, viewed, others_know, updater_step, propagator_step}
 
 -- ---- stages
@@ -90,6 +91,7 @@ released n numbers name m left owner leader leader' j v free o = record {
   given_sized = o.given_sized;
   sizes_are = o.sizes_are;
   seen_is = o.seen_is;
+  heard_is = o.heard_is;
   known_is = o.known_is;
   known_with_size = o.known_with_size;
   given_is = o.given_is;
@@ -134,6 +136,7 @@ module _ {C T : Type 0} (hint packed : List ℕ → List Entry → ℕ) (g : Ske
         given_sized = o.given_sized;
         sizes_are = are;
         seen_is = begins_refl m.published;
+        heard_is = o.heard_is;
         known_is = o.known_is;
         known_with_size = λ j e. there j (o.known_with_size j e);
         given_is = o.given_is;
@@ -211,6 +214,7 @@ module _ {C T : Type 0} (hint packed : List ℕ → List Entry → ℕ) (g : Ske
             (λ _. record {
               view = refl;
               grows = o.seen_is;
+              is_seen = published_seen (hint r.numbers) r.n m r.owner id v o.sized r.meets o.post_is;
               resumes = subst (ResumesAt v w) (sym idle) (refl, refl);
             }),
             (λ ne. absurd (ne zero)),
@@ -243,6 +247,7 @@ module _ {C T : Type 0} (hint packed : List ℕ → List Entry → ℕ) (g : Ske
             (λ _. record {
               view = refl;
               grows = o.seen_is;
+              is_seen = published_seen (hint r.numbers) r.n m r.owner id v o.sized r.meets o.post_is;
               resumes = subst (ResumesAt v w) (sym busy.2) (
                 wide_i,
                 (λ a. set v.sizes i (sym size_now a)),
@@ -304,6 +309,7 @@ module _ {C T : Type 0} (hint packed : List ℕ → List Entry → ℕ) (g : Ske
         given_sized = o.given_sized;
         sizes_are = o.sizes_are;
         seen_is = o.seen_is;
+        heard_is = o.heard_is;
         known_is = o.known_is;
         known_with_size = o.known_with_size;
         given_is = o.given_is;

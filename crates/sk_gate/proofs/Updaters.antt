@@ -37,6 +37,7 @@ use Rattle.sk_gate.specs.Rule.{left_home, SlotOk, PostOk, DutyOk, DrainedOk, Kno
 use Rattle.sk_gate.specs.Moves.{LacksOwn, AsksAt, looked_mine, RenewsAt, WaitsAt, LooksAt, AdmitsAt, handed_mine, HandsAt, ResumesAt, TakesTurnAt, MissesTurnAt, TurnsAt, YieldsAt, FindsBatchAt, FindsAt, LeavesAt, PublishesAt, GivesBackAt}
 use Rattle.sk_gate.specs.Plays.{Sat, asked, IsRested, LookHand, looked, is_picked, rested_mine, rested, admitted, handed, turned, yielded, found, left_it, published, gave_back}
 use Rattle.sk_gate.specs.Hands.{StageHand, StageKnown, TrunkHand, LeadsBy, IsEmptyOwn, IsFullOwn, OwnHand, IsPost, Holds}
+use Rattle.sk_gate.proofs.Published.{published_seen, entries_of}
 use Rattle.sk_gate.proofs.Common.{seats_stay, has_stays, Stays, SameUpdater, viewed, others_know, updater_step, propagator_step, at_within, bool_cases, index_within, longer_right, longer_left, longer_in, longer_same}
 
 -- a seat that has seen more
@@ -108,6 +109,7 @@ module _ {C T : Type 0} (hint packed : List ℕ → List Entry → ℕ) (g : Ske
           given_sized = o.given_sized;
           sizes_are = o.sizes_are;
           seen_is = begins_refl h;
+          heard_is = o.heard_is;
           known_is = o.known_is;
           known_with_size = o.known_with_size;
           given_is = o.given_is;
@@ -119,6 +121,8 @@ module _ {C T : Type 0} (hint packed : List ℕ → List Entry → ℕ) (g : Ske
           record {
             view = refl;
             grows = o.seen_is;
+            is_seen = published_seen (hint r.numbers) r.n m r.owner id v o.sized r.meets o.post_is;
+            heard = o.heard_is;
             value = r.published_is ∙ ap (λ l. packed l h) (sym o.numbers_are);
             lacks = λ i some-known. let there = o.known_with_size i some-known in let inside : i < r.n = subst (λ z. i < z) o.sized (index_within v.sizes i there) in
                 subst (LacksAtMost (known_of v i) (entries_by i h)) (sym (o.sizes_are i there)) (event.lacks_known (hint r.numbers) r.n m i (known_of v i) r.meets inside (o.known_is i));
@@ -148,6 +152,7 @@ module _ {C T : Type 0} (hint packed : List ℕ → List Entry → ℕ) (g : Ske
           given_sized = o.given_sized;
           sizes_are = o.sizes_are;
           seen_is = o.seen_is;
+          heard_is = o.heard_is;
           known_is = o.known_is;
           known_with_size = o.known_with_size;
           given_is = o.given_is;
@@ -179,6 +184,7 @@ module _ {C T : Type 0} (hint packed : List ℕ → List Entry → ℕ) (g : Ske
         given_sized = o.given_sized;
         sizes_are = o.sizes_are;
         seen_is = longer_in v.seen base m.published o.seen_is ok.given_is;
+        heard_is = o.heard_is;
         known_is = λ a. each_put (λ c (y : CoarseUpdater). Begins (known_of v c) y.mine.handed) m.updaters i u' a (o.known_is i) (λ _. o.known_is a);
         known_with_size = o.known_with_size;
         given_is = λ a. each_put (λ c (y : CoarseUpdater). Begins (given_of v c) y.given) m.updaters i u' a (o.given_is i) (λ _. o.given_is a);
@@ -199,6 +205,7 @@ module _ {C T : Type 0} (hint packed : List ℕ → List Entry → ℕ) (g : Ske
         grows = subst (λ (y : Mine). Begins y.base base) (sym own.2) ok.base_is;
         again = λ on. sym (ok.ready_base (ap (λ (y : Mine). y.ready) (sym own.2) ∙ on)) ∙ ap (λ (y : Mine). y.base) (sym own.2);
         all = ok.open_given open_word ∙ ap (λ (y : Mine). y.handed) (sym own.2);
+        entries = entries_of (hint r.numbers) r.n m v base o.sized r.meets ok.given_is;
         leads = λ e. let d = duty_seen r.n m r.left r.leader id v.seen v.post v.duty e o.duty_is in still (sym d) ∙ d;
       } in
       let go : (homes' : List (maybe.Option (Slot C T))) → length homes' ≡ length s.homes → get_elem? homes' i ≡ some none → ((j : ℕ) → j ≢ i → get_elem? homes' j ≡ get_elem? s.homes j)
@@ -279,6 +286,7 @@ module _ {C T : Type 0} (hint packed : List ℕ → List Entry → ℕ) (g : Ske
               given_sized = o.given_sized;
               sizes_are = o.sizes_are;
               seen_is = o.seen_is;
+              heard_is = o.heard_is;
               known_is = λ a. each_put (λ c (y : CoarseUpdater). Begins (known_of v c) y.mine.handed) m.updaters i u' a (o.known_is i) (λ _. o.known_is a);
               known_with_size = o.known_with_size;
               given_is = λ a. each_put (λ c (y : CoarseUpdater). Begins (given_of v c) y.given) m.updaters i u' a (o.given_is i) (λ _. o.given_is a);
@@ -332,6 +340,7 @@ module _ {C T : Type 0} (hint packed : List ℕ → List Entry → ℕ) (g : Ske
               (λ e. ap (size_of w) e ∙ set_size ∙ sym (put_here m.sizes i b) ∙ ap sizes (sym e))
               (λ ne. let same = get_or-set_other v.sizes i a b 0 ne in same ∙ o.sizes_are a (λ z. there (same ∙ z)) ∙ sym (put_else m.sizes i b a ne));
               seen_is = o.seen_is;
+              heard_is = o.heard_is;
               known_is = λ a. each_put (λ c (y : CoarseUpdater). Begins (known_of v c) y.mine.handed) m.updaters i u' a (o.known_is i) (λ _. o.known_is a);
               known_with_size = λ a some-known z. dite (ℕ_discrete a i)
               (λ e. let q : size_of w i ≡ 0 = ap (size_of w) (sym e) ∙ z in omega arith)
@@ -397,6 +406,7 @@ module _ {C T : Type 0} (hint packed : List ℕ → List Entry → ℕ) (g : Ske
               given_sized = o.given_sized;
               sizes_are = o.sizes_are;
               seen_is = o.seen_is;
+              heard_is = o.heard_is;
               known_is = λ a. each_put (λ c (y : CoarseUpdater). Begins (known_of v c) y.mine.handed) m.updaters i u' a (begins_more _ _ xs (o.known_is i)) (λ _. o.known_is a);
               known_with_size = o.known_with_size;
               given_is = λ a. each_put (λ c (y : CoarseUpdater). Begins (given_of v c) y.given) m.updaters i u' a (o.given_is i) (λ _. o.given_is a);

@@ -14,7 +14,7 @@ use Rattle.sk_machine.specs.declared.views.View.{View}
 use Rattle.sk_gate.specs.declared.load.Trunk.{Trunk}
 use Rattle.sk_gate.specs.declared.load.Load.TheVariants as load
 use Rattle.sk_gate.specs.Slots.{Slot, full, trunk, contents, room, Sketching, Telling, TellsList, TrunkOk}
-use Rattle.sk_gate.specs.Views.{size_of, mine_of}
+use Rattle.sk_gate.specs.Views.{size_of, mine_of, stage_of}
 use Rattle.sk_gate.specs.Plays.{Sat}
 
 -- ---- lists of slots
@@ -69,12 +69,20 @@ pub record Reading : Type 0 where
   pub view : View
   pub table : TableId
 
+-- this parcel lies there
+abbrev pub own_with : {T : Type 0} → Parcel T → Own
+own_with p = record { items = p.buffer.items; capacity = p.buffer.capacity; told = is_some p.told }
+
+-- an empty one, without a told value
+abbrev pub own_empty : ℕ → Own
+own_empty b = record { items = []; capacity = b; told = false }
+
 module _ {C T : Type 0} where
   -- of the first slot
   abbrev pub own_in : List (ℕ × Slot C T) → Own
   own_in [] = no_own
   own_in ((i, None) ∷ more) = no_own
-  own_in ((i, Some (load.Parcel p)) ∷ more) = record { items = p.buffer.items; capacity = p.buffer.capacity; told = is_some p.told }
+  own_in ((i, Some (load.Parcel p)) ∷ more) = own_with p
   own_in ((i, Some (load.Trunk t)) ∷ more) = no_own
 
   abbrev pub has_parcel : List (ℕ × Slot C T) → Bool
@@ -103,6 +111,14 @@ module _ {C T : Type 0} where
 -- ---- what is true of a seat's slots
 
 module _ (v : View) where
+  -- a trunk that a seat with this view may lay, and finds
+  abbrev pub IsTrunk : {C T : Type 0} → Sketching C → Trunk C T → Type 0
+  IsTrunk g t = TrunkOk g v.numbers v.name v.seen (stage_of v.duty) (size_of v) t
+
+  -- of a parcel that an updater finds in its slot: what was handed over before has a told value, which tells its base
+  abbrev pub TellsBase : {T : Type 0} → Telling T → Parcel T → Type 0
+  TellsBase {T} k p = (t : T) → p.told ≡ Some t → ((mine_of v).handed ≢ []) × TellsList k v.name t (mine_of v).base
+
   -- the slot of the stage
   abbrev pub StageHand : {C T : Type 0} → Telling T → Stage → Bool → List (ℕ × Slot C T) → Type 0
   StageHand k Idle left hand = hand ≡ []
@@ -126,7 +142,7 @@ module _ (v : View) where
 
   -- the parcel in its own slot: empty, as it was taken or picked, or full, to be handed over
   abbrev pub IsEmptyOwn : {T : Type 0} → Telling T → ℕ → Parcel T → Type 0
-  IsEmptyOwn {T} k i p = (p.buffer.items ≡ []) × ((t : T) → p.told ≡ Some t → ((mine_of v).handed ≢ []) × TellsList k v.name t (mine_of v).base)
+  IsEmptyOwn k i p = (p.buffer.items ≡ []) × TellsBase k p
       × ((p.buffer.capacity ≡ size_of v i) ⊎ ((p.buffer.capacity ≡ 1) × (p.told ≡ None) × ((mine_of v).handed ≡ [])))
 
   abbrev pub IsFullOwn : {T : Type 0} → ℕ → Parcel T → Type 0

@@ -1,8 +1,8 @@
 -- What each call on a word tells: the view before, the number loaded or stored, and the view after.
-use Rattle.std.specs.Prelude.{◌≡◌, ◌≢◌, ℕ, ◌+◌, ◌<◌, ◌≤◌, List, [], ◌∷◌, ◌++◌, length, Bool, true, false, Contains, slice_set}
+use Rattle.std.specs.Prelude.{◌≡◌, ◌≢◌, ℕ, ◌+◌, ◌<◌, ◌≤◌, List, [], ◌∷◌, ◌++◌, length, Bool, true, false, All, Contains, slice_set}
 use Rattle.sk_model.specs.Entries.{Entry, entries_by, tagged}
 use Rattle.sk_model.specs.Missing.{Begins, LacksAtMost}
-use Rattle.sk_machine.specs.Coarse.{most_entries, IsBatch}
+use Rattle.sk_machine.specs.Coarse.{most_entries, IsEntry, IsBatch}
 use Rattle.sk_machine.specs.declared.views.Mine.{Mine}
 use Rattle.sk_machine.specs.declared.views.Stage.{Stage}
 use Rattle.sk_machine.specs.declared.views.Stage.TheVariants.{Idle, Busy, Published}
@@ -21,10 +21,25 @@ LacksOwn seen sizes Guest = Unit {0}
 LacksOwn seen sizes (Root made) = Unit {0}
 LacksOwn seen sizes (Updater i mine) = LacksAtMost mine.handed (entries_by i seen) (sizes i)
 
+-- what an updater has seen of its own it handed over
+abbrev pub SeesOwn : List Entry → Post → Type 0
+SeesOwn seen Guest = Unit {0}
+SeesOwn seen (Root made) = Unit {0}
+SeesOwn seen (Updater i mine) = Begins (entries_by i seen) mine.handed
+
+-- a list that the table has published, as a seat with this view sees it
+pub record IsSeen (v : View) (list : List Entry) : Type 0 where
+  -- they are items of the table's updaters
+  pub entries : All (IsEntry (length v.sizes)) list
+  pub own : SeesOwn list v.post
+
 -- an ask, which loaded the published word
 pub record AsksAt (packed : List ℕ → List Entry → ℕ) (v : View) (word : ℕ) (w : View) : Type 0 where
   pub view : w ≡ record v { seen = w.seen; steps = v.steps ++ Ask word ∷ [] }
   pub grows : Begins v.seen w.seen
+  pub is_seen : IsSeen v w.seen
+  -- and so does what it and those had seen that it took in
+  pub heard : (h : List Entry) → Contains v.heard h → Begins h w.seen
   pub value : word ≡ packed v.numbers w.seen
   pub lacks : (i : ℕ) → known_of v i ≢ [] → LacksAtMost (known_of v i) (entries_by i w.seen) (size_of v i)
   pub lacks_own : LacksOwn w.seen (size_of v) v.post
@@ -44,6 +59,7 @@ pub record RenewsAt (hint : List ℕ → List Entry → ℕ) (v : View) (word : 
   pub grows : Begins (mine_of v).base (mine_of w).base
   pub again : (mine_of v).ready ≡ true → (mine_of w).base ≡ (mine_of v).base
   pub all : entries_by i (mine_of w).base ≡ (mine_of v).handed
+  pub entries : All (IsEntry (length v.sizes)) (mine_of w).base
   pub leads : leads v.duty ≡ true → w.seen ≡ v.seen
 
 -- a look that loaded 0: something was handed over that is not in the base
@@ -81,6 +97,7 @@ ResumesAt v w (Published i) = ⊥
 pub record TakesTurnAt (v w : View) : Type 0 where
   pub view : w ≡ record v { seen = w.seen; steps = v.steps ++ Turn 0 ∷ []; duty = Leads (stage_of w.duty) (left_of w.duty); sizes = w.sizes }
   pub grows : Begins v.seen w.seen
+  pub is_seen : IsSeen v w.seen
   pub resumes : ResumesAt v w (stage_of w.duty)
 
 -- a turn that found another seat's number

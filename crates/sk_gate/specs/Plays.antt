@@ -12,7 +12,7 @@ use Rattle.sk_machine.specs.declared.views.View.{View}
 use Rattle.sk_gate.specs.declared.load.Trunk.{Trunk}
 use Rattle.sk_gate.specs.Slots.{Slot, full, trunk, contents, room, Sketching, Telling, ToldOk, TrunkOk}
 use Rattle.sk_gate.specs.Views.{size_of, mine_of, stage_of, batch_of}
-use Rattle.sk_gate.specs.Moves.{AsksAt, LooksAt, AdmitsAt, HandsAt, TurnsAt, YieldsAt, FindsAt, LeavesAt, PublishesAt, GivesBackAt}
+use Rattle.sk_gate.specs.Moves.{IsSeen, AsksAt, LooksAt, AdmitsAt, HandsAt, TurnsAt, YieldsAt, FindsAt, LeavesAt, PublishesAt, GivesBackAt}
 
 -- a seat: its view, and the slots that it has
 abbrev pub Sat : Type 0 → Type 0 → Type 0
@@ -81,6 +81,7 @@ module _ {C T : Type 0} where
   abbrev pub published : Step (Slot C T) → Sat C T → ℕ → Sat C T → Type 0
   published st m r m' = (i : ℕ) → (m.0.duty ≡ Leads (Busy i (batch_of m.0)) false → PublishesAt m.0 r m'.0 i × (m'.1 ≡ m.1))
       × (m.0.duty ≡ Leads (Busy i (batch_of m.0)) true → PublishesAt m.0 r m'.0 i × (m'.1 ≡ (i, None) ∷ m.1))
+      × IsSeen m.0 m'.0.seen
 
   -- it gives the first slot back
   abbrev pub gave_back : Step (Slot C T) → Sat C T → ℕ → Sat C T → Type 0

@@ -67,6 +67,7 @@ pub record Knows (n : ℕ) (numbers name : List ℕ) (m : Coarse) (left : Bool) 
   pub given_sized : length v.given ≡ n
   pub sizes_are : (i : ℕ) → size_of v i ≢ 0 → size_of v i ≡ m.sizes i
   pub seen_is : Begins v.seen m.published
+  pub heard_is : (h : List Entry) → Contains v.heard h → Begins h m.published
   pub known_is : (i : ℕ) → Begins (known_of v i) (m.updaters i).mine.handed
   pub known_with_size : (i : ℕ) → known_of v i ≢ [] → size_of v i ≢ 0
   pub given_is : (i : ℕ) → Begins (given_of v i) (m.updaters i).given

@@ -114,6 +114,7 @@ abbrev pub first_view : List ℕ → List ℕ → List ℕ → View
 first_view sizes numbers name = record {
   live = true;
   seen = [];
+  heard = [];
   known = blanks (length sizes);
   steps = [];
   post = Root 0;
@@ -178,6 +179,7 @@ seen_with seen others (Leads stage left) = seen
 abbrev pub after_join : View → View → View
 after_join v w = record v {
   seen = seen_with v.seen w.seen v.duty;
+  heard = v.heard ++ v.seen ∷ w.seen ∷ w.heard;
   known = known_with v.known w.known w.post;
   steps = v.steps ++ Join ∷ [];
   given = merged v.given w.given;
@@ -187,7 +189,7 @@ after_join v w = record v {
 
 -- the view of a seat that was taken in
 abbrev pub spent : View
-spent = record { live = false; seen = []; known = []; steps = []; post = Guest; duty = Free; given = []; drained = []; sizes = []; numbers = []; name = [] }
+spent = record { live = false; seen = []; heard = []; known = []; steps = []; post = Guest; duty = Free; given = []; drained = []; sizes = []; numbers = []; name = [] }
 
 -- the seat speaks for updater i: it is its own, has yet to give it out, or has taken it in
 abbrev pub SpeaksBy : ℕ → List ℕ → Post → Type 0

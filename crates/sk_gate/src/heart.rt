@@ -28,8 +28,7 @@ impl<C: Composable> Propagator<C, OfHeart> {
         } = other;
         let mut seat = seat;
         let hub = &self.hub;
-        hub.shared
-            .load::<Rest<C>>(&mut seat, number as usize + 1);
+        hub.shared.load::<Rest<C>>(&mut seat, number as usize + 1);
         hub.shared.join_seat::<TakingIn>(&mut self.seat, seat);
     }
 }

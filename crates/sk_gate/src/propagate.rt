@@ -4,10 +4,10 @@ ghost use Rattle.sk_model.specs.Entries.{tagged};
 ghost use Rattle.sk_machine.specs.Coarse.{IsBatch, most_entries};
 ghost use Rattle.sk_machine.specs.declared.views.Stage.TheVariants.{Idle, Busy, Published};
 ghost use Rattle.sk_machine.specs.declared.views.Duty.TheVariants.{Leads};
-ghost use Rattle.sk_gate.specs.Slots.{contents, sketching, telling, TellsList, TrunkOk};
+ghost use Rattle.sk_gate.specs.Slots.{contents, sketching, telling, TellsList};
 ghost use Rattle.sk_gate.specs.Views.{size_of, batch_of, stage_of, left_of, leads, MayYield};
-ghost use Rattle.sk_gate.specs.Hands.{StageKnown};
-ghost use Rattle.sk_gate.specs.Moves.{AsksAt, TakesTurnAt, MissesTurnAt, YieldsAt, FindsAt, LeavesAt, PublishesAt, GivesBackAt};
+ghost use Rattle.sk_gate.specs.Hands.{IsTrunk, StageKnown};
+ghost use Rattle.sk_gate.specs.Moves.{IsSeen, AsksAt, TakesTurnAt, MissesTurnAt, YieldsAt, FindsAt, LeavesAt, PublishesAt, GivesBackAt};
 
 use crate::load::{Load, Trunk};
 use crate::plays::{Ask, Find, GiveBack, Leave, Publish, Turn, Yield};
@@ -41,8 +41,9 @@ impl<C: Composable, R: Role> Propagator<C, R> {
     pub fn lift(&mut self) -> Trunk<C>
         requires led { leads self.old.view.duty ≡ true }
         requires laid { self.old.lifted ≡ false }
-        ensures trunk { TrunkOk (sketching C.is_of C.numbers C.name) self.old.view.numbers self.old.view.name self.old.view.seen (stage_of self.old.view.duty) (size_of self.old.view) result }
-        ensures known { StageKnown self.old.view (stage_of self.old.view.duty) (left_of self.old.view.duty) }
+        ensures trunk { IsTrunk self.old.view (sketching C.is_of C.numbers C.name) result }
+        ensures known { StageKnown self.old.view
+            (stage_of self.old.view.duty) (left_of self.old.view.duty) }
         ensures seat { self.new ≡ record self.old { lifted = true } }
     {
         let own = u32::from(self.own);
@@ -84,12 +85,17 @@ impl<C: Composable, R: Role> Propagator<C, R> {
 
     /// One store of the word of the sketch, into which the batch was merged.
     pub fn publish(&mut self, i: u32, global: &C)
-        requires found { self.old.view.duty ≡ Leads (Busy i (batch_of self.old.view)) (left_of self.old.view.duty) }
+        requires found { self.old.view.duty
+            ≡ Leads (Busy i (batch_of self.old.view)) (left_of self.old.view.duty) }
         requires taken { self.old.filled ≡ false }
         requires lifted { self.old.lifted ≡ true }
-        requires merged { C.is_of global.now (self.old.view.seen ++ tagged i (batch_of self.old.view)) }
+        requires merged { C.is_of global.now
+            (self.old.view.seen ++ tagged i (batch_of self.old.view)) }
         requires numbers { C.numbers global.now ≡ self.old.view.numbers }
-        ensures told { PublishesAt self.old.view (C.packed_of self.old.view.numbers (self.old.view.seen ++ tagged i (batch_of self.old.view))) self.new.view i }
+        ensures told { PublishesAt self.old.view
+            (C.packed_of self.old.view.numbers (self.old.view.seen ++ tagged i (batch_of self.old.view)))
+            self.new.view i }
+        ensures seen { IsSeen self.old.view self.new.view.seen }
         ensures seat { self.new ≡ record self.old { view = self.new.view } }
     {
         let hub = &self.hub;
@@ -104,7 +110,8 @@ impl<C: Composable, R: Role> Propagator<C, R> {
         requires taken { self.old.filled ≡ false }
         requires lifted { self.old.lifted ≡ true }
         requires empty { empty.buffer ≡ contents [] (size_of self.old.view i) }
-        requires told { (t : _) × (empty.told ≡ Some t) × TellsList (telling C.tells C.told_name C.told_of) self.old.view.name t self.old.view.seen }
+        requires told { (t : _) × (empty.told ≡ Some t)
+            × TellsList (telling C.tells C.told_name C.told_of) self.old.view.name t self.old.view.seen }
         ensures seat { self.new ≡ record self.old { filled = true } }
     {
         let behind = 1 + u32::from(self.own);
@@ -119,7 +126,8 @@ impl<C: Composable, R: Role> Propagator<C, R> {
         requires lifted { self.old.lifted ≡ true }
         requires of_it { C.is_of global.now self.old.view.seen }
         requires numbers { C.numbers global.now ≡ self.old.view.numbers }
-        ensures told { GivesBackAt self.old.view (C.hint_of self.old.view.numbers self.old.view.seen) self.new.view i }
+        ensures told { GivesBackAt self.old.view
+            (C.hint_of self.old.view.numbers self.old.view.seen) self.new.view i }
         ensures seat { self.new ≡ record self.old { view = self.new.view; filled = false } }
     {
         let hub = &self.hub;
@@ -133,7 +141,7 @@ impl<C: Composable, R: Role> Propagator<C, R> {
         requires led { leads self.old.view.duty ≡ true }
         requires taken { self.old.filled ≡ false }
         requires lifted { self.old.lifted ≡ true }
-        requires trunk { TrunkOk (sketching C.is_of C.numbers C.name) self.old.view.numbers self.old.view.name self.old.view.seen (stage_of self.old.view.duty) (size_of self.old.view) trunk }
+        requires trunk { IsTrunk self.old.view (sketching C.is_of C.numbers C.name) trunk }
         ensures seat { self.new ≡ record self.old { lifted = false } }
     {
         let own = u32::from(self.own);

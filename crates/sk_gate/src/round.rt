@@ -5,7 +5,8 @@ ghost use Rattle.sk_machine.specs.declared.views.Stage.TheVariants.{Idle, Busy};
 ghost use Rattle.sk_machine.specs.declared.views.Move.TheVariants.{Find, Yield};
 ghost use Rattle.sk_machine.specs.declared.views.Duty.TheVariants.{Leads};
 ghost use Rattle.sk_gate.specs.Slots.{contents, sketching, TrunkOk};
-ghost use Rattle.sk_gate.specs.Views.{size_of, batch_of, stage_of, left_of, leads};
+ghost use Rattle.sk_gate.specs.Views.{size_of, batch_of, left_of, leads};
+ghost use Rattle.sk_gate.specs.Hands.{IsTrunk};
 ghost use Rattle.sk_gate.specs.Round.{MergesAt, EndsAt, RestsAt, Refused, ServesAt};
 
 use crate::load::{Held, Trunk};
@@ -34,17 +35,19 @@ fn merge_batch<C: Composable, R: Role, W: Wait>(
     i: u32,
     mut parcel: Parcel<C::Told>,
 ) -> Result<u32, OutOfMemory>
-    requires found { seat.old.view.duty ≡ Leads (Busy i (batch_of seat.old.view)) (left_of seat.old.view.duty) }
+    requires found { seat.old.view.duty
+        ≡ Leads (Busy i (batch_of seat.old.view)) (left_of seat.old.view.duty) }
     requires taken { seat.old.filled ≡ false }
     requires lifted { seat.old.lifted ≡ true }
-    requires trunk { TrunkOk (sketching C.is_of C.numbers C.name) seat.old.view.numbers seat.old.view.name seat.old.view.seen Idle (size_of seat.old.view) trunk.old }
+    requires trunk { TrunkOk (sketching C.is_of C.numbers C.name)
+        seat.old.view.numbers seat.old.view.name seat.old.view.seen Idle (size_of seat.old.view) trunk.old }
     requires batch { parcel.buffer ≡ contents (batch_of seat.old.view) (size_of seat.old.view i) }
     requires few { length seat.old.view.seen + length (batch_of seat.old.view) ≤ most_entries }
     ensures count { IfOk result (λ n. n ≡ length (batch_of seat.old.view)) }
     ensures merged { IfOk result (λ _. MergesAt C.hint_of C.packed_of seat.old.view seat.new.view i) }
     ensures kept { IfErr result (λ _. seat.new.view ≡ seat.old.view) }
     ensures cause { IfErr result (λ _. IsTrue C.TAKES_MEMORY) }
-    ensures trunk { TrunkOk (sketching C.is_of C.numbers C.name) seat.new.view.numbers seat.new.view.name seat.new.view.seen (stage_of seat.new.view.duty) (size_of seat.new.view) trunk.new }
+    ensures trunk { IsTrunk seat.new.view (sketching C.is_of C.numbers C.name) trunk.new }
     ensures seat { seat.new ≡ record seat.old { view = seat.new.view } }
 {
     let count = parcel.buffer.len();
@@ -70,8 +73,10 @@ fn serve_held<C: Composable, R: Role, W: Wait>(
     requires found { seat.old.view.duty ≡ Leads (Busy held.i (batch_of seat.old.view)) true }
     requires taken { seat.old.filled ≡ false }
     requires lifted { seat.old.lifted ≡ true }
-    requires trunk { TrunkOk (sketching C.is_of C.numbers C.name) seat.old.view.numbers seat.old.view.name seat.old.view.seen Idle (size_of seat.old.view) trunk }
-    requires batch { held.parcel.buffer ≡ contents (batch_of seat.old.view) (size_of seat.old.view held.i) }
+    requires trunk { TrunkOk (sketching C.is_of C.numbers C.name)
+        seat.old.view.numbers seat.old.view.name seat.old.view.seen Idle (size_of seat.old.view) trunk }
+    requires batch { held.parcel.buffer
+        ≡ contents (batch_of seat.old.view) (size_of seat.old.view held.i) }
     requires few { length seat.old.view.seen + length (batch_of seat.old.view) ≤ most_entries }
     ensures count { IfOk result (λ n. n ≡ length (batch_of seat.old.view)) }
     ensures merged { IfOk result (λ _. EndsAt C.hint_of C.packed_of seat.old.view seat.new.view held.i) }
@@ -103,12 +108,14 @@ fn serve_found<C: Composable, R: Role, W: Wait>(
     requires found { seat.old.view.duty ≡ Leads (Busy i (batch_of seat.old.view)) false }
     requires there { seat.old.filled ≡ true }
     requires lifted { seat.old.lifted ≡ true }
-    requires trunk { TrunkOk (sketching C.is_of C.numbers C.name) seat.old.view.numbers seat.old.view.name seat.old.view.seen Idle (size_of seat.old.view) trunk }
+    requires trunk { TrunkOk (sketching C.is_of C.numbers C.name)
+        seat.old.view.numbers seat.old.view.name seat.old.view.seen Idle (size_of seat.old.view) trunk }
     ensures count { IfOk result (λ n. n ≡ length (batch_of seat.old.view)) }
     ensures merged { IfOk result (λ _. EndsAt C.hint_of C.packed_of seat.old.view seat.new.view i) }
     ensures kept { IfErr result (λ _. RestsAt seat.old.view seat.new.view (Find i 0 ∷ Yield ∷ [])) }
     ensures cause { IfErr result (λ _. IsTrue C.TAKES_MEMORY) }
-    ensures seat { seat.new ≡ record seat.old { view = seat.new.view; filled = false; lifted = false } }
+    ensures seat { seat.new
+        ≡ record seat.old { view = seat.new.view; filled = false; lifted = false } }
 {
     let parcel = seat.take(i);
     match merge_batch(rt, seat, &mut trunk, i, parcel) {
@@ -135,7 +142,8 @@ pub fn serve<C: Composable, R: Role, W: Wait>(
 ) -> Result<Served, OutOfMemory>
     requires free { leads seat.old.view.duty ≡ false }
     requires within { i < length seat.old.view.sizes }
-    ensures served { IfOk result (λ served. ServesAt C.hint_of C.packed_of seat.old.view seat.new.view i served) }
+    ensures served { IfOk result (λ served.
+        ServesAt C.hint_of C.packed_of seat.old.view seat.new.view i served) }
     ensures refused { IfErr result (λ _. Refused seat.old.view seat.new.view) }
     ensures cause { IfErr result (λ _. IsTrue C.TAKES_MEMORY) }
     ensures seat { seat.new ≡ record seat.old { view = seat.new.view } }

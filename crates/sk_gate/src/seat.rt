@@ -65,7 +65,8 @@ impl<C: Composable, R: Role> Model for Propagator<C, R> {
         × (s.seat.table_id.words ≡ s.updaters + 2)
         × (s.seat.table_id.slots ≡ s.updaters + 1)
         × (s.updaters ≤ 64)
-        × Holds (sketching C.is_of C.numbers C.name) (telling C.tells C.told_name C.told_of) R.is_heart s.updaters s.number s.front s.own s.seat.me };
+        × Holds (sketching C.is_of C.numbers C.name) (telling C.tells C.told_name C.told_of)
+        R.is_heart s.updaters s.number s.front s.own s.seat.me };
 }
 
 pub type UpdaterSeat<C> = Propagator<C, OfUpdater>;

@@ -66,8 +66,10 @@ impl<C: Composable> TokenSeat<C> {
 
     /// A token that has seen and knows the same. Where it is refused no step was taken.
     pub fn split(&mut self) -> Result<TokenSeat<C>, OutOfMemory>
-        ensures view { IfOk result (λ _. self.new ≡ record self.old { view = after_split self.old.view }) }
-        ensures token { IfOk result (λ token. token ≡ record { view = copy_of self.old.view; table = self.old.table }) }
+        ensures view { IfOk result (λ _.
+            self.new ≡ record self.old { view = after_split self.old.view }) }
+        ensures token { IfOk result (λ token.
+            token ≡ record { view = copy_of self.old.view; table = self.old.table }) }
         ensures refused { IfErr result (λ _. self.new ≡ self.old) }
     {
         let hub = Arc::try_clone(&self.hub)?;

@@ -3,11 +3,11 @@ ghost use Rattle.std.specs.Prelude.{◌≡◌, ◌≢◌, ◌+◌, ◌<◌, ◌�
 ghost use Rattle.sk_machine.specs.Coarse.{most_kept, IsBatch};
 ghost use Rattle.atomic_table.specs.Table.{Allows, step};
 ghost use mathlib.Core.Option.{none};
-ghost use Rattle.sk_gate.specs.Slots.{contents, sketching, telling, TellsList};
+ghost use Rattle.sk_gate.specs.Slots.{contents, sketching, telling};
 ghost use Rattle.sk_gate.specs.Rule.{Kept};
 ghost use Rattle.sk_gate.specs.Plays.{admitted};
 ghost use Rattle.sk_gate.specs.Views.{size_of, mine_of};
-ghost use Rattle.sk_gate.specs.Hands.{no_own, own_looked};
+ghost use Rattle.sk_gate.specs.Hands.{no_own, own_with, own_empty, own_looked, TellsBase};
 ghost use Rattle.sk_gate.specs.Moves.{LooksAt, AdmitsAt, HandsAt};
 
 use crate::load::Load;
@@ -30,10 +30,14 @@ fn admitted_look<C: Composable, K: Size>(
     requires size { K.size ≡ b }
     requires table { seat.old.table_id ≡ hub.now.shared.table_id }
     requires word { word < hub.now.shared.table_id.words }
-    requires may { Allows (Kept C.hint_of C.packed_of (sketching C.is_of C.numbers C.name) (telling C.tells C.told_name C.told_of)) hub.now.shared.table_id.slots seat.old.id seat.old.me word (λ n. n) (admitted C.hint_of b (step hub.now.shared.table_id.slots word 0 0 none) seat.old.me) }
+    requires may { Allows (Kept C.hint_of C.packed_of (sketching C.is_of C.numbers C.name)
+        (telling C.tells C.told_name C.told_of))
+        hub.now.shared.table_id.slots seat.old.id seat.old.me word (λ n. n)
+        (admitted C.hint_of b (step hub.now.shared.table_id.slots word 0 0 none) seat.old.me) }
     ensures table { seat.new.table_id ≡ seat.old.table_id }
     ensures id { seat.new.id ≡ seat.old.id }
-    ensures told { admitted C.hint_of b (step hub.now.shared.table_id.slots word 0 0 none) seat.old.me result seat.new.me }
+    ensures told { admitted C.hint_of b (step hub.now.shared.table_id.slots word 0 0 none)
+        seat.old.me result seat.new.me }
 {
     hub.shared.load::<Admit<C, K>>(seat, word)
 }
@@ -44,7 +48,10 @@ impl<C: Composable> Propagator<C, OfUpdater> {
         requires admitted { size_of self.old.view self.old.number ≢ 0 }
         requires unswapped { self.old.own.items ≡ [] }
         ensures told { LooksAt C.hint_of self.old.view result self.new.view self.old.number }
-        ensures seat { self.new ≡ record self.old { view = self.new.view; own = own_looked result self.old.view self.old.number self.old.own } }
+        ensures seat { self.new ≡ record self.old {
+          view = self.new.view;
+          own = own_looked result self.old.view self.old.number self.old.own;
+        } }
     {
         let hub = &self.hub;
         let word = self.number as usize + 1;
@@ -63,11 +70,12 @@ impl<C: Composable> Propagator<C, OfUpdater> {
         requires room { self.old.own.capacity ≡ size_of self.old.view self.old.number }
         requires batch { IsBatch (size_of self.old.view self.old.number) full.buffer.items }
         requires capacity { full.buffer.capacity ≡ size_of self.old.view self.old.number }
-        requires few { length (mine_of self.old.view).handed + length full.buffer.items ≤ most_kept }
+        requires few { length (mine_of self.old.view).handed + length full.buffer.items
+            ≤ most_kept }
         ensures empty { result.buffer ≡ contents [] (size_of self.old.view self.old.number) }
         ensures told { is_some result.told ≡ self.old.own.told }
-        ensures tells { (t : _) → result.told ≡ Some t → ((mine_of self.old.view).handed ≢ []) × TellsList (telling C.tells C.told_name C.told_of) self.old.view.name t (mine_of self.old.view).base }
-        ensures seat { self.new ≡ record self.old { own = record { items = full.buffer.items; capacity = full.buffer.capacity; told = is_some full.told } } }
+        ensures tells { TellsBase self.old.view (telling C.tells C.told_name C.told_of) result }
+        ensures seat { self.new ≡ record self.old { own = own_with full } }
     {
         // It tells the proof that they are items.
         let _count = full.buffer.len();
@@ -98,8 +106,9 @@ impl<C: Composable> Propagator<C, OfUpdater> {
         requires told { empty.told ≡ None }
         ensures empty { result.buffer ≡ contents [] self.old.own.capacity }
         ensures told { is_some result.told ≡ self.old.own.told }
-        ensures tells { (t : _) → result.told ≡ Some t → ((mine_of self.old.view).handed ≢ []) × TellsList (telling C.tells C.told_name C.told_of) self.old.view.name t (mine_of self.old.view).base }
-        ensures seat { self.new ≡ record self.old { own = record { items = []; capacity = size_of self.old.view self.old.number; told = false } } }
+        ensures tells { TellsBase self.old.view (telling C.tells C.told_name C.told_of) result }
+        ensures seat { self.new
+            ≡ record self.old { own = own_empty (size_of self.old.view self.old.number) } }
     {
         let slot = self.number as usize;
         let empty = Some(Load::Parcel(empty));
@@ -114,7 +123,7 @@ impl<C: Composable> Propagator<C, OfUpdater> {
         requires least { 1 ≤ b }
         requires most { b ≤ 4096 }
         ensures told { AdmitsAt C.hint_of self.old.view result self.new.view self.old.number b }
-        ensures seat { self.new ≡ record self.old { view = self.new.view; own = record { items = []; capacity = 1; told = false } } }
+        ensures seat { self.new ≡ record self.old { view = self.new.view; own = own_empty 1 } }
     {
         let word = self.number as usize + 1;
         let hint = admitted_look::<C, Brand>(&self.hub, &mut self.seat, word, b);

@@ -66,6 +66,8 @@ pub struct View {
     pub live: bool,
     /// The longest published list that it has seen.
     pub seen: [(u64, u64); 0],
+    /// What it had seen, and what the other had, where it took another seat in.
+    pub heard: [[(u64, u64); 0]; 0],
     /// For each updater what the seat knows that it handed over.
     pub known: [[u64; 0]; 0],
     /// Its own steps, in order.

@@ -3,7 +3,7 @@ use Rattle.sk_model.specs.Entries.{tagged}
 use Rattle.sk_machine.specs.declared.views.View.{View}
 use Rattle.sk_gate.specs.Slots.{sketching, telling}
 use Rattle.sk_gate.specs.Views.{batch_of, left_of}
-use Rattle.sk_gate.specs.Moves.{PublishesAt}
+use Rattle.sk_gate.specs.Moves.{IsSeen, PublishesAt}
 use Rattle.sk_gate.proofs.Rounds.{publishes}
 use Rattle.sk_gate.proofs.Leading.{view_is, found_as, published_next}
 use Rattle.sk_gate.proofs.seat.Propagator.publish.Goals as goal
@@ -34,3 +34,7 @@ returns-clause-told g c = let k = g.C.Composable in let i = c.self.invariant in 
 pub returns-clause-seat : goal.returns-clause-seat
 returns-clause-seat g c = let k = g.C.Composable in let i = c.self.invariant in let e = c.store.ensures in let t = e.2 c.args.i in
     (published_next (sketching k.is_of k.numbers k.name) (telling k.tells k.told_name k.told_of) i.4 c.self.view_is c.store.new.seat.me c.store.new.seat.table_id c.packed.result c.args.i c.requires.found c.requires.taken c.requires.lifted e.0 t.0 t.1).1.1
+
+pub returns-clause-seen : goal.returns-clause-seen
+returns-clause-seen g c = let k = g.C.Composable in let i = c.self.invariant in
+    subst (λ v. IsSeen v c.store.new.seat.me.0.seen) (view_is (sketching k.is_of k.numbers k.name) (telling k.tells k.told_name k.told_of) i.4 c.self.view_is) (c.store.ensures.2 c.args.i).2

@@ -23,10 +23,10 @@ invariant_of-self g c = let k = g.C.Composable in let i = c.self.invariant in le
       search rules,
       subst (Holds (sketching k.is_of k.numbers k.name) (telling k.tells k.told_name k.told_of) false f.updaters f.number f.front f.own) (λ a. (sym e.view a, c.exchange-picked.new.seat.me.1))
           (put_own (sketching k.is_of k.numbers k.name) (telling k.tells k.told_name k.told_of) false _ _ _ _ _ c.args.empty c.exchange-picked.new.seat.me.1 i.4 on (inl (
-          ap (λ (b : Contents). b.items) c.requires.empty,
-          (λ x is. absurd (some_is_not (sym c.requires.told ∙ is))),
-          inl (ap (λ (b : Contents). b.capacity) c.requires.empty ∙ ap (λ s. size_of s.view s.number) (sym c.self.view_is)),
-        )) t.4),
+            ap (λ (b : Contents). b.items) c.requires.empty,
+            (λ x is. absurd (some_is_not (sym c.requires.told ∙ is))),
+            inl (ap (λ (b : Contents). b.capacity) c.requires.empty ∙ ap (λ s. size_of s.view s.number) (sym c.self.view_is)),
+          )) t.4),
     )
 
 pub returns-clause-empty : goal.returns-clause-empty

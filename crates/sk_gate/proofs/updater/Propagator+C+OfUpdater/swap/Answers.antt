@@ -24,11 +24,11 @@ invariant_of-self g c = let k = g.C.Composable in let i = c.self.invariant in le
       search rules,
       subst (Holds (sketching k.is_of k.numbers k.name) (telling k.tells k.told_name k.told_of) false f.updaters f.number f.front f.own) (λ a. (sym e.view a, c.exchange-empty.new.seat.me.1))
           (put_own (sketching k.is_of k.numbers k.name) (telling k.tells k.told_name k.told_of) false _ _ _ _ _ c.args.full c.exchange-empty.new.seat.me.1 i.4 on (inr (
-          subst (λ s. IsBatch (size_of s.view s.number) c.args.full.buffer.items) (sym c.self.view_is) c.requires.batch,
-          c.len-count.ensures.whole.items_fit,
-          subst (λ (s : Standing). length (mine_of s.view).handed + length c.args.full.buffer.items ≤ most_kept) (sym c.self.view_is) c.requires.few,
-          subst (λ s. c.args.full.buffer.capacity ≡ size_of s.view s.number) (sym c.self.view_is) c.requires.capacity,
-        )) t.4),
+            subst (λ s. IsBatch (size_of s.view s.number) c.args.full.buffer.items) (sym c.self.view_is) c.requires.batch,
+            c.len-count.ensures.whole.items_fit,
+            subst (λ (s : Standing). length (mine_of s.view).handed + length c.args.full.buffer.items ≤ most_kept) (sym c.self.view_is) c.requires.few,
+            subst (λ s. c.args.full.buffer.capacity ≡ size_of s.view s.number) (sym c.self.view_is) c.requires.capacity,
+          )) t.4),
     )
 
 pub returns-clause-empty : goal.returns-clause-empty
