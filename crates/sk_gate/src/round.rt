@@ -16,7 +16,7 @@ use sk_model::OutOfMemory;
 use std::sync::Wait;
 
 /// What a round came to.
-#[derive(Clone, Copy, Debug, PartialEq, Eq, Hash)]
+#[derive(Clone, Copy, Debug, PartialEq, Eq)]
 pub enum Served {
     /// Another seat propagates, which has this number.
     Elsewhere(u32),
