@@ -27,7 +27,7 @@ use Rattle.sk_machine.proofs.Coarse as event
 use Rattle.sk_gate.specs.declared.load.Held.{Held}
 use Rattle.sk_gate.specs.Slots.{Slot, contents, Sketching, Telling, HeldOk, TrunkOk}
 use Rattle.sk_gate.specs.Views.{known_of, given_of, size_of, leads, longer, SpeaksBy, SpeaksFor}
-use Rattle.sk_gate.specs.Rule.{SlotOk, PostOk, DutyOk, DrainedOk, Knows, Has, HasSeen, IsLed, HasGiven, Kept}
+use Rattle.sk_gate.specs.Rule.{SlotOk, PostOk, DutyOk, OpenOk, DrainedOk, Knows, Has, HasSeen, IsLed, HasGiven, Kept}
 
 -- the live seats, where one has a new view
 pub seats_stay : (K : ℕ → View → Type 0) (vs : List View) (me : ℕ) (w : View) → (w.live ≡ true → K me w)
@@ -148,6 +148,7 @@ module _ {C T : Type 0} (hint packed : List ℕ → List Entry → ℕ) (g : Ske
     given_is = λ i. begins_trans _ _ _ (o.given_is i) (more-given i);
     post_is = post v.post o.post_is;
     duty_is = duty v.duty o.duty_is;
+    open_is = opened v.post o.post_is o.open_is;
     drained_is = λ i d. let y = o.drained_is i d in let u = others i y.own in record { within = y.within; own = y.own; all = y.all ∙ ap (λ (x : Mine). x.handed) u.mine; given = u.word y.given };
   }
     where
@@ -161,6 +162,11 @@ module _ {C T : Type 0} (hint packed : List ℕ → List Entry → ℕ) (g : Ske
       post Guest t = tt
       post (Root made) t = λ i a l. let y = t i a l in (y.0, y.1 ∙ (others i y.0).mine, y.2 ∙ sym (sized i y.0))
       post (Updater i mine) t = (t.0, t.1, t.2 ∙ (others i t.1).mine, t.3, t.4 ∙ sym (sized i t.1), t.5)
+
+      opened : (p : Post) → PostOk n m owner j v.seen v.sizes v.drained p → OpenOk m v.steps p → OpenOk m' v.steps p
+      opened Guest t e = tt
+      opened (Root made) t e = tt
+      opened (Updater i mine) t e = λ known. (others i t.1).word (e known)
 
       duty : (d : Duty) → DutyOk n m left leader j v.seen v.post d → DutyOk n m' left' leader j v.seen v.post d
       duty Free t = tt

@@ -15,7 +15,7 @@ use Rattle.sk_machine.specs.declared.views.Post.{Post}
 use Rattle.sk_machine.specs.declared.views.Post.TheVariants.{Guest, Root, Updater}
 use Rattle.sk_machine.specs.declared.views.View.{View}
 use Rattle.sk_gate.specs.Slots.{room}
-use Rattle.sk_gate.specs.Rule.{PostOk, DrainedOk, Knows, Has}
+use Rattle.sk_gate.specs.Rule.{PostOk, OpenOk, DrainedOk, Knows, Has}
 use Rattle.sk_gate.proofs.Common.{SameUpdater, Stays}
 
 pub bool_cases : (b : Bool) → (b ≡ true) ⊎ (b ≡ false)
@@ -81,9 +81,9 @@ drained_same n m m' owner j known i same o = record {
 }
 
 -- a step of which only its record tells
-pub stepped_knows : (n : ℕ) (numbers name : List ℕ) (m : Coarse) (left : Bool) (owner : ℕ → ℕ) (leader j : ℕ) (v : View) (steps' : List Move) → Knows n numbers name m left owner leader j v
+pub stepped_knows : (n : ℕ) (numbers name : List ℕ) (m : Coarse) (left : Bool) (owner : ℕ → ℕ) (leader j : ℕ) (v : View) (steps' : List Move) → OpenOk m steps' v.post → Knows n numbers name m left owner leader j v
     → Knows n numbers name m left owner leader j (record v { steps = steps' })
-stepped_knows n numbers name m left owner leader j v steps' o = record {
+stepped_knows n numbers name m left owner leader j v steps' opened o = record {
   numbers_are = o.numbers_are;
   name_is = o.name_is;
   sized = o.sized;
@@ -97,6 +97,7 @@ stepped_knows n numbers name m left owner leader j v steps' o = record {
   given_is = o.given_is;
   post_is = o.post_is;
   duty_is = o.duty_is;
+  open_is = opened;
   drained_is = o.drained_is;
 }
 

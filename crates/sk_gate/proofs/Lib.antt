@@ -2,6 +2,7 @@ pub mod Common
 pub mod Known
 pub mod Leading
 pub mod Merging
+pub mod Opened
 pub mod Own
 pub mod Published
 pub mod Rotated

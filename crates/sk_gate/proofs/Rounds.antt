@@ -36,6 +36,7 @@ use Rattle.sk_gate.specs.Rule.{left_home, SlotOk, PostOk, DutyOk, DrainedOk, Kno
 use Rattle.sk_gate.specs.Moves.{IsSeen, LacksOwn, AsksAt, looked_mine, RenewsAt, WaitsAt, LooksAt, AdmitsAt, handed_mine, HandsAt, ResumesAt, TakesTurnAt, MissesTurnAt, TurnsAt, YieldsAt, FindsBatchAt, FindsAt, LeavesAt, PublishesAt, GivesBackAt}
 use Rattle.sk_gate.specs.Plays.{Sat, asked, IsRested, LookHand, looked, is_picked, rested_mine, rested, admitted, handed, turned, yielded, found, left_it, published, gave_back}
 use Rattle.sk_gate.specs.Hands.{StageHand, StageKnown, TrunkHand, LeadsBy, IsEmptyOwn, IsFullOwn, OwnHand, IsPost, Holds}
+use Rattle.sk_gate.proofs.Opened.{open_neutral, open_told}
 use Rattle.sk_gate.proofs.Known.{bool_cases, some_none, some_same, set_own, has_own, room_some, sizes_set, size_set, set_there, set_begins, post_same, drained_same, stepped_knows, stepped_stays}
 use Rattle.sk_gate.proofs.Published.{published_seen}
 use Rattle.sk_gate.proofs.Common.{seats_stay, has_stays, Stays, SameUpdater, viewed, others_know, updater_step, propagator_step}
@@ -117,6 +118,7 @@ module _ {C T : Type 0} (hint packed : List ℕ → List Entry → ℕ) (g : Ske
               given_is = o.given_is;
               post_is = post_same r.n m m' r.owner id v.seen v.seen v.sizes (set v.sizes i b) v.drained v.post (λ _. refl) (size_set v.sizes i b m.sizes wide_i refl) (begins_refl v.seen) o.post_is;
               duty_is = (duty.0, duty.1, refl, refl, duty.4);
+              open_is = open_told m m' v.steps (Find i 0) i 0 v.post (λ _ _. refl) (λ ne. absurd (ne refl)) (λ _ _ a. a) o.open_is;
               drained_is = λ j e. drained_same r.n m m' r.owner id (known_of v j) j (record { mine = refl; word = λ a. a }) (o.drained_is j e);
             }),
         λ j at-j. subst (FoundBy me x (w, (i, full p.0) ∷ me.1)) (here j at-j) (
@@ -137,7 +139,7 @@ module _ {C T : Type 0} (hint packed : List ℕ → List Entry → ℕ) (g : Ske
         w,
         keeps,
         tt,
-        viewed hint packed g k s r (i + 1) id v w at (stepped_knows r.n r.numbers r.name m r.left r.owner r.leader id v w.steps o) (stepped_stays r.n m v w.steps live),
+        viewed hint packed g k s r (i + 1) id v w at (stepped_knows r.n r.numbers r.name m r.left r.owner r.leader id v w.steps (open_told m m v.steps (Find i x) i x v.post (λ _ _. refl) (λ _ z. ne (word ∙ z)) (λ _ _ z. z) o.open_is) o) (stepped_stays r.n m v w.steps live),
         λ j at-j. subst (FoundBy me x (w, me.1)) (here j at-j) (((λ _. refl), λ zero. absurd (ne zero)), (λ _. refl), λ zero. absurd (ne zero)),
       ))
 
@@ -203,6 +205,7 @@ module _ {C T : Type 0} (hint packed : List ℕ → List Entry → ℕ) (g : Ske
               given_is = o.given_is;
               post_is = o.post_is;
               duty_is = (duty.0, duty.1, duty.2, refl, duty.4);
+              open_is = open_told m m v.steps (Find i 0) i 0 v.post (λ _ _. refl) (λ ne. absurd (ne refl)) (λ _ _ a. a) o.open_is;
               drained_is = o.drained_is;
             }),
         λ j at-j. subst (LeftBy (v, (i, None) ∷ more) x (w, more)) (here j at-j) (word ∙ z, refl, refl),
@@ -277,6 +280,7 @@ module _ {C T : Type 0} (hint packed : List ℕ → List Entry → ℕ) (g : Ske
         given_is = o.given_is;
         post_is = post_same r.n m m' r.owner id v.seen seen' v.sizes v.sizes v.drained v.post (λ _. refl) (λ j e. e) more o.post_is;
         duty_is = (duty.0, duty.1, refl, refl, seen);
+        open_is = open_neutral m m' v.steps (Publish x (length batch)) v.post (λ _ _. refl) (λ _ z. z) o.open_is;
         drained_is = λ j e. drained_same r.n m m' r.owner id (known_of v j) j (record { mine = refl; word = λ a. a }) (o.drained_is j e);
       })
 
@@ -405,6 +409,7 @@ module _ {C T : Type 0} (hint packed : List ℕ → List Entry → ℕ) (g : Ske
                   (λ ne. subst (λ l. Begins l (m.updaters j).given) (sym (get_or-set_other v.given i j v.seen [] ne)) (o.given_is j));
               post_is = post_same r.n m m' r.owner id v.seen v.seen v.sizes v.sizes v.drained v.post same_mine (λ j e. e) (begins_refl v.seen) o.post_is;
               duty_is = (duty.0, duty.1, refl, refl, duty.4);
+              open_is = open_told m m' v.steps (GiveBack i x) i x v.post (λ _ _. refl) (λ _. subst (λ (c : CoarseUpdater). c.word ≢ 0) (sym (put_here m.updaters i u')) open_now) (λ j ne a. (same j).word a) o.open_is;
               drained_is = λ j e. drained_same r.n m m' r.owner id (known_of v j) j (same j) (o.drained_is j e);
             }),
         λ j leads'. subst (λ a. GivesBackAt v x w a × (more ≡ more)) (place j leads') (refl, refl),

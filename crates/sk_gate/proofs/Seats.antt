@@ -13,8 +13,9 @@ use Rattle.sk_model.specs.Missing.{Begins}
 use Rattle.sk_model.proofs.Missing.{begins_refl, begins_nil, begins_trans, begins_length}
 use Rattle.sk_compose.specs.declared.buffer.Parcel.{Parcel}
 use Rattle.sk_machine.specs.Numbered.{put}
-use Rattle.sk_machine.specs.Coarse.{Coarse, CoarseUpdater, Meets, blank_mine, coarse_start}
+use Rattle.sk_machine.specs.Coarse.{Coarse, CoarseUpdater, Meets, blank_mine, coarse_start, MeetsUpdater}
 use Rattle.sk_machine.specs.declared.views.Mine.{Mine}
+use Rattle.sk_machine.specs.declared.views.Move.TheVariants.{Split, Join}
 use Rattle.sk_machine.specs.declared.views.Post.{Post}
 use Rattle.sk_machine.specs.declared.views.Post.TheVariants.{Guest, Root, Updater}
 use Rattle.sk_machine.specs.declared.views.Duty.{Duty}
@@ -29,6 +30,7 @@ use Rattle.sk_gate.specs.Rule.{PostOk, DutyOk, DrainedOk, Knows, Has, HasSeen, I
 use Rattle.sk_gate.specs.Plays.{Sat}
 use Rattle.sk_gate.specs.Hands.{Holds}
 use Rattle.sk_gate.proofs.Own.{same_holds}
+use Rattle.sk_gate.proofs.Opened.{open_neutral}
 use Rattle.sk_gate.proofs.Common.{seats_stay, at_within, has_stays}
 use Rattle.sk_gate.proofs.Merged.{blank_at, blanks_length, set_begins, longer_either, longer_left, whole_first, whole_second, merged_length, merged_either, merged_first, merged_second, sizes_length, sizes_either, size_first, size_second}
 
@@ -82,6 +84,10 @@ module _ (vs : List View) (id other : ℕ) (v w v' : View) where
 
 -- ---- what seats know
 
+-- the word of an updater that has handed nothing over is not 0
+never_handed : (hint : List Entry → ℕ) (m : Coarse) (i : ℕ) → MeetsUpdater hint (m.sizes i) m.published m.stage i (m.updaters i) → (m.updaters i).mine.handed ≡ [] → (m.updaters i).word ≢ 0
+never_handed hint m i ok nothing z = let more = ok.closed_more z in let e = ap length nothing in absurd (omega arith)
+
 -- another seat speaks for the updater i from now on
 owned_else : (n : ℕ) (numbers name : List ℕ) (m : Coarse) (left : Bool) (owner : ℕ → ℕ) (leader i had new j : ℕ) (u : View) → owner i ≡ had → j ≢ had → Knows n numbers name m left owner leader j u → Knows n numbers name m left (put owner i new) leader j u
 owned_else n numbers name m left owner leader i had new j u was apart o = record {
@@ -98,6 +104,7 @@ owned_else n numbers name m left owner leader i had new j u was apart o = record
   given_is = o.given_is;
   post_is = post u.post o.post_is;
   duty_is = o.duty_is;
+  open_is = o.open_is;
   drained_is = λ a d. let y = o.drained_is a d in record { within = y.within; own = still a y.own; all = y.all; given = y.given };
 }
   where
@@ -261,6 +268,7 @@ module _ {C T : Type 0} (hint packed : List ℕ → List Entry → ℕ) (g : Ske
           given_is = λ i. subst (λ l. Begins l []) (sym (blank_at (length sizes) i)) (begins_refl []);
           post_is = λ i le lt. (refl, refl, refl);
           duty_is = tt;
+          open_is = tt;
           drained_is = λ i d. absurd (omega (arith, d.1));
         });
       }
@@ -332,6 +340,7 @@ module _ {C T : Type 0} (hint packed : List ℕ → List Entry → ℕ) (g : Ske
             given_is = o.given_is;
             post_is = λ i le lt. let b : made < i = subst (λ z. z < i) number le in let y = own i (omega arith) lt in (put_else r.owner made last i (λ e. omega arith) ∙ y.0, y.1, y.2);
             duty_is = subst (DutyOk r.n m r.left r.leader id v.seen left.post) (sym free) tt;
+            open_is = tt;
             drained_is = λ i d. absurd (none i d);
           }) (record {
             numbers_are = o.numbers_are;
@@ -347,6 +356,7 @@ module _ {C T : Type 0} (hint packed : List ℕ → List Entry → ℕ) (g : Ske
             given_is = λ i. subst (λ l. Begins l (m.updaters i).given) (sym (blank_at (length v.sizes) i)) (begins_nil (m.updaters i).given);
             post_is = subst (λ z. PostOk r.n m owner' last v.seen v.sizes [] (Updater z blank_mine)) (sym number) (more, put_here r.owner made last, first.1, begins_nil v.seen, first.2, refl);
             duty_is = tt;
+            open_is = λ _ z. never_handed (hint r.numbers) m made (r.meets.each made more) (ap (λ (y : Mine). y.handed) (sym first.1)) (subst (λ j. (m.updaters j).word ≡ 0) number z);
             drained_is = λ i d. absurd (omega (arith, d.1));
           }) (λ j u apart e alive. owned_else r.n r.numbers r.name m r.left r.owner r.leader made id last j u first.0 apart (r.each_seat j u e alive)))
 
@@ -373,6 +383,7 @@ module _ {C T : Type 0} (hint packed : List ℕ → List Entry → ℕ) (g : Ske
             given_is = o.given_is;
             post_is = o.post_is;
             duty_is = o.duty_is;
+            open_is = open_neutral m m v.steps Split v.post (λ _ _. refl) (λ _ z. z) o.open_is;
             drained_is = o.drained_is;
           }) (record {
             numbers_are = o.numbers_are;
@@ -388,6 +399,7 @@ module _ {C T : Type 0} (hint packed : List ℕ → List Entry → ℕ) (g : Ske
             given_is = λ i. subst (λ l. Begins l (m.updaters i).given) (sym (blank_at (length v.sizes) i)) (begins_nil (m.updaters i).given);
             post_is = tt;
             duty_is = tt;
+            open_is = tt;
             drained_is = λ i d. absurd (omega (arith, d.1));
           }) (λ j u apart e alive. r.each_seat j u e alive))
 
@@ -423,6 +435,7 @@ module _ {C T : Type 0} (hint packed : List ℕ → List Entry → ℕ) (g : Ske
             given_is = λ i. merged_either (λ l. Begins l (m.updaters i).given) v.given w.given i (o.given_is i) (q.given_is i);
             post_is = post sizes both.grows;
             duty_is = duty_joined r.n m r.left r.leader id v.seen w.seen v.post v.duty o.duty_is;
+            open_is = open_neutral m m v.steps Join v.post (λ _ _. refl) (λ _ z. z) o.open_is;
             drained_is = drained;
           }) others)
 

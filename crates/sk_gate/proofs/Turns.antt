@@ -36,6 +36,7 @@ use Rattle.sk_gate.specs.Rule.{left_home, SlotOk, PostOk, DutyOk, DrainedOk, Kno
 use Rattle.sk_gate.specs.Moves.{LacksOwn, AsksAt, looked_mine, RenewsAt, WaitsAt, LooksAt, AdmitsAt, handed_mine, HandsAt, ResumesAt, TakesTurnAt, MissesTurnAt, TurnsAt, YieldsAt, FindsBatchAt, FindsAt, LeavesAt, PublishesAt, GivesBackAt}
 use Rattle.sk_gate.specs.Plays.{Sat, asked, IsRested, LookHand, looked, is_picked, rested_mine, rested, admitted, handed, turned, yielded, found, left_it, published, gave_back}
 use Rattle.sk_gate.specs.Hands.{StageHand, StageKnown, TrunkHand, LeadsBy, IsEmptyOwn, IsFullOwn, OwnHand, IsPost, Holds}
+use Rattle.sk_gate.proofs.Opened.{open_neutral}
 use Rattle.sk_gate.proofs.Known.{has_own, sizes_set, size_set, set_there, post_same, drained_same, stepped_knows, stepped_stays}
 use Rattle.sk_gate.proofs.Published.{published_seen}
 use Rattle.sk_gate.proofs.Common.{seats_stay, has_stays, Stays, SameUpdater, viewed, others_know, updater_step, propagator_step}
@@ -97,6 +98,7 @@ released n numbers name m left owner leader leader' j v free o = record {
   given_is = o.given_is;
   post_is = o.post_is;
   duty_is = duty v.duty o.duty_is;
+  open_is = o.open_is;
   drained_is = o.drained_is;
 }
   where
@@ -142,6 +144,7 @@ module _ {C T : Type 0} (hint packed : List ℕ → List Entry → ℕ) (g : Ske
         given_is = o.given_is;
         post_is = post_same r.n m m' r.owner id v.seen m.published v.sizes sizes' v.drained v.post (λ _. refl) own o.seen_is o.post_is;
         duty_is = (refl, ap (λ a. a + 1) (is ∙ ap (λ a. seat_in a v.post) (sym same_n)), refl, refl, refl);
+        open_is = open_neutral m m' v.steps (Turn 0) v.post (λ _ _. refl) (λ _ z. z) o.open_is;
         drained_is = λ j e. drained_same r.n m m' r.owner id (known_of v j) j (record { mine = refl; word = λ a. a }) (o.drained_is j e);
       } in record {
         n = r.n;
@@ -270,7 +273,7 @@ module _ {C T : Type 0} (hint packed : List ℕ → List Entry → ℕ) (g : Ske
         keeps,
         tt,
         subst (λ (y : ℕ). Rule record { words = set s.words (n + 1) y; homes = s.homes; views = set s.views id w }) refl
-            (viewed hint packed g k s r (n + 1) id v w at (stepped_knows r.n r.numbers r.name m r.left r.owner r.leader id v w.steps o) (stepped_stays r.n m v w.steps live)),
+            (viewed hint packed g k s r (n + 1) id v w at (stepped_knows r.n r.numbers r.name m r.left r.owner r.leader id v w.steps (open_neutral m m v.steps (Turn x) v.post (λ _ _. refl) (λ _ z. z) o.open_is) o) (stepped_stays r.n m v w.steps live)),
         (
           (
             (λ zero. absurd (ne zero)),
@@ -315,6 +318,7 @@ module _ {C T : Type 0} (hint packed : List ℕ → List Entry → ℕ) (g : Ske
         given_is = o.given_is;
         post_is = post_same r.n m m' r.owner id v.seen v.seen v.sizes v.sizes v.drained v.post (λ _. refl) (λ _ e. e) (begins_refl v.seen) o.post_is;
         duty_is = tt;
+        open_is = open_neutral m m' v.steps Yield v.post (λ _ _. refl) (λ _ z. z) o.open_is;
         drained_is = λ j e. drained_same r.n m m' r.owner id (known_of v j) j (record { mine = refl; word = λ a. a }) (o.drained_is j e);
       } in (
         w,

@@ -32,12 +32,13 @@ use Rattle.sk_gate.specs.declared.load.Trunk.{Trunk}
 use Rattle.sk_gate.specs.declared.load.Held.{Held}
 use Rattle.sk_gate.specs.declared.load.Load.TheVariants as load
 use Rattle.sk_gate.specs.Slots.{Slot, full, trunk, contents, room, Sketching, Telling, TellsList, ToldOk, HeldOk, TrunkOk}
-use Rattle.sk_gate.specs.Views.{known_of, given_of, size_of, mine_in, mine_of, seat_in, leads, stage_of, left_of, batch_in, batch_of, is_busy, MayYield, longer, SpeaksBy, SpeaksFor}
-use Rattle.sk_gate.specs.Rule.{left_home, SlotOk, PostOk, DutyOk, DrainedOk, Knows, Has, HasSeen, IsLed, HasGiven, Kept}
+use Rattle.sk_gate.specs.Views.{known_of, given_of, size_of, mine_in, mine_of, seat_in, leads, stage_of, left_of, batch_in, batch_of, is_busy, MayYield, longer, is_open, SpeaksBy, SpeaksFor}
+use Rattle.sk_gate.specs.Rule.{left_home, SlotOk, PostOk, DutyOk, OpenOk, DrainedOk, Knows, Has, HasSeen, IsLed, HasGiven, Kept}
 use Rattle.sk_gate.specs.Moves.{LacksOwn, AsksAt, looked_mine, RenewsAt, WaitsAt, LooksAt, AdmitsAt, handed_mine, HandsAt, ResumesAt, TakesTurnAt, MissesTurnAt, TurnsAt, YieldsAt, FindsBatchAt, FindsAt, LeavesAt, PublishesAt, GivesBackAt}
 use Rattle.sk_gate.specs.Plays.{Sat, asked, IsRested, LookHand, looked, is_picked, rested_mine, rested, admitted, handed, turned, yielded, found, left_it, published, gave_back}
 use Rattle.sk_gate.specs.Hands.{StageHand, StageKnown, TrunkHand, LeadsBy, IsEmptyOwn, IsFullOwn, OwnHand, IsPost, Holds}
 use Rattle.sk_gate.proofs.Published.{published_seen, entries_of}
+use Rattle.sk_gate.proofs.Opened.{open_neutral, open_told, open_shut}
 use Rattle.sk_gate.proofs.Common.{seats_stay, has_stays, Stays, SameUpdater, viewed, others_know, updater_step, propagator_step, at_within, bool_cases, index_within, longer_right, longer_left, longer_in, longer_same}
 
 -- a seat that has seen more
@@ -115,6 +116,7 @@ module _ {C T : Type 0} (hint packed : List ℕ → List Entry → ℕ) (g : Ske
           given_is = o.given_is;
           post_is = post_sees r.n m r.owner id v.seen h v.sizes v.drained v.post o.seen_is o.post_is;
           duty_is = duty_sees r.n m r.left r.leader id v.seen h v.post v.duty (λ _. refl) o.duty_is;
+          open_is = open_neutral m m v.steps (Ask x) v.post (λ _ _. refl) (λ _ z. z) o.open_is;
           drained_is = o.drained_is;
         }) (record { live = live; seen = λ _. refl; given = λ _ _ e. e; leads = λ e. e; speaks = λ _ t. t }),
         (
@@ -158,6 +160,7 @@ module _ {C T : Type 0} (hint packed : List ℕ → List Entry → ℕ) (g : Ske
           given_is = o.given_is;
           post_is = o.post_is;
           duty_is = o.duty_is;
+          open_is = open_told m m v.steps (Look i x) i x v.post (λ _ _. refl) (λ ne. absurd (ne closed)) (λ _ _ z. z) o.open_is;
           drained_is = o.drained_is;
         }) (record { live = live; seen = λ e. e; given = λ _ _ e. e; leads = λ e. e; speaks = λ _ t. t }),
         λ j _ at-j _. subst (λ a. LooksAt hint v x w a × LookHand k me x (w, me.1) a) (here j at-j) (
@@ -166,6 +169,7 @@ module _ {C T : Type 0} (hint packed : List ℕ → List Entry → ℕ) (g : Ske
             λ _. record {
               view = refl;
               unready = ap (λ (y : Mine). y.ready) own.2 ∙ ok.closed_ready z;
+              closed = ⊎_elim (λ (known : is_open i v.steps ≡ true). absurd (subst (OpenOk m v.steps) is o.open_is known z)) (λ e. e) (bool_cases (is_open i v.steps));
               more = subst (λ (y : Mine). length (entries_by i y.base) < length y.handed) (sym own.2) (let a = ok.closed_more z in let c = event.entries_by_longer i u.mine.base u.given ok.base_is in omega arith);
             },
           ),
@@ -190,6 +194,7 @@ module _ {C T : Type 0} (hint packed : List ℕ → List Entry → ℕ) (g : Ske
         given_is = λ a. each_put (λ c (y : CoarseUpdater). Begins (given_of v c) y.given) m.updaters i u' a (o.given_is i) (λ _. o.given_is a);
         post_is = (inside, own.1, ap (λ y. looked_mine y base) own.2 ∙ ap (λ (y : CoarseUpdater). y.mine) (sym (put_here m.updaters i u')), longer_right v.seen base m.published o.seen_is ok.given_is, b, own.5);
         duty_is = duty_same r.n i m m' r.left r.leader id v.seen (longer v.seen base) mine (looked_mine mine base) v.post v.duty is refl refl refl still o.duty_is;
+        open_is = λ _. subst (λ (y : CoarseUpdater). y.word ≢ 0) (sym (put_here m.updaters i u')) open_word;
         drained_is = λ a d. none_drained v.drained a own.5 d;
       } in
       let stays : Stays r.n m m' v w = record {
@@ -292,6 +297,7 @@ module _ {C T : Type 0} (hint packed : List ℕ → List Entry → ℕ) (g : Ske
               given_is = λ a. each_put (λ c (y : CoarseUpdater). Begins (given_of v c) y.given) m.updaters i u' a (o.given_is i) (λ _. o.given_is a);
               post_is = (inside, own.1, ap (λ (y : Mine). rested_mine y gone) own.2 ∙ ap (λ (y : CoarseUpdater). y.mine) (sym (put_here m.updaters i u')), own.3, b, own.5);
               duty_is = duty_same r.n i m m' r.left r.leader id v.seen v.seen mine (rested_mine mine gone) v.post v.duty is refl refl refl (λ e. e) o.duty_is;
+              open_is = λ _. subst (λ (y : CoarseUpdater). y.word ≢ 0) (sym (put_here m.updaters i u')) open_word;
               drained_is = λ a d. none_drained v.drained a own.5 d;
             })
             (record {
@@ -355,6 +361,7 @@ module _ {C T : Type 0} (hint packed : List ℕ → List Entry → ℕ) (g : Ske
                 own.5,
               );
               duty_is = duty_same r.n i m m' r.left r.leader id v.seen v.seen mine (looked_mine mine []) v.post v.duty is refl refl refl (λ e. e) o.duty_is;
+              open_is = λ _. subst (λ (y : CoarseUpdater). y.word ≢ 0) (sym (put_here m.updaters i u')) open_word;
               drained_is = λ a d. none_drained v.drained a own.5 d;
             })
             (record {
@@ -412,6 +419,7 @@ module _ {C T : Type 0} (hint packed : List ℕ → List Entry → ℕ) (g : Ske
               given_is = λ a. each_put (λ c (y : CoarseUpdater). Begins (given_of v c) y.given) m.updaters i u' a (o.given_is i) (λ _. o.given_is a);
               post_is = (inside, own.1, ap (λ (y : Mine). handed_mine y xs) own.2 ∙ ap (λ (y : CoarseUpdater). y.mine) (sym (put_here m.updaters i u')), own.3, b, own.5);
               duty_is = duty_same r.n i m m' r.left r.leader id v.seen v.seen mine (handed_mine mine xs) v.post v.duty is refl refl refl (λ e. e) o.duty_is;
+              open_is = λ e. absurd (true≢false (sym e ∙ open_shut i v.steps));
               drained_is = λ a d. none_drained v.drained a own.5 d;
             })
             (record {

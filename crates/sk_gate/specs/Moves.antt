@@ -11,7 +11,7 @@ use Rattle.sk_machine.specs.declared.views.Post.{Post}
 use Rattle.sk_machine.specs.declared.views.Post.TheVariants.{Guest, Root, Updater}
 use Rattle.sk_machine.specs.declared.views.Duty.TheVariants.{Free, Leads}
 use Rattle.sk_machine.specs.declared.views.View.{View}
-use Rattle.sk_gate.specs.Views.{known_of, size_of, mine_of, leads, stage_of, left_of, batch_of, longer}
+use Rattle.sk_gate.specs.Views.{known_of, size_of, mine_of, leads, stage_of, left_of, batch_of, longer, is_open}
 
 -- ---- any seat
 
@@ -66,6 +66,7 @@ pub record RenewsAt (hint : List ℕ → List Entry → ℕ) (v : View) (word : 
 pub record WaitsAt (v : View) (word : ℕ) (w : View) (i : ℕ) : Type 0 where
   pub view : w ≡ record v { steps = v.steps ++ Look i word ∷ [] }
   pub unready : (mine_of v).ready ≡ false
+  pub closed : is_open i v.steps ≡ false
   pub more : length (entries_by i (mine_of v).base) < length (mine_of v).handed
 
 abbrev pub LooksAt : (List ℕ → List Entry → ℕ) → View → ℕ → View → ℕ → Type 0

@@ -9,6 +9,7 @@ use Rattle.sk_model.specs.Missing.{Begins}
 use Rattle.sk_compose.specs.declared.buffer.Parcel.{Parcel}
 use Rattle.sk_machine.specs.Coarse.{CoarseUpdater, Coarse, At, Meets, blank_mine}
 use Rattle.sk_machine.specs.declared.views.Stage.{Stage}
+use Rattle.sk_machine.specs.declared.views.Move.{Move}
 use Rattle.sk_machine.specs.declared.views.Post.{Post}
 use Rattle.sk_machine.specs.declared.views.Post.TheVariants.{Guest, Root, Updater}
 use Rattle.sk_machine.specs.declared.views.Duty.{Duty}
@@ -16,7 +17,7 @@ use Rattle.sk_machine.specs.declared.views.Duty.TheVariants.{Free, Leads}
 use Rattle.sk_machine.specs.declared.views.View.{View}
 use Rattle.sk_gate.specs.declared.load.Trunk.{Trunk}
 use Rattle.sk_gate.specs.Slots.{Slot, full, trunk, word_of, turn_word, contents, room, Sketching, Telling, ToldOk, TrunkOk}
-use Rattle.sk_gate.specs.Views.{known_of, given_of, size_of, seat_in, leads, is_busy, SpeaksFor}
+use Rattle.sk_gate.specs.Views.{known_of, given_of, size_of, seat_in, leads, is_busy, is_open, SpeaksFor}
 
 -- ---- slots
 
@@ -51,6 +52,12 @@ module _ (n : ℕ) (m : Coarse) (left : Bool) (leader j : ℕ) (seen : List Entr
   DutyOk Free = Unit {0}
   DutyOk (Leads stage its) = (leader ≡ j) × (m.turn ≡ seat_in n post + 1) × (stage ≡ m.stage) × (its ≡ left) × (seen ≡ m.published)
 
+-- what an updater's seat knows of its word by its own steps
+abbrev pub OpenOk : Coarse → List Move → Post → Type 0
+OpenOk m steps Guest = Unit {0}
+OpenOk m steps (Root made) = Unit {0}
+OpenOk m steps (Updater i mine) = is_open i steps ≡ true → (m.updaters i).word ≢ 0
+
 -- what it knows of an updater whose seat was joined into it
 pub record DrainedOk (n : ℕ) (m : Coarse) (owner : ℕ → ℕ) (j : ℕ) (known : List ℕ) (i : ℕ) : Type 0 where
   pub within : i < n
@@ -73,6 +80,7 @@ pub record Knows (n : ℕ) (numbers name : List ℕ) (m : Coarse) (left : Bool) 
   pub given_is : (i : ℕ) → Begins (given_of v i) (m.updaters i).given
   pub post_is : PostOk n m owner j v.seen v.sizes v.drained v.post
   pub duty_is : DutyOk n m left leader j v.seen v.post v.duty
+  pub open_is : OpenOk m v.steps v.post
   pub drained_is : (i : ℕ) → Contains v.drained i → DrainedOk n m owner j (known_of v i) i
 
 -- a view has this place, and says this

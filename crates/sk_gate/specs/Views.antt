@@ -1,12 +1,13 @@
 -- What a view says, and the views that a split and a join give.
-use Rattle.std.specs.Prelude.{◌≡◌, ◌≢◌, ◌⊎◌, ℕ, zero, suc, ◌+◌, ◌≤◌, ◌==◌, nat_lt, if◌then◌else◌, List, [], ◌∷◌, ◌++◌, length, replicate, Bool, true, false, Contains, slice_index, slice_index_or, slice_set}
+use Rattle.std.specs.Prelude.{◌≡◌, ◌≢◌, ◌⊎◌, ℕ, zero, suc, ◌+◌, ◌≤◌, ◌==◌, nat_lt, if◌then◌else◌, List, [], ◌∷◌, ◌++◌, length, replicate, Bool, true, false, not, fold, Contains, slice_index, slice_index_or, slice_set}
 use Rattle.sk_model.specs.Entries.{Entry}
 use Rattle.sk_compose.specs.declared.buffer.Parcel.{Parcel}
 use Rattle.sk_machine.specs.Coarse.{blank_mine}
 use Rattle.sk_machine.specs.declared.views.Mine.{Mine}
 use Rattle.sk_machine.specs.declared.views.Stage.{Stage}
 use Rattle.sk_machine.specs.declared.views.Stage.TheVariants.{Idle, Busy, Published}
-use Rattle.sk_machine.specs.declared.views.Move.TheVariants.{Split, Join}
+use Rattle.sk_machine.specs.declared.views.Move.{Move}
+use Rattle.sk_machine.specs.declared.views.Move.TheVariants.{Look, Hand, Find, Publish, GiveBack, Ask, Split, Join, Turn, Yield}
 use Rattle.sk_machine.specs.declared.views.Post.{Post}
 use Rattle.sk_machine.specs.declared.views.Post.TheVariants.{Guest, Root, Updater}
 use Rattle.sk_machine.specs.declared.views.Duty.{Duty}
@@ -103,6 +104,25 @@ abbrev pub sizes_of : {T : Type 0} → ℕ → List (Parcel T) → List ℕ
 sizes_of admitted [] = []
 sizes_of zero (p ∷ ps) = 0 ∷ sizes_of zero ps
 sizes_of (suc admitted) (p ∷ ps) = p.buffer.capacity ∷ sizes_of admitted ps
+
+-- ---- steps
+
+-- whether, by its own last steps, updater i knows that its word is not 0: a look, a find or a give_back there told
+-- it so, and it has handed nothing over since
+abbrev pub told_open : ℕ → Bool → Move → Bool
+told_open i before (Look k word) = if k == i then not (word == 0) else before
+told_open i before (Hand k) = if k == i then false else before
+told_open i before (Find k word) = if k == i then not (word == 0) else before
+told_open i before (Publish word count) = before
+told_open i before (GiveBack k word) = if k == i then not (word == 0) else before
+told_open i before (Ask word) = before
+told_open i before Split = before
+told_open i before Join = before
+told_open i before (Turn word) = before
+told_open i before Yield = before
+
+abbrev pub is_open : ℕ → List Move → Bool
+is_open i steps = fold (told_open i) false steps
 
 -- ---- views
 
