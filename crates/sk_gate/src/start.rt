@@ -33,7 +33,8 @@ pub struct Made<C: Composable> {
 fn first_words<C: Composable>(alloc: Global, n: u32, global: &C) -> Result<Vec<u64>, OutOfMemory>
     requires most { n ≤ 64 }
     requires fresh { C.is_of global.now [] }
-    ensures { IfOk result (λ words. AreFirstWords (C.packed_of (C.numbers global.now) []) (C.hint_of (C.numbers global.now) []) n words.items) }
+    ensures { IfOk result (λ words. AreFirstWords (C.packed_of (C.numbers global.now) [])
+        (C.hint_of (C.numbers global.now) []) n words.items) }
 {
     let mut words = Vec::from_elem(alloc, global.hint(), n as usize + 2)?;
     words[0] = global.packed();
@@ -48,7 +49,8 @@ fn first_slots<C: Composable>(
     global: C,
 ) -> Result<Vec<Slot<C>>, OutOfMemory>
     requires few { length parcels.items ≤ 64 }
-    ensures { IfOk result (λ slots. slots.items ≡ map (λ p. full p) parcels.items ++ trunk (record { global = global; held = None }) ∷ []) }
+    ensures { IfOk result (λ slots. slots.items
+        ≡ map (λ p. full p) parcels.items ++ trunk (record { global = global; held = None }) ∷ []) }
 {
     let mut slots = Vec::with_capacity(alloc, parcels.len() + 1)?;
     'parcel: for parcel in parcels {
@@ -76,7 +78,8 @@ fn new_table<C: Composable>(
     ensures table { IfOk result (λ made. made.1.table_id ≡ (arc_value made.0).shared.table_id) }
     ensures words { IfOk result (λ made. made.1.table_id.words ≡ n + 2) }
     ensures slots { IfOk result (λ made. made.1.table_id.slots ≡ n + 1) }
-    ensures me { IfOk result (λ made. made.1.me ≡ (blank_view (sizes_of admitted parcels.items) (C.numbers global) (C.name global) (Root 0) 0, [])) }
+    ensures me { IfOk result (λ made. made.1.me
+        ≡ (blank_view (sizes_of admitted parcels.items) (C.numbers global) (C.name global) (Root 0) 0, [])) }
 {
     let words = first_words(alloc, n, &global)?;
     let about = About {
@@ -107,7 +110,9 @@ fn next_updater<C: Composable>(
     requires blank { IsBlank seat.old.me.0 (Root number) number seat.old.me }
     ensures table { seat.new.table_id ≡ seat.old.table_id }
     ensures first { IfOk result (λ _. IsBlank seat.old.me.0 (Root (number + 1)) (number + 1) seat.new.me) }
-    ensures updater { IfOk result (λ updater. updater ≡ empty_handed (blank_of seat.old.me.0 (Updater number blank_mine) (number + 1)) seat.old.table_id number) }
+    ensures updater { IfOk result (λ updater. updater
+        ≡ empty_handed (blank_of seat.old.me.0 (Updater number blank_mine) (number + 1))
+        seat.old.table_id number) }
 {
     let hub = Arc::try_clone(hub)?;
     let table = &hub;
@@ -160,7 +165,8 @@ fn first_token<C: Composable>(
     requires blank { IsBlank seat.old.me.0 (Root n) n seat.old.me }
     ensures table { seat.new.table_id ≡ seat.old.table_id }
     ensures first { IfOk result (λ _. IsBlank seat.old.me.0 (Root n) (n + 1) seat.new.me) }
-    ensures token { IfOk result (λ token. token ≡ record { view = blank_of seat.old.me.0 Guest (n + 1); table = seat.old.table_id }) }
+    ensures token { IfOk result (λ token. token
+        ≡ record { view = blank_of seat.old.me.0 Guest (n + 1); table = seat.old.table_id }) }
 {
     let hub = Arc::try_clone(hub)?;
     let table = &hub;
@@ -185,7 +191,8 @@ pub fn make<C: Composable>(
     requires rooms { All (λ p. 1 ≤ p.buffer.capacity) parcels.items }
     requires placeholders { All (λ p. p.buffer.capacity ≡ 1) (drop admitted parcels.items) }
     requires fresh { C.is_of global [] }
-    ensures { IfOk result (λ made. IsMade n (sizes_of admitted parcels.items) (C.numbers global) (C.name global) made.heart made.updaters.items made.token) }
+    ensures { IfOk result (λ made. IsMade n (sizes_of admitted parcels.items)
+        (C.numbers global) (C.name global) made.heart made.updaters.items made.token) }
 {
     let (hub, mut seat) = new_table(alloc, n, admitted, global, parcels)?;
     let updaters = all_updaters(alloc, &hub, &mut seat, n)?;
