@@ -23,3 +23,6 @@ pub use seat::{HeartSeat, OfHeart, OfUpdater, Propagator, Role, UpdaterSeat};
 pub use sk_model::OutOfMemory;
 pub use start::{Made, make};
 pub use token::{NoteSeat, TokenSeat};
+
+#[cfg(test)]
+mod tests;
