@@ -133,6 +133,10 @@ resumed_own v w Idle i t = (ap length t.0, λ _. ap (λ l. slice_index l i) t.0)
 resumed_own v w (Busy j batch) i t = (ap length t.1 ∙ length-set v.sizes j (size_of w j), λ there. ap (λ l. slice_index l i) t.1 ∙ sized_own v.sizes j (size_of w j) i t.0 t.5 there)
 resumed_own v w (Published j) i t = absurd t
 
+-- a turn keeps how many sizes there are
+pub taken_sizes : (v w : View) → TakesTurnAt v w → length w.sizes ≡ length v.sizes
+taken_sizes v w told = (resumed_own v w (stage_of w.duty) 0 told.resumes).0
+
 -- ---- over each call
 
 -- of a seat that is seen as `old`

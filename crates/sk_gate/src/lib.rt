@@ -25,4 +25,6 @@ pub use start::{Made, make};
 pub use token::{NoteSeat, TokenSeat};
 
 #[cfg(test)]
+mod round_tests;
+#[cfg(test)]
 mod tests;

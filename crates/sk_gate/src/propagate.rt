@@ -23,6 +23,7 @@ impl<C: Composable, R: Role> Propagator<C, R> {
         ensures err { IfErr result (λ other. MissesTurnAt self.old.view (other + 1) self.new.view) }
         ensures seat { self.new ≡ record self.old { view = self.new.view } }
         ensures slots { (self.new.filled ≡ false) × (self.new.lifted ≡ false) }
+        ensures sizes { length self.new.view.sizes ≡ length self.old.view.sizes }
     {
         let hub = &self.hub;
         let word = self.updaters as usize + 1;

@@ -147,6 +147,8 @@ pub fn serve<C: Composable, R: Role, W: Wait>(
     ensures refused { IfErr result (λ _. Refused seat.old.view seat.new.view) }
     ensures cause { IfErr result (λ _. IsTrue C.TAKES_MEMORY) }
     ensures seat { seat.new ≡ record seat.old { view = seat.new.view } }
+    ensures free { leads seat.new.view.duty ≡ false }
+    ensures sizes { length seat.new.view.sizes ≡ length seat.old.view.sizes }
 {
     if let Err(other) = seat.turn() {
         return Ok(Served::Elsewhere(other));

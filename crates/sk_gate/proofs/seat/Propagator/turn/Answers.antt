@@ -1,8 +1,8 @@
-use Rattle.std.proofs.Common.{rules, ◌≡◌, ◌+◌, ◌∙◌, not, ap, refl}
+use Rattle.std.proofs.Common.{rules, ◌≡◌, ◌+◌, ◌∙◌, not, length, ap, refl}
 use Rattle.sk_gate.specs.Slots.{sketching, telling}
 use Rattle.sk_gate.specs.Hands.{has_trunk}
 use Rattle.sk_gate.proofs.Turns.{turns}
-use Rattle.sk_gate.proofs.Leading.{seat_at, turned_next, missed_next}
+use Rattle.sk_gate.proofs.Leading.{seat_at, view_is, taken_sizes, turned_next, missed_next}
 use Rattle.sk_gate.proofs.seat.Propagator.turn.Goals as goal
 
 pub compare_exchange-found-requires : goal.compare_exchange-found-requires
@@ -36,3 +36,7 @@ returns-clause-seat g c = let k = g.C.Composable in let i = c.self.invariant in 
 
 pub returns-clause-slots : goal.returns-clause-slots
 returns-clause-slots g c = let t = c.compare_exchange-found.ensures.2.2 c.if-found-ne0.false _ refl in (refl, ap (λ l. not (has_trunk l)) t.1)
+
+pub returns-clause-sizes : goal.returns-clause-sizes
+returns-clause-sizes g c = let view = view_is (sketching g.C.Composable.is_of g.C.Composable.numbers g.C.Composable.name) (telling g.C.Composable.tells g.C.Composable.told_name g.C.Composable.told_of) c.self.invariant.4 c.self.view_is in
+    taken_sizes _ _ (c.compare_exchange-found.ensures.2.0.0 c.if-found-ne0.false) ∙ ap (λ v. length v.sizes) view
