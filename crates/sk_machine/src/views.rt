@@ -25,7 +25,8 @@ pub enum Stage {
     Published(u64),
 }
 
-/// A step on a word, with the updater's number where the word is an updater's, and what was loaded or found.
+/// A step on a word, with the updater's number where the word is an updater's, and what was loaded, found or
+/// stored, where that is not 0 in any case.
 pub enum Move {
     Look(u64, u64),
     Hand(u64),
@@ -39,7 +40,7 @@ pub enum Move {
     /// The step's load is not seen.
     Join,
     Turn(u64),
-    Yield(u64),
+    Yield,
 }
 
 /// Whose seat it is.
@@ -52,10 +53,11 @@ pub enum Post {
     Updater(u64, Mine),
 }
 
-/// Whether the seat propagates.
+/// Whether the seat propagates: where it is, and whether the slot of the updater that it is at lies at home,
+/// without a parcel.
 pub enum Duty {
     Free,
-    Leads(Stage),
+    Leads(Stage, bool),
 }
 
 /// What a seat knows.
@@ -64,6 +66,8 @@ pub struct View {
     pub live: bool,
     /// The longest published list that it has seen.
     pub seen: [(u64, u64); 0],
+    /// What it had seen, and what the other had, where it took another seat in.
+    pub heard: [[(u64, u64); 0]; 0],
     /// For each updater what the seat knows that it handed over.
     pub known: [[u64; 0]; 0],
     /// Its own steps, in order.

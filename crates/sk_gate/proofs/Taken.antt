@@ -1,0 +1,107 @@
+-- The heart takes in an updater's seat.
+use Rattle.std.proofs.Common.{◌≡◌, ◌≢◌, ◌⊎◌, ℕ, ◌+◌, ◌<◌, Bool, true, false, true≢false, List, [], ◌∷◌, ◌++◌, length, Some, sym, refl, ap, ◌∙◌, subst, ⊎_elim, arith}
+use Rattle.atomic_table.specs.Table.{State, Act, Valid, Allows, step, stepped, carried_after}
+use mathlib.Core.Option.{none}
+use Rattle.atomic_table.specs.Seated.{TableId}
+use Rattle.sk_model.specs.Entries.{Entry}
+use Rattle.sk_compose.specs.declared.buffer.Parcel.{Parcel}
+use Rattle.sk_machine.specs.declared.views.Mine.{Mine}
+use Rattle.sk_machine.specs.declared.views.Move.TheVariants.{Look, Join}
+use Rattle.sk_machine.specs.declared.views.Post.{Post}
+use Rattle.sk_machine.specs.declared.views.Post.TheVariants.{Guest, Root, Updater}
+use Rattle.sk_machine.specs.declared.views.Duty.{Duty}
+use Rattle.sk_machine.specs.declared.views.Duty.TheVariants.{Free, Leads}
+use Rattle.sk_machine.specs.declared.views.View.{View}
+use Rattle.sk_gate.specs.Slots.{Slot, full, contents, Sketching, Telling, TellsList}
+use Rattle.sk_gate.specs.Views.{size_of, mine_in, mine_of, leads, seen_with, known_with, drained_with, sizes_merged, after_join}
+use Rattle.sk_gate.specs.Rule.{Kept}
+use Rattle.sk_gate.specs.Plays.{Sat, is_picked, rested_mine, rested}
+use Rattle.sk_gate.specs.Hands.{Standing, standing_of, own_in, LeadsBy, OwnHand, IsPost, Holds}
+use Rattle.sk_gate.proofs.Merged.{sizes_length, sizes_either}
+use Rattle.sk_gate.proofs.Standing.{own_shown}
+use Rattle.sk_gate.proofs.Own.{own_at, empty_at, leads_sizes}
+use Rattle.sk_gate.proofs.Updaters.{rests}
+
+module _ {C T : Type 0} (g : Sketching C) (k : Telling T) where
+  -- who does not lead has none of the propagator's slots
+  nothing_leads : (v : View) (n : ℕ) (d : Duty) (first second : List (ℕ × Slot C T)) → leads d ≡ false → LeadsBy v g k n d first second → (first ≡ []) × (second ≡ []) × (d ≡ Free)
+  nothing_leads v n Free first second free t = (t.0, t.1, refl)
+  nothing_leads v n (Leads stage left) first second free t = absurd (true≢false free)
+
+  -- an updater that is ready, does not lead and has not swapped: it has one slot, with an empty parcel of its room
+  pub record Resting (n number : ℕ) (m : Sat C T) : Type 0 where
+    pub parcel : Parcel T
+    pub hand : m.1 ≡ (number, full parcel) ∷ []
+    pub empty : parcel.buffer ≡ contents [] (size_of m.0 number)
+    pub told : (t : T) → parcel.told ≡ Some t → ((mine_of m.0).handed ≢ []) × TellsList k m.0.name t (mine_of m.0).base
+    pub there : size_of m.0 number ≢ 0
+    pub free : m.0.duty ≡ Free
+
+  pub resting : (n number front : ℕ) (own : Bool) (m : Sat C T) (table : TableId) (now : Standing) → Holds g k false n number front own m → standing_of m.0 table number front m.1 ≡ now → leads now.view.duty ≡ false → (mine_of now.view).ready ≡ true
+      → now.own.items ≡ [] → now.own.capacity ≡ size_of now.view now.number → Resting n number m
+  resting n number front own m table now h is free ready unswapped capacity =
+      let v : View = m.0 in let same : v ≡ now.view = ap (λ (s : Standing). s.view) is in let on : own ≡ true = h.own_is ∙ ap (λ (x : View). (mine_of x).ready) same ∙ ready in
+      let p = own_at g k false n number front own m h on in let none_led = nothing_leads v n v.duty h.first h.second (ap (λ (x : View). leads x.duty) same ∙ free) h.leading in
+      let shown : own_in h.third ≡ now.own = own_shown g k false n number front own m table now h is in
+      let items : p.0.buffer.items ≡ [] = ap (λ l. (own_in l).items) (sym p.1) ∙ ap (λ o. o.items) shown ∙ unswapped in
+      let most : p.0.buffer.capacity ≡ size_of v number = ap (λ l. (own_in l).capacity) (sym p.1) ∙ ap (λ o. o.capacity) shown ∙ capacity ∙ (λ a. size_of (sym same a) (sym (ap (λ (s : Standing). s.number) is) a)) in record {
+        parcel = p.0;
+        hand = p.2 ∙ (λ a. (none_led.0 a ++ none_led.1 a) ++ (number, full p.0) ∷ []);
+        empty = λ a. record { items = items a; capacity = most a };
+        told = (empty_at g k v number p.0 p.3 items).1;
+        there = p.4;
+        free = none_led.2;
+      }
+
+-- the view of its seat after it has given its slot back
+abbrev pub rested_view : View → ℕ → ℕ → Bool → View
+rested_view v i r picked = record v { steps = v.steps ++ Look i r ∷ []; post = Updater i (rested_mine (mine_of v) picked) }
+
+-- what its seat says then
+pub record Rests (w : View) (i : ℕ) (w' : View) : Type 0 where
+  pub live : w'.live ≡ true
+  pub post : w'.post ≡ Updater i (mine_of w')
+  pub rested : (mine_of w').rested ≡ true
+  pub duty : w'.duty ≡ Free
+  pub sizes : w'.sizes ≡ w.sizes
+
+pub rested_says : (w : View) (i r : ℕ) (picked : Bool) (w' : View) → w' ≡ rested_view w i r picked → w.live ≡ true → w.duty ≡ Free → Rests w i w'
+rested_says w i r picked w' e live free = record {
+  live = ap (λ (x : View). x.live) e ∙ live;
+  post = ap (λ (x : View). x.post) e ∙ ap (Updater i) (sym (ap mine_of e));
+  rested = ap (λ (x : View). (mine_of x).rested) e;
+  duty = ap (λ (x : View). x.duty) e ∙ free;
+  sizes = ap (λ (x : View). x.sizes) e;
+}
+
+-- what is taken in does not depend on that
+pub same_join : (v w : View) (i r : ℕ) (picked : Bool) (w' : View) → w' ≡ rested_view w i r picked → w.post ≡ Updater i (mine_of w) → after_join v w' ≡ after_join v w
+same_join v w i r picked w' e is = ap (after_join v) e ∙ λ a. record (after_join v w) { known = known_with v.known w.known (sym is a); drained = drained_with v.drained (sym is a) }
+
+module _ {C T : Type 0} (hint packed : List ℕ → List Entry → ℕ) (g : Sketching C) (k : Telling T) where
+  pub gives_up : (slots id n number : ℕ) (m : Sat C T) → slots ≡ n + 1 → m.0.live ≡ true → m.0.post ≡ Updater number (mine_of m.0) → (mine_of m.0).ready ≡ true → (x : Resting g k n number m)
+      → Allows (Kept hint packed g k) slots id m (number + 1) (λ x. x) (rested (step slots (number + 1) 0 0 none) m)
+  gives_up slots id n number m size live is ready x = subst (λ (hand : List (ℕ × Slot C T)). Allows (Kept hint packed g k) slots id (m.0, hand) (number + 1) (λ x. x) (rested (step slots (number + 1) 0 0 none) (m.0, hand))) (sym x.hand)
+      (rests hint packed g k slots id n m.0 number x.parcel [] size live is ready x.there x.empty x.told)
+
+module _ {C T : Type 0} (g : Sketching C) (k : Telling T) where
+  -- what stays true of the heart's slots
+  pub taken_holds : (n number front : ℕ) (own : Bool) (m : Sat C T) (w : View) → Holds g k true n number front own m → length w.sizes ≡ n → Holds g k true n number front own (after_join m.0 w, m.1)
+  taken_holds n number front own m w h long = let v : View = m.0 in let off : own ≡ false = h.own_is ∙ ap (λ (p : Post). (mine_in p).ready) h.post.0 in record {
+    live = h.live;
+    sized = sizes_length n v.sizes w.sizes h.sized long;
+    post = h.post;
+    first = h.first;
+    second = h.second;
+    third = h.third;
+    hand = h.hand;
+    counted = h.counted;
+    leading = lead v.duty refl h.leading;
+    own_is = h.own_is;
+    owned = subst (λ b. OwnHand (after_join v w) k number b h.third) (sym off) (subst (λ b. OwnHand v k number b h.third) off h.owned);
+  }
+    where
+      lead : (d : Duty) → m.0.duty ≡ d → LeadsBy m.0 g k n d h.first h.second → LeadsBy (after_join m.0 w) g k n d h.first h.second
+      lead Free e t = t
+      lead (Leads stage left) e t = leads_sizes g k m.0 (after_join m.0 w) n (Leads stage left) h.first h.second (ap (seen_with m.0.seen w.seen) e) refl refl (sizes_length n m.0.sizes w.sizes h.sized long ∙ sym h.sized)
+          (λ i there. sizes_either (λ x. x ≡ size_of m.0 i) m.0.sizes w.sizes i (λ _. refl) (λ z. absurd (there z))) t

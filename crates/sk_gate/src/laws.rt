@@ -1,0 +1,13 @@
+//! What the rule of the table shows.
+ghost use Rattle.sk_gate.specs.Slots.{sketching, telling};
+ghost use Rattle.sk_gate.specs.Shows.{AlwaysShown};
+
+use sk_compose::Composable;
+use std::marker::PhantomData;
+
+/// At every moment between two steps words, parcels and trunk at home, and views show a state of the whole
+/// machine that meets its whole invariant.
+pub fn a_table_shows_the_invariant<C: Composable>(_sketch: PhantomData<C>)
+    ensures { AlwaysShown C.hint_of C.packed_of
+        (sketching C.is_of C.numbers C.name) (telling C.tells C.told_name C.told_of) }
+{}

@@ -1,0 +1,30 @@
+//! The shared table of a hub: its rule, its steps, and the seats that take them.
+#![tactic(auto)]
+
+mod ask;
+mod heart;
+mod late;
+pub mod laws;
+mod load;
+mod plays;
+mod propagate;
+mod round;
+mod rule;
+mod seat;
+mod slots;
+mod start;
+mod token;
+mod updater;
+
+pub use late::first_batch;
+pub use load::{Held, Load, Trunk};
+pub use round::{Served, serve};
+pub use seat::{HeartSeat, OfHeart, OfUpdater, Propagator, Role, UpdaterSeat};
+pub use sk_model::OutOfMemory;
+pub use start::{Made, make};
+pub use token::{NoteSeat, TokenSeat};
+
+#[cfg(test)]
+mod round_tests;
+#[cfg(test)]
+mod tests;

@@ -1,0 +1,162 @@
+ghost use Rattle.std.specs.Prelude.{◌≡◌, ◌<◌, [], ◌∷◌, false, length, None, IfOk};
+ghost use Rattle.sk_machine.specs.Coarse.{blank_mine};
+ghost use Rattle.sk_machine.specs.declared.views.Post.TheVariants.{Guest, Root, Updater};
+ghost use Rattle.sk_gate.specs.Views.{size_of, mine_of, leads};
+ghost use Rattle.sk_gate.specs.Hands.{no_own};
+ghost use Rattle.sk_gate.specs.Starts.{blank_view, empty_handed};
+
+use super::*;
+use sk_compose::{Buffer, Parcel};
+use sk_theta::{ITEM_END, Reply, Theta, unpack};
+use std::alloc::Global;
+use std::sync::Wait;
+use std::test::Fail;
+use std::thread;
+
+// The seats of a table with one updater, whose buffers have room for one item.
+struct Seats {
+    heart: HeartSeat<Theta>,
+    updater: UpdaterSeat<Theta>,
+    token: TokenSeat<Theta>,
+}
+
+fn parcel(alloc: Global) -> Result<Parcel<()>, OutOfMemory>
+    ensures items { IfOk result (λ p. p.buffer.items ≡ []) }
+    ensures capacity { IfOk result (λ p. p.buffer.capacity ≡ 1) }
+    ensures told { IfOk result (λ p. p.told ≡ None) }
+{
+    let buffer = Buffer::new(alloc, 1)?;
+    Ok(Parcel { buffer, told: None })
+}
+
+fn full_parcel(alloc: Global, item: u64) -> Result<Parcel<()>, OutOfMemory>
+    requires item { item < 281474976710656 }
+    ensures items { IfOk result (λ p. p.buffer.items ≡ item ∷ []) }
+    ensures capacity { IfOk result (λ p. p.buffer.capacity ≡ 1) }
+{
+    let mut full = parcel(alloc)?;
+    full.buffer.push(item);
+    Ok(full)
+}
+
+#[tactic(auto, unfolding(sk_model::specs::Entries::items_of_entries))]
+fn one_updater(alloc: Global) -> Result<Seats, OutOfMemory>
+    ensures heart { IfOk result (λ seats. seats.heart ≡ empty_handed (blank_view (1 ∷ []) (2 ∷ []) [] (Root 1) 2) seats.heart.table 1) }
+    ensures token { IfOk result (λ seats. seats.token.table ≡ seats.heart.table) }
+    ensures updater { IfOk result (λ seats. seats.updater ≡ empty_handed (blank_view (1 ∷ []) (2 ∷ []) [] (Updater 0 blank_mine) 1) seats.heart.table 0) }
+{
+    let global = Theta::new(alloc, 2)?;
+    let parcels = vec![in alloc; parcel(alloc)?]?;
+    let Made {
+        heart,
+        mut updaters,
+        token,
+    } = make(alloc, 1, 1, global, parcels)?;
+    let updater = updaters.remove(0);
+    Ok(Seats {
+        heart,
+        updater,
+        token,
+    })
+}
+
+// Hands a batch over, if the word is not 0. Gives the word.
+fn hand_over(seat: &mut UpdaterSeat<Theta>, full: Parcel<()>) -> u64
+    requires mine { mine_of seat.old.view ≡ blank_mine }
+    requires own { seat.old.own ≡ no_own }
+    requires size { size_of seat.old.view seat.old.number ≡ 1 }
+    requires batch { length full.buffer.items ≡ 1 }
+    requires capacity { full.buffer.capacity ≡ 1 }
+{
+    let word = seat.look();
+    if word != 0 {
+        seat.swap(full);
+        seat.hand();
+    }
+    word
+}
+
+// Serves the updater until a batch was merged, and gives its length.
+fn serve_until_merged<R: Wait>(rt: &R, heart: &mut HeartSeat<Theta>) -> u32
+    requires free { leads heart.old.view.duty ≡ false }
+    requires within { 0 < length heart.old.view.sizes }
+{
+    'turn: for _ in 0..1_000_000 {
+        if let Ok(Served::Merged(count)) = serve(rt, heart, 0) {
+            return count;
+        }
+    }
+    0
+}
+
+#[test]
+fn a_batch_is_handed_over_and_published(rt: HostRuntime) -> Result<(), Fail> {
+    let Seats {
+        mut heart,
+        mut updater,
+        mut token,
+    } = one_updater(rt.alloc())?;
+    let nothing = Reply {
+        count: 0,
+        theta: ITEM_END,
+    };
+    assert_eq!(rt; unpack(token.ask()), nothing);
+    let full = full_parcel(rt.alloc(), 5)?;
+    assert_eq!(rt; hand_over(&mut updater, full), 281_474_976_710_656);
+    assert_eq!(rt; unpack(updater.ask()), nothing);
+    assert_eq!(rt; serve_until_merged(&rt, &mut heart), 1);
+    let one = Reply {
+        count: 1,
+        theta: ITEM_END,
+    };
+    assert_eq!(rt; unpack(token.ask()), one);
+    assert_eq!(rt; unpack(updater.ask()), one);
+    Ok(())
+}
+
+#[test]
+fn a_batch_crosses_threads(rt: HostRuntime) -> Result<(), Fail> {
+    let Seats {
+        mut heart,
+        mut updater,
+        mut token,
+    } = one_updater(rt.alloc())?;
+    let full = full_parcel(rt.alloc(), 5)?;
+    let (word, count) = thread::join(
+        &rt,
+        || hand_over(&mut updater, full),
+        || serve_until_merged(&rt, &mut heart),
+    );
+    assert_eq!(rt; (word, count), (281_474_976_710_656, 1));
+    assert_eq!(rt; unpack(token.ask()).count, 1);
+    Ok(())
+}
+
+#[test]
+fn one_seat_has_the_turn(rt: HostRuntime) -> Result<(), Fail> {
+    let Seats {
+        mut heart,
+        mut updater,
+        token: _,
+    } = one_updater(rt.alloc())?;
+    assert!(rt; heart.turn().is_ok());
+    let other = updater.turn();
+    assert_eq!(rt; other, Err(1));
+    heart.yield_turn();
+    assert!(rt; updater.turn().is_ok());
+    Ok(())
+}
+
+#[test]
+fn notes_meet(rt: HostRuntime) -> Result<(), Fail> {
+    let Seats {
+        heart: _,
+        mut updater,
+        mut token,
+    } = one_updater(rt.alloc())?;
+    let mut second = token.split()?;
+    let note = updater.split();
+    second.join(note);
+    assert_eq!(rt; token.ask(), second.ask());
+    Ok(())
+}
