@@ -1,19 +1,18 @@
 -- What the lemmas on single steps share: views that stay, and a rule that is kept where little changes.
-use Rattle.std.proofs.Common.{◌≡◌, ◌≢◌, ◌⊎◌, ℕ, zero, suc, ◌+◌, ◌<◌, ◌≤◌, Bool, true, false, List, [], ◌∷◌, ◌++◌, length, get_or, set, Contains, Option, Some, None, sym, refl, ap, ◌∙◌, subst, ⊎_elim, inl, inr, arith, nat_lt, le-ltb, lt-ltb, if◌then◌else◌, length-set, get_or-set_other, get_or-set_same}
-use Rattle.std.specs.Prelude.{slice_index, slice_index_or}
+use Rattle.std.proofs.Common.{◌≡◌, ◌≢◌, ◌⊎◌, ℕ, zero, suc, ◌+◌, ◌<◌, Bool, true, false, List, [], ◌∷◌, length, get_or, set, Option, sym, refl, ap, ◌∙◌, subst, ⊎_elim, inl, inr, arith, nat_lt, le-ltb, lt-ltb, if◌then◌else◌, length-set, get_or-set_other, get_or-set_same}
 use mathlib.Core.Option.{some, none, some-injective, some-ne-none}
 use mathlib.Core.Option as maybe
 use mathlib.Core.Logic.{dite}
 use native.Mathlib.Decide.{ℕ_discrete, dec_le}
 use lib.ListN.{get_elem?}
 use lib.Seq.{set-get_or}
-use Rattle.atomic_table.specs.Table.{State, Me, Act, Valid, stepped, carried_after}
+use Rattle.atomic_table.specs.Table.{State}
 use Rattle.atomic_table.proofs.Lists.{at_set, set_here, set_else}
-use Rattle.sk_model.specs.Entries.{Entry, entries_by}
+use Rattle.sk_model.specs.Entries.{Entry}
 use Rattle.sk_model.specs.Missing.{Begins}
 use Rattle.sk_model.proofs.Missing.{begins_refl, begins_trans, begins_shorter, begins_length}
 use Rattle.sk_machine.specs.Numbered.{put}
-use Rattle.sk_machine.specs.Coarse.{CoarseUpdater, Coarse, At, Meets, blank_mine}
+use Rattle.sk_machine.specs.Coarse.{CoarseUpdater, Coarse, At, Meets}
 use Rattle.sk_machine.specs.declared.views.Stage.{Stage}
 use Rattle.sk_machine.specs.declared.views.Stage.TheVariants.{Idle, Busy, Published}
 use Rattle.sk_machine.specs.declared.views.Mine.{Mine}
@@ -22,12 +21,12 @@ use Rattle.sk_machine.specs.declared.views.Post.TheVariants.{Guest, Root, Update
 use Rattle.sk_machine.specs.declared.views.Duty.{Duty}
 use Rattle.sk_machine.specs.declared.views.Duty.TheVariants.{Free, Leads}
 use Rattle.sk_machine.specs.declared.views.View.{View}
-use Rattle.sk_machine.proofs.Numbered.{put_here, put_else, each_put}
+use Rattle.sk_machine.proofs.Numbered.{each_put}
 use Rattle.sk_machine.proofs.Coarse as event
 use Rattle.sk_gate.specs.declared.load.Held.{Held}
-use Rattle.sk_gate.specs.Slots.{Slot, contents, Sketching, Telling, HeldOk, TrunkOk}
-use Rattle.sk_gate.specs.Views.{known_of, given_of, size_of, leads, longer, SpeaksBy, SpeaksFor}
-use Rattle.sk_gate.specs.Rule.{SlotOk, PostOk, DutyOk, OpenOk, DrainedOk, Knows, Has, HasSeen, IsLed, HasGiven, Kept}
+use Rattle.sk_gate.specs.Slots.{Slot, contents, Sketching, Telling, HeldOk}
+use Rattle.sk_gate.specs.Views.{given_of, leads, longer, SpeaksBy, SpeaksFor}
+use Rattle.sk_gate.specs.Rule.{SlotOk, PostOk, DutyOk, OpenOk, Knows, Has, HasSeen, IsLed, HasGiven, Kept}
 
 -- the live seats, where one has a new view
 pub seats_stay : (K : ℕ → View → Type 0) (vs : List View) (me : ℕ) (w : View) → (w.live ≡ true → K me w)
@@ -205,16 +204,16 @@ module _ {C T : Type 0} (hint packed : List ℕ → List Entry → ℕ) (g : Ske
         each_slot = λ j l. each_put (λ a (b : CoarseUpdater). SlotOk k r.name (sizes a) m.stage r.left a b (get_elem? homes' a)) m.updaters i u j slot
             (λ ne. subst (λ (y : ℕ × maybe.Option (maybe.Option (Slot C T))). SlotOk k r.name y.0 m.stage r.left j (m.updaters j) y.1) (λ a. (sym (same-sizes j ne) a, sym (slots j ne) a)) (r.each_slot j l));
         rests = λ z. let t = r.rests z in (
-              t.0,
-              slots r.n (λ e. omega arith) ∙ t.1,
-              record {
-                of_it = t.2.of_it;
-                numbers_are = t.2.numbers_are;
-                name_is = t.2.name_is;
-                held_is = held_sizes m.stage m.sizes sizes t.0.held (λ j a. grow j (led_size (hint r.numbers) r.n m j r.meets a)) t.2.held_is;
-              },
-              t.3,
-            );
+          t.0,
+          slots r.n (λ e. omega arith) ∙ t.1,
+          record {
+            of_it = t.2.of_it;
+            numbers_are = t.2.numbers_are;
+            name_is = t.2.name_is;
+            held_is = held_sizes m.stage m.sizes sizes t.0.held (λ j a. grow j (led_size (hint r.numbers) r.n m j r.meets a)) t.2.held_is;
+          },
+          t.3,
+        );
         led = λ turn. let l = r.led turn in (slots r.n (λ e. omega arith) ∙ l.0, led_stays s.views id r.leader v w at stays.live stays.leads l.1);
         seen = seen_stays s.views id r.seer v w m.published m.published at stays.live stays.seen refl r.seen;
         given = λ j l. given_stays s.views id (r.giver j) j v w (m.updaters j).given (ups j).given at stays.live (stays.given j l) (given_same j) (r.given j l);

@@ -1,5 +1,5 @@
 -- What a seat knows, where its own step leaves an updater's knowledge of itself as it was.
-use Rattle.std.proofs.Common.{◌≡◌, ◌≢◌, ℕ, zero, suc, ◌+◌, ◌<◌, ◌≤◌, Bool, cond, true, false, List, [], ◌∷◌, ◌++◌, length, get_or, set, Contains, Option, Some, None, ◌⊎◌, inl, inr, sym, refl, ap, ◌∙◌, subst, arith, length-set, get_or-set_other, get_or-set_same, ne_eqb}
+use Rattle.std.proofs.Common.{◌≡◌, ◌≢◌, ℕ, zero, suc, ◌<◌, Bool, cond, true, false, List, [], ◌∷◌, length, get_or, set, Option, Some, None, ◌⊎◌, inl, inr, sym, refl, ap, ◌∙◌, get_or-set_other, get_or-set_same, ne_eqb}
 use Rattle.std.specs.Prelude.{slice_index}
 use mathlib.Core.Option.{some, some-ne-none}
 use mathlib.Core.Logic.{dite}
@@ -8,7 +8,7 @@ use lib.ListN.{get_elem?}
 use Rattle.sk_model.specs.Entries.{Entry}
 use Rattle.sk_model.specs.Missing.{Begins}
 use Rattle.sk_model.proofs.Missing.{begins_trans}
-use Rattle.sk_machine.specs.Coarse.{CoarseUpdater, Coarse}
+use Rattle.sk_machine.specs.Coarse.{Coarse}
 use Rattle.sk_machine.specs.declared.views.Mine.{Mine}
 use Rattle.sk_machine.specs.declared.views.Move.{Move}
 use Rattle.sk_machine.specs.declared.views.Post.{Post}

@@ -1,5 +1,5 @@
 -- What stays true of the slots of whoever propagates, over its calls.
-use Rattle.std.proofs.Common.{◌≡◌, ◌≢◌, ◌⊎◌, ℕ, zero, suc, ◌+◌, ◌-◌, ◌<◌, ◌≤◌, eqb, eq-eqb, ne_eqb, Bool, cond, true, false, true≢false, not, List, [], ◌∷◌, ◌++◌, length, Option, Some, None, sym, refl, ap, ◌∙◌, subst, ⊎_elim, inl, inr, arith, append_assoc, length-append, length-set, get_or-set_same, get_or-set_other, set}
+use Rattle.std.proofs.Common.{◌≡◌, ◌≢◌, ℕ, ◌+◌, ◌-◌, ◌<◌, ◌≤◌, eqb, eq-eqb, ne_eqb, Bool, true, false, true≢false, List, [], ◌∷◌, ◌++◌, length, Some, None, sym, refl, ap, ◌∙◌, subst, ⊎_elim, inl, inr, arith, append_assoc, length-append, length-set, get_or-set_same, get_or-set_other, set}
 use Rattle.std.specs.Prelude.{slice_index}
 use mir.Val.{bool_byte}
 use mathlib.Core.Logic.{dite}
@@ -20,16 +20,16 @@ use Rattle.sk_machine.specs.declared.views.View.{View}
 use Rattle.sk_gate.specs.declared.load.Load.TheVariants as load
 use Rattle.sk_gate.specs.declared.load.Trunk.{Trunk}
 use Rattle.sk_gate.specs.Slots.{Slot, full, trunk, contents, Sketching, Telling, TellsList, TrunkOk}
-use Rattle.sk_gate.specs.Views.{size_of, mine_in, mine_of, seat_in, leads, stage_of, left_of, batch_of, MayYield}
+use Rattle.sk_gate.specs.Views.{size_of, mine_in, seat_in, leads, stage_of, left_of, batch_of, MayYield}
 use Rattle.sk_gate.specs.Moves.{ResumesAt, TakesTurnAt, MissesTurnAt, YieldsAt, FindsBatchAt, FindsAt, LeavesAt, PublishesAt, GivesBackAt}
 use Rattle.sk_gate.specs.Plays.{Sat, gave_back, left_it, yielded}
 use Rattle.sk_gate.specs.Rule.{Kept}
-use Rattle.sk_gate.specs.Hands.{own_in, has_parcel, has_trunk, IsAt, IsPut, Standing, standing_of, StageHand, StageKnown, TrunkHand, LeadsBy, OwnHand, IsPost, Holds}
-use Rattle.sk_gate.proofs.Known.{some_none, bool_cases}
+use Rattle.sk_gate.specs.Hands.{has_parcel, IsAt, IsPut, Standing, standing_of, StageHand, StageKnown, TrunkHand, LeadsBy, OwnHand, IsPost, Holds}
+use Rattle.sk_gate.proofs.Known.{bool_cases}
 use Rattle.sk_gate.proofs.Own.{post_keeps, leads_keeps, own_keeps}
 use Rattle.sk_gate.proofs.Rounds.{leaves, gives_back}
 use Rattle.sk_gate.proofs.Turns.{yields}
-use Rattle.sk_gate.proofs.Standing.{is_lifted, IsShape, shown_of, standing_parts, standing_at, leads_shape}
+use Rattle.sk_gate.proofs.Standing.{is_lifted, shown_of, standing_parts, standing_at, leads_shape}
 
 -- a new view that says the same of the seat's own updater
 record KeepsOwn (v w : View) (i : ℕ) : Type 0 where

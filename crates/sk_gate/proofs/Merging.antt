@@ -1,5 +1,5 @@
 -- What a round comes to, from what its calls tell.
-use Rattle.std.proofs.Common.{◌≡◌, ◌≢◌, ◌⊎◌, ℕ, ◌+◌, Bool, true, false, true≢false, List, [], ◌∷◌, ◌++◌, length, Option, Some, None, sym, refl, ap, ◌∙◌, subst, append_assoc, set}
+use Rattle.std.proofs.Common.{◌≡◌, ℕ, Bool, false, List, [], ◌∷◌, ◌++◌, length, Option, Some, sym, ap, ◌∙◌, subst, append_assoc, set}
 use Rattle.sk_model.specs.Entries.{Entry, tagged}
 use Rattle.std.specs.Prelude.{slice_index}
 use Rattle.sk_model.specs.Missing.{Begins}
@@ -7,7 +7,7 @@ use Rattle.sk_machine.specs.Coarse.{IsBatch}
 use Rattle.sk_machine.specs.declared.views.Stage.{Stage}
 use Rattle.sk_machine.specs.declared.views.Stage.TheVariants.{Idle, Busy, Published}
 use Rattle.sk_machine.specs.declared.views.Move.{Move}
-use Rattle.sk_machine.specs.declared.views.Move.TheVariants.{Find, Publish, GiveBack, Turn, Yield}
+use Rattle.sk_machine.specs.declared.views.Move.TheVariants.{Find, Publish, GiveBack, Yield}
 use Rattle.sk_machine.specs.declared.views.Duty.TheVariants.{Free, Leads}
 use Rattle.sk_machine.specs.declared.views.View.{View}
 use Rattle.sk_gate.specs.declared.load.Held.{Held}

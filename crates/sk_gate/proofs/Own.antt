@@ -1,29 +1,26 @@
 -- What stays true of the slots that a seat has, over an ask and over the calls of an updater.
-use Rattle.std.proofs.Common.{◌≡◌, ◌≢◌, ◌⊎◌, ℕ, zero, suc, ◌+◌, ◌<◌, ◌≤◌, Bool, true, false, true≢false, not, List, [], ◌∷◌, ◌++◌, length, Option, Some, None, sym, refl, ap, ◌∙◌, subst, ⊎_elim, inl, inr, arith, append_assoc, append-nil, length-append, length-set, set, drop, is_some, if◌then◌else◌, ne_eqb, get_or-set_same, get_or-set_other}
+use Rattle.std.proofs.Common.{◌≡◌, ◌≢◌, ◌⊎◌, ℕ, ◌+◌, ◌<◌, ◌≤◌, Bool, true, false, not, List, [], ◌∷◌, ◌++◌, length, Option, Some, None, sym, refl, ap, ◌∙◌, subst, ⊎_elim, inl, inr, arith, append-nil, length-append, length-set, set, drop, is_some, if◌then◌else◌, ne_eqb, get_or-set_same, get_or-set_other}
 use Rattle.std.specs.Prelude.{slice_index}
 use mathlib.Core.Option.{none}
 use mathlib.Core.Logic.{dite}
 use native.Mathlib.Decide.{ℕ_discrete}
-use Rattle.atomic_table.specs.Table.{step, Allows, rest, turned}
+use Rattle.atomic_table.specs.Table.{step, Allows, turned}
 use Rattle.sk_model.specs.Entries.{Entry}
-use Rattle.sk_model.specs.Width.{AreItems}
 use Rattle.sk_compose.specs.Buffers.{Contents}
 use Rattle.sk_compose.specs.declared.buffer.Parcel.{Parcel}
 use Rattle.sk_machine.specs.Coarse.{most_kept, most_entries, IsBatch}
 use Rattle.sk_machine.specs.declared.views.Mine.{Mine}
-use Rattle.sk_machine.specs.declared.views.Stage.{Stage}
 use Rattle.sk_machine.specs.declared.views.Stage.TheVariants.{Idle, Busy, Published}
-use Rattle.sk_machine.specs.declared.views.Post.{Post}
-use Rattle.sk_machine.specs.declared.views.Post.TheVariants.{Guest, Root, Updater}
+use Rattle.sk_machine.specs.declared.views.Post.TheVariants.{Updater}
 use Rattle.sk_machine.specs.declared.views.Duty.{Duty}
 use Rattle.sk_machine.specs.declared.views.Duty.TheVariants.{Free, Leads}
 use Rattle.sk_machine.specs.declared.views.View.{View}
 use Rattle.sk_gate.specs.declared.load.Trunk.{Trunk}
 use Rattle.sk_gate.specs.declared.load.Load.TheVariants as load
-use Rattle.sk_gate.specs.Slots.{Slot, full, trunk, contents, Sketching, Telling, TellsList, ToldOk, TrunkOk}
-use Rattle.sk_gate.specs.Views.{size_of, mine_in, mine_of, leads, longer}
+use Rattle.sk_gate.specs.Slots.{Slot, full, contents, Sketching, Telling, TellsList, ToldOk, TrunkOk}
+use Rattle.sk_gate.specs.Views.{size_of, mine_in, mine_of, leads}
 use Rattle.sk_gate.specs.Moves.{AsksAt, looked_mine, RenewsAt, LooksAt, AdmitsAt, handed_mine, HandsAt}
-use Rattle.sk_gate.specs.Plays.{Sat, asked, IsRested, LookHand, looked, admitted, handed}
+use Rattle.sk_gate.specs.Plays.{Sat, LookHand, handed}
 use Rattle.atomic_table.specs.Seated.{TableId}
 use Rattle.sk_gate.specs.Hands.{is_empty, Own, own_looked, Standing, standing_of, rotated, IsAt, IsPut, own_in, IsPost, StageHand, LeadsBy, OwnHand, IsEmptyOwn, IsFullOwn, Holds}
 use Rattle.sk_gate.proofs.Common.{bool_cases}

@@ -1,5 +1,5 @@
 -- What a seat sees of the published list.
-use Rattle.std.proofs.Common.{◌≡◌, ℕ, zero, suc, ◌+◌, ◌<◌, List, [], ◌∷◌, ◌++◌, length, get_or, All, sym, refl, ap, subst, arith, length-append}
+use Rattle.std.proofs.Common.{◌≡◌, ℕ, zero, suc, ◌<◌, List, [], ◌∷◌, ◌++◌, length, get_or, All, sym, refl, subst, arith, length-append}
 use Rattle.sk_model.specs.Entries.{Entry, entries_by}
 use Rattle.sk_model.specs.Missing.{Begins}
 use Rattle.sk_machine.specs.Coarse.{Coarse, IsEntry, Meets}

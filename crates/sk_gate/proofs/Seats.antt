@@ -1,19 +1,18 @@
 -- The start keeps the rule, and so do seats that are split off and taken in.
-use Rattle.std.proofs.Common.{◌≡◌, ◌≢◌, ◌⊎◌, ℕ, zero, suc, ◌+◌, ◌<◌, ◌≤◌, if◌then◌else◌, Bool, true, false, List, [], ◌∷◌, ◌++◌, map, length, get_or, set, Contains, Option, Some, None, sym, refl, ap, ◌∙◌, subst, ⊎_elim, inl, inr, arith, length-set, length-append, get_or-set_other, get_or-set_same}
+use Rattle.std.proofs.Common.{◌≡◌, ◌≢◌, ◌⊎◌, ℕ, zero, suc, ◌+◌, ◌<◌, ◌≤◌, if◌then◌else◌, Bool, true, List, [], ◌∷◌, ◌++◌, map, length, get_or, set, Contains, Some, None, sym, refl, ap, ◌∙◌, subst, ⊎_elim, inl, inr, arith, length-set, length-append, get_or-set_other, get_or-set_same}
 use Rattle.std.proofs.lemmas.List.{length-map}
 use Rattle.std.proofs.lemmas.Bool.{true≢false, cases_eq, ne_eqb}
 use Rattle.std.proofs.lemmas.List.Elements.{Contains-push, Contains-push_cases, Contains-append_left, Contains-append_cases}
-use mathlib.Core.Option.{some, none, some-injective, some-ne-none}
-use mathlib.Core.Option as maybe
+use mathlib.Core.Option.{some, some-injective, some-ne-none}
 use lib.ListN.{get_elem?}
 use Rattle.atomic_table.specs.Table.{State, opening, Splits, Joins}
-use Rattle.atomic_table.proofs.Lists.{at_set, set_here, set_else, at_longer, at_last, at_map}
+use Rattle.atomic_table.proofs.Lists.{set_here, set_else, at_longer, at_last, at_map}
 use Rattle.sk_model.specs.Entries.{Entry}
 use Rattle.sk_model.specs.Missing.{Begins}
 use Rattle.sk_model.proofs.Missing.{begins_refl, begins_nil, begins_trans, begins_length}
 use Rattle.sk_compose.specs.declared.buffer.Parcel.{Parcel}
 use Rattle.sk_machine.specs.Numbered.{put}
-use Rattle.sk_machine.specs.Coarse.{Coarse, CoarseUpdater, Meets, blank_mine, coarse_start, MeetsUpdater}
+use Rattle.sk_machine.specs.Coarse.{Coarse, Meets, blank_mine, coarse_start, MeetsUpdater}
 use Rattle.sk_machine.specs.declared.views.Mine.{Mine}
 use Rattle.sk_machine.specs.declared.views.Move.TheVariants.{Split, Join}
 use Rattle.sk_machine.specs.declared.views.Post.{Post}
@@ -24,8 +23,8 @@ use Rattle.sk_machine.specs.declared.views.View.{View}
 use Rattle.sk_machine.proofs.Numbered.{put_here, put_else, each_put}
 use Rattle.sk_machine.proofs.Coarse as event
 use Rattle.sk_gate.specs.declared.load.Trunk.{Trunk}
-use Rattle.sk_gate.specs.Slots.{Slot, full, trunk, contents, room, Sketching, Telling}
-use Rattle.sk_gate.specs.Views.{known_of, given_of, size_of, mine_of, leads, longer, merged, sizes_merged, sizes_of, blanks, first_view, made_in, after_making, new_updater, after_split, copy_of, told_on, known_with, drained_with, seen_with, after_join, spent, SpeaksBy, SpeaksFor}
+use Rattle.sk_gate.specs.Slots.{Slot, full, trunk, room, Sketching, Telling}
+use Rattle.sk_gate.specs.Views.{known_of, size_of, mine_of, leads, merged, sizes_of, blanks, first_view, made_in, after_making, new_updater, after_split, copy_of, told_on, known_with, drained_with, seen_with, after_join, spent, SpeaksBy, SpeaksFor}
 use Rattle.sk_gate.specs.Rule.{PostOk, DutyOk, DrainedOk, Knows, Has, HasSeen, IsLed, HasGiven, Kept}
 use Rattle.sk_gate.specs.Plays.{Sat}
 use Rattle.sk_gate.specs.Hands.{Holds}
@@ -318,90 +317,90 @@ module _ {C T : Type 0} (hint packed : List ℕ → List Entry → ℕ) (g : Ske
       let own = subst (PostOk r.n m r.owner id v.seen v.sizes v.drained) is o.post_is in let first = own made (omega arith) more in
       let none : (i : ℕ) → Contains v.drained i → ⊥ = λ i d. let e = ap length nothing in omega (arith, d.1) in
       reviewed s r (set s.views id left ++ right ∷ []) owner' r.seer r.giver
-          (has_split IsLed IsLed s.views id r.leader v left right at (λ p. p) (λ u p. p))
-          (has_split (HasSeen h) (HasSeen h) s.views id r.seer v left right at (λ p. p) (λ u p. p) r.seen)
-          (λ i l. has_split (HasGiven i (m.updaters i).given) (HasGiven i (m.updaters i).given) s.views id (r.giver i) v left right at (λ p. p) (λ u p. p) (r.given i l))
-          (λ i l. each_put (λ a x. Has (set s.views id left ++ right ∷ []) x (SpeaksFor a)) r.owner made last i
-          (right, at_last (set s.views id left) right last (length-set s.views id left), (live, number))
-          (λ ne. has_split (SpeaksFor i) (SpeaksFor i) s.views id (r.owner i) v left right at
-          (λ p. (p.0, ⊎_elim (λ (le : made ≤ i). inl (subst (λ z. suc z ≤ i) (sym number) (omega arith))) (λ d. absurd (none i d)) (subst (SpeaksBy i v.drained) is p.1)))
-          (λ u p. p) (r.spoken i l)))
-          (seats_split (Knows r.n r.numbers r.name m r.left owner' r.leader) s.views id left right (record {
-            numbers_are = o.numbers_are;
-            name_is = o.name_is;
-            sized = o.sized;
-            known_sized = o.known_sized;
-            given_sized = o.given_sized;
-            sizes_are = o.sizes_are;
-            seen_is = o.seen_is;
-            heard_is = o.heard_is;
-            known_is = o.known_is;
-            known_with_size = o.known_with_size;
-            given_is = o.given_is;
-            post_is = λ i le lt. let b : made < i = subst (λ z. z < i) number le in let y = own i (omega arith) lt in (put_else r.owner made last i (λ e. omega arith) ∙ y.0, y.1, y.2);
-            duty_is = subst (DutyOk r.n m r.left r.leader id v.seen left.post) (sym free) tt;
-            open_is = tt;
-            drained_is = λ i d. absurd (none i d);
-          }) (record {
-            numbers_are = o.numbers_are;
-            name_is = o.name_is;
-            sized = o.sized;
-            known_sized = blanks_length _ (length v.sizes) ∙ o.sized;
-            given_sized = blanks_length _ (length v.sizes) ∙ o.sized;
-            sizes_are = o.sizes_are;
-            seen_is = o.seen_is;
-            heard_is = o.heard_is;
-            known_is = λ i. subst (λ l. Begins l (m.updaters i).mine.handed) (sym (blank_at (length v.sizes) i)) (begins_nil (m.updaters i).mine.handed);
-            known_with_size = λ i ne. absurd (ne (blank_at (length v.sizes) i));
-            given_is = λ i. subst (λ l. Begins l (m.updaters i).given) (sym (blank_at (length v.sizes) i)) (begins_nil (m.updaters i).given);
-            post_is = subst (λ z. PostOk r.n m owner' last v.seen v.sizes [] (Updater z blank_mine)) (sym number) (more, put_here r.owner made last, first.1, begins_nil v.seen, first.2, refl);
-            duty_is = tt;
-            open_is = λ _ z. never_handed (hint r.numbers) m made (r.meets.each made more) (ap (λ (y : Mine). y.handed) (sym first.1)) (subst (λ j. (m.updaters j).word ≡ 0) number z);
-            drained_is = λ i d. absurd (omega (arith, d.1));
-          }) (λ j u apart e alive. owned_else r.n r.numbers r.name m r.left r.owner r.leader made id last j u first.0 apart (r.each_seat j u e alive)))
+      (has_split IsLed IsLed s.views id r.leader v left right at (λ p. p) (λ u p. p))
+      (has_split (HasSeen h) (HasSeen h) s.views id r.seer v left right at (λ p. p) (λ u p. p) r.seen)
+      (λ i l. has_split (HasGiven i (m.updaters i).given) (HasGiven i (m.updaters i).given) s.views id (r.giver i) v left right at (λ p. p) (λ u p. p) (r.given i l))
+      (λ i l. each_put (λ a x. Has (set s.views id left ++ right ∷ []) x (SpeaksFor a)) r.owner made last i
+      (right, at_last (set s.views id left) right last (length-set s.views id left), (live, number))
+      (λ ne. has_split (SpeaksFor i) (SpeaksFor i) s.views id (r.owner i) v left right at
+      (λ p. (p.0, ⊎_elim (λ (le : made ≤ i). inl (subst (λ z. suc z ≤ i) (sym number) (omega arith))) (λ d. absurd (none i d)) (subst (SpeaksBy i v.drained) is p.1)))
+      (λ u p. p) (r.spoken i l)))
+      (seats_split (Knows r.n r.numbers r.name m r.left owner' r.leader) s.views id left right (record {
+        numbers_are = o.numbers_are;
+        name_is = o.name_is;
+        sized = o.sized;
+        known_sized = o.known_sized;
+        given_sized = o.given_sized;
+        sizes_are = o.sizes_are;
+        seen_is = o.seen_is;
+        heard_is = o.heard_is;
+        known_is = o.known_is;
+        known_with_size = o.known_with_size;
+        given_is = o.given_is;
+        post_is = λ i le lt. let b : made < i = subst (λ z. z < i) number le in let y = own i (omega arith) lt in (put_else r.owner made last i (λ e. omega arith) ∙ y.0, y.1, y.2);
+        duty_is = subst (DutyOk r.n m r.left r.leader id v.seen left.post) (sym free) tt;
+        open_is = tt;
+        drained_is = λ i d. absurd (none i d);
+      }) (record {
+        numbers_are = o.numbers_are;
+        name_is = o.name_is;
+        sized = o.sized;
+        known_sized = blanks_length _ (length v.sizes) ∙ o.sized;
+        given_sized = blanks_length _ (length v.sizes) ∙ o.sized;
+        sizes_are = o.sizes_are;
+        seen_is = o.seen_is;
+        heard_is = o.heard_is;
+        known_is = λ i. subst (λ l. Begins l (m.updaters i).mine.handed) (sym (blank_at (length v.sizes) i)) (begins_nil (m.updaters i).mine.handed);
+        known_with_size = λ i ne. absurd (ne (blank_at (length v.sizes) i));
+        given_is = λ i. subst (λ l. Begins l (m.updaters i).given) (sym (blank_at (length v.sizes) i)) (begins_nil (m.updaters i).given);
+        post_is = subst (λ z. PostOk r.n m owner' last v.seen v.sizes [] (Updater z blank_mine)) (sym number) (more, put_here r.owner made last, first.1, begins_nil v.seen, first.2, refl);
+        duty_is = tt;
+        open_is = λ _ z. never_handed (hint r.numbers) m made (r.meets.each made more) (ap (λ (y : Mine). y.handed) (sym first.1)) (subst (λ j. (m.updaters j).word ≡ 0) number z);
+        drained_is = λ i d. absurd (omega (arith, d.1));
+      }) (λ j u apart e alive. owned_else r.n r.numbers r.name m r.left r.owner r.leader made id last j u first.0 apart (r.each_seat j u e alive)))
 
   -- a token's or a note's seat
   pub copies : (id : ℕ) (v : View) → v.live ≡ true → Splits Rule id v (after_split v) (copy_of v)
   copies id v live s r at =
       let m = r.machine in let h = m.published in let left : View = after_split v in let right : View = copy_of v in let o = r.each_seat id v at live in
       reviewed s r (set s.views id left ++ right ∷ []) r.owner r.seer r.giver
-          (has_split IsLed IsLed s.views id r.leader v left right at (λ p. p) (λ u p. p))
-          (has_split (HasSeen h) (HasSeen h) s.views id r.seer v left right at (λ p. p) (λ u p. p) r.seen)
-          (λ i l. has_split (HasGiven i (m.updaters i).given) (HasGiven i (m.updaters i).given) s.views id (r.giver i) v left right at (λ p. p) (λ u p. p) (r.given i l))
-          (λ i l. has_split (SpeaksFor i) (SpeaksFor i) s.views id (r.owner i) v left right at (λ p. p) (λ u p. p) (r.spoken i l))
-          (seats_split (Knows r.n r.numbers r.name m r.left r.owner r.leader) s.views id left right (record {
-            numbers_are = o.numbers_are;
-            name_is = o.name_is;
-            sized = o.sized;
-            known_sized = o.known_sized;
-            given_sized = o.given_sized;
-            sizes_are = o.sizes_are;
-            seen_is = o.seen_is;
-            heard_is = o.heard_is;
-            known_is = o.known_is;
-            known_with_size = o.known_with_size;
-            given_is = o.given_is;
-            post_is = o.post_is;
-            duty_is = o.duty_is;
-            open_is = open_neutral m m v.steps Split v.post (λ _ _. refl) (λ _ z. z) o.open_is;
-            drained_is = o.drained_is;
-          }) (record {
-            numbers_are = o.numbers_are;
-            name_is = o.name_is;
-            sized = o.sized;
-            known_sized = subst (λ z. length (told_on z v.known v.post) ≡ r.n) (sym o.sized) (told_length r.n v.known v.post o.known_sized);
-            given_sized = blanks_length _ (length v.sizes) ∙ o.sized;
-            sizes_are = o.sizes_are;
-            seen_is = o.seen_is;
-            heard_is = o.heard_is;
-            known_is = told_known r.n m r.owner id v.seen v.sizes v.drained (length v.sizes) v.known v.post o.post_is o.known_is;
-            known_with_size = told_sized r.n m r.owner id v.seen v.sizes v.drained (length v.sizes) v.known (hint r.numbers) r.meets v.post o.post_is o.known_with_size;
-            given_is = λ i. subst (λ l. Begins l (m.updaters i).given) (sym (blank_at (length v.sizes) i)) (begins_nil (m.updaters i).given);
-            post_is = tt;
-            duty_is = tt;
-            open_is = tt;
-            drained_is = λ i d. absurd (omega (arith, d.1));
-          }) (λ j u apart e alive. r.each_seat j u e alive))
+      (has_split IsLed IsLed s.views id r.leader v left right at (λ p. p) (λ u p. p))
+      (has_split (HasSeen h) (HasSeen h) s.views id r.seer v left right at (λ p. p) (λ u p. p) r.seen)
+      (λ i l. has_split (HasGiven i (m.updaters i).given) (HasGiven i (m.updaters i).given) s.views id (r.giver i) v left right at (λ p. p) (λ u p. p) (r.given i l))
+      (λ i l. has_split (SpeaksFor i) (SpeaksFor i) s.views id (r.owner i) v left right at (λ p. p) (λ u p. p) (r.spoken i l))
+      (seats_split (Knows r.n r.numbers r.name m r.left r.owner r.leader) s.views id left right (record {
+        numbers_are = o.numbers_are;
+        name_is = o.name_is;
+        sized = o.sized;
+        known_sized = o.known_sized;
+        given_sized = o.given_sized;
+        sizes_are = o.sizes_are;
+        seen_is = o.seen_is;
+        heard_is = o.heard_is;
+        known_is = o.known_is;
+        known_with_size = o.known_with_size;
+        given_is = o.given_is;
+        post_is = o.post_is;
+        duty_is = o.duty_is;
+        open_is = open_neutral m m v.steps Split v.post (λ _ _. refl) (λ _ z. z) o.open_is;
+        drained_is = o.drained_is;
+      }) (record {
+        numbers_are = o.numbers_are;
+        name_is = o.name_is;
+        sized = o.sized;
+        known_sized = subst (λ z. length (told_on z v.known v.post) ≡ r.n) (sym o.sized) (told_length r.n v.known v.post o.known_sized);
+        given_sized = blanks_length _ (length v.sizes) ∙ o.sized;
+        sizes_are = o.sizes_are;
+        seen_is = o.seen_is;
+        heard_is = o.heard_is;
+        known_is = told_known r.n m r.owner id v.seen v.sizes v.drained (length v.sizes) v.known v.post o.post_is o.known_is;
+        known_with_size = told_sized r.n m r.owner id v.seen v.sizes v.drained (length v.sizes) v.known (hint r.numbers) r.meets v.post o.post_is o.known_with_size;
+        given_is = λ i. subst (λ l. Begins l (m.updaters i).given) (sym (blank_at (length v.sizes) i)) (begins_nil (m.updaters i).given);
+        post_is = tt;
+        duty_is = tt;
+        open_is = tt;
+        drained_is = λ i d. absurd (omega (arith, d.1));
+      }) (λ j u apart e alive. r.each_seat j u e alive))
 
   -- what is common to what takes in a note's seat and an updater's
   joined : (id : ℕ) (v : View) (other : ℕ) (w : View) (s : State (Slot C T) View) (r : Rule s) (owner' : ℕ → ℕ) → v.live ≡ true → w.live ≡ true → w.duty ≡ Free → other ≢ id → get_elem? s.views id ≡ some v → get_elem? s.views other ≡ some w
@@ -416,28 +415,28 @@ module _ {C T : Type 0} (hint packed : List ℕ → List Entry → ℕ) (g : Ske
       let both = seen_joined r.n m r.left r.leader id v.seen w.seen v.post v.duty o.seen_is q.seen_is o.duty_is in
       let sizes : (i : ℕ) → size_of v i ≡ m.sizes i → size_of v' i ≡ m.sizes i = λ i e. sizes_either (λ x. x ≡ m.sizes i) v.sizes w.sizes i (λ _. e) (λ z. ⊎_elim (λ (y : size_of w i ≡ 0). y ∙ sym z ∙ e) (λ ne. q.sizes_are i ne) (cases_eq (size_of w i) 0)) in
       reviewed s r (set (set s.views id v') other spent) owner' (put (λ x. x) other id r.seer) (λ i. put (λ x. x) other id (r.giver i))
-          (has_kept s.views id other v w v' IsLed IsLed r.leader at here (λ p. p) (λ p. true≢false (sym p.1 ∙ ap leads free)) (λ u p. p))
-          (has_joined s.views id other v w v' (HasSeen h) (HasSeen h) r.seer apart at here (λ p. (live, both.first p.1)) (λ p. (live, both.second p.1)) (λ u p. p) r.seen)
-          (λ i l. has_joined s.views id other v w v' (HasGiven i (m.updaters i).given) (HasGiven i (m.updaters i).given) (r.giver i) apart at here
-          (λ p. (live, merged_first v.given w.given i (m.updaters i).given p.1 (q.given_is i))) (λ p. (live, merged_second v.given w.given i (m.updaters i).given p.1 (o.given_is i))) (λ u p. p) (r.given i l))
-          speaks
-          (seats_joined s.views id other v w v' (Knows r.n r.numbers r.name m r.left owner' r.leader) (record {
-            numbers_are = o.numbers_are;
-            name_is = o.name_is;
-            sized = sizes_length r.n v.sizes w.sizes o.sized q.sized;
-            known_sized = long;
-            given_sized = merged_length r.n v.given w.given o.given_sized q.given_sized;
-            sizes_are = λ i. sizes_either (λ x. x ≢ 0 → x ≡ m.sizes i) v.sizes w.sizes i (λ _. o.sizes_are i) (λ _. q.sizes_are i);
-            seen_is = both.within;
-            heard_is = λ x d. heard_both v.heard w.heard v.seen w.seen (λ l. Begins l h) o.heard_is o.seen_is q.seen_is q.heard_is x d;
-            known_is = known;
-            known_with_size = sized;
-            given_is = λ i. merged_either (λ l. Begins l (m.updaters i).given) v.given w.given i (o.given_is i) (q.given_is i);
-            post_is = post sizes both.grows;
-            duty_is = duty_joined r.n m r.left r.leader id v.seen w.seen v.post v.duty o.duty_is;
-            open_is = open_neutral m m v.steps Join v.post (λ _ _. refl) (λ _ z. z) o.open_is;
-            drained_is = drained;
-          }) others)
+      (has_kept s.views id other v w v' IsLed IsLed r.leader at here (λ p. p) (λ p. true≢false (sym p.1 ∙ ap leads free)) (λ u p. p))
+      (has_joined s.views id other v w v' (HasSeen h) (HasSeen h) r.seer apart at here (λ p. (live, both.first p.1)) (λ p. (live, both.second p.1)) (λ u p. p) r.seen)
+      (λ i l. has_joined s.views id other v w v' (HasGiven i (m.updaters i).given) (HasGiven i (m.updaters i).given) (r.giver i) apart at here
+      (λ p. (live, merged_first v.given w.given i (m.updaters i).given p.1 (q.given_is i))) (λ p. (live, merged_second v.given w.given i (m.updaters i).given p.1 (o.given_is i))) (λ u p. p) (r.given i l))
+      speaks
+      (seats_joined s.views id other v w v' (Knows r.n r.numbers r.name m r.left owner' r.leader) (record {
+        numbers_are = o.numbers_are;
+        name_is = o.name_is;
+        sized = sizes_length r.n v.sizes w.sizes o.sized q.sized;
+        known_sized = long;
+        given_sized = merged_length r.n v.given w.given o.given_sized q.given_sized;
+        sizes_are = λ i. sizes_either (λ x. x ≢ 0 → x ≡ m.sizes i) v.sizes w.sizes i (λ _. o.sizes_are i) (λ _. q.sizes_are i);
+        seen_is = both.within;
+        heard_is = λ x d. heard_both v.heard w.heard v.seen w.seen (λ l. Begins l h) o.heard_is o.seen_is q.seen_is q.heard_is x d;
+        known_is = known;
+        known_with_size = sized;
+        given_is = λ i. merged_either (λ l. Begins l (m.updaters i).given) v.given w.given i (o.given_is i) (q.given_is i);
+        post_is = post sizes both.grows;
+        duty_is = duty_joined r.n m r.left r.leader id v.seen w.seen v.post v.duty o.duty_is;
+        open_is = open_neutral m m v.steps Join v.post (λ _ _. refl) (λ _ z. z) o.open_is;
+        drained_is = drained;
+      }) others)
 
   -- a token takes in a note
   pub joins_note : (id : ℕ) (v : View) (other : ℕ) (w : View) → v.live ≡ true → w.live ≡ true → w.post ≡ Guest → w.duty ≡ Free → Joins Rule id v other w (after_join v w) spent
@@ -446,19 +445,19 @@ module _ {C T : Type 0} (hint packed : List ℕ → List Entry → ℕ) (g : Ske
       let o = r.each_seat id v at live in let q = r.each_seat other w here live' in
       let known : v'.known ≡ merged v.known w.known = ap (known_with v.known w.known) guest in let drained : v'.drained ≡ v.drained = ap (drained_with v.drained) guest in
       joined id v other w s r r.owner live live' free apart at here
-          (λ i l. has_kept s.views id other v w v' (SpeaksFor i) (SpeaksFor i) (r.owner i) at here (λ p. (live, subst (λ d. SpeaksBy i d v.post) (sym drained) p.1)) (λ p. subst (SpeaksBy i w.drained) guest p.1) (λ u p. p) (r.spoken i l))
-          (ap length known ∙ merged_length r.n v.known w.known o.known_sized q.known_sized)
-          (λ i. subst (λ ks. Begins (get_or ks i []) (m.updaters i).mine.handed) (sym known) (merged_either (λ l. Begins l (m.updaters i).mine.handed) v.known w.known i (o.known_is i) (q.known_is i)))
-          (λ i. subst (λ ks. get_or ks i [] ≢ [] → size_of v' i ≢ 0) (sym known) (merged_either (λ l. l ≢ [] → size_of v' i ≢ 0) v.known w.known i
-          (λ ne. size_first v.sizes w.sizes i (o.known_with_size i ne)) (λ ne. size_second v.sizes w.sizes i (q.known_with_size i ne))))
-          (λ same more. subst (λ d. PostOk r.n m r.owner id v'.seen v'.sizes d v.post) (sym drained) (post_joined r.n m r.owner id v.seen v'.seen v.sizes v'.sizes v.drained v.post more same o.post_is))
-          (λ i d. let y = o.drained_is i (subst (λ l. Contains l i) drained d) in record {
-            within = y.within;
-            own = y.own;
-            all = ap (λ ks. get_or ks i []) known ∙ merged_first v.known w.known i (m.updaters i).mine.handed y.all (q.known_is i);
-            given = y.given;
-          })
-          (λ j u _ _ e alive. r.each_seat j u e alive)
+      (λ i l. has_kept s.views id other v w v' (SpeaksFor i) (SpeaksFor i) (r.owner i) at here (λ p. (live, subst (λ d. SpeaksBy i d v.post) (sym drained) p.1)) (λ p. subst (SpeaksBy i w.drained) guest p.1) (λ u p. p) (r.spoken i l))
+      (ap length known ∙ merged_length r.n v.known w.known o.known_sized q.known_sized)
+      (λ i. subst (λ ks. Begins (get_or ks i []) (m.updaters i).mine.handed) (sym known) (merged_either (λ l. Begins l (m.updaters i).mine.handed) v.known w.known i (o.known_is i) (q.known_is i)))
+      (λ i. subst (λ ks. get_or ks i [] ≢ [] → size_of v' i ≢ 0) (sym known) (merged_either (λ l. l ≢ [] → size_of v' i ≢ 0) v.known w.known i
+      (λ ne. size_first v.sizes w.sizes i (o.known_with_size i ne)) (λ ne. size_second v.sizes w.sizes i (q.known_with_size i ne))))
+      (λ same more. subst (λ d. PostOk r.n m r.owner id v'.seen v'.sizes d v.post) (sym drained) (post_joined r.n m r.owner id v.seen v'.seen v.sizes v'.sizes v.drained v.post more same o.post_is))
+      (λ i d. let y = o.drained_is i (subst (λ l. Contains l i) drained d) in record {
+        within = y.within;
+        own = y.own;
+        all = ap (λ ks. get_or ks i []) known ∙ merged_first v.known w.known i (m.updaters i).mine.handed y.all (q.known_is i);
+        given = y.given;
+      })
+      (λ j u _ _ e alive. r.each_seat j u e alive)
 
   -- the heart takes in an updater's seat, which has given its slot back
   pub joins_updater : (id n : ℕ) (v : View) (other i : ℕ) (w : View) → v.live ≡ true → w.live ≡ true → length v.sizes ≡ n → v.post ≡ Root n → w.post ≡ Updater i (mine_of w) → (mine_of w).rested ≡ true → w.duty ≡ Free → Joins Rule id v other w (after_join v w) spent
@@ -469,32 +468,32 @@ module _ {C T : Type 0} (hint packed : List ℕ → List Entry → ℕ) (g : Ske
       let known : v'.known ≡ set v.known i mine.handed = ap (known_with v.known w.known) is in let drained : v'.drained ≡ v.drained ++ i ∷ [] = ap (drained_with v.drained) is in
       let handed : mine.handed ≡ (m.updaters i).mine.handed = ap (λ (x : Mine). x.handed) p.2 in let inside : i < length v.known = omega (arith, o.known_sized, p.0) in
       joined id v other w s r owner' live live' free apart at here
-          (λ a l. each_put (λ b x. Has (set (set s.views id v') other spent) x (SpeaksFor b)) r.owner i id a
-          (v', at_both s.views id other v w v' apart at, (live, subst (SpeaksBy i v'.drained) (sym heart) (inr (subst (λ d. Contains d i) (sym drained) (Contains-push v.drained i)))))
-          (λ ne. has_kept s.views id other v w v' (SpeaksFor a) (SpeaksFor a) (r.owner a) at here
-          (λ p. (live, subst (SpeaksBy a v'.drained) (sym heart) (⊎_elim inl (λ d. inr (subst (λ l. Contains l a) (sym drained) (Contains-append_left v.drained (i ∷ []) a d))) (subst (SpeaksBy a v.drained) heart p.1))))
-          (λ p. ne (sym (subst (SpeaksBy a w.drained) is p.1))) (λ u p. p) (r.spoken a l)))
-          (ap length known ∙ length-set v.known i mine.handed ∙ o.known_sized)
-          (λ a. subst (λ ks. Begins (get_or ks a []) (m.updaters a).mine.handed) (sym known) (known_at v.known i mine.handed a (λ l. Begins l (m.updaters a).mine.handed) inside
-          (λ e. subst (λ z. Begins mine.handed (m.updaters z).mine.handed) (sym e) (subst (Begins mine.handed) handed (begins_refl mine.handed))) (λ _. o.known_is a)))
-          (λ a. subst (λ ks. get_or ks a [] ≢ [] → size_of v' a ≢ 0) (sym known) (known_at v.known i mine.handed a (λ l. l ≢ [] → size_of v' a ≢ 0) inside
-          (λ e ne. size_second v.sizes w.sizes a (λ z. ne (handed ∙ (ok.vacant (sym p.4 ∙ ap (size_of w) (sym e) ∙ z)).0))) (λ _ ne. size_first v.sizes w.sizes a (o.known_with_size a ne))))
-          (λ same more. subst (PostOk r.n m owner' id v'.seen v'.sizes v'.drained) (sym heart) (λ a le lt. absurd (omega (arith, o.sized, size, le, lt))))
-          (λ a d. ⊎_elim
-          (λ (e : a ≡ i). subst (λ z. DrainedOk r.n m owner' id (known_of v' z) z) (sym e) (record {
-            within = p.0;
-            own = put_here r.owner i id;
-            all = ap (λ ks. get_or ks i []) known ∙ get_or-set_same v.known i mine.handed [] inside ∙ handed;
-            given = λ z. true≢false (sym rest ∙ ap (λ (x : Mine). x.rested) p.2 ∙ ok.closed_rested z);
-          }))
-          (λ (ne : a ≢ i). let y = o.drained_is a (⊎_elim (λ x. x) (λ e. absurd (ne (sym e))) (Contains-push_cases v.drained i a (subst (λ l. Contains l a) drained d))) in record {
-            within = y.within;
-            own = put_else r.owner i id a ne ∙ y.own;
-            all = ap (λ ks. get_or ks a []) known ∙ get_or-set_other v.known i a mine.handed [] ne ∙ y.all;
-            given = y.given;
-          })
-          (cases_eq a i))
-          (λ j u _ ne e alive. owned_else r.n r.numbers r.name m r.left r.owner r.leader i other id j u p.1 ne (r.each_seat j u e alive))
+      (λ a l. each_put (λ b x. Has (set (set s.views id v') other spent) x (SpeaksFor b)) r.owner i id a
+      (v', at_both s.views id other v w v' apart at, (live, subst (SpeaksBy i v'.drained) (sym heart) (inr (subst (λ d. Contains d i) (sym drained) (Contains-push v.drained i)))))
+      (λ ne. has_kept s.views id other v w v' (SpeaksFor a) (SpeaksFor a) (r.owner a) at here
+      (λ p. (live, subst (SpeaksBy a v'.drained) (sym heart) (⊎_elim inl (λ d. inr (subst (λ l. Contains l a) (sym drained) (Contains-append_left v.drained (i ∷ []) a d))) (subst (SpeaksBy a v.drained) heart p.1))))
+      (λ p. ne (sym (subst (SpeaksBy a w.drained) is p.1))) (λ u p. p) (r.spoken a l)))
+      (ap length known ∙ length-set v.known i mine.handed ∙ o.known_sized)
+      (λ a. subst (λ ks. Begins (get_or ks a []) (m.updaters a).mine.handed) (sym known) (known_at v.known i mine.handed a (λ l. Begins l (m.updaters a).mine.handed) inside
+      (λ e. subst (λ z. Begins mine.handed (m.updaters z).mine.handed) (sym e) (subst (Begins mine.handed) handed (begins_refl mine.handed))) (λ _. o.known_is a)))
+      (λ a. subst (λ ks. get_or ks a [] ≢ [] → size_of v' a ≢ 0) (sym known) (known_at v.known i mine.handed a (λ l. l ≢ [] → size_of v' a ≢ 0) inside
+      (λ e ne. size_second v.sizes w.sizes a (λ z. ne (handed ∙ (ok.vacant (sym p.4 ∙ ap (size_of w) (sym e) ∙ z)).0))) (λ _ ne. size_first v.sizes w.sizes a (o.known_with_size a ne))))
+      (λ same more. subst (PostOk r.n m owner' id v'.seen v'.sizes v'.drained) (sym heart) (λ a le lt. absurd (omega (arith, o.sized, size, le, lt))))
+      (λ a d. ⊎_elim
+      (λ (e : a ≡ i). subst (λ z. DrainedOk r.n m owner' id (known_of v' z) z) (sym e) (record {
+        within = p.0;
+        own = put_here r.owner i id;
+        all = ap (λ ks. get_or ks i []) known ∙ get_or-set_same v.known i mine.handed [] inside ∙ handed;
+        given = λ z. true≢false (sym rest ∙ ap (λ (x : Mine). x.rested) p.2 ∙ ok.closed_rested z);
+      }))
+      (λ (ne : a ≢ i). let y = o.drained_is a (⊎_elim (λ x. x) (λ e. absurd (ne (sym e))) (Contains-push_cases v.drained i a (subst (λ l. Contains l a) drained d))) in record {
+        within = y.within;
+        own = put_else r.owner i id a ne ∙ y.own;
+        all = ap (λ ks. get_or ks a []) known ∙ get_or-set_other v.known i a mine.handed [] ne ∙ y.all;
+        given = y.given;
+      })
+      (cases_eq a i))
+      (λ j u _ ne e alive. owned_else r.n r.numbers r.name m r.left r.owner r.leader i other id j u p.1 ne (r.each_seat j u e alive))
 
 -- what stays true of a seat's slots where it splits a note off
 pub split_holds : {C T : Type 0} (g : Sketching C) (k : Telling T) (heart : Bool) (n number front : ℕ) (own : Bool) (m : Sat C T) → Holds g k heart n number front own m → Holds g k heart n number front own (after_split m.0, m.1)

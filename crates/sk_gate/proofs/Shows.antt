@@ -1,5 +1,5 @@
 -- A table that keeps its rule shows a whole machine that meets its whole invariant.
-use Rattle.std.proofs.Common.{◌≡◌, ◌≢◌, ◌⊎◌, ℕ, ◌+◌, ◌<◌, ◌≤◌, if◌then◌else◌, Bool, true, false, List, [], length, get_or, Contains, Some, None, sym, refl, ap, ◌∙◌, subst, ⊎_elim, inl, inr, arith}
+use Rattle.std.proofs.Common.{◌≡◌, ◌≢◌, ◌⊎◌, ℕ, ◌+◌, ◌<◌, ◌≤◌, if◌then◌else◌, Bool, true, false, List, get_or, Contains, Some, None, sym, refl, ap, ◌∙◌, subst, ⊎_elim, inl, inr, arith}
 use Rattle.std.proofs.lemmas.Bool.{true≢false, cases_eq, cases_Bool, ne_eqb}
 use mathlib.Core.Option.{some, none, some-injective, some-ne-none}
 use mathlib.Core.Option as maybe
@@ -11,7 +11,7 @@ use Rattle.sk_compose.specs.declared.buffer.Parcel.{Parcel}
 use Rattle.sk_machine.specs.Coarse.{Coarse, CoarseUpdater, At, MeetsUpdater}
 use Rattle.sk_machine.specs.Fine.{FineUpdater, Fine}
 use Rattle.sk_machine.specs.Invariant.{IsAt, is_ready, stage_of}
-use Rattle.sk_machine.specs.Shown.{IsView, KnowsBeginnings, ShowsUpdater, Whole}
+use Rattle.sk_machine.specs.Shown.{ShowsUpdater}
 use Rattle.sk_machine.specs.declared.states.Mark.{Mark}
 use Rattle.sk_machine.specs.declared.states.Mark.TheVariants.{Neither, Ready, Swapped}
 use Rattle.sk_machine.specs.declared.states.Progress.{Progress}
@@ -24,11 +24,9 @@ use Rattle.sk_machine.specs.declared.views.Duty.TheVariants.{Free, Leads}
 use Rattle.sk_machine.specs.declared.views.View.{View}
 use Rattle.sk_machine.proofs.Coarse as event
 use Rattle.sk_machine.proofs.Shown.{shown_by}
-use Rattle.sk_gate.specs.declared.load.Load.{Load}
 use Rattle.sk_gate.specs.declared.load.Load.TheVariants as load
-use Rattle.sk_gate.specs.declared.load.Trunk.{Trunk}
-use Rattle.sk_gate.specs.Slots.{Slot, full, trunk, contents, room, Sketching, Telling, ToldOk, HeldOk}
-use Rattle.sk_gate.specs.Views.{known_of, given_of, size_of, mine_of, seat_in, leads, SpeaksBy}
+use Rattle.sk_gate.specs.Slots.{Slot, full, contents, room, Sketching, Telling, ToldOk, HeldOk}
+use Rattle.sk_gate.specs.Views.{known_of, given_of, seat_in, leads, SpeaksBy}
 use Rattle.sk_gate.specs.Rule.{left_home, SlotOk, PostOk, DutyOk, Knows, Has, HasGiven, HasSeen, Kept}
 use Rattle.sk_gate.specs.Shows.{IsPickedBy, MayBePicked, HasParcel, ShowsSlot, KnowsOwn, LeadsBy, IsLive, ShowsTrunk, ShowsView, Shown}
 use Rattle.sk_gate.proofs.Common.{held_sizes}

@@ -1,8 +1,6 @@
 -- The seats of a new table.
-use Rattle.std.proofs.Common.{◌≡◌, ℕ, zero, suc, ◌+◌, ◌<◌, Bool, false, List, [], ◌∷◌, ◌++◌, length, replicate, get_or, add-one, sym, refl, ap, ◌∙◌, subst, ⊎_elim, arith}
-use Rattle.atomic_table.specs.Seated.{TableId}
+use Rattle.std.proofs.Common.{◌≡◌, ℕ, zero, suc, ◌+◌, Bool, false, [], ◌∷◌, ◌++◌, length, replicate, add-one, sym, refl, ap, ◌∙◌}
 use Rattle.sk_machine.specs.Coarse.{blank_mine}
-use Rattle.sk_machine.specs.declared.views.Move.{Move}
 use Rattle.sk_machine.specs.declared.views.Move.TheVariants.{Split}
 use Rattle.sk_machine.specs.declared.views.Post.{Post}
 use Rattle.sk_machine.specs.declared.views.Post.TheVariants.{Guest, Root, Updater}
@@ -10,8 +8,8 @@ use Rattle.sk_machine.specs.declared.views.View.{View}
 use Rattle.sk_gate.specs.Slots.{Sketching, Telling}
 use Rattle.sk_gate.specs.Views.{mine_in, after_making, new_updater, after_split, copy_of}
 use Rattle.sk_gate.specs.Plays.{Sat}
-use Rattle.sk_gate.specs.Hands.{Standing, IsPost, Holds}
-use Rattle.sk_gate.specs.Starts.{empty_handed, blank_of, IsBlank, AreNew}
+use Rattle.sk_gate.specs.Hands.{IsPost, Holds}
+use Rattle.sk_gate.specs.Starts.{blank_of, IsBlank}
 
 one_more : {A : Type 0} (n : ℕ) (x : A) → replicate n x ++ x ∷ [] ≡ replicate (suc n) x
 one_more zero x = refl

@@ -1,22 +1,21 @@
 -- The heart takes in an updater's seat.
-use Rattle.std.proofs.Common.{◌≡◌, ◌≢◌, ◌⊎◌, ℕ, ◌+◌, ◌<◌, Bool, true, false, true≢false, List, [], ◌∷◌, ◌++◌, length, Some, sym, refl, ap, ◌∙◌, subst, ⊎_elim, arith}
-use Rattle.atomic_table.specs.Table.{State, Act, Valid, Allows, step, stepped, carried_after}
+use Rattle.std.proofs.Common.{◌≡◌, ◌≢◌, ℕ, ◌+◌, Bool, true, false, true≢false, List, [], ◌∷◌, ◌++◌, length, Some, sym, refl, ap, ◌∙◌, subst}
+use Rattle.atomic_table.specs.Table.{Allows, step}
 use mathlib.Core.Option.{none}
 use Rattle.atomic_table.specs.Seated.{TableId}
 use Rattle.sk_model.specs.Entries.{Entry}
 use Rattle.sk_compose.specs.declared.buffer.Parcel.{Parcel}
-use Rattle.sk_machine.specs.declared.views.Mine.{Mine}
-use Rattle.sk_machine.specs.declared.views.Move.TheVariants.{Look, Join}
+use Rattle.sk_machine.specs.declared.views.Move.TheVariants.{Look}
 use Rattle.sk_machine.specs.declared.views.Post.{Post}
-use Rattle.sk_machine.specs.declared.views.Post.TheVariants.{Guest, Root, Updater}
+use Rattle.sk_machine.specs.declared.views.Post.TheVariants.{Updater}
 use Rattle.sk_machine.specs.declared.views.Duty.{Duty}
 use Rattle.sk_machine.specs.declared.views.Duty.TheVariants.{Free, Leads}
 use Rattle.sk_machine.specs.declared.views.View.{View}
 use Rattle.sk_gate.specs.Slots.{Slot, full, contents, Sketching, Telling, TellsList}
-use Rattle.sk_gate.specs.Views.{size_of, mine_in, mine_of, leads, seen_with, known_with, drained_with, sizes_merged, after_join}
+use Rattle.sk_gate.specs.Views.{size_of, mine_in, mine_of, leads, seen_with, known_with, drained_with, after_join}
 use Rattle.sk_gate.specs.Rule.{Kept}
-use Rattle.sk_gate.specs.Plays.{Sat, is_picked, rested_mine, rested}
-use Rattle.sk_gate.specs.Hands.{Standing, standing_of, own_in, LeadsBy, OwnHand, IsPost, Holds}
+use Rattle.sk_gate.specs.Plays.{Sat, rested_mine, rested}
+use Rattle.sk_gate.specs.Hands.{Standing, standing_of, own_in, LeadsBy, OwnHand, Holds}
 use Rattle.sk_gate.proofs.Merged.{sizes_length, sizes_either}
 use Rattle.sk_gate.proofs.Standing.{own_shown}
 use Rattle.sk_gate.proofs.Own.{own_at, empty_at, leads_sizes}

@@ -1,26 +1,22 @@
 -- The steps of any seat and of an updater keep the rule.
-use Rattle.std.proofs.Common.{◌≡◌, ◌≢◌, ◌⊎◌, ℕ, zero, suc, ◌+◌, ◌<◌, ◌≤◌, eqb, ne_eqb, if◌then◌else◌, Bool, true, false, true≢false, List, [], ◌∷◌, ◌++◌, length, get_or, set, Contains, Option, Some, None, sym, refl, ap, ◌∙◌, subst, ⊎_elim, inl, inr, arith, length-set, get_or-set_other, get_or-set_same}
-use Rattle.std.specs.Prelude.{slice_index, slice_index_or, is_none}
+use Rattle.std.proofs.Common.{◌≡◌, ◌≢◌, ℕ, ◌+◌, ◌<◌, ◌≤◌, ne_eqb, if◌then◌else◌, Bool, true, false, true≢false, List, [], ◌∷◌, ◌++◌, length, get_or, set, Contains, Option, Some, None, sym, refl, ap, ◌∙◌, subst, ⊎_elim, arith, length-set, get_or-set_other, get_or-set_same}
+use Rattle.std.specs.Prelude.{is_none}
 use mathlib.Core.Option.{some, none}
 use mathlib.Core.Option as maybe
 use mathlib.Core.Logic.{dite}
 use native.Mathlib.Decide.{ℕ_discrete}
 use lib.ListN.{get_elem?}
-use lib.Seq.{set-get_or}
-use prog.Atomic.{either}
-use Rattle.atomic_table.specs.Table.{State, Me, Act, step, keeps, takes, gives, Valid, Allows, stepped, carried_after, rest}
-use Rattle.atomic_table.proofs.Lists.{at_set, set_here, set_else, set_again, exchanged}
-use Rattle.sk_model.specs.Entries.{Entry, entries_by, tagged}
+use Rattle.atomic_table.specs.Table.{State, step, keeps, takes, gives, Allows, rest}
+use Rattle.atomic_table.proofs.Lists.{set_here, set_else}
+use Rattle.sk_model.specs.Entries.{Entry, entries_by}
 use Rattle.sk_model.specs.Missing.{Begins, LacksAtMost}
 use Rattle.sk_model.specs.Width.{AreItems}
-use Rattle.sk_model.proofs.Missing.{begins_refl, begins_nil, begins_more, begins_trans, begins_shorter, begins_length, lacks_begins}
+use Rattle.sk_model.proofs.Missing.{begins_refl, begins_nil, begins_more, begins_trans}
 use Rattle.sk_compose.specs.declared.buffer.Parcel.{Parcel}
 use Rattle.sk_machine.specs.Numbered.{put}
-use Rattle.sk_machine.specs.Coarse.{most_kept, most_entries, CoarseUpdater, Coarse, At, IsBatch, IsBehindBy, IsClosed, Meets, blank_mine, after_look, after_hand, after_rest, after_find, after_publish, after_give_back, after_turn, after_yield, after_admit}
+use Rattle.sk_machine.specs.Coarse.{most_kept, CoarseUpdater, Coarse, IsBatch, after_admit}
 use Rattle.sk_machine.specs.declared.views.Mine.{Mine}
-use Rattle.sk_machine.specs.declared.views.Stage.{Stage}
-use Rattle.sk_machine.specs.declared.views.Stage.TheVariants.{Idle, Busy, Published}
-use Rattle.sk_machine.specs.declared.views.Move.TheVariants.{Ask, Look, Hand, Find, Publish, GiveBack, Turn, Yield}
+use Rattle.sk_machine.specs.declared.views.Move.TheVariants.{Ask, Look, Hand}
 use Rattle.sk_machine.specs.declared.views.Post.{Post}
 use Rattle.sk_machine.specs.declared.views.Post.TheVariants.{Guest, Root, Updater}
 use Rattle.sk_machine.specs.declared.views.Duty.{Duty}
@@ -28,18 +24,15 @@ use Rattle.sk_machine.specs.declared.views.Duty.TheVariants.{Free, Leads}
 use Rattle.sk_machine.specs.declared.views.View.{View}
 use Rattle.sk_machine.proofs.Numbered.{put_here, put_else, each_put}
 use Rattle.sk_machine.proofs.Coarse as event
-use Rattle.sk_gate.specs.declared.load.Trunk.{Trunk}
-use Rattle.sk_gate.specs.declared.load.Held.{Held}
 use Rattle.sk_gate.specs.declared.load.Load.TheVariants as load
-use Rattle.sk_gate.specs.Slots.{Slot, full, trunk, contents, room, Sketching, Telling, TellsList, ToldOk, HeldOk, TrunkOk}
-use Rattle.sk_gate.specs.Views.{known_of, given_of, size_of, mine_in, mine_of, seat_in, leads, stage_of, left_of, batch_in, batch_of, is_busy, MayYield, longer, is_open, SpeaksBy, SpeaksFor}
-use Rattle.sk_gate.specs.Rule.{left_home, SlotOk, PostOk, DutyOk, OpenOk, DrainedOk, Knows, Has, HasSeen, IsLed, HasGiven, Kept}
-use Rattle.sk_gate.specs.Moves.{LacksOwn, AsksAt, looked_mine, RenewsAt, WaitsAt, LooksAt, AdmitsAt, handed_mine, HandsAt, ResumesAt, TakesTurnAt, MissesTurnAt, TurnsAt, YieldsAt, FindsBatchAt, FindsAt, LeavesAt, PublishesAt, GivesBackAt}
-use Rattle.sk_gate.specs.Plays.{Sat, asked, IsRested, LookHand, looked, is_picked, rested_mine, rested, admitted, handed, turned, yielded, found, left_it, published, gave_back}
-use Rattle.sk_gate.specs.Hands.{StageHand, StageKnown, TrunkHand, LeadsBy, IsEmptyOwn, IsFullOwn, OwnHand, IsPost, Holds}
+use Rattle.sk_gate.specs.Slots.{Slot, full, contents, room, Sketching, Telling, TellsList, ToldOk}
+use Rattle.sk_gate.specs.Views.{known_of, given_of, size_of, mine_of, seat_in, leads, longer, is_open, SpeaksBy}
+use Rattle.sk_gate.specs.Rule.{PostOk, DutyOk, OpenOk, Knows, Kept}
+use Rattle.sk_gate.specs.Moves.{LacksOwn, looked_mine, RenewsAt, LooksAt, AdmitsAt, handed_mine}
+use Rattle.sk_gate.specs.Plays.{Sat, asked, LookHand, looked, is_picked, rested_mine, rested, admitted, handed, published}
 use Rattle.sk_gate.proofs.Published.{published_seen, entries_of}
 use Rattle.sk_gate.proofs.Opened.{open_neutral, open_told, open_shut}
-use Rattle.sk_gate.proofs.Common.{seats_stay, has_stays, Stays, SameUpdater, viewed, others_know, updater_step, propagator_step, at_within, bool_cases, index_within, longer_right, longer_left, longer_in, longer_same}
+use Rattle.sk_gate.proofs.Common.{Stays, viewed, updater_step, at_within, bool_cases, index_within, longer_right, longer_in, longer_same}
 
 -- a seat that has seen more
 pub post_sees : (n : ℕ) (m : Coarse) (owner : ℕ → ℕ) (j : ℕ) (seen seen' : List Entry) (sizes drained : List ℕ) (p : Post) → Begins seen seen' → PostOk n m owner j seen sizes drained p → PostOk n m owner j seen' sizes drained p
@@ -221,7 +214,7 @@ module _ {C T : Type 0} (hint packed : List ℕ → List Entry → ℕ) (g : Ske
         waiting = λ z. absurd (open_word z);
         led = λ a. absurd (ok.open_apart open_word a);
       })
-          others knows stays in
+      others knows stays in
       ⊎_elim
       (λ (on : u.mine.ready ≡ true). (
         w,
@@ -343,14 +336,14 @@ module _ {C T : Type 0} (hint packed : List ℕ → List Entry → ℕ) (g : Ske
               known_sized = o.known_sized;
               given_sized = o.given_sized;
               sizes_are = λ a there. dite (ℕ_discrete a i)
-              (λ e. ap (size_of w) e ∙ set_size ∙ sym (put_here m.sizes i b) ∙ ap sizes (sym e))
-              (λ ne. let same = get_or-set_other v.sizes i a b 0 ne in same ∙ o.sizes_are a (λ z. there (same ∙ z)) ∙ sym (put_else m.sizes i b a ne));
+                  (λ e. ap (size_of w) e ∙ set_size ∙ sym (put_here m.sizes i b) ∙ ap sizes (sym e))
+                  (λ ne. let same = get_or-set_other v.sizes i a b 0 ne in same ∙ o.sizes_are a (λ z. there (same ∙ z)) ∙ sym (put_else m.sizes i b a ne));
               seen_is = o.seen_is;
               heard_is = o.heard_is;
               known_is = λ a. each_put (λ c (y : CoarseUpdater). Begins (known_of v c) y.mine.handed) m.updaters i u' a (o.known_is i) (λ _. o.known_is a);
               known_with_size = λ a some-known z. dite (ℕ_discrete a i)
-              (λ e. let q : size_of w i ≡ 0 = ap (size_of w) (sym e) ∙ z in omega arith)
-              (λ ne. o.known_with_size a some-known (sym (get_or-set_other v.sizes i a b 0 ne) ∙ z));
+                  (λ e. let q : size_of w i ≡ 0 = ap (size_of w) (sym e) ∙ z in omega arith)
+                  (λ ne. o.known_with_size a some-known (sym (get_or-set_other v.sizes i a b 0 ne) ∙ z));
               given_is = λ a. each_put (λ c (y : CoarseUpdater). Begins (given_of v c) y.given) m.updaters i u' a (o.given_is i) (λ _. o.given_is a);
               post_is = (
                 inside,

@@ -1,5 +1,5 @@
 -- What each call on a word tells: the view before, the number loaded or stored, and the view after.
-use Rattle.std.specs.Prelude.{◌≡◌, ◌≢◌, ℕ, ◌+◌, ◌<◌, ◌≤◌, List, [], ◌∷◌, ◌++◌, length, Bool, true, false, All, Contains, slice_set}
+use Rattle.std.specs.Prelude.{◌≡◌, ◌≢◌, ℕ, ◌+◌, ◌<◌, ◌≤◌, List, [], ◌∷◌, ◌++◌, length, true, false, All, Contains, slice_set}
 use Rattle.sk_model.specs.Entries.{Entry, entries_by, tagged}
 use Rattle.sk_model.specs.Missing.{Begins, LacksAtMost}
 use Rattle.sk_machine.specs.Coarse.{most_entries, IsEntry, IsBatch}

@@ -1,16 +1,16 @@
 -- What each step of the table tells: of the view, as in Moves, and of the slots that the seat has.
-use Rattle.std.specs.Prelude.{◌≡◌, ◌≢◌, ℕ, ◌+◌, ◌<◌, List, [], ◌∷◌, ◌++◌, length, Bool, true, false, ◌&&◌, Option, Some, None, is_none, slice_index}
+use Rattle.std.specs.Prelude.{◌≡◌, ◌≢◌, ℕ, ◌+◌, List, [], ◌∷◌, ◌++◌, Bool, true, false, None, is_none}
 use Rattle.atomic_table.specs.Table.{Me, Step, rest}
 use Rattle.sk_model.specs.Entries.{Entry}
 use Rattle.sk_compose.specs.declared.buffer.Parcel.{Parcel}
 use Rattle.sk_machine.specs.declared.views.Mine.{Mine}
-use Rattle.sk_machine.specs.declared.views.Stage.TheVariants.{Idle, Busy, Published}
+use Rattle.sk_machine.specs.declared.views.Stage.TheVariants.{Busy, Published}
 use Rattle.sk_machine.specs.declared.views.Move.TheVariants.{Look}
-use Rattle.sk_machine.specs.declared.views.Post.TheVariants.{Guest, Root, Updater}
-use Rattle.sk_machine.specs.declared.views.Duty.TheVariants.{Free, Leads}
+use Rattle.sk_machine.specs.declared.views.Post.TheVariants.{Updater}
+use Rattle.sk_machine.specs.declared.views.Duty.TheVariants.{Leads}
 use Rattle.sk_machine.specs.declared.views.View.{View}
 use Rattle.sk_gate.specs.declared.load.Trunk.{Trunk}
-use Rattle.sk_gate.specs.Slots.{Slot, full, trunk, contents, room, Sketching, Telling, ToldOk, TrunkOk}
+use Rattle.sk_gate.specs.Slots.{Slot, full, trunk, contents, Sketching, Telling, ToldOk, TrunkOk}
 use Rattle.sk_gate.specs.Views.{size_of, mine_of, stage_of, batch_of}
 use Rattle.sk_gate.specs.Moves.{IsSeen, AsksAt, LooksAt, AdmitsAt, HandsAt, TurnsAt, YieldsAt, FindsAt, LeavesAt, PublishesAt, GivesBackAt}
 

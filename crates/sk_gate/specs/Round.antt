@@ -1,5 +1,5 @@
 -- What a round of whoever propagates comes to.
-use Rattle.std.specs.Prelude.{◌≡◌, ◌≢◌, ◌⊎◌, ℕ, ◌+◌, List, [], ◌∷◌, ◌++◌, length, false, slice_set}
+use Rattle.std.specs.Prelude.{◌≡◌, ◌≢◌, ℕ, ◌+◌, List, [], ◌∷◌, ◌++◌, length, false, slice_set}
 use Rattle.sk_model.specs.Entries.{Entry, tagged}
 use Rattle.sk_model.specs.Missing.{Begins}
 use Rattle.sk_machine.specs.Coarse.{IsBatch}

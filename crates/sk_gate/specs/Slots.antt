@@ -1,6 +1,6 @@
 -- The words and the slots of the table, for n updaters. Word 0 is the published word, word i + 1 the hint word of
 -- updater i, and word n + 1 the turn. Slot i has the parcel of updater i, and slot n the trunk.
-use Rattle.std.specs.Prelude.{◌≡◌, ◌≢◌, ℕ, ◌+◌, ◌==◌, if◌then◌else◌, List, [], ◌∷◌, Option, Some, None}
+use Rattle.std.specs.Prelude.{◌≡◌, ◌≢◌, ℕ, ◌+◌, ◌==◌, if◌then◌else◌, List, [], Option, Some, None}
 use Rattle.sk_model.specs.Entries.{Entry}
 use Rattle.sk_compose.specs.Buffers.{Contents}
 use Rattle.sk_compose.specs.declared.buffer.Parcel.{Parcel}

@@ -139,7 +139,13 @@ fn a_batch_is_merged_by_a_round(rt: HostRuntime) -> Result<(), Fail> {
     hand_over(rt.alloc(), &mut seats.updater, 5)?;
     assert_eq!(rt; unpack(seats.heart.ask()).count, 0);
     assert_eq!(rt; serve(&rt, &mut seats.heart, 0)?, Served::Merged(1));
-    assert_eq!(rt; unpack(seats.updater.ask()), Reply { count: 1, theta: 281474976710656 });
+    assert_eq!(rt;
+        unpack(seats.updater.ask()),
+        Reply {
+            count: 1,
+            theta: 281474976710656
+        }
+    );
     Ok(())
 }
 

@@ -1,4 +1,4 @@
-use Rattle.std.proofs.Common.{◌≡◌, ◌∙◌, [], ap, subst, sym}
+use Rattle.std.proofs.Common.{◌∙◌, [], ap, subst, sym}
 use Rattle.sk_machine.specs.Coarse.{IsBatch}
 use Rattle.sk_gate.specs.Slots.{contents}
 use Rattle.sk_gate.specs.Views.{size_of}

@@ -1,4 +1,4 @@
-use Rattle.std.proofs.Common.{rules, ◌≡◌, ◌∙◌, ap, sym, subst}
+use Rattle.std.proofs.Common.{◌≡◌, ◌∙◌, ap, sym, subst}
 use Rattle.sk_model.specs.Missing.{Begins}
 use Rattle.sk_machine.specs.Coarse.{IsBatch}
 use Rattle.sk_machine.specs.declared.views.View.{View}

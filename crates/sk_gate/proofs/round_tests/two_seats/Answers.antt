@@ -1,7 +1,6 @@
-use Rattle.std.proofs.Common.{rules, ◌≡◌, ℕ, ◌+◌, List, [], ◌∷◌, ◌++◌, length, get_or, Some, ap, sym, ◌∙◌, subst, arith, length-append}
+use Rattle.std.proofs.Common.{◌≡◌, List, [], ◌∷◌, ◌++◌, length, get_or, ap, sym, ◌∙◌, arith, length-append}
 use Rattle.std.specs.Prelude.{slice_index}
 use Rattle.std.specs.Option.{option_to_list}
-use Rattle.sk_compose.specs.declared.buffer.Parcel.{Parcel}
 use Rattle.sk_gate.specs.Views.{size_of, leads, sizes_of}
 use Rattle.sk_gate.proofs.round_tests.two_seats.Goals as goal
 

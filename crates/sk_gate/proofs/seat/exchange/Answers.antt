@@ -1,4 +1,4 @@
-use Rattle.std.proofs.Common.{rules, ◌≡◌, ◌∷◌, ◌++◌, ◌∙◌, List, ℕ, ap, sym}
+use Rattle.std.proofs.Common.{rules, ◌∷◌, ◌∙◌, ap, sym}
 use Rattle.atomic_table.specs.Table.{rest}
 use Rattle.sk_gate.proofs.Rotated.{placed_first, placed_again, same_slot}
 use Rattle.sk_gate.proofs.seat.exchange.Goals as goal

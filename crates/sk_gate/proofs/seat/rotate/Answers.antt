@@ -1,4 +1,4 @@
-use Rattle.std.proofs.Common.{refl, sym, ◌≡◌, ◌∙◌, ℕ, List}
+use Rattle.std.proofs.Common.{refl, sym, ◌∙◌}
 use Rattle.sk_gate.proofs.Rotated.{rotated_none, rotated_again}
 use Rattle.sk_gate.proofs.seat.rotate.Goals as goal
 

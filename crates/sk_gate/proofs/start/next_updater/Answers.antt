@@ -1,4 +1,4 @@
-use Rattle.std.proofs.Common.{rules, ◌≡◌, ◌∙◌, ◌+◌, [], false, refl, ap, sym, subst}
+use Rattle.std.proofs.Common.{rules, ◌∙◌, ◌+◌, [], false, refl, ap, sym, subst}
 use Rattle.sk_machine.specs.Coarse.{blank_mine}
 use Rattle.sk_machine.specs.declared.views.Post.TheVariants.{Updater}
 use Rattle.sk_gate.specs.Slots.{sketching, telling}

@@ -1,4 +1,4 @@
-use Rattle.std.proofs.Common.{rules, arith, ◌≡◌, ◌∙◌, true, [], length, ap, sym, subst}
+use Rattle.std.proofs.Common.{rules, ◌≡◌, ◌∙◌, true, [], length, ap, sym, subst}
 use Rattle.sk_gate.specs.Slots.{sketching, telling}
 use Rattle.sk_gate.specs.Views.{after_join}
 use Rattle.sk_gate.specs.Hands.{standing_of, Holds}

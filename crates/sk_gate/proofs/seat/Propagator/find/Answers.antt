@@ -1,6 +1,4 @@
-use Rattle.std.proofs.Common.{rules, ◌≡◌, ◌∙◌, ap, sym, subst, refl}
-use Rattle.sk_machine.specs.declared.views.Stage.TheVariants.{Idle}
-use Rattle.sk_machine.specs.declared.views.Duty.TheVariants.{Leads}
+use Rattle.std.proofs.Common.{rules, subst, refl}
 use Rattle.sk_gate.specs.Slots.{sketching, telling}
 use Rattle.sk_gate.specs.Moves.{FindsAt}
 use Rattle.sk_gate.proofs.Rounds.{finds}

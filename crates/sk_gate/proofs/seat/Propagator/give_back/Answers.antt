@@ -1,5 +1,4 @@
-use Rattle.std.proofs.Common.{rules, ◌≡◌, ◌∙◌, ap, sym, subst, refl}
-use Rattle.sk_machine.specs.declared.views.View.{View}
+use Rattle.std.proofs.Common.{rules, ◌∙◌, ap, subst, refl}
 use Rattle.sk_gate.specs.Slots.{sketching, telling}
 use Rattle.sk_gate.specs.Moves.{GivesBackAt}
 use Rattle.sk_gate.proofs.Leading.{view_is, duty_as, gives_back_at, gave_next}

@@ -1,4 +1,4 @@
-use Rattle.std.proofs.Common.{rules, ◌≡◌, ◌∙◌, refl}
+use Rattle.std.proofs.Common.{rules, refl}
 use Rattle.sk_gate.specs.Slots.{sketching, telling}
 use Rattle.sk_gate.proofs.Leading.{trunk_at, laid_next}
 use Rattle.sk_gate.proofs.seat.Propagator.lay.Goals as goal

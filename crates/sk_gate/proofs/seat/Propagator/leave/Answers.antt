@@ -1,4 +1,4 @@
-use Rattle.std.proofs.Common.{rules, ◌≡◌, ◌∙◌, subst, refl}
+use Rattle.std.proofs.Common.{rules, subst, refl}
 use Rattle.sk_gate.specs.Slots.{sketching, telling}
 use Rattle.sk_gate.specs.Moves.{LeavesAt}
 use Rattle.sk_gate.proofs.Leading.{view_is, leaves_at, left_next}

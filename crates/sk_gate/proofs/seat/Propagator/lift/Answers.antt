@@ -1,5 +1,5 @@
-use Rattle.std.proofs.Common.{rules, ◌≡◌, ◌∙◌, ap, sym, subst, refl}
-use Rattle.sk_gate.specs.Slots.{sketching, telling, trunk, TrunkOk}
+use Rattle.std.proofs.Common.{rules, ◌∙◌, sym, subst, refl}
+use Rattle.sk_gate.specs.Slots.{sketching, telling, TrunkOk}
 use Rattle.sk_gate.specs.Views.{size_of, stage_of}
 use Rattle.sk_gate.proofs.Leading.{trunk_at, lifted_next, same_trunk}
 use Rattle.sk_gate.proofs.seat.Propagator.lift.Goals as goal

@@ -1,4 +1,4 @@
-use Rattle.std.proofs.Common.{rules, ◌≡◌, ◌++◌, ◌∙◌, ap, sym, subst, refl}
+use Rattle.std.proofs.Common.{rules, ◌++◌, ◌∙◌, ap, sym, subst, refl}
 use Rattle.sk_model.specs.Entries.{tagged}
 use Rattle.sk_machine.specs.declared.views.View.{View}
 use Rattle.sk_gate.specs.Slots.{sketching, telling}

@@ -1,4 +1,4 @@
-use Rattle.std.proofs.Common.{rules, ◌≡◌, ◌+◌, ◌∙◌, ap, sym, refl}
+use Rattle.std.proofs.Common.{rules, ◌+◌, ap, refl}
 use Rattle.sk_gate.specs.Slots.{sketching, telling}
 use Rattle.sk_gate.proofs.Leading.{put_at, put_next}
 use Rattle.sk_gate.proofs.seat.Propagator.put.Goals as goal

@@ -1,5 +1,4 @@
-use Rattle.std.proofs.Common.{rules, ◌≡◌, ◌+◌, ◌∙◌, ap, sym, refl}
-use Rattle.sk_compose.specs.declared.buffer.Parcel.{Parcel}
+use Rattle.std.proofs.Common.{rules, ◌+◌, ◌∙◌, ap, sym, refl}
 use Rattle.sk_gate.specs.Slots.{sketching, telling}
 use Rattle.sk_gate.proofs.Leading.{taken_at, taken_next, same_parcel}
 use Rattle.sk_gate.proofs.seat.Propagator.take.Goals as goal

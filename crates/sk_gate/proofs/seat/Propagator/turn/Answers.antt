@@ -1,4 +1,4 @@
-use Rattle.std.proofs.Common.{rules, ◌≡◌, ◌+◌, ◌∙◌, not, length, ap, refl}
+use Rattle.std.proofs.Common.{rules, ◌∙◌, not, length, ap, refl}
 use Rattle.sk_gate.specs.Slots.{sketching, telling}
 use Rattle.sk_gate.specs.Hands.{has_trunk}
 use Rattle.sk_gate.proofs.Turns.{turns}

@@ -1,4 +1,4 @@
-use Rattle.std.proofs.Common.{rules, ◌≡◌, ◌∙◌, subst, refl}
+use Rattle.std.proofs.Common.{rules, subst, refl}
 use Rattle.sk_gate.specs.Slots.{sketching, telling}
 use Rattle.sk_gate.specs.Moves.{YieldsAt}
 use Rattle.sk_gate.proofs.Leading.{view_is, yields_at, yielded_next}

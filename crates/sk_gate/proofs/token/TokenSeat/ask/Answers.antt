@@ -1,4 +1,4 @@
-use Rattle.std.proofs.Common.{rules, ◌-◌, arith}
+use Rattle.std.proofs.Common.{rules, ◌-◌}
 use Rattle.sk_gate.specs.Slots.{sketching, telling}
 use Rattle.sk_gate.proofs.Updaters.{asks}
 use Rattle.sk_gate.proofs.token.TokenSeat.ask.Goals as goal

@@ -1,4 +1,4 @@
-use Rattle.std.proofs.Common.{rules, ◌≡◌, ◌≢◌, ◌∙◌, List, ℕ, [], ◌∷◌, subst, ap, sym, refl, true, false}
+use Rattle.std.proofs.Common.{rules, ◌≡◌, ◌∙◌, [], subst, sym, refl, true, false}
 use Rattle.sk_gate.specs.Slots.{sketching, telling}
 use Rattle.sk_gate.specs.Views.{size_of}
 use Rattle.sk_gate.specs.Hands.{Standing, standing_of, Holds}

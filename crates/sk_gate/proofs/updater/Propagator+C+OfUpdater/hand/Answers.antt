@@ -1,7 +1,6 @@
-use Rattle.std.proofs.Common.{rules, ◌≡◌, ◌≢◌, ◌∙◌, List, ℕ, [], ◌++◌, append-nil, false, subst, ap, sym}
-use Rattle.sk_machine.specs.declared.views.View.{View}
+use Rattle.std.proofs.Common.{rules, ◌∙◌, [], ◌++◌, append-nil, false, subst, sym}
 use Rattle.sk_gate.specs.Slots.{sketching, telling}
-use Rattle.sk_gate.specs.Hands.{Own, Standing, standing_of}
+use Rattle.sk_gate.specs.Hands.{Standing, standing_of}
 use Rattle.sk_gate.specs.Moves.{HandsAt}
 use Rattle.sk_gate.proofs.Own.{hands_at, handed_after, handed_holds}
 use Rattle.sk_gate.proofs.Standing.{shown_with}

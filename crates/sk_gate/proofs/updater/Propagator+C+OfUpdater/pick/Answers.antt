@@ -1,6 +1,6 @@
-use Rattle.std.proofs.Common.{rules, ◌≡◌, ◌≢◌, ◌∙◌, List, ℕ, [], ◌∷◌, Some, None, subst, ap, sym, refl, true, false, inl, inr, is_some}
+use Rattle.std.proofs.Common.{rules, ◌≡◌, ◌≢◌, ◌∙◌, [], subst, ap, sym, true, false, inl, is_some}
 use Rattle.sk_compose.specs.Buffers.{Contents}
-use Rattle.sk_gate.specs.Slots.{full, contents, sketching, telling, TellsList}
+use Rattle.sk_gate.specs.Slots.{sketching, telling, TellsList}
 use Rattle.sk_gate.specs.Views.{size_of, mine_of}
 use Rattle.sk_gate.specs.Hands.{Standing, standing_of, Holds}
 use Rattle.sk_gate.proofs.Own.{own_placed, own_put, own_taken, put_own, exchanged_shown, some_is_not}
