@@ -51,7 +51,5 @@ fn main(rt: HostRuntime) -> ExitCode {
     let mut out = StdSink::new(writer(&stdout));
     let mut err = StdSink::new(writer(&stderr));
     let mut shelf = FileShelf::new(&rt);
-    ExitCode::from(run(
-        alloc, &words, &mut input, &mut out, &mut err, &mut shelf,
-    ))
+    ExitCode::from(run(alloc, &words, &mut input, &mut out, &mut err, &mut shelf))
 }
