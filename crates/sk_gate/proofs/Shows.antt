@@ -139,6 +139,7 @@ module _ {C T : Type 0} (hint packed : List ℕ → List Entry → ℕ) (g : Ske
     numbers_are = o.numbers_are;
     name_is = o.name_is;
     seen = subst (Begins v.seen) (sym published) o.seen_is;
+    heard = λ h d. subst (Begins h) (sym published) (o.heard_is h d);
     known = λ i l. subst (Begins (known_of v i)) (sym (each i (within i l)).handed) (o.known_is i);
     given = λ i l. subst (Begins (given_of v i)) (sym (each i (within i l)).given) (o.given_is i);
     sizes = λ i l ne. o.sizes_are i ne ∙ sym (each i (within i l)).size;

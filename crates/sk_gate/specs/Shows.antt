@@ -83,6 +83,7 @@ pub record ShowsView (numbers name : List ℕ) (f : Fine) (v : View) : Type 0 wh
   pub numbers_are : v.numbers ≡ numbers
   pub name_is : v.name ≡ name
   pub seen : Begins v.seen f.published
+  pub heard : (h : List Entry) → Contains v.heard h → Begins h f.published
   pub known : (i : ℕ) → i < f.n → Begins (known_of v i) (f.updaters i).handed
   pub given : (i : ℕ) → i < f.n → Begins (given_of v i) (f.updaters i).given
   pub sizes : (i : ℕ) → i < f.n → size_of v i ≢ 0 → size_of v i ≡ (f.updaters i).size

@@ -6,7 +6,7 @@ ghost use Rattle.sk_gate.specs.Hands.{no_own};
 ghost use Rattle.sk_gate.specs.Starts.{blank_view, empty_handed};
 
 use super::*;
-use sk_compose::{Buffer, Parcel};
+use sk_compose::{Buffer, Composable, Parcel};
 use sk_theta::{ITEM_END, Reply, Theta, unpack};
 use std::alloc::Global;
 use std::sync::Wait;
@@ -111,6 +111,56 @@ fn a_batch_is_handed_over_and_published(rt: HostRuntime) -> Result<(), Fail> {
     };
     assert_eq!(rt; unpack(token.ask()), one);
     assert_eq!(rt; unpack(updater.ask()), one);
+    Ok(())
+}
+
+// Finds, takes and publishes the batch of updater 0, a call at a time. Gives the number found and the items taken.
+fn publish_one<R: Wait>(
+    rt: &R,
+    alloc: Global,
+    heart: &mut HeartSeat<Theta>,
+) -> Result<Option<(u64, Vec<u64>)>, OutOfMemory>
+    requires free { leads heart.old.view.duty ≡ false }
+    requires within { 0 < length heart.old.view.sizes }
+{
+    if heart.turn().is_err() {
+        return Ok(None);
+    }
+    let mut trunk = heart.lift();
+    if let Some(_held) = trunk.held.take() {
+        return Ok(None);
+    }
+    let found = heart.find(0);
+    if found != 0 {
+        return Ok(None);
+    }
+    let mut parcel = heart.take(0);
+    let mut items = Vec::new(alloc);
+    items.extend_from_slice(parcel.buffer.items())?;
+    Composable::merge(&mut trunk.global, rt, 0, &parcel.buffer)?;
+    heart.publish(0, &trunk.global);
+    parcel.buffer.clear();
+    parcel.told = Some(trunk.global.told());
+    heart.put(0, parcel);
+    heart.give_back(0, &trunk.global);
+    heart.lay(trunk);
+    heart.yield_turn();
+    Ok(Some((found, items)))
+}
+
+#[test]
+fn a_round_goes_by_single_calls(rt: HostRuntime) -> Result<(), Fail> {
+    let Seats {
+        mut heart,
+        mut updater,
+        token: _,
+    } = one_updater(rt.alloc())?;
+    let full = full_parcel(rt.alloc(), 5)?;
+    assert_eq!(rt; hand_over(&mut updater, full), 281_474_976_710_656);
+    let published = publish_one(&rt, rt.alloc(), &mut heart)?;
+    let items = vec![in rt.alloc(); 5u64]?;
+    assert_eq!(rt; published, Some((0, items)));
+    assert_eq!(rt; unpack(heart.ask()).count, 1);
     Ok(())
 }
 
