@@ -1,0 +1,76 @@
+//! Takes so many steps of a table with one updater, for `bench/steps` to time. The words are a kind of step
+//! (`asks`, `turns` or `exchanges`) and a number; without words nothing is done.
+#![tactic(auto)]
+
+ghost use Rattle.std.specs.Prelude.{◌≡◌, true, false, IfOk};
+ghost use Rattle.sk_gate.specs.Views.{leads};
+
+use sk_compose::{Buffer, OutOfMemory, Parcel};
+use sk_gate::{HeartSeat, Made, TokenSeat, make};
+use sk_theta::Theta;
+use std::alloc::Global;
+use std::env;
+use std::process::ExitCode;
+
+// A table with one updater, whose buffers have room for one item.
+#[tactic(auto, unfolding(sk_model::specs::Entries::items_of_entries))]
+fn table(alloc: Global) -> Result<Made<Theta>, OutOfMemory>
+    ensures free { IfOk result (λ made. leads made.heart.view.duty ≡ false) }
+{
+    let global = Theta::new(alloc, 2)?;
+    let buffer = Buffer::new(alloc, 1)?;
+    let parcels = vec![in alloc; Parcel { buffer, told: None }]?;
+    make(alloc, 1, 1, global, parcels)
+}
+
+// So many loads of the published word.
+fn ask(token: &mut TokenSeat<Theta>, count: u64) {
+    'ask: for _ in 0..count {
+        let _ = token.ask();
+    }
+}
+
+// So many turns that find 0, each a compare-exchange, and as many stores that yield it.
+fn turn(heart: &mut HeartSeat<Theta>, count: u64)
+    requires free { leads heart.old.view.duty ≡ false }
+{
+    'turn: for _ in 0..count {
+        if heart.turn().is_ok() {
+            heart.yield_turn();
+        }
+    }
+}
+
+// So many exchanges of the trunk's slot, there and back.
+fn exchange(heart: &mut HeartSeat<Theta>, count: u64)
+    requires free { leads heart.old.view.duty ≡ false }
+{
+    if heart.turn().is_err() {
+        return;
+    }
+    'exchange: for _ in 0..count {
+        let trunk = heart.lift();
+        heart.lay(trunk);
+    }
+}
+
+fn main(rt: HostRuntime) -> ExitCode {
+    let alloc = rt.alloc();
+    let Ok(mut words) = env::args(&rt) else {
+        return ExitCode::FAILURE;
+    };
+    let _program = words.next();
+    let (Some(kind), Some(count)) = (words.next(), words.next()) else {
+        return ExitCode::SUCCESS;
+    };
+    let (Ok(count), Ok(mut made)) = (count.parse::<u64>(), table(alloc)) else {
+        return ExitCode::FAILURE;
+    };
+    match kind.as_str() {
+        "asks" => ask(&mut made.token, count),
+        "turns" => turn(&mut made.heart, count),
+        "exchanges" => exchange(&mut made.heart, count),
+        _ => return ExitCode::FAILURE,
+    }
+    ExitCode::SUCCESS
+}
