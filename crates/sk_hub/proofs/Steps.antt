@@ -1,0 +1,257 @@
+-- What the steps of whoever propagates lead to, one after another.
+use Rattle.std.proofs.Common.{◌≡◌, ◌≢◌, ℕ, ◌+◌, ◌<◌, List, ◌++◌, ◌∷◌, [], length, refl, ap, sym, ◌∙◌, subst, append_assoc, append-nil, add-one, inl, inr, set, length-set, get_or-set_same, get_or-set_other, arith}
+use mathlib.Core.Logic.{dite}
+use native.Mathlib.Decide.{ℕ_discrete}
+use Rattle.std.specs.Prelude.{slice_index, IfOk, Result, Ok, Err}
+use Rattle.sk_model.specs.Entries.{Entry, tagged}
+use Rattle.sk_model.specs.Missing.{Begins}
+use Rattle.sk_model.proofs.Missing.{begins_trans, begins_refl}
+use Rattle.sk_machine.specs.declared.views.Move.{Move}
+use Rattle.sk_machine.specs.declared.views.Move.TheVariants.{Find, Publish, GiveBack, Turn, Yield}
+use Rattle.sk_machine.specs.declared.views.Stage.{Stage}
+use Rattle.sk_machine.specs.declared.views.Stage.TheVariants.{Idle, Busy, Published}
+use Rattle.sk_machine.specs.declared.views.Duty.{Duty}
+use Rattle.sk_machine.specs.declared.views.Duty.TheVariants.{Free}
+use Rattle.sk_machine.specs.declared.views.View.{View}
+use Rattle.sk_gate.specs.Views.{size_of, batch_of, stage_of}
+use Rattle.sk_gate.specs.Moves.{AsksAt, FindsBatchAt, PublishesAt, GivesBackAt, LeavesAt, ResumesAt, TakesTurnAt, YieldsAt}
+use Rattle.sk_hub.specs.Rounds.{Advances, TakesTurn, KnowsAsMuch, PublishesBatch, FindsNothing, FindsBatch, FinishesHeld, FindsInVain, ServesOne, ServesEach, Serves, ServesNothing, ServesBatch, Refuses, RefusesFound}
+use Rattle.sk_hub.specs.Turns.{RefusesAfter}
+
+-- a step that changes no more than what a propagator's may
+only_these : (v w : View) (seen : List Entry) (steps : List Move) (duty : Duty) (given : List (List Entry)) (sizes : List ℕ) → w ≡ record v { seen = seen; steps = steps; duty = duty; given = given; sizes = sizes }
+    → w ≡ record v { seen = w.seen; steps = steps; duty = w.duty; given = w.given; sizes = w.sizes }
+only_these v w seen steps duty given sizes e = e ∙ λ a. let x : View = sym e a in record v { seen = x.seen; steps = steps; duty = x.duty; given = x.given; sizes = x.sizes }
+
+pub advances_trans : (u v w : View) (xs ys : List Move) → Advances u xs v → Advances v ys w → Advances u (xs ++ ys) w
+advances_trans u v w xs ys a b = record {
+  view = b.view
+      ∙ (λ d. let x : View = a.view d in record x { seen = w.seen; steps = x.steps ++ ys; duty = w.duty; given = w.given; sizes = w.sizes })
+      ∙ ap (λ l. record u { seen = w.seen; steps = l; duty = w.duty; given = w.given; sizes = w.sizes }) (append_assoc u.steps xs ys);
+  grows = begins_trans _ _ _ a.grows b.grows;
+  sized = b.sized ∙ a.sized;
+  sizes_stay = λ i known. let same = a.sizes_stay i known in b.sizes_stay i (subst (λ z. z ≢ 0) (sym same) known) ∙ same;
+}
+
+publishes : (v w : View) (word i : ℕ) → PublishesAt v word w i → Advances v (Publish word (length (batch_of v)) ∷ []) w
+publishes v w word i e = record {
+  view = only_these v w _ _ _ _ _ e;
+  grows = (tagged i (batch_of v), ap (λ x. x.seen) e);
+  sized = ap (λ x. length x.sizes) e;
+  sizes_stay = λ j _. ap (λ x. size_of x j) e;
+}
+
+gives_back : (v w : View) (word i : ℕ) → GivesBackAt v word w i → Advances v (GiveBack i word ∷ []) w
+gives_back v w word i e = record {
+  view = only_these v w _ _ _ _ _ e;
+  grows = subst (Begins v.seen) (sym (ap (λ x. x.seen) e)) (begins_refl v.seen);
+  sized = ap (λ x. length x.sizes) e;
+  sizes_stay = λ j _. ap (λ x. size_of x j) e;
+}
+
+-- a publish, and a give_back of the same batch
+pub publishes_batch : (v w w' x : View) (word hint i count : ℕ) → count ≡ length (batch_of v) → PublishesAt v word w i → w' ≡ w → GivesBackAt w' hint x i
+    → (steps : List Move) × PublishesBatch i count steps × Advances v steps x
+publishes_batch v w w' x word hint i count count_is p same b =
+    let steps : List Move = Publish word (length (batch_of v)) ∷ GiveBack i hint ∷ [] in
+    let is : steps ≡ Publish word count ∷ GiveBack i hint ∷ [] = ap (λ z. Publish word z ∷ GiveBack i hint ∷ []) (sym count_is) in
+    (steps, (word, hint, is), advances_trans v w x (Publish word (length (batch_of v)) ∷ []) (GiveBack i hint ∷ []) (publishes v w word i p) (gives_back w x hint i (subst (λ z. GivesBackAt z hint x i) same b)))
+
+-- a size that was learnt leaves those that were known
+sizes_learnt : (sizes : List ℕ) (i b : ℕ) → i < length sizes → (slice_index sizes i ≢ 0 → b ≡ slice_index sizes i) → (j : ℕ) → slice_index sizes j ≢ 0 → slice_index (set sizes i b) j ≡ slice_index sizes j
+sizes_learnt sizes i b within same j known = dite (ℕ_discrete j i)
+    (λ e. ap (slice_index (set sizes i b)) e ∙ get_or-set_same sizes i b 0 within ∙ same (subst (λ z. slice_index sizes z ≢ 0) e known) ∙ ap (slice_index sizes) (sym e))
+    (λ ne. get_or-set_other sizes i j b 0 ne)
+
+-- a batch was found
+pub finds_batch : (v w : View) (i : ℕ) → i < length v.sizes → FindsBatchAt v w i → Advances v (Find i 0 ∷ []) w
+finds_batch v w i within f =
+    let e = f.view in
+    let learnt : w.sizes ≡ set v.sizes i (size_of w i) = ap (λ x. x.sizes) e in record {
+      view = only_these v w _ _ _ _ _ e;
+      grows = subst (Begins v.seen) (sym (ap (λ x. x.seen) e)) (begins_refl v.seen);
+      sized = ap length learnt ∙ length-set v.sizes i (size_of w i);
+      sizes_stay = λ j known. ap (λ z. slice_index z j) learnt ∙ sizes_learnt v.sizes i (size_of w i) within f.same j known;
+    }
+
+-- nothing was found
+pub finds_nothing : (v w : View) (i word : ℕ) → w ≡ record v { steps = v.steps ++ Find i word ∷ [] } → Advances v (Find i word ∷ []) w
+finds_nothing v w i word e = record {
+  view = only_these v w _ _ _ _ _ e;
+  grows = subst (Begins v.seen) (sym (ap (λ x. x.seen) e)) (begins_refl v.seen);
+  sized = ap (λ x. length x.sizes) e;
+  sizes_stay = λ j _. ap (λ x. size_of x j) e;
+}
+
+-- a batch was found, taken, published and given back
+pub serves_found : (v w w' x : View) (i count : ℕ) → Advances v (Find i 0 ∷ []) w → w' ≡ w → 0 < count → (steps : List Move) × PublishesBatch i count steps × Advances w' steps x → (steps : List Move) × ServesOne i count steps × Advances v steps x
+serves_found v w w' x i count found same some (steps, published, advances) =
+    let all : Find i 0 ∷ steps ≡ Find i 0 ∷ Publish published.0 count ∷ GiveBack i published.1 ∷ [] = ap (λ l. Find i 0 ∷ l) published.2 in
+    (Find i 0 ∷ steps, inr (published.0, published.1, some, all), advances_trans v w x (Find i 0 ∷ []) steps found (subst (λ z. Advances z steps x) same advances))
+
+pub serves_found_if : {E : Type 0} (v w w' x : View) (i : ℕ) (r : Result ℕ E) → Advances v (Find i 0 ∷ []) w → w' ≡ w → IfOk r (λ count. 0 < count) → IfOk r (λ count. (steps : List Move) × PublishesBatch i count steps × Advances w' steps x) → IfOk r (λ count. (steps : List Move) × ServesOne i count steps × Advances v steps x)
+serves_found_if v w w' x i (Ok count) found same some served = serves_found v w w' x i count found same some served
+serves_found_if v w w' x i (Err e) found same some served = tt
+
+advances_none : (v : View) → Advances v [] v
+advances_none v = record {
+  view = ap (λ l. record v { steps = l }) (sym (append-nil v.steps));
+  grows = begins_refl v.seen;
+  sized = refl;
+  sizes_stay = λ j _. refl;
+}
+
+-- ---- one updater after another
+
+pub serves_none : (v : View) (from : ℕ) → (steps : List Move) × ServesEach from 0 0 steps × Advances v steps v
+unfolding ServesEach
+serves_none v from = ([], (refl, refl), advances_none v)
+
+pub serves_more : (u v w : View) (from served count more : ℕ) → (steps : List Move) × ServesEach from served count steps × Advances u steps v → (steps : List Move) × ServesOne (from + served) more steps × Advances v steps w
+    → (steps : List Move) × ServesEach from (served + 1) (count + more) steps × Advances u steps w
+unfolding ServesEach
+serves_more u v w from served count more (before, serves, advances) (now, one, further) =
+    (before ++ now, rw add-one (count, more, before, now, refl, refl, serves, one), advances_trans u v w before now advances further)
+
+-- ---- a turn
+
+sizes_resumed : (v w : View) (stage : Stage) → ResumesAt v w stage → (length w.sizes ≡ length v.sizes) × ((j : ℕ) → size_of v j ≢ 0 → size_of w j ≡ size_of v j)
+sizes_resumed v w Idle r = (ap length r.0, λ j _. ap (λ z. slice_index z j) r.0)
+sizes_resumed v w (Busy i batch) r = (ap length r.1 ∙ length-set v.sizes i (size_of w i), λ j known. ap (λ z. slice_index z j) r.1 ∙ sizes_learnt v.sizes i (size_of w i) r.0 r.5 j known)
+sizes_resumed v w (Published i) r = absurd r
+
+starts : (v w : View) → TakesTurnAt v w → Advances v (Turn 0 ∷ []) w
+starts v w t = let sizes = sizes_resumed v w (stage_of w.duty) t.resumes in record {
+  view = only_these v w _ _ _ _ _ t.view;
+  grows = t.grows;
+  sized = sizes.0;
+  sizes_stay = sizes.1;
+}
+
+ends : (v w : View) → YieldsAt v w → Advances v (Yield ∷ []) w
+ends v w e = record {
+  view = only_these v w _ _ _ _ _ e;
+  grows = subst (Begins v.seen) (sym (ap (λ x. x.seen) e)) (begins_refl v.seen);
+  sized = ap (λ x. length x.sizes) e;
+  sizes_stay = λ j _. ap (λ x. size_of x j) e;
+}
+
+leaves : (v w : View) (i : ℕ) → LeavesAt v w i → Advances v (Find i 0 ∷ []) w
+leaves v w i e = record {
+  view = only_these v w _ _ _ _ _ e;
+  grows = subst (Begins v.seen) (sym (ap (λ x. x.seen) e)) (begins_refl v.seen);
+  sized = ap (λ x. length x.sizes) e;
+  sizes_stay = λ j _. ap (λ x. size_of x j) e;
+}
+
+-- a turn, the trunk lifted, steps, the trunk laid, and a yield
+pub takes_turn : (v a a' z z' w : View) (steps : List Move) → v.duty ≡ Free → TakesTurnAt v a → a' ≡ a → Advances a' steps z → z' ≡ z → YieldsAt z' w → TakesTurn v steps w
+takes_turn v a a' z z' w steps free t lifted advances laid y =
+    let middle = advances_trans v a z (Turn 0 ∷ []) steps (starts v a t) (subst (λ x. Advances x steps z) lifted advances) in record {
+      advances = advances_trans v z w (Turn 0 ∷ steps) (Yield ∷ []) middle (subst (λ x. Advances x (Yield ∷ []) w) laid (ends z' w y));
+      duty = ap (λ x. x.duty) y ∙ sym free;
+    }
+
+-- each was served
+pub serves_all : (v a a' b z z' w : View) (from n held found : ℕ) → v.duty ≡ Free → TakesTurnAt v a → a' ≡ a → (steps : List Move) × FinishesHeld held steps × Advances a' steps b
+    → (steps : List Move) × ServesEach from n found steps × Advances b steps z → z' ≡ z → YieldsAt z' w → Serves v from n held found w
+serves_all v a a' b z z' w from n held found free t lifted (finishing, finishes, first) (finding, finds, second) laid y = record {
+  finishing = finishing;
+  finding = finding;
+  finishes = finishes;
+  finds = finds;
+  turn = takes_turn v a a' z z' w (finishing ++ finding) free t lifted (advances_trans a' b z finishing finding first second) laid y;
+}
+
+-- the batch of one of them was refused
+pub refuses_found : (v a a' b z z' x w : View) (from n held i : ℕ) → v.duty ≡ Free → TakesTurnAt v a → a' ≡ a → (steps : List Move) × FinishesHeld held steps × Advances a' steps b
+    → RefusesAfter b from n i z → z' ≡ z → LeavesAt z' x i → YieldsAt x w → Refuses v from n w
+refuses_found v a a' b z z' x w from n held i free t lifted (finishing, finishes, first) r laid l y =
+    let found : List Move = Find i 0 ∷ [] in let vain : List Move = Find i 0 ∷ Find i 0 ∷ [] in
+    let second = advances_trans b z x (r.steps ++ found) found r.advances (subst (λ u. Advances u found x) laid (leaves z' x i l)) in
+    let all = advances_trans a' b x finishing ((r.steps ++ found) ++ found) first second in
+    let order : finishing ++ ((r.steps ++ found) ++ found) ≡ (finishing ++ r.steps) ++ vain = ap (λ z. finishing ++ z) (append_assoc r.steps found found) ∙ sym (append_assoc finishing r.steps vain) in
+    let place : vain ≡ FindsInVain (from + r.served) = ap FindsInVain r.place in
+    let same : finishing ++ ((r.steps ++ found) ++ found) ≡ (finishing ++ r.steps) ++ FindsInVain (from + r.served) = order ∙ ap (λ z. (finishing ++ r.steps) ++ z) place in
+    let refused : RefusesFound v from n w = record {
+      held = held;
+      found = r.count;
+      served = r.served;
+      finishing = finishing;
+      finding = r.steps;
+      within = r.within;
+      finishes = finishes;
+      finds = r.serves;
+      turn = takes_turn v a a' x x w ((finishing ++ r.steps) ++ FindsInVain (from + r.served)) free t lifted (subst (λ s. Advances a' s x) same all) refl y;
+    } in
+    inr refused
+
+-- of a result that is no error
+pub ok_fact : {A E : Type 0} {P : Type 0} (r : Result A E) → IfOk r (λ _. P) → ((e : E) → r ≡ Err e → ⊥) → P
+ok_fact (Ok x) fact none = fact
+ok_fact (Err e) fact none = absurd (none e refl)
+
+-- ---- what a call that propagates leaves
+
+pub knows_by : (v w : View) (steps : List Move) → TakesTurn v steps w → KnowsAsMuch v w
+knows_by v w steps t = let a = t.advances in record {
+  view = a.view ∙ λ d. record v { seen = w.seen; steps = (sym a.view d).steps; duty = ((ap (λ x. x.duty) (sym a.view) ∙ t.duty) d); given = w.given; sizes = w.sizes };
+  grows = a.grows;
+  sized = a.sized;
+  sizes_stay = a.sizes_stay;
+}
+
+pub serves_knows : (v w : View) (from n held found : ℕ) → Serves v from n held found w → KnowsAsMuch v w
+serves_knows v w from n held found s = knows_by v w (s.finishing ++ s.finding) s.turn
+
+pub refuses_knows : (v w : View) (from n : ℕ) → Refuses v from n w → KnowsAsMuch v w
+refuses_knows v w from n (inl t) = knows_by v w [] t
+refuses_knows v w from n (inr r) = knows_by v w ((r.finishing ++ r.finding) ++ FindsInVain (from + r.served)) r.turn
+
+pub asks_knows : (packed : List ℕ → List Entry → ℕ) (v w : View) (word : ℕ) → AsksAt packed v word w → KnowsAsMuch v w
+asks_knows packed v w word a = record {
+  view = a.view ∙ λ d. let x : View = sym a.view d in record v { seen = w.seen; steps = x.steps; given = x.given; sizes = x.sizes };
+  grows = a.grows;
+  sized = ap (λ x. length x.sizes) a.view;
+  sizes_stay = λ j _. ap (λ x. size_of x j) a.view;
+}
+
+-- ---- one updater alone
+
+only_one : (i found : ℕ) (steps : List Move) → ServesEach i 1 found steps → ServesOne i found steps
+unfolding ServesEach
+only_one i found steps (before, now, earlier, later, count, is, (none, empty), one) =
+    let same : now ≡ found = omega arith in
+    let place : i + 0 ≡ i = omega arith in
+    let rest : later ≡ steps = sym (is ∙ ap (λ l. l ++ later) empty) in
+    subst (λ z. ServesOne z found steps) place (subst (λ z. ServesOne (i + 0) z steps) same (subst (λ l. ServesOne (i + 0) now l) rest one))
+
+found_none : (i found : ℕ) (steps : List Move) → found ≡ 0 → ServesOne i found steps → FindsNothing i steps
+found_none i found steps zero_found (inl n) = n.1
+found_none i found steps zero_found (inr b) = let some : 0 < found = b.2 in absurd (omega arith)
+
+found_some : (i found : ℕ) (steps : List Move) → found ≢ 0 → ServesOne i found steps → FindsBatch i found steps
+found_some i found steps more (inl n) = absurd (more n.0)
+found_some i found steps more (inr b) = b
+
+pub serves_nothing : (v w : View) (i held found : ℕ) → found ≡ 0 → Serves v i 1 held found w → ServesNothing v i w
+serves_nothing v w i held found none s = record {
+  held = held;
+  finishing = s.finishing;
+  finding = s.finding;
+  finishes = s.finishes;
+  finds = found_none i found s.finding none (only_one i found s.finding s.finds);
+  turn = s.turn;
+}
+
+pub serves_batch : (v w : View) (i held found : ℕ) → found ≢ 0 → Serves v i 1 held found w → ServesBatch v i (held + found) w
+serves_batch v w i held found some s = record {
+  held = held;
+  found = found;
+  finishing = s.finishing;
+  finding = s.finding;
+  count_is = refl;
+  finishes = s.finishes;
+  finds = found_some i found s.finding some (only_one i found s.finding s.finds);
+  turn = s.turn;
+}

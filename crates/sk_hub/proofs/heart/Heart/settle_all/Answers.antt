@@ -1,0 +1,24 @@
+use Rattle.std.proofs.Common.{ap, ◌∙◌}
+use Rattle.sk_hub.proofs.Leaves.{knows_trans, comes_trans, comes_waiting, comes_renewed, is_settled, of_hub}
+use Rattle.sk_hub.proofs.heart.Heart.settle_all.Goals as goal
+
+pub settle-preserved : goal.settle-preserved
+settle-preserved g c = let i = c.settle.invariant in let n = c.serve_for.ensures in
+    let busy = c.settle-in-settle.ensures.busy c.in-Busy.is in
+    let back = comes_waiting c.settle.u c.settle-in-settle.new.self busy in record {
+      hub = of_hub c.settle.self c.serve_for.new.self c.settle.u c.settle-in-settle.new.self n.stays n.known back i.hub;
+      back = comes_trans c.args.u.now c.settle.u c.settle-in-settle.new.self i.back back;
+      empty = ap (λ z. z.fill) busy.state ∙ i.empty;
+      known = knows_trans c.args.self.now.view c.settle.self.view c.serve_for.new.self.view i.known n.known;
+      stays = n.stays ∙ λ e. record (i.stays e) { view = c.serve_for.new.self.view };
+    }
+
+pub returns-in-Settled : goal.returns-in-Settled
+returns-in-Settled g c = let i = c.settle.invariant in let n = c.serve_for.ensures in
+    let renews = c.settle-in-settle.ensures.settled c.in-Settled.is in record {
+      back = comes_trans c.args.u.now c.settle.u c.settle-in-settle.new.self i.back (comes_renewed g.C.Composable.hint_of c.settle.u c.settle-in-settle.new.self renews);
+      settled = is_settled g.C.Composable.hint_of c.settle.u c.settle-in-settle.new.self i.empty renews;
+      known = knows_trans c.args.self.now.view c.settle.self.view c.serve_for.new.self.view i.known n.known;
+      cause = tt;
+      stays = n.stays ∙ λ e. record (i.stays e) { view = c.serve_for.new.self.view };
+    }

@@ -1,0 +1,13 @@
+use Rattle.std.proofs.Common.{◌≡◌, []}
+use Rattle.sk_hub.specs.Rounds.{KnowsAsMuch}
+use Rattle.sk_hub.specs.Drains.{IsOf, ComesBack}
+use Rattle.sk_hub.proofs.heart.Heart.settle_all.Given as goal
+
+abbrev pub invariant-settle : goal.invariant-settle
+invariant-settle g l = record {
+  hub : IsOf l.self l.u;
+  back : ComesBack l.initial.u l.u;
+  empty : l.u.fill ≡ [];
+  known : KnowsAsMuch l.initial.self.view l.self.view;
+  stays : l.self ≡ record l.initial.self { view = l.self.view };
+}

@@ -1,0 +1,8 @@
+use Rattle.std.proofs.Common.{◌≤◌, subst}
+use Rattle.sk_hub.proofs.Kept.{own_reply}
+use Rattle.sk_hub.proofs.updater.Updater.ask.Goals as goal
+
+pub returns : goal.returns
+returns g c =
+    let f = c.self.inside in let i = c.self.invariant in let now = c.args.self.now in let e = c.len-count.ensures in
+    own_reply g.C.Composable.packed_of f.seat c.ask.new.self f.number f.size f.fill f.told f.hint f.last f.eager now c.ask.result i.post i.size_is c.self.view_is (subst (λ z. z ≤ now.size) e.value e.within) c.ask.ensures.told c.ask.ensures.seat

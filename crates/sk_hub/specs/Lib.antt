@@ -1,0 +1,7 @@
+pub mod Updaters
+pub mod Hearts
+pub mod Replies
+pub mod Rounds
+pub mod Turns
+pub mod Drains
+pub mod Starts

@@ -1,0 +1,26 @@
+//! The running hub: updaters that hand their items over, the heart that propagates them, and tokens that ask.
+#![tactic(auto)]
+
+mod answers;
+mod ask;
+mod heart;
+mod help;
+mod late;
+mod leave;
+mod opened;
+mod reads;
+mod round;
+mod serve;
+mod token;
+mod update;
+mod updater;
+
+pub use answers::{Admit, Drain, Flush, Help, Serve, Settle, Sweep, Update};
+pub use heart::Heart;
+pub use opened::{Opened, open, open_sized};
+pub use sk_model::OutOfMemory;
+pub use token::{Note, Token};
+pub use updater::Updater;
+
+#[cfg(test)]
+mod tests;

@@ -1,0 +1,185 @@
+//! Rounds of whoever propagates.
+ghost use Rattle.std.specs.Prelude.{◌≡◌, ◌≢◌, ℕ, ◌+◌, ◌*◌, ◌<◌, ◌≤◌, ◌^◌, ◌++◌, ◌∷◌, [], List, length, true, false, Some, None, IsTrue, IfOk, IfErr, IfSome};
+ghost use Rattle.sk_machine.specs.Coarse.{most_entries, IsBatch};
+ghost use Rattle.sk_machine.specs.declared.views.Move.{Move};
+ghost use Rattle.sk_machine.specs.declared.views.Move.TheVariants.{Find};
+ghost use Rattle.sk_machine.specs.declared.views.Stage.TheVariants.{Idle, Busy};
+ghost use Rattle.sk_machine.specs.declared.views.Duty.TheVariants.{Leads};
+ghost use Rattle.sk_gate.specs.Slots.{contents, sketching, TrunkOk};
+ghost use Rattle.sk_gate.specs.Views.{size_of, batch_of, stage_of, left_of};
+ghost use Rattle.sk_gate.specs.Hands.{StageKnown};
+ghost use Rattle.sk_hub.specs.Updaters.{IsFree};
+ghost use Rattle.sk_hub.specs.Rounds.{PublishesBatch, FinishesHeld, ServesOne, ServesEach, Advances, KnowsAsMuch, IsElsewhere, Serves, Refuses};
+ghost use Rattle.sk_hub.specs.Turns.{HasTrunk, IsLifted, IsResumed, IsRefused, RefusesAfter};
+
+use sk_compose::{Composable, Parcel};
+use sk_gate::{Held, OutOfMemory, Propagator, Role, Trunk};
+use std::sync::Wait;
+
+/// How many items were published, of a batch that was held, and of those that were found.
+#[derive(Clone, Copy)]
+pub(crate) struct Done {
+    pub held: u32,
+    pub found: u32,
+}
+
+/// Why a round was not taken to its end.
+#[derive(Clone, Copy)]
+pub(crate) enum Stopped {
+    Elsewhere(u32),
+    OutOfMemory,
+}
+
+// Merges a batch, publishes the sketch and gives the parcel back. A batch that is refused is held.
+fn merge_batch<C: Composable, P: Role, R: Wait>(
+    rt: &R,
+    seat: &mut Propagator<C, P>,
+    trunk: &mut Trunk<C>,
+    i: u32,
+    parcel: Parcel<C::Told>,
+) -> Result<u32, OutOfMemory>
+    requires busy { seat.old.view.duty ≡ Leads (Busy i (batch_of seat.old.view)) (left_of seat.old.view.duty) }
+    requires taken { seat.old.filled ≡ false }
+    requires lifted { seat.old.lifted ≡ true }
+    requires batch { parcel.buffer ≡ contents (batch_of seat.old.view) (size_of seat.old.view i) }
+    requires some { 0 < length (batch_of seat.old.view) }
+    requires few { length seat.old.view.seen + length (batch_of seat.old.view) ≤ most_entries }
+    requires trunk { TrunkOk (sketching C.is_of C.numbers C.name) seat.old.view.numbers seat.old.view.name seat.old.view.seen Idle (size_of seat.old.view) trunk.old }
+    ensures steps { IfOk result (λ count. (steps : List Move) × PublishesBatch i count steps × Advances seat.old.view steps seat.new.view) }
+    ensures some { IfOk result (λ count. 0 < count) }
+    ensures few { IfOk result (λ count. count ≤ 4096) }
+    ensures idle { IfOk result (λ _. IsLifted (sketching C.is_of C.numbers C.name) seat.new trunk.new) }
+    ensures refused { IfErr result (λ _. seat.new ≡ seat.old) }
+    ensures held { IfErr result (λ _. HasTrunk (sketching C.is_of C.numbers C.name) seat.old trunk.new) }
+    ensures cause { IfErr result (λ _. IsTrue C.TAKES_MEMORY) }
+    ensures seat { seat.new ≡ record seat.old { view = seat.new.view } }
+{
+    let mut parcel = parcel;
+    let count = parcel.buffer.len();
+    if let Err(refused) = trunk.global.merge(rt, i, &parcel.buffer) {
+        trunk.held = Some(Held { i, parcel });
+        return Err(refused);
+    }
+    seat.publish(i, &trunk.global);
+    parcel.buffer.clear();
+    parcel.told = Some(trunk.global.told());
+    seat.put(i, parcel);
+    seat.give_back(i, &trunk.global);
+    Ok(count)
+}
+
+// Publishes a batch that the trunk held, if there is one.
+fn finish_held<C: Composable, P: Role, R: Wait>(
+    rt: &R,
+    seat: &mut Propagator<C, P>,
+    trunk: &mut Trunk<C>,
+) -> Result<u32, OutOfMemory>
+    requires resumed { IsResumed (sketching C.is_of C.numbers C.name) seat.old trunk.old }
+    ensures steps { IfOk result (λ count. (steps : List Move) × FinishesHeld count steps × Advances seat.old.view steps seat.new.view) }
+    ensures few { IfOk result (λ count. count ≤ 4096) }
+    ensures idle { IfOk result (λ _. IsLifted (sketching C.is_of C.numbers C.name) seat.new trunk.new) }
+    ensures refused { IfErr result (λ _. seat.new ≡ seat.old) }
+    ensures held { IfErr result (λ _. IsResumed (sketching C.is_of C.numbers C.name) seat.old trunk.new) }
+    ensures cause { IfErr result (λ _. IsTrue C.TAKES_MEMORY) }
+    ensures seat { seat.new ≡ record seat.old { view = seat.new.view } }
+{
+    match trunk.held.take() {
+        None => Ok(0),
+        Some(Held { i, parcel }) => merge_batch(rt, seat, trunk, i, parcel),
+    }
+}
+
+// Serves one updater. It gives how many items were published, 0 where nothing waited.
+fn serve_one<C: Composable, P: Role, R: Wait>(
+    rt: &R,
+    seat: &mut Propagator<C, P>,
+    trunk: &mut Trunk<C>,
+    i: u32,
+) -> Result<u32, OutOfMemory>
+    requires within { i < length seat.old.view.sizes }
+    requires idle { IsLifted (sketching C.is_of C.numbers C.name) seat.old trunk.old }
+    ensures steps { IfOk result (λ count. (steps : List Move) × ServesOne i count steps × Advances seat.old.view steps seat.new.view) }
+    ensures few { IfOk result (λ count. count ≤ 4096) }
+    ensures idle { IfOk result (λ _. IsLifted (sketching C.is_of C.numbers C.name) seat.new trunk.new) }
+    ensures found { IfErr result (λ _. Advances seat.old.view (Find i 0 ∷ []) seat.new.view) }
+    ensures held { IfErr result (λ _. IsRefused (sketching C.is_of C.numbers C.name) i seat.new trunk.new) }
+    ensures cause { IfErr result (λ _. IsTrue C.TAKES_MEMORY) }
+    ensures seat { seat.new ≡ record seat.old { view = seat.new.view } }
+{
+    if seat.find(i) != 0 {
+        return Ok(0);
+    }
+    let parcel = seat.take(i);
+    merge_batch(rt, seat, trunk, i, parcel)
+}
+
+// Serves so many updaters from this one on. An `Err` has the number of the one whose batch was refused.
+fn serve_each<C: Composable, P: Role, R: Wait>(
+    rt: &R,
+    seat: &mut Propagator<C, P>,
+    trunk: &mut Trunk<C>,
+    from: u32,
+    updaters: u32,
+) -> Result<u32, u32>
+    requires within { from + updaters ≤ length seat.old.view.sizes }
+    requires few { from + updaters ≤ 64 }
+    requires idle { IsLifted (sketching C.is_of C.numbers C.name) seat.old trunk.old }
+    ensures steps { IfOk result (λ count. (steps : List Move) × ServesEach from updaters count steps × Advances seat.old.view steps seat.new.view) }
+    ensures few { IfOk result (λ count. count ≤ 4096 * updaters) }
+    ensures idle { IfOk result (λ _. IsLifted (sketching C.is_of C.numbers C.name) seat.new trunk.new) }
+    ensures found { IfErr result (λ i. RefusesAfter seat.old.view from updaters i seat.new.view) }
+    ensures held { IfErr result (λ i. IsRefused (sketching C.is_of C.numbers C.name) i seat.new trunk.new) }
+    ensures cause { IfErr result (λ _. IsTrue C.TAKES_MEMORY) }
+    ensures seat { seat.new ≡ record seat.old { view = seat.new.view } }
+{
+    let mut count = 0;
+    'each: for served in 0..updaters {
+        match serve_one(rt, seat, trunk, from + served) {
+            Ok(more) => count += more,
+            Err(_) => return Err(from + served),
+        }
+    }
+    Ok(count)
+}
+
+// Takes the turn, finishes a batch that was held, serves so many updaters from this one on, and yields.
+pub(crate) fn propagate<C: Composable, P: Role, R: Wait>(
+    rt: &R,
+    seat: &mut Propagator<C, P>,
+    from: u32,
+    updaters: u32,
+) -> Result<Done, Stopped>
+    requires free { IsFree seat.old }
+    requires within { from + updaters ≤ length seat.old.view.sizes }
+    requires few { from + updaters ≤ 64 }
+    ensures serves { IfOk result (λ done. Serves seat.old.view from updaters done.held done.found seat.new.view) }
+    ensures few { IfOk result (λ done. done.held + done.found < 2 ^ 32) }
+    ensures elsewhere { (other : ℕ) → result ≡ Err (Stopped.Elsewhere other) → IsElsewhere seat.old.view other seat.new.view }
+    ensures refused { result ≡ Err Stopped.OutOfMemory → Refuses seat.old.view from updaters seat.new.view }
+    ensures cause { result ≡ Err Stopped.OutOfMemory → IsTrue C.TAKES_MEMORY }
+    ensures knows { KnowsAsMuch seat.old.view seat.new.view }
+    ensures seat { seat.new ≡ record seat.old { view = seat.new.view } }
+{
+    if let Err(other) = seat.turn() {
+        return Err(Stopped::Elsewhere(other));
+    }
+    let mut trunk = seat.lift();
+    let Ok(held) = finish_held(rt, seat, &mut trunk) else {
+        seat.lay(trunk);
+        seat.yield_turn();
+        return Err(Stopped::OutOfMemory);
+    };
+    match serve_each(rt, seat, &mut trunk, from, updaters) {
+        Ok(found) => {
+            seat.lay(trunk);
+            seat.yield_turn();
+            Ok(Done { held, found })
+        }
+        Err(i) => {
+            seat.lay(trunk);
+            seat.leave(i);
+            seat.yield_turn();
+            Err(Stopped::OutOfMemory)
+        }
+    }
+}
