@@ -30,7 +30,7 @@ fields_in column rows = map (field_of column) rows
 
 -- how many fields the first of these records has
 abbrev pub width_of : List Row → ℕ
-width_of rows = length (slice_index_or rows 0 [])
+width_of records = length (slice_index_or records 0 [])
 
 -- each record has as many fields as the first, and has this column
 abbrev pub AreEven : ℕ → List Row → Type 0
