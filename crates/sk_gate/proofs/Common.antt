@@ -142,13 +142,14 @@ module _ {C T : Type 0} (hint packed : List ℕ → List Entry → ℕ) (g : Ske
     sizes_are = λ i known. let is = o.sizes_are i known in is ∙ sym (sizes i (λ z. known (is ∙ z)));
     seen_is = begins_trans _ _ _ o.seen_is more-published;
     heard_is = λ h d. begins_trans _ _ _ (o.heard_is h d) more-published;
+    names_are = o.names_are;
     known_is = λ i. begins_trans _ _ _ (o.known_is i) (more-handed i);
     known_with_size = o.known_with_size;
     given_is = λ i. begins_trans _ _ _ (o.given_is i) (more-given i);
     post_is = post v.post o.post_is;
     duty_is = duty v.duty o.duty_is;
     open_is = opened v.post o.post_is o.open_is;
-    drained_is = λ i d. let y = o.drained_is i d in let u = others i y.own in record { within = y.within; own = y.own; all = y.all ∙ ap (λ (x : Mine). x.handed) u.mine; given = u.word y.given };
+    drained_is = λ i d. let y = o.drained_is i d in let u = others i y.own in record { within = y.within; own = y.own; all = y.all ∙ ap (λ (x : Mine). x.handed) u.mine; given = u.word y.given; was_picked = λ e. y.was_picked (ap (λ (x : Mine). x.picked) u.mine ∙ e) };
   }
     where
       others : (i : ℕ) → owner i ≡ j → SameUpdater (m.updaters i) (m'.updaters i)

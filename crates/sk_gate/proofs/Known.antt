@@ -72,12 +72,13 @@ post_same n m m' owner j seen seen' sizes sizes' drained Guest same are more t =
 post_same n m m' owner j seen seen' sizes sizes' drained (Root made) same are more t = λ i a l. let y = t i a l in (y.0, y.1 ∙ same i, are i y.2)
 post_same n m m' owner j seen seen' sizes sizes' drained (Updater i mine) same are more t = (t.0, t.1, t.2 ∙ same i, begins_trans _ _ _ t.3 more, are i t.4, t.5)
 
-pub drained_same : (n : ℕ) (m m' : Coarse) (owner : ℕ → ℕ) (j : ℕ) (known : List ℕ) (i : ℕ) → SameUpdater (m.updaters i) (m'.updaters i) → DrainedOk n m owner j known i → DrainedOk n m' owner j known i
-drained_same n m m' owner j known i same o = record {
+pub drained_same : (n : ℕ) (m m' : Coarse) (owner : ℕ → ℕ) (j : ℕ) (known picked : List ℕ) (i : ℕ) → SameUpdater (m.updaters i) (m'.updaters i) → DrainedOk n m owner j known picked i → DrainedOk n m' owner j known picked i
+drained_same n m m' owner j known picked i same o = record {
   within = o.within;
   own = o.own;
   all = o.all ∙ ap (λ (y : Mine). y.handed) same.mine;
   given = same.word o.given;
+  was_picked = λ e. o.was_picked (ap (λ (y : Mine). y.picked) same.mine ∙ e);
 }
 
 -- a step of which only its record tells
@@ -92,6 +93,7 @@ stepped_knows n numbers name m left owner leader j v steps' opened o = record {
   sizes_are = o.sizes_are;
   seen_is = o.seen_is;
   heard_is = o.heard_is;
+  names_are = o.names_are;
   known_is = o.known_is;
   known_with_size = o.known_with_size;
   given_is = o.given_is;

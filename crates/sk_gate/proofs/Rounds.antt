@@ -105,13 +105,14 @@ module _ {C T : Type 0} (hint packed : List ℕ → List Entry → ℕ) (g : Ske
               sizes_are = sizes_set v.sizes i b m.sizes wide_i refl o.sizes_are;
               seen_is = o.seen_is;
               heard_is = o.heard_is;
+              names_are = o.names_are;
               known_is = o.known_is;
               known_with_size = λ j e. set_there v.sizes i b wide_i there j (o.known_with_size j e);
               given_is = o.given_is;
               post_is = post_same r.n m m' r.owner id v.seen v.seen v.sizes (set v.sizes i b) v.drained v.post (λ _. refl) (size_set v.sizes i b m.sizes wide_i refl) (begins_refl v.seen) o.post_is;
               duty_is = (duty.0, duty.1, refl, refl, duty.4);
               open_is = open_told m m' v.steps (Find i 0) i 0 v.post (λ _ _. refl) (λ ne. absurd (ne refl)) (λ _ _ a. a) o.open_is;
-              drained_is = λ j e. drained_same r.n m m' r.owner id (known_of v j) j (record { mine = refl; word = λ a. a }) (o.drained_is j e);
+              drained_is = λ j e. drained_same r.n m m' r.owner id (known_of v j) v.picked j (record { mine = refl; word = λ a. a }) (o.drained_is j e);
             }),
         λ j at-j. subst (FoundBy me x (w, (i, full p.0) ∷ me.1)) (here j at-j) (
           (
@@ -192,6 +193,7 @@ module _ {C T : Type 0} (hint packed : List ℕ → List Entry → ℕ) (g : Ske
               sizes_are = o.sizes_are;
               seen_is = o.seen_is;
               heard_is = o.heard_is;
+              names_are = o.names_are;
               known_is = o.known_is;
               known_with_size = o.known_with_size;
               given_is = o.given_is;
@@ -267,13 +269,14 @@ module _ {C T : Type 0} (hint packed : List ℕ → List Entry → ℕ) (g : Ske
         sizes_are = o.sizes_are;
         seen_is = subst (Begins seen') seen (begins_refl seen');
         heard_is = λ x d. begins_trans _ _ _ (o.heard_is x d) (tagged i batch, refl);
+        names_are = o.names_are;
         known_is = o.known_is;
         known_with_size = o.known_with_size;
         given_is = o.given_is;
         post_is = post_same r.n m m' r.owner id v.seen seen' v.sizes v.sizes v.drained v.post (λ _. refl) (λ j e. e) more o.post_is;
         duty_is = (duty.0, duty.1, refl, refl, seen);
         open_is = open_neutral m m' v.steps (Publish x (length batch)) v.post (λ _ _. refl) (λ _ z. z) o.open_is;
-        drained_is = λ j e. drained_same r.n m m' r.owner id (known_of v j) j (record { mine = refl; word = λ a. a }) (o.drained_is j e);
+        drained_is = λ j e. drained_same r.n m m' r.owner id (known_of v j) v.picked j (record { mine = refl; word = λ a. a }) (o.drained_is j e);
       })
 
   pub publishes : (slots id n i x : ℕ) (me : Sat C T) → slots ≡ n + 1 → me.0.live ≡ true → me.0.duty ≡ Leads (Busy i (batch_of me.0)) (left_of me.0.duty) → x ≡ packed me.0.numbers (me.0.seen ++ tagged i (batch_of me.0))
@@ -395,6 +398,7 @@ module _ {C T : Type 0} (hint packed : List ℕ → List Entry → ℕ) (g : Ske
               sizes_are = o.sizes_are;
               seen_is = o.seen_is;
               heard_is = o.heard_is;
+              names_are = o.names_are;
               known_is = λ j. subst (λ (y : Mine). Begins (known_of v j) y.handed) (same_mine j) (o.known_is j);
               known_with_size = o.known_with_size;
               given_is = λ j. each_put (λ a (c : CoarseUpdater). Begins (slice_index_or (set v.given i v.seen) a []) c.given) m.updaters i u' j (set_begins v.given i v.seen h o.seen_is)
@@ -402,7 +406,7 @@ module _ {C T : Type 0} (hint packed : List ℕ → List Entry → ℕ) (g : Ske
               post_is = post_same r.n m m' r.owner id v.seen v.seen v.sizes v.sizes v.drained v.post same_mine (λ j e. e) (begins_refl v.seen) o.post_is;
               duty_is = (duty.0, duty.1, refl, refl, duty.4);
               open_is = open_told m m' v.steps (GiveBack i x) i x v.post (λ _ _. refl) (λ _. subst (λ (c : CoarseUpdater). c.word ≢ 0) (sym (put_here m.updaters i u')) open_now) (λ j ne a. (same j).word a) o.open_is;
-              drained_is = λ j e. drained_same r.n m m' r.owner id (known_of v j) j (same j) (o.drained_is j e);
+              drained_is = λ j e. drained_same r.n m m' r.owner id (known_of v j) v.picked j (same j) (o.drained_is j e);
             }),
         λ j leads'. subst (λ a. GivesBackAt v x w a × (more ≡ more)) (place j leads') (refl, refl),
       )

@@ -1,5 +1,5 @@
 -- The start keeps the rule, and so do seats that are split off and taken in.
-use Rattle.std.proofs.Common.{◌≡◌, ◌≢◌, ◌⊎◌, ℕ, zero, suc, ◌+◌, ◌<◌, ◌≤◌, if◌then◌else◌, Bool, true, List, [], ◌∷◌, ◌++◌, map, length, get_or, set, Contains, Some, None, sym, refl, ap, ◌∙◌, subst, ⊎_elim, inl, inr, arith, length-set, length-append, get_or-set_other, get_or-set_same}
+use Rattle.std.proofs.Common.{◌≡◌, ◌≢◌, ◌⊎◌, ℕ, zero, suc, ◌+◌, ◌<◌, ◌≤◌, if◌then◌else◌, Bool, true, false, List, [], ◌∷◌, ◌++◌, map, length, get_or, set, Contains, Some, None, sym, refl, ap, ◌∙◌, subst, ⊎_elim, inl, inr, arith, length-set, length-append, get_or-set_other, get_or-set_same}
 use Rattle.std.proofs.lemmas.List.{length-map}
 use Rattle.std.proofs.lemmas.Bool.{true≢false, cases_eq, ne_eqb}
 use Rattle.std.proofs.lemmas.List.Elements.{Contains-push, Contains-push_cases, Contains-append_left, Contains-append_cases}
@@ -24,7 +24,7 @@ use Rattle.sk_machine.proofs.Numbered.{put_here, put_else, each_put}
 use Rattle.sk_machine.proofs.Coarse as event
 use Rattle.sk_gate.specs.declared.load.Trunk.{Trunk}
 use Rattle.sk_gate.specs.Slots.{Slot, full, trunk, room, Sketching, Telling}
-use Rattle.sk_gate.specs.Views.{known_of, size_of, mine_of, leads, merged, sizes_of, blanks, first_view, made_in, after_making, new_updater, after_split, copy_of, told_on, known_with, drained_with, seen_with, after_join, spent, SpeaksBy, SpeaksFor}
+use Rattle.sk_gate.specs.Views.{known_of, size_of, mine_of, leads, merged, sizes_of, blanks, first_view, made_in, after_making, new_updater, after_split, copy_of, told_on, known_with, drained_with, picked_with, seen_with, after_join, spent, SpeaksBy, SpeaksFor}
 use Rattle.sk_gate.specs.Rule.{PostOk, DutyOk, DrainedOk, Knows, Has, HasSeen, IsLed, HasGiven, Kept}
 use Rattle.sk_gate.specs.Plays.{Sat}
 use Rattle.sk_gate.specs.Hands.{Holds}
@@ -98,13 +98,14 @@ owned_else n numbers name m left owner leader i had new j u was apart o = record
   sizes_are = o.sizes_are;
   seen_is = o.seen_is;
   heard_is = o.heard_is;
+  names_are = o.names_are;
   known_is = o.known_is;
   known_with_size = o.known_with_size;
   given_is = o.given_is;
   post_is = post u.post o.post_is;
   duty_is = o.duty_is;
   open_is = o.open_is;
-  drained_is = λ a d. let y = o.drained_is a d in record { within = y.within; own = still a y.own; all = y.all; given = y.given };
+  drained_is = λ a d. let y = o.drained_is a d in record { within = y.within; own = still a y.own; all = y.all; given = y.given; was_picked = y.was_picked };
 }
   where
     still : (a : ℕ) → owner a ≡ j → put owner i new a ≡ j
@@ -186,6 +187,14 @@ known_at known i xs a P inside here others = ⊎_elim
     (λ (ne : a ≢ i). subst P (sym (get_or-set_other known i a xs [] ne)) (others ne))
     (cases_eq a i)
 
+picked_here : (picked : List ℕ) (i : ℕ) (on : Bool) → on ≡ true → Contains (if on then picked ++ i ∷ [] else picked) i
+picked_here picked i true e = Contains-push picked i
+picked_here picked i false e = absurd (true≢false (sym e))
+
+picked_still : (picked : List ℕ) (i a : ℕ) (on : Bool) → Contains picked a → Contains (if on then picked ++ i ∷ [] else picked) a
+picked_still picked i a true d = Contains-append_left picked (i ∷ []) a d
+picked_still picked i a false d = d
+
 -- ---- sizes at the start
 
 pub sizes_of_length : {T : Type 0} (admitted : ℕ) (ps : List (Parcel T)) → length (sizes_of admitted ps) ≡ length ps
@@ -262,6 +271,7 @@ module _ {C T : Type 0} (hint packed : List ℕ → List Entry → ℕ) (g : Ske
           sizes_are = λ i _. refl;
           seen_is = begins_refl [];
           heard_is = λ h d. absurd (omega (arith, d.1));
+          names_are = λ x d. absurd (omega (arith, d.1));
           known_is = λ i. subst (λ l. Begins l []) (sym (blank_at (length sizes) i)) (begins_refl []);
           known_with_size = λ i ne. absurd (ne (blank_at (length sizes) i));
           given_is = λ i. subst (λ l. Begins l []) (sym (blank_at (length sizes) i)) (begins_refl []);
@@ -334,6 +344,7 @@ module _ {C T : Type 0} (hint packed : List ℕ → List Entry → ℕ) (g : Ske
         sizes_are = o.sizes_are;
         seen_is = o.seen_is;
         heard_is = o.heard_is;
+        names_are = o.names_are;
         known_is = o.known_is;
         known_with_size = o.known_with_size;
         given_is = o.given_is;
@@ -350,6 +361,7 @@ module _ {C T : Type 0} (hint packed : List ℕ → List Entry → ℕ) (g : Ske
         sizes_are = o.sizes_are;
         seen_is = o.seen_is;
         heard_is = o.heard_is;
+        names_are = o.names_are;
         known_is = λ i. subst (λ l. Begins l (m.updaters i).mine.handed) (sym (blank_at (length v.sizes) i)) (begins_nil (m.updaters i).mine.handed);
         known_with_size = λ i ne. absurd (ne (blank_at (length v.sizes) i));
         given_is = λ i. subst (λ l. Begins l (m.updaters i).given) (sym (blank_at (length v.sizes) i)) (begins_nil (m.updaters i).given);
@@ -377,6 +389,7 @@ module _ {C T : Type 0} (hint packed : List ℕ → List Entry → ℕ) (g : Ske
         sizes_are = o.sizes_are;
         seen_is = o.seen_is;
         heard_is = o.heard_is;
+        names_are = o.names_are;
         known_is = o.known_is;
         known_with_size = o.known_with_size;
         given_is = o.given_is;
@@ -393,6 +406,7 @@ module _ {C T : Type 0} (hint packed : List ℕ → List Entry → ℕ) (g : Ske
         sizes_are = o.sizes_are;
         seen_is = o.seen_is;
         heard_is = o.heard_is;
+        names_are = o.names_are;
         known_is = told_known r.n m r.owner id v.seen v.sizes v.drained (length v.sizes) v.known v.post o.post_is o.known_is;
         known_with_size = told_sized r.n m r.owner id v.seen v.sizes v.drained (length v.sizes) v.known (hint r.numbers) r.meets v.post o.post_is o.known_with_size;
         given_is = λ i. subst (λ l. Begins l (m.updaters i).given) (sym (blank_at (length v.sizes) i)) (begins_nil (m.updaters i).given);
@@ -407,7 +421,7 @@ module _ {C T : Type 0} (hint packed : List ℕ → List Entry → ℕ) (g : Ske
       → ((i : ℕ) → i < r.n → Has (set (set s.views id (after_join v w)) other spent) (owner' i) (SpeaksFor i))
       → length (after_join v w).known ≡ r.n → ((i : ℕ) → Begins (known_of (after_join v w) i) (r.machine.updaters i).mine.handed) → ((i : ℕ) → known_of (after_join v w) i ≢ [] → size_of (after_join v w) i ≢ 0)
       → (((i : ℕ) → size_of v i ≡ r.machine.sizes i → size_of (after_join v w) i ≡ r.machine.sizes i) → Begins v.seen (after_join v w).seen → PostOk r.n r.machine owner' id (after_join v w).seen (after_join v w).sizes (after_join v w).drained v.post)
-      → ((i : ℕ) → Contains (after_join v w).drained i → DrainedOk r.n r.machine owner' id (known_of (after_join v w) i) i)
+      → ((i : ℕ) → Contains (after_join v w).drained i → DrainedOk r.n r.machine owner' id (known_of (after_join v w) i) (after_join v w).picked i)
       → ((j : ℕ) (u : View) → j ≢ id → j ≢ other → get_elem? s.views j ≡ some u → u.live ≡ true → Knows r.n r.numbers r.name r.machine r.left owner' r.leader j u)
       → Rule record { words = s.words; homes = s.homes; views = set (set s.views id (after_join v w)) other spent }
   joined id v other w s r owner' live live' free apart at here speaks long known sized post drained others =
@@ -429,6 +443,7 @@ module _ {C T : Type 0} (hint packed : List ℕ → List Entry → ℕ) (g : Ske
         sizes_are = λ i. sizes_either (λ x. x ≢ 0 → x ≡ m.sizes i) v.sizes w.sizes i (λ _. o.sizes_are i) (λ _. q.sizes_are i);
         seen_is = both.within;
         heard_is = λ x d. heard_both v.heard w.heard v.seen w.seen (λ l. Begins l h) o.heard_is o.seen_is q.seen_is q.heard_is x d;
+        names_are = λ x d. ⊎_elim (o.names_are x) (λ e. sym e ∙ q.name_is) (Contains-push_cases v.names w.name x d);
         known_is = known;
         known_with_size = sized;
         given_is = λ i. merged_either (λ l. Begins l (m.updaters i).given) v.given w.given i (o.given_is i) (q.given_is i);
@@ -456,6 +471,7 @@ module _ {C T : Type 0} (hint packed : List ℕ → List Entry → ℕ) (g : Ske
         own = y.own;
         all = ap (λ ks. get_or ks i []) known ∙ merged_first v.known w.known i (m.updaters i).mine.handed y.all (q.known_is i);
         given = y.given;
+        was_picked = λ e. subst (λ l. Contains l i) (sym (ap (picked_with v.picked) guest)) (y.was_picked e);
       })
       (λ j u _ _ e alive. r.each_seat j u e alive)
 
@@ -466,6 +482,7 @@ module _ {C T : Type 0} (hint packed : List ℕ → List Entry → ℕ) (g : Ske
       let o = r.each_seat id v at live in let q = r.each_seat other w here live' in let mine : Mine = mine_of w in let owner' : ℕ → ℕ = put r.owner i id in
       let p = subst (PostOk r.n m r.owner other w.seen w.sizes w.drained) is q.post_is in let ok = r.meets.each i p.0 in
       let known : v'.known ≡ set v.known i mine.handed = ap (known_with v.known w.known) is in let drained : v'.drained ≡ v.drained ++ i ∷ [] = ap (drained_with v.drained) is in
+      let picked : v'.picked ≡ (if mine.picked then v.picked ++ i ∷ [] else v.picked) = ap (picked_with v.picked) is in
       let handed : mine.handed ≡ (m.updaters i).mine.handed = ap (λ (x : Mine). x.handed) p.2 in let inside : i < length v.known = omega (arith, o.known_sized, p.0) in
       joined id v other w s r owner' live live' free apart at here
       (λ a l. each_put (λ b x. Has (set (set s.views id v') other spent) x (SpeaksFor b)) r.owner i id a
@@ -480,17 +497,19 @@ module _ {C T : Type 0} (hint packed : List ℕ → List Entry → ℕ) (g : Ske
       (λ e ne. size_second v.sizes w.sizes a (λ z. ne (handed ∙ (ok.vacant (sym p.4 ∙ ap (size_of w) (sym e) ∙ z)).0))) (λ _ ne. size_first v.sizes w.sizes a (o.known_with_size a ne))))
       (λ same more. subst (PostOk r.n m owner' id v'.seen v'.sizes v'.drained) (sym heart) (λ a le lt. absurd (omega (arith, o.sized, size, le, lt))))
       (λ a d. ⊎_elim
-      (λ (e : a ≡ i). subst (λ z. DrainedOk r.n m owner' id (known_of v' z) z) (sym e) (record {
+      (λ (e : a ≡ i). subst (λ z. DrainedOk r.n m owner' id (known_of v' z) v'.picked z) (sym e) (record {
         within = p.0;
         own = put_here r.owner i id;
         all = ap (λ ks. get_or ks i []) known ∙ get_or-set_same v.known i mine.handed [] inside ∙ handed;
         given = λ z. true≢false (sym rest ∙ ap (λ (x : Mine). x.rested) p.2 ∙ ok.closed_rested z);
+        was_picked = λ on. subst (λ l. Contains l i) (sym picked) (picked_here v.picked i mine.picked (ap (λ (x : Mine). x.picked) p.2 ∙ on));
       }))
       (λ (ne : a ≢ i). let y = o.drained_is a (⊎_elim (λ x. x) (λ e. absurd (ne (sym e))) (Contains-push_cases v.drained i a (subst (λ l. Contains l a) drained d))) in record {
         within = y.within;
         own = put_else r.owner i id a ne ∙ y.own;
         all = ap (λ ks. get_or ks a []) known ∙ get_or-set_other v.known i a mine.handed [] ne ∙ y.all;
         given = y.given;
+        was_picked = λ on. subst (λ l. Contains l a) (sym picked) (picked_still v.picked i a mine.picked (y.was_picked on));
       })
       (cases_eq a i))
       (λ j u _ ne e alive. owned_else r.n r.numbers r.name m r.left r.owner r.leader i other id j u p.1 ne (r.each_seat j u e alive))

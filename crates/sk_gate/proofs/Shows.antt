@@ -28,7 +28,7 @@ use Rattle.sk_gate.specs.declared.load.Load.TheVariants as load
 use Rattle.sk_gate.specs.Slots.{Slot, full, contents, room, Sketching, Telling, ToldOk, HeldOk}
 use Rattle.sk_gate.specs.Views.{known_of, given_of, seat_in, leads, SpeaksBy}
 use Rattle.sk_gate.specs.Rule.{left_home, SlotOk, PostOk, DutyOk, Knows, Has, HasGiven, HasSeen, Kept}
-use Rattle.sk_gate.specs.Shows.{IsPickedBy, MayBePicked, HasParcel, ShowsSlot, KnowsOwn, LeadsBy, IsLive, ShowsTrunk, ShowsView, Shown}
+use Rattle.sk_gate.specs.Shows.{IsPickedBy, IsPicked, HasParcel, ShowsSlot, KnowsOwn, LeadsBy, IsLive, ShowsTrunk, ShowsView, Shown}
 use Rattle.sk_gate.proofs.Common.{held_sizes}
 
 marked : (mark : Mark) → mark ≢ Neither → is_ready mark ≡ true
@@ -81,14 +81,14 @@ module _ {C T : Type 0} (hint packed : List ℕ → List Entry → ℕ) (g : Ske
   m = r.machine
 
   -- the told value of a parcel was not picked out
-  unpicked : (i : ℕ) → i < r.n → ¬ MayBePicked s.views i → (m.updaters i).mine.picked ≡ false
+  unpicked : (i : ℕ) → i < r.n → ¬ IsPicked s.views i → (m.updaters i).mine.picked ≡ false
   unpicked i l whole = let h = r.spoken i l in let v : View = h.0 in let o = r.each_seat (r.owner i) v h.1 h.2.0 in
-      go v v.post h.2.1 o.post_is (λ d. whole (r.owner i, v, h.1, h.2.0, inl d)) (λ p. whole (r.owner i, v, h.1, h.2.0, inr p))
+      go v v.post h.2.1 o.post_is (λ d on. whole (r.owner i, v, h.1, h.2.0, inl ((o.drained_is i d).was_picked on))) (λ p. whole (r.owner i, v, h.1, h.2.0, inr p))
     where
-      go : (v : View) (p : Post) → SpeaksBy i v.drained p → PostOk r.n m r.owner (r.owner i) v.seen v.sizes v.drained p → ¬ Contains v.drained i → ¬ IsPickedBy i p → (m.updaters i).mine.picked ≡ false
-      go v Guest speaks t undrained alone = absurd speaks
-      go v (Root made) speaks t undrained alone = ⊎_elim (λ (le : made ≤ i). ap (λ (x : Mine). x.picked) (sym (t i le l).1)) (λ d. absurd (undrained d)) speaks
-      go v (Updater a mine) e t undrained alone = ⊎_elim (λ on. absurd (alone (e, on)))
+      go : (v : View) (p : Post) → SpeaksBy i v.drained p → PostOk r.n m r.owner (r.owner i) v.seen v.sizes v.drained p → (Contains v.drained i → ¬ ((m.updaters i).mine.picked ≡ true)) → ¬ IsPickedBy i p → (m.updaters i).mine.picked ≡ false
+      go v Guest speaks t unmarked alone = absurd speaks
+      go v (Root made) speaks t unmarked alone = ⊎_elim (λ (le : made ≤ i). ap (λ (x : Mine). x.picked) (sym (t i le l).1)) (λ d. ⊎_elim (λ on. absurd (unmarked d on)) (λ off. off) (cases_Bool (m.updaters i).mine.picked)) speaks
+      go v (Updater a mine) e t unmarked alone = ⊎_elim (λ on. absurd (alone (e, on)))
           (λ off. ap (λ (x : ℕ). (m.updaters x).mine.picked) (sym e) ∙ sym (ap (λ (x : Mine). x.picked) t.2) ∙ off) (cases_Bool mine.picked)
 
   slot_shown : (f : Fine) → stage_of f.updaters f.in_hand f.progress ≡ m.stage → (i : ℕ) → i < r.n → ShowsUpdater m.stage (m.sizes i) i (m.updaters i) (f.updaters i) → ShowsSlot k r.name s.views f i (f.updaters i) (get_elem? s.homes i)
@@ -140,6 +140,7 @@ module _ {C T : Type 0} (hint packed : List ℕ → List Entry → ℕ) (g : Ske
     name_is = o.name_is;
     seen = subst (Begins v.seen) (sym published) o.seen_is;
     heard = λ h d. subst (Begins h) (sym published) (o.heard_is h d);
+    names = o.names_are;
     known = λ i l. subst (Begins (known_of v i)) (sym (each i (within i l)).handed) (o.known_is i);
     given = λ i l. subst (Begins (given_of v i)) (sym (each i (within i l)).given) (o.given_is i);
     sizes = λ i l ne. o.sizes_are i ne ∙ sym (each i (within i l)).size;

@@ -1,5 +1,5 @@
 -- The heart takes in an updater's seat.
-use Rattle.std.proofs.Common.{◌≡◌, ◌≢◌, ℕ, ◌+◌, Bool, true, false, true≢false, List, [], ◌∷◌, ◌++◌, length, Some, sym, refl, ap, ◌∙◌, subst}
+use Rattle.std.proofs.Common.{◌≡◌, ◌≢◌, ℕ, ◌+◌, Bool, true, false, true≢false, List, [], ◌∷◌, ◌++◌, length, Some, is_some, sym, refl, ap, ◌∙◌, subst}
 use Rattle.atomic_table.specs.Table.{Allows, step}
 use mathlib.Core.Option.{none}
 use Rattle.atomic_table.specs.Seated.{TableId}
@@ -12,10 +12,10 @@ use Rattle.sk_machine.specs.declared.views.Duty.{Duty}
 use Rattle.sk_machine.specs.declared.views.Duty.TheVariants.{Free, Leads}
 use Rattle.sk_machine.specs.declared.views.View.{View}
 use Rattle.sk_gate.specs.Slots.{Slot, full, contents, Sketching, Telling, TellsList}
-use Rattle.sk_gate.specs.Views.{size_of, mine_in, mine_of, leads, seen_with, known_with, drained_with, after_join}
+use Rattle.sk_gate.specs.Views.{size_of, mine_in, mine_of, leads, seen_with, after_join}
 use Rattle.sk_gate.specs.Rule.{Kept}
-use Rattle.sk_gate.specs.Plays.{Sat, rested_mine, rested}
-use Rattle.sk_gate.specs.Hands.{Standing, standing_of, own_in, LeadsBy, OwnHand, Holds}
+use Rattle.sk_gate.specs.Plays.{Sat, is_picked, rested_mine, rested}
+use Rattle.sk_gate.specs.Hands.{Standing, standing_of, own_in, rested_of, LeadsBy, OwnHand, Holds}
 use Rattle.sk_gate.proofs.Merged.{sizes_length, sizes_either}
 use Rattle.sk_gate.proofs.Standing.{own_shown}
 use Rattle.sk_gate.proofs.Own.{own_at, empty_at, leads_sizes}
@@ -28,16 +28,17 @@ module _ {C T : Type 0} (g : Sketching C) (k : Telling T) where
   nothing_leads v n (Leads stage left) first second free t = absurd (true≢false free)
 
   -- an updater that is ready, does not lead and has not swapped: it has one slot, with an empty parcel of its room
-  pub record Resting (n number : ℕ) (m : Sat C T) : Type 0 where
+  pub record Resting (n number : ℕ) (m : Sat C T) (now : Standing) : Type 0 where
     pub parcel : Parcel T
     pub hand : m.1 ≡ (number, full parcel) ∷ []
     pub empty : parcel.buffer ≡ contents [] (size_of m.0 number)
     pub told : (t : T) → parcel.told ≡ Some t → ((mine_of m.0).handed ≢ []) × TellsList k m.0.name t (mine_of m.0).base
     pub there : size_of m.0 number ≢ 0
     pub free : m.0.duty ≡ Free
+    pub shown : is_some parcel.told ≡ now.own.told
 
   pub resting : (n number front : ℕ) (own : Bool) (m : Sat C T) (table : TableId) (now : Standing) → Holds g k false n number front own m → standing_of m.0 table number front m.1 ≡ now → leads now.view.duty ≡ false → (mine_of now.view).ready ≡ true
-      → now.own.items ≡ [] → now.own.capacity ≡ size_of now.view now.number → Resting n number m
+      → now.own.items ≡ [] → now.own.capacity ≡ size_of now.view now.number → Resting n number m now
   resting n number front own m table now h is free ready unswapped capacity =
       let v : View = m.0 in let same : v ≡ now.view = ap (λ (s : Standing). s.view) is in let on : own ≡ true = h.own_is ∙ ap (λ (x : View). (mine_of x).ready) same ∙ ready in
       let p = own_at g k false n number front own m h on in let none_led = nothing_leads v n v.duty h.first h.second (ap (λ (x : View). leads x.duty) same ∙ free) h.leading in
@@ -50,6 +51,7 @@ module _ {C T : Type 0} (g : Sketching C) (k : Telling T) where
         told = (empty_at g k v number p.0 p.3 items).1;
         there = p.4;
         free = none_led.2;
+        shown = ap (λ l. (own_in l).told) (sym p.1) ∙ ap (λ o. o.told) shown;
       }
 
 -- the view of its seat after it has given its slot back
@@ -73,14 +75,15 @@ rested_says w i r picked w' e live free = record {
   sizes = ap (λ (x : View). x.sizes) e;
 }
 
--- what is taken in does not depend on that
-pub same_join : (v w : View) (i r : ℕ) (picked : Bool) (w' : View) → w' ≡ rested_view w i r picked → w.post ≡ Updater i (mine_of w) → after_join v w' ≡ after_join v w
-same_join v w i r picked w' e is = ap (after_join v) e ∙ λ a. record (after_join v w) { known = known_with v.known w.known (sym is a); drained = drained_with v.drained (sym is a) }
+-- what is taken in is what stands for it then
+pub same_join : (v : View) (r : ℕ) (told : Bool) (w' : View) (was now : Standing) → w' ≡ rested_view was.view was.number r (is_picked (mine_of was.view).handed told) → was ≡ now → told ≡ now.own.told → after_join v w' ≡ after_join v (rested_of now)
+same_join v r told w' was now e is shown = ap (after_join v) e ∙ ap (λ y. after_join v (rested_of (record was { own = record was.own { told = y } }))) shown
+    ∙ λ a. after_join v (rested_of (record (is a) { own = record (is a).own { told = now.own.told } }))
 
 module _ {C T : Type 0} (hint packed : List ℕ → List Entry → ℕ) (g : Sketching C) (k : Telling T) where
-  pub gives_up : (slots id n number : ℕ) (m : Sat C T) → slots ≡ n + 1 → m.0.live ≡ true → m.0.post ≡ Updater number (mine_of m.0) → (mine_of m.0).ready ≡ true → (x : Resting g k n number m)
+  pub gives_up : (slots id n number : ℕ) (m : Sat C T) (now : Standing) → slots ≡ n + 1 → m.0.live ≡ true → m.0.post ≡ Updater number (mine_of m.0) → (mine_of m.0).ready ≡ true → (x : Resting g k n number m now)
       → Allows (Kept hint packed g k) slots id m (number + 1) (λ x. x) (rested (step slots (number + 1) 0 0 none) m)
-  gives_up slots id n number m size live is ready x = subst (λ (hand : List (ℕ × Slot C T)). Allows (Kept hint packed g k) slots id (m.0, hand) (number + 1) (λ x. x) (rested (step slots (number + 1) 0 0 none) (m.0, hand))) (sym x.hand)
+  gives_up slots id n number m now size live is ready x = subst (λ (hand : List (ℕ × Slot C T)). Allows (Kept hint packed g k) slots id (m.0, hand) (number + 1) (λ x. x) (rested (step slots (number + 1) 0 0 none) (m.0, hand))) (sym x.hand)
       (rests hint packed g k slots id n m.0 number x.parcel [] size live is ready x.there x.empty x.told)
 
 module _ {C T : Type 0} (g : Sketching C) (k : Telling T) where

@@ -82,6 +82,7 @@ released n numbers name m left owner leader leader' j v free o = record {
   sizes_are = o.sizes_are;
   seen_is = o.seen_is;
   heard_is = o.heard_is;
+  names_are = o.names_are;
   known_is = o.known_is;
   known_with_size = o.known_with_size;
   given_is = o.given_is;
@@ -128,13 +129,14 @@ module _ {C T : Type 0} (hint packed : List ℕ → List Entry → ℕ) (g : Ske
         sizes_are = are;
         seen_is = begins_refl m.published;
         heard_is = o.heard_is;
+        names_are = o.names_are;
         known_is = o.known_is;
         known_with_size = λ j e. there j (o.known_with_size j e);
         given_is = o.given_is;
         post_is = post_same r.n m m' r.owner id v.seen m.published v.sizes sizes' v.drained v.post (λ _. refl) own o.seen_is o.post_is;
         duty_is = (refl, ap (λ a. a + 1) (is ∙ ap (λ a. seat_in a v.post) (sym same_n)), refl, refl, refl);
         open_is = open_neutral m m' v.steps (Turn 0) v.post (λ _ _. refl) (λ _ z. z) o.open_is;
-        drained_is = λ j e. drained_same r.n m m' r.owner id (known_of v j) j (record { mine = refl; word = λ a. a }) (o.drained_is j e);
+        drained_is = λ j e. drained_same r.n m m' r.owner id (known_of v j) v.picked j (record { mine = refl; word = λ a. a }) (o.drained_is j e);
       } in record {
         n = r.n;
         numbers = r.numbers;
@@ -302,13 +304,14 @@ module _ {C T : Type 0} (hint packed : List ℕ → List Entry → ℕ) (g : Ske
         sizes_are = o.sizes_are;
         seen_is = o.seen_is;
         heard_is = o.heard_is;
+        names_are = o.names_are;
         known_is = o.known_is;
         known_with_size = o.known_with_size;
         given_is = o.given_is;
         post_is = post_same r.n m m' r.owner id v.seen v.seen v.sizes v.sizes v.drained v.post (λ _. refl) (λ _ e. e) (begins_refl v.seen) o.post_is;
         duty_is = tt;
         open_is = open_neutral m m' v.steps Yield v.post (λ _ _. refl) (λ _ z. z) o.open_is;
-        drained_is = λ j e. drained_same r.n m m' r.owner id (known_of v j) j (record { mine = refl; word = λ a. a }) (o.drained_is j e);
+        drained_is = λ j e. drained_same r.n m m' r.owner id (known_of v j) v.picked j (record { mine = refl; word = λ a. a }) (o.drained_is j e);
       } in (
         w,
         gives,

@@ -1,6 +1,6 @@
 -- The steps of any seat and of an updater keep the rule.
 use Rattle.std.proofs.Common.{◌≡◌, ◌≢◌, ℕ, ◌+◌, ◌<◌, ◌≤◌, ne_eqb, if◌then◌else◌, Bool, true, false, true≢false, List, [], ◌∷◌, ◌++◌, length, get_or, set, Contains, Option, Some, None, sym, refl, ap, ◌∙◌, subst, ⊎_elim, arith, length-set, get_or-set_other, get_or-set_same}
-use Rattle.std.specs.Prelude.{is_none}
+use Rattle.std.specs.Prelude.{not, is_some}
 use mathlib.Core.Option.{some, none}
 use mathlib.Core.Option as maybe
 use mathlib.Core.Logic.{dite}
@@ -32,7 +32,7 @@ use Rattle.sk_gate.specs.Moves.{LacksOwn, looked_mine, RenewsAt, LooksAt, Admits
 use Rattle.sk_gate.specs.Plays.{Sat, asked, LookHand, looked, is_picked, rested_mine, rested, admitted, handed, published}
 use Rattle.sk_gate.proofs.Published.{published_seen, entries_of}
 use Rattle.sk_gate.proofs.Opened.{open_neutral, open_told, open_shut}
-use Rattle.sk_gate.proofs.Common.{Stays, viewed, updater_step, at_within, bool_cases, index_within, longer_right, longer_in, longer_same}
+use Rattle.sk_gate.proofs.Common.{Stays, viewed, updater_step, at_within, bool_cases, index_within, longer_right, longer_left, longer_in, longer_same}
 
 -- a seat that has seen more
 pub post_sees : (n : ℕ) (m : Coarse) (owner : ℕ → ℕ) (j : ℕ) (seen seen' : List Entry) (sizes drained : List ℕ) (p : Post) → Begins seen seen' → PostOk n m owner j seen sizes drained p → PostOk n m owner j seen' sizes drained p
@@ -72,9 +72,9 @@ pub same_first : {C T : Type 0} (i j : ℕ) (p q : Parcel T) (xs ys : List (ℕ 
 same_first i j p q xs ys e = (ap (parcel_or p) e, ap rest e)
 
 -- what is told of a parcel that was not picked
-told_rested : {T : Type 0} (k : Telling T) (name : List ℕ) (p : Parcel T) (handed : List ℕ) (given : List Entry) → is_picked p handed ≡ false → ((t : T) → p.told ≡ Some t → (handed ≢ []) × TellsList k name t given) → ToldOk k name p handed given
+told_rested : {T : Type 0} (k : Telling T) (name : List ℕ) (p : Parcel T) (handed : List ℕ) (given : List Entry) → is_picked handed (is_some p.told) ≡ false → ((t : T) → p.told ≡ Some t → (handed ≢ []) × TellsList k name t given) → ToldOk k name p handed given
 told_rested k name p [] given unpicked told = ((λ _. refl), told)
-told_rested k name p (x ∷ xs) given unpicked told = ((λ e. absurd (true≢false (sym (ap is_none e) ∙ unpicked))), told)
+told_rested k name p (x ∷ xs) given unpicked told = ((λ e. absurd (true≢false (sym (ap (λ t. not (is_some t)) e) ∙ unpicked))), told)
 
 none_of : {T : Type 0} (x : Option T) → ((t : T) → x ≡ Some t → ⊥) → x ≡ None
 none_of None never = refl
@@ -104,6 +104,7 @@ module _ {C T : Type 0} (hint packed : List ℕ → List Entry → ℕ) (g : Ske
           sizes_are = o.sizes_are;
           seen_is = begins_refl h;
           heard_is = o.heard_is;
+          names_are = o.names_are;
           known_is = o.known_is;
           known_with_size = o.known_with_size;
           given_is = o.given_is;
@@ -118,6 +119,7 @@ module _ {C T : Type 0} (hint packed : List ℕ → List Entry → ℕ) (g : Ske
             grows = o.seen_is;
             is_seen = published_seen (hint r.numbers) r.n m r.owner id v o.sized r.meets o.post_is;
             heard = o.heard_is;
+            named = λ y d. o.names_are y d ∙ sym o.name_is;
             value = r.published_is ∙ ap (λ l. packed l h) (sym o.numbers_are);
             lacks = λ i some-known. let there = o.known_with_size i some-known in let inside : i < r.n = subst (λ z. i < z) o.sized (index_within v.sizes i there) in
                 subst (LacksAtMost (known_of v i) (entries_by i h)) (sym (o.sizes_are i there)) (event.lacks_known (hint r.numbers) r.n m i (known_of v i) r.meets inside (o.known_is i));
@@ -148,6 +150,7 @@ module _ {C T : Type 0} (hint packed : List ℕ → List Entry → ℕ) (g : Ske
           sizes_are = o.sizes_are;
           seen_is = o.seen_is;
           heard_is = o.heard_is;
+          names_are = o.names_are;
           known_is = o.known_is;
           known_with_size = o.known_with_size;
           given_is = o.given_is;
@@ -182,6 +185,7 @@ module _ {C T : Type 0} (hint packed : List ℕ → List Entry → ℕ) (g : Ske
         sizes_are = o.sizes_are;
         seen_is = longer_in v.seen base m.published o.seen_is ok.given_is;
         heard_is = o.heard_is;
+        names_are = o.names_are;
         known_is = λ a. each_put (λ c (y : CoarseUpdater). Begins (known_of v c) y.mine.handed) m.updaters i u' a (o.known_is i) (λ _. o.known_is a);
         known_with_size = o.known_with_size;
         given_is = λ a. each_put (λ c (y : CoarseUpdater). Begins (given_of v c) y.given) m.updaters i u' a (o.given_is i) (λ _. o.given_is a);
@@ -201,6 +205,7 @@ module _ {C T : Type 0} (hint packed : List ℕ → List Entry → ℕ) (g : Ske
         view = refl;
         hint_is = word ∙ ok.open_hint open_word ∙ ap (λ l. hint l base) (sym o.numbers_are);
         grows = subst (λ (y : Mine). Begins y.base base) (sym own.2) ok.base_is;
+        sees = longer_left v.seen base m.published o.seen_is ok.given_is;
         again = λ on. sym (ok.ready_base (ap (λ (y : Mine). y.ready) (sym own.2) ∙ on)) ∙ ap (λ (y : Mine). y.base) (sym own.2);
         all = ok.open_given open_word ∙ ap (λ (y : Mine). y.handed) (sym own.2);
         entries = entries_of (hint r.numbers) r.n m v base o.sized r.meets ok.given_is;
@@ -256,7 +261,7 @@ module _ {C T : Type 0} (hint packed : List ℕ → List Entry → ℕ) (g : Ske
       let mine : Mine = mine_of v in let own = subst (PostOk r.n m r.owner id v.seen v.sizes v.drained) is o.post_is in let inside : i < r.n = own.0 in let deep' = r.deep in let u = m.updaters i in let ok = r.meets.each i inside in
       let word : x ≡ u.word = r.words_are i inside in let b : size_of v i ≡ m.sizes i = own.4 in let admitted : m.sizes i ≢ 0 = λ z. there (b ∙ z) in
       let on : u.mine.ready ≡ true = ap (λ (y : Mine). y.ready) (sym own.2) ∙ ready in let open_word : u.word ≢ 0 = event.open_ready (hint r.numbers) (m.sizes i) m.published m.stage i u ok on in
-      let gone : Bool = is_picked p mine.handed in let u' : CoarseUpdater = record u { mine = rested_mine u.mine gone } in let ups : ℕ → CoarseUpdater = put m.updaters i u' in let m' : Coarse = record m { updaters = ups } in
+      let gone : Bool = is_picked mine.handed (is_some p.told) in let u' : CoarseUpdater = record u { mine = rested_mine u.mine gone } in let ups : ℕ → CoarseUpdater = put m.updaters i u' in let m' : Coarse = record m { updaters = ups } in
       let w : View = record v { steps = v.steps ++ Look i x ∷ []; post = Updater i (rested_mine mine gone) } in (
         w,
         gives,
@@ -269,7 +274,7 @@ module _ {C T : Type 0} (hint packed : List ℕ → List Entry → ℕ) (g : Ske
                 p,
                 set_here s.homes i (some (full p)) (omega arith),
                 empty ∙ ap (λ c. contents [] c) (b ∙ sym (room_there (m.sizes i) admitted)),
-                λ unpicked. told_rested k r.name p u.mine.handed u.given (ap (λ (y : Mine). is_picked p y.handed) (sym own.2) ∙ unpicked)
+                λ unpicked. told_rested k r.name p u.mine.handed u.given (ap (λ (y : Mine). is_picked y.handed (is_some p.told)) (sym own.2) ∙ unpicked)
                     (λ t e. subst (λ (y : List ℕ × Mine × List Entry). (y.1.handed ≢ []) × TellsList k y.0 t y.2) (λ a. (o.name_is a, own.2 a, (ap (λ (y : Mine). y.base) own.2 ∙ ok.ready_base on) a)) (told t e)),
               );
               waiting = λ z. absurd (open_word z);
@@ -285,6 +290,7 @@ module _ {C T : Type 0} (hint packed : List ℕ → List Entry → ℕ) (g : Ske
               sizes_are = o.sizes_are;
               seen_is = o.seen_is;
               heard_is = o.heard_is;
+              names_are = o.names_are;
               known_is = λ a. each_put (λ c (y : CoarseUpdater). Begins (known_of v c) y.mine.handed) m.updaters i u' a (o.known_is i) (λ _. o.known_is a);
               known_with_size = o.known_with_size;
               given_is = λ a. each_put (λ c (y : CoarseUpdater). Begins (given_of v c) y.given) m.updaters i u' a (o.given_is i) (λ _. o.given_is a);
@@ -301,7 +307,7 @@ module _ {C T : Type 0} (hint packed : List ℕ → List Entry → ℕ) (g : Ske
               speaks = λ a t. subst (SpeaksBy a v.drained) is t;
             }),
         λ i' p' more' is' has. let e = same_first i i' p p' more more' has in let at-i : i ≡ i' = ap (seat_in 0) (sym is ∙ is') in
-            λ a. (record v { steps = v.steps ++ Look (at-i a) x ∷ []; post = Updater (at-i a) (rested_mine mine (is_picked (e.0 a) mine.handed)) }, e.1 a),
+            λ a. (record v { steps = v.steps ++ Look (at-i a) x ∷ []; post = Updater (at-i a) (rested_mine mine (is_picked mine.handed (is_some (e.0 a).told))) }, e.1 a),
       )
 
   pub admits : (slots id n : ℕ) (me : Sat C T) (i b : ℕ) → slots ≡ n + 1 → me.0.live ≡ true → me.0.post ≡ Updater i (mine_of me.0) → (mine_of me.0).picked ≡ false → size_of me.0 i ≡ 0 → 1 ≤ b → Allows Rule slots id me (i + 1) (λ x. x) (admitted hint b (step slots (i + 1) 0 0 none) me)
@@ -340,6 +346,7 @@ module _ {C T : Type 0} (hint packed : List ℕ → List Entry → ℕ) (g : Ske
                   (λ ne. let same = get_or-set_other v.sizes i a b 0 ne in same ∙ o.sizes_are a (λ z. there (same ∙ z)) ∙ sym (put_else m.sizes i b a ne));
               seen_is = o.seen_is;
               heard_is = o.heard_is;
+              names_are = o.names_are;
               known_is = λ a. each_put (λ c (y : CoarseUpdater). Begins (known_of v c) y.mine.handed) m.updaters i u' a (o.known_is i) (λ _. o.known_is a);
               known_with_size = λ a some-known z. dite (ℕ_discrete a i)
                   (λ e. let q : size_of w i ≡ 0 = ap (size_of w) (sym e) ∙ z in omega arith)
@@ -407,6 +414,7 @@ module _ {C T : Type 0} (hint packed : List ℕ → List Entry → ℕ) (g : Ske
               sizes_are = o.sizes_are;
               seen_is = o.seen_is;
               heard_is = o.heard_is;
+              names_are = o.names_are;
               known_is = λ a. each_put (λ c (y : CoarseUpdater). Begins (known_of v c) y.mine.handed) m.updaters i u' a (begins_more _ _ xs (o.known_is i)) (λ _. o.known_is a);
               known_with_size = o.known_with_size;
               given_is = λ a. each_put (λ c (y : CoarseUpdater). Begins (given_of v c) y.given) m.updaters i u' a (o.given_is i) (λ _. o.given_is a);

@@ -15,7 +15,7 @@ use Rattle.sk_gate.specs.declared.load.Trunk.{Trunk}
 use Rattle.sk_gate.specs.declared.load.Load.TheVariants as load
 use Rattle.sk_gate.specs.Slots.{Slot, full, trunk, contents, Sketching, Telling, TellsList, TrunkOk}
 use Rattle.sk_gate.specs.Views.{size_of, mine_of, stage_of}
-use Rattle.sk_gate.specs.Plays.{Sat}
+use Rattle.sk_gate.specs.Plays.{Sat, is_picked, rested_mine}
 
 -- ---- lists of slots
 
@@ -59,6 +59,10 @@ pub record Standing : Type 0 where
   pub filled : Bool
   -- it has lifted the trunk
   pub lifted : Bool
+
+-- what an updater's seat knows once it has given its slot back
+abbrev pub rested_of : Standing → View
+rested_of s = record s.view { post = Updater s.number (rested_mine (mine_of s.view) (is_picked (mine_of s.view).handed s.own.told)) }
 
 -- its own slot after a look that loaded r
 abbrev pub own_looked : ℕ → View → ℕ → Own → Own

@@ -40,6 +40,8 @@ pub record AsksAt (packed : List ℕ → List Entry → ℕ) (v : View) (word : 
   pub is_seen : IsSeen v w.seen
   -- and so does what it and those had seen that it took in
   pub heard : (h : List Entry) → Contains v.heard h → Begins h w.seen
+  -- those have its name
+  pub named : (x : List ℕ) → Contains v.names x → x ≡ v.name
   pub value : word ≡ packed v.numbers w.seen
   pub lacks : (i : ℕ) → known_of v i ≢ [] → LacksAtMost (known_of v i) (entries_by i w.seen) (size_of v i)
   pub lacks_own : LacksOwn w.seen (size_of v) v.post
@@ -57,6 +59,7 @@ pub record RenewsAt (hint : List ℕ → List Entry → ℕ) (v : View) (word : 
   pub view : w ≡ record v { seen = longer v.seen (mine_of w).base; steps = v.steps ++ Look i word ∷ []; post = Updater i (looked_mine (mine_of v) (mine_of w).base) }
   pub hint_is : word ≡ hint v.numbers (mine_of w).base
   pub grows : Begins (mine_of v).base (mine_of w).base
+  pub sees : Begins v.seen w.seen
   pub again : (mine_of v).ready ≡ true → (mine_of w).base ≡ (mine_of v).base
   pub all : entries_by i (mine_of w).base ≡ (mine_of v).handed
   pub entries : All (IsEntry (length v.sizes)) (mine_of w).base

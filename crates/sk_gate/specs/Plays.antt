@@ -1,5 +1,5 @@
 -- What each step of the table tells: of the view, as in Moves, and of the slots that the seat has.
-use Rattle.std.specs.Prelude.{◌≡◌, ◌≢◌, ℕ, ◌+◌, List, [], ◌∷◌, ◌++◌, Bool, true, false, None, is_none}
+use Rattle.std.specs.Prelude.{◌≡◌, ◌≢◌, ℕ, ◌+◌, List, [], ◌∷◌, ◌++◌, Bool, true, false, not, None, is_some}
 use Rattle.atomic_table.specs.Table.{Me, Step, rest}
 use Rattle.sk_model.specs.Entries.{Entry}
 use Rattle.sk_compose.specs.declared.buffer.Parcel.{Parcel}
@@ -22,10 +22,10 @@ Sat C T = Me (Slot C T) View
 abbrev pub IsRested : {T : Type 0} → Telling T → View → View → ℕ → Parcel T → Type 0
 IsRested k v w i p = (p.buffer ≡ contents [] (size_of v i)) × ((mine_of v).picked ≡ false → ToldOk k v.name p (mine_of v).handed (mine_of w).base)
 
--- whether the told value of an empty parcel was picked out
-abbrev pub is_picked : {T : Type 0} → Parcel T → List ℕ → Bool
-is_picked p [] = false
-is_picked p (x ∷ xs) = is_none p.told
+-- whether the told value was picked out of an empty parcel, which has one if something was handed over before
+abbrev pub is_picked : List ℕ → Bool → Bool
+is_picked [] told = false
+is_picked (x ∷ xs) told = not told
 
 abbrev pub rested_mine : Mine → Bool → Mine
 rested_mine mine picked = record { handed = mine.handed; base = mine.base; ready = false; rested = true; picked = picked }
@@ -48,7 +48,7 @@ module _ {C T : Type 0} where
   -- a look that gives the slot back
   abbrev pub rested : Step (Slot C T) → Sat C T → ℕ → Sat C T → Type 0
   rested st m r m' = (i : ℕ) (p : Parcel T) (more : List (ℕ × Slot C T)) → m.0.post ≡ Updater i (mine_of m.0) → m.1 ≡ (i, full p) ∷ more
-      → m' ≡ (record m.0 { steps = m.0.steps ++ Look i r ∷ []; post = Updater i (rested_mine (mine_of m.0) (is_picked p (mine_of m.0).handed)) }, more)
+      → m' ≡ (record m.0 { steps = m.0.steps ++ Look i r ∷ []; post = Updater i (rested_mine (mine_of m.0) (is_picked (mine_of m.0).handed (is_some p.told))) }, more)
 
   -- the look by which the updater is admitted, with buffers of b items; its slot has the placeholder
   abbrev pub admitted : (List ℕ → List Entry → ℕ) → ℕ → Step (Slot C T) → Sat C T → ℕ → Sat C T → Type 0

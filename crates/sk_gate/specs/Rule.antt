@@ -59,11 +59,12 @@ OpenOk m steps (Root made) = Unit {0}
 OpenOk m steps (Updater i mine) = is_open i steps ≡ true → (m.updaters i).word ≢ 0
 
 -- what it knows of an updater whose seat was joined into it
-pub record DrainedOk (n : ℕ) (m : Coarse) (owner : ℕ → ℕ) (j : ℕ) (known : List ℕ) (i : ℕ) : Type 0 where
+pub record DrainedOk (n : ℕ) (m : Coarse) (owner : ℕ → ℕ) (j : ℕ) (known picked : List ℕ) (i : ℕ) : Type 0 where
   pub within : i < n
   pub own : owner i ≡ j
   pub all : known ≡ (m.updaters i).mine.handed
   pub given : (m.updaters i).word ≢ 0
+  pub was_picked : (m.updaters i).mine.picked ≡ true → Contains picked i
 
 -- what a live view, which stands at j, says of the machine
 pub record Knows (n : ℕ) (numbers name : List ℕ) (m : Coarse) (left : Bool) (owner : ℕ → ℕ) (leader j : ℕ) (v : View) : Type 0 where
@@ -75,13 +76,14 @@ pub record Knows (n : ℕ) (numbers name : List ℕ) (m : Coarse) (left : Bool) 
   pub sizes_are : (i : ℕ) → size_of v i ≢ 0 → size_of v i ≡ m.sizes i
   pub seen_is : Begins v.seen m.published
   pub heard_is : (h : List Entry) → Contains v.heard h → Begins h m.published
+  pub names_are : (x : List ℕ) → Contains v.names x → x ≡ name
   pub known_is : (i : ℕ) → Begins (known_of v i) (m.updaters i).mine.handed
   pub known_with_size : (i : ℕ) → known_of v i ≢ [] → size_of v i ≢ 0
   pub given_is : (i : ℕ) → Begins (given_of v i) (m.updaters i).given
   pub post_is : PostOk n m owner j v.seen v.sizes v.drained v.post
   pub duty_is : DutyOk n m left leader j v.seen v.post v.duty
   pub open_is : OpenOk m v.steps v.post
-  pub drained_is : (i : ℕ) → Contains v.drained i → DrainedOk n m owner j (known_of v i) i
+  pub drained_is : (i : ℕ) → Contains v.drained i → DrainedOk n m owner j (known_of v i) v.picked i
 
 -- a view has this place, and says this
 abbrev pub Has : List View → ℕ → (View → Type 0) → Type 0

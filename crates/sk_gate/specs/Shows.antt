@@ -35,9 +35,9 @@ IsPickedBy i Guest = ⊥
 IsPickedBy i (Root made) = ⊥
 IsPickedBy i (Updater k mine) = (k ≡ i) × (mine.picked ≡ true)
 
--- the told value of the parcel that updater i gave back may have been picked out: its seat says so, or was taken in
-abbrev pub MayBePicked : List View → ℕ → Type 0
-MayBePicked views i = (j : ℕ) × (v : View) × IsView views j v × (v.live ≡ true) × (Contains v.drained i ⊎ IsPickedBy i v.post)
+-- the told value of the parcel that updater i gave back was picked out: its seat says so, or the one that took it in
+abbrev pub IsPicked : List View → ℕ → Type 0
+IsPicked views i = (j : ℕ) × (v : View) × IsView views j v × (v.live ≡ true) × (Contains v.picked i ⊎ IsPickedBy i v.post)
 
 -- a parcel lies in a slot
 abbrev pub HasParcel : {C T : Type 0} → maybe.Option (maybe.Option (Slot C T)) → Parcel T → Type 0
@@ -52,7 +52,7 @@ pub record ShowsSlot {C T : Type 0} (k : Telling T) (name : List ℕ) (views : L
   -- with the items that the machine has there
   pub items : (p : Parcel T) → HasParcel home p → (u.home ≡ true) × (p.buffer ≡ contents u.slot (room u.size))
   -- and, where it was given back, with a told value exactly if something was handed over, of the list given with it
-  pub told : (p : Parcel T) → HasParcel home p → u.word ≢ 0 → ¬ MayBePicked views i → ToldOk k name p u.handed u.given
+  pub told : (p : Parcel T) → HasParcel home p → u.word ≢ 0 → ¬ IsPicked views i → ToldOk k name p u.handed u.given
 
 -- the trunk's slot: whoever holds the turn has it, or else the trunk lies in it, with a sketch of the published list
 pub record ShowsTrunk {C T : Type 0} (g : Sketching C) (numbers name : List ℕ) (f : Fine) (home : maybe.Option (maybe.Option (Slot C T))) : Type 0 where
@@ -84,6 +84,7 @@ pub record ShowsView (numbers name : List ℕ) (f : Fine) (v : View) : Type 0 wh
   pub name_is : v.name ≡ name
   pub seen : Begins v.seen f.published
   pub heard : (h : List Entry) → Contains v.heard h → Begins h f.published
+  pub names : (x : List ℕ) → Contains v.names x → x ≡ name
   pub known : (i : ℕ) → i < f.n → Begins (known_of v i) (f.updaters i).handed
   pub given : (i : ℕ) → i < f.n → Begins (given_of v i) (f.updaters i).given
   pub sizes : (i : ℕ) → i < f.n → size_of v i ≢ 0 → size_of v i ≡ (f.updaters i).size

@@ -42,6 +42,7 @@ AreNew v table updaters = (i : ℕ) (d : Standing) → i < length updaters → s
 -- the seats of one table with n updaters
 pub record IsMade (n : ℕ) (sizes numbers name : List ℕ) (heart : Standing) (updaters : List Standing) (token : Reading) : Type 0 where
   pub heart_is : heart ≡ empty_handed (blank_view sizes numbers name (Root n) (n + 1)) heart.table n
+  pub slots : heart.table.slots ≡ n + 1
   pub count : length updaters ≡ n
   pub updaters_are : AreNew heart.view heart.table updaters
   pub token_is : token ≡ record { view = blank_view sizes numbers name Guest (n + 1); table = heart.table }

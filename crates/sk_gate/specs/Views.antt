@@ -140,7 +140,9 @@ first_view sizes numbers name = record {
   post = Root 0;
   duty = Free;
   given = blanks (length sizes);
+  names = [];
   drained = [];
+  picked = [];
   sizes = sizes;
   numbers = numbers;
   name = name;
@@ -158,6 +160,7 @@ new_updater v = record v {
   duty = Free;
   given = blanks (length v.sizes);
   drained = [];
+  picked = [];
 }
 
 -- what a copy of a view knows: of an updater its own list, else what the seat knows
@@ -178,6 +181,7 @@ copy_of v = record v {
   duty = Free;
   given = blanks (length v.sizes);
   drained = [];
+  picked = [];
 }
 
 abbrev pub known_with : List (List ℕ) → List (List ℕ) → Post → List (List ℕ)
@@ -189,6 +193,12 @@ abbrev pub drained_with : List ℕ → Post → List ℕ
 drained_with drained Guest = drained
 drained_with drained (Root made) = drained
 drained_with drained (Updater i mine) = drained ++ i ∷ []
+
+-- of those that were taken in, the ones that had picked a told value
+abbrev pub picked_with : List ℕ → Post → List ℕ
+picked_with picked Guest = picked
+picked_with picked (Root made) = picked
+picked_with picked (Updater i mine) = if mine.picked then picked ++ i ∷ [] else picked
 
 -- whoever leads has seen all
 abbrev pub seen_with : List Entry → List Entry → Duty → List Entry
@@ -203,13 +213,15 @@ after_join v w = record v {
   known = known_with v.known w.known w.post;
   steps = v.steps ++ Join ∷ [];
   given = merged v.given w.given;
+  names = v.names ++ w.name ∷ [];
   drained = drained_with v.drained w.post;
+  picked = picked_with v.picked w.post;
   sizes = sizes_merged v.sizes w.sizes;
 }
 
 -- the view of a seat that was taken in
 abbrev pub spent : View
-spent = record { live = false; seen = []; heard = []; known = []; steps = []; post = Guest; duty = Free; given = []; drained = []; sizes = []; numbers = []; name = [] }
+spent = record { live = false; seen = []; heard = []; known = []; steps = []; post = Guest; duty = Free; given = []; names = []; drained = []; picked = []; sizes = []; numbers = []; name = [] }
 
 -- the seat speaks for updater i: it is its own, has yet to give it out, or has taken it in
 abbrev pub SpeaksBy : ℕ → List ℕ → Post → Type 0

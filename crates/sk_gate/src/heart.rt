@@ -1,6 +1,7 @@
 //! What the heart alone does.
 ghost use Rattle.std.specs.Prelude.{◌≡◌, false, [], true};
 ghost use Rattle.sk_gate.specs.Views.{size_of, mine_of, leads, after_join};
+ghost use Rattle.sk_gate.specs.Hands.{rested_of};
 
 use crate::plays::{Rest, TakingIn};
 use crate::seat::{OfHeart, Propagator, UpdaterSeat};
@@ -15,7 +16,7 @@ impl<C: Composable> Propagator<C, OfHeart> {
         requires unswapped { other.own.items ≡ [] }
         requires picked { other.own.capacity ≡ size_of other.view other.number }
         requires free { leads other.view.duty ≡ false }
-        ensures seat { self.new ≡ record self.old { view = after_join self.old.view other.view } }
+        ensures seat { self.new ≡ record self.old { view = after_join self.old.view (rested_of other) } }
     {
         let Propagator {
             hub: _,

@@ -1,5 +1,5 @@
 //! The calls of whoever propagates. They come in the order in which they stand here.
-ghost use Rattle.std.specs.Prelude.{◌≡◌, ◌+◌, ◌<◌, ◌≤◌, ◌++◌, [], length, true, false, ◌==◌, Some, IfOk, IfErr};
+ghost use Rattle.std.specs.Prelude.{◌≡◌, ◌≢◌, ◌+◌, ◌<◌, ◌≤◌, ◌++◌, [], length, true, false, ◌==◌, Some, IfOk, IfErr};
 ghost use Rattle.sk_model.specs.Entries.{tagged};
 ghost use Rattle.sk_machine.specs.Coarse.{IsBatch, most_entries};
 ghost use Rattle.sk_machine.specs.declared.views.Stage.TheVariants.{Idle, Busy, Published};
@@ -129,6 +129,7 @@ impl<C: Composable, R: Role> Propagator<C, R> {
         requires numbers { C.numbers global.now ≡ self.old.view.numbers }
         ensures told { GivesBackAt self.old.view
             (C.hint_of self.old.view.numbers self.old.view.seen) self.new.view i }
+        ensures lower { C.hint_of self.old.view.numbers self.old.view.seen ≢ 0 }
         ensures seat { self.new ≡ record self.old { view = self.new.view; filled = false } }
     {
         let hub = &self.hub;

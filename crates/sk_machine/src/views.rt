@@ -76,8 +76,12 @@ pub struct View {
     pub duty: Duty,
     /// For each updater the published list as of this seat's last give_back there.
     pub given: [[(u64, u64); 0]; 0],
+    /// The names that the seats had that it took in.
+    pub names: [[u64; 0]; 0],
     /// The updaters whose seats were joined into it, in order.
     pub drained: [u64; 0],
+    /// Those of them that had picked the told value out of the parcel that they gave back.
+    pub picked: [u64; 0],
     /// For each updater the size of its buffers, or 0 where the seat does not know it.
     pub sizes: [u64; 0],
     /// The fixed numbers of the sketch.

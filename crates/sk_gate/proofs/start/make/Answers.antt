@@ -1,4 +1,5 @@
 use Rattle.std.proofs.Common.{rules, ◌≡◌, ◌∙◌, ◌+◌, ℕ, length, true, false, refl, ap, sym, subst}
+use Rattle.atomic_table.specs.Seated.{TableId}
 use Rattle.sk_machine.specs.Coarse.{blank_mine}
 use Rattle.sk_machine.specs.declared.views.Post.{Post}
 use Rattle.sk_machine.specs.declared.views.Post.TheVariants.{Guest, Root, Updater}
@@ -33,6 +34,7 @@ returns g c = let k = g.C.Composable in let n = c.args.n in let sizes = sizes_of
     let of_last : (p : Post) (i : ℕ) → blank_of u p i ≡ blank_view sizes numbers name p i = λ p i. ap (λ m. blank_of m.0 p i) c.in_ok-token.ensures.first ∙ of_mid p i in
     let table = c.first_token.new.seat.table_id in let same : c.in_ok-hub.seat.table_id ≡ table = sym (c.in_ok-token.ensures.table ∙ c.in_ok-updaters.ensures.table) in record {
       heart_is = (λ a. standing_of (c.in_ok-token.ensures.first a).0 table n 0 (c.in_ok-token.ensures.first a).1) ∙ λ a. empty_handed (of_mid (Root n) (n + 1) a) table n;
+      slots = ap (λ (t : TableId). t.slots) (sym same) ∙ c.in_ok-hub.ensures.slots;
       count = c.in_ok-updaters.ensures.count;
       updaters_are = λ i d l. c.in_ok-updaters.ensures.updaters i d l ∙ λ a. empty_handed ((of_first (Updater i blank_mine) (i + 1) ∙ sym (of_last (Updater i blank_mine) (i + 1))) a) (same a) i;
       token_is = c.in_ok-token.ensures.token ∙ λ a. record { view = of_mid Guest (n + 1) a; table = sym c.in_ok-token.ensures.table a };
