@@ -1,5 +1,5 @@
 -- An updater's seat is taken in, and the heart asks.
-use Rattle.std.proofs.Common.{◌≡◌, ◌≢◌, ℕ, ◌<◌, List, [], ◌∷◌, ◌++◌, length, map, get_or, set, Bool, true, not, if◌then◌else◌, Option, Some, None, is_some, subst, sym, ap, refl, ◌∙◌, append-nil, arith, length-set, get_or-set_same, get_or-set_other}
+use Rattle.std.proofs.Common.{◌≡◌, ◌≢◌, ℕ, ◌<◌, List, [], ◌∷◌, ◌++◌, length, map, get_or, set, Bool, true, false, not, if◌then◌else◌, Option, Some, None, is_some, subst, sym, ap, refl, ◌∙◌, append-nil, arith, length-set, get_or-set_same, get_or-set_other}
 use Rattle.std.specs.Prelude.{Contains}
 use Rattle.std.proofs.lemmas.List.{map-set}
 use Rattle.std.proofs.lemmas.List.Elements.{Contains-push, Contains-append_right}
@@ -17,7 +17,8 @@ use Rattle.sk_machine.specs.declared.views.View.{View}
 use Rattle.sk_gate.specs.Slots.{Telling}
 use Rattle.sk_gate.specs.Views.{known_of, mine_of, size_of, after_join}
 use Rattle.sk_gate.specs.Moves.{AsksAt}
-use Rattle.sk_gate.specs.Hands.{no_own, own_empty, is_empty, Standing, TellsBase}
+use Rattle.sk_gate.specs.Plays.{is_picked, rested_mine}
+use Rattle.sk_gate.specs.Hands.{no_own, own_empty, is_empty, rested_of, Standing, TellsBase}
 use Rattle.sk_gate.proofs.Merged.{sizes_length}
 use Rattle.sk_hub.specs.Updaters.{IsFree, IsUpdater, TellsItems, state_of, items_in}
 use Rattle.sk_hub.specs.Hearts.{IsHeart, heart_of}
@@ -25,17 +26,17 @@ use Rattle.sk_hub.specs.Drains.{IsDrained}
 
 -- the heart's view after both, and the updater's mine
 abbrev joined_view : View → View → ℕ → View
-joined_view v w number = after_join (record v { duty = Free }) (record w { post = Updater number (mine_of w) })
+joined_view v w number = after_join (record v { duty = Free }) (record w { post = Updater number (rested_mine (mine_of w) (is_picked (mine_of w).handed false)) })
 
 abbrev asked_view : View → List Entry → ℕ → View
 asked_view v seen word = record v { seen = seen; steps = v.steps ++ Ask word ∷ [] }
 
 module _ {T : Type 0} (hint_of packed : List ℕ → List Entry → ℕ) (k : Telling T) (hs us us' hj ha : Standing) (word : ℕ) (vacant : List Standing) (told : List (Option T)) (n admitted number updaters size : ℕ) (fill : Option Contents) (ut : Option T) (hint taken last : ℕ) (p : Parcel T)
     (h : IsHeart k hs vacant told n admitted) (u : IsUpdater hint_of k us number updaters size fill ut hint taken last) (picks : us' ≡ record us { own = own_empty (size_of us.view us.number) }) (tells : TellsBase us.view k p) (some : is_some p.told ≡ us.own.told)
-    (joins : hj ≡ record hs { view = after_join hs.view us'.view }) (asks : AsksAt packed hj.view word ha.view) (stays : ha ≡ record hj { view = ha.view })
+    (joins : hj ≡ record hs { view = after_join hs.view (rested_of us') }) (asks : AsksAt packed hj.view word ha.view) (stays : ha ≡ record hj { view = ha.view })
     (ready : (mine_of us.view).ready ≡ true) (all : entries_by number (mine_of us.view).base ≡ (mine_of us.view).handed) (empty : items_in fill ≡ []) (name : us.view.name ≡ hs.view.name) (within : number < n) (sized : length us.view.sizes ≡ n) where
   joined_is : hj.view ≡ joined_view hs.view us.view number
-  joined_is = ap (λ s. s.view) joins ∙ ap (λ s. after_join hs.view s.view) picks ∙ λ d. after_join (record hs.view { duty = h.free.duty d }) (record us.view { post = u.post d })
+  joined_is = ap (λ s. s.view) joins ∙ ap (λ s. after_join hs.view (rested_of s)) picks ∙ λ d. after_join (record hs.view { duty = h.free.duty d }) (record us.view { post = Updater (u.number_is d) (rested_mine (mine_of us.view) (is_picked (mine_of us.view).handed false)) })
 
   view_is : ha.view ≡ asked_view (joined_view hs.view us.view number) ha.view.seen word
   view_is = asks.view ∙ λ d. asked_view (joined_is d) ha.view.seen word
