@@ -41,13 +41,14 @@ knows_elsewhere v w other e = record {
 -- ---- what an updater comes back with
 
 pub comes_back : (u : UpdaterState) → ComesBack u u
-comes_back u = record { kept = refl; handed = begins_refl (handed_of u); base = begins_refl (base_of u); number = refl; size = refl; table = refl; name = refl; sizes = refl; eager = refl }
+comes_back u = record { kept = refl; handed = begins_refl (handed_of u); base = begins_refl (base_of u); seen = begins_refl u.view.seen; number = refl; size = refl; table = refl; name = refl; sizes = refl; eager = refl }
 
 pub comes_trans : (u v w : UpdaterState) → ComesBack u v → ComesBack v w → ComesBack u w
 comes_trans u v w a b = record {
   kept = b.kept ∙ a.kept;
   handed = begins_trans _ _ _ a.handed b.handed;
   base = begins_trans _ _ _ a.base b.base;
+  seen = begins_trans _ _ _ a.seen b.seen;
   number = b.number ∙ a.number;
   size = b.size ∙ a.size;
   table = b.table ∙ a.table;
@@ -61,6 +62,7 @@ comes_waiting u u' l = record {
   kept = ap (λ z. kept_of z) l.state;
   handed = subst (Begins (handed_of u)) (sym (ap (λ z. handed_of z) l.state)) (begins_refl (handed_of u));
   base = subst (Begins (base_of u)) (sym (ap (λ z. base_of z) l.state)) (begins_refl (base_of u));
+  seen = subst (Begins u.view.seen) (sym (ap (λ z. z.view.seen) l.state)) (begins_refl u.view.seen);
   number = ap (λ z. z.number) l.state;
   size = ap (λ z. z.size) l.state;
   table = ap (λ z. z.table) l.state;
@@ -75,6 +77,7 @@ comes_renewed hint_of u u' r =
       kept = λ e. handed e ++ (r.state e).fill;
       handed = subst (Begins (handed_of u)) (sym handed) (begins_refl (handed_of u));
       base = r.renewed.grows;
+      seen = r.renewed.sees;
       number = ap (λ z. z.number) r.state;
       size = ap (λ z. z.size) r.state;
       table = ap (λ z. z.table) r.state;
@@ -89,6 +92,7 @@ comes_handed hint_of u u' r =
       kept = (λ e. handed e ++ (r.state e).fill) ∙ append-nil (kept_of u);
       handed = (u.fill, handed);
       base = r.renewed.grows;
+      seen = r.renewed.sees;
       number = ap (λ z. z.number) r.state;
       size = ap (λ z. z.size) r.state;
       table = ap (λ z. z.table) r.state;

@@ -1,8 +1,8 @@
 -- An updater's seat is taken in, and the heart asks.
-use Rattle.std.proofs.Common.{◌≡◌, ◌≢◌, ℕ, ◌<◌, List, [], ◌∷◌, ◌++◌, length, map, get_or, set, Bool, true, false, not, if◌then◌else◌, Option, Some, None, is_some, subst, sym, ap, refl, ◌∙◌, append-nil, arith, length-set, get_or-set_same, get_or-set_other}
+use Rattle.std.proofs.Common.{◌≡◌, ◌≢◌, ℕ, ◌<◌, List, [], ◌∷◌, ◌++◌, length, map, get_or, set, Bool, true, false, not, if◌then◌else◌, Option, Some, None, is_some, subst, sym, ap, refl, ◌∙◌, append-nil, length-set, get_or-set_same, get_or-set_other}
 use Rattle.std.specs.Prelude.{Contains}
 use Rattle.std.proofs.lemmas.List.{map-set}
-use Rattle.std.proofs.lemmas.List.Elements.{Contains-push, Contains-append_right}
+use Rattle.std.proofs.lemmas.List.Elements.{Contains-push}
 use mathlib.Core.Logic.{dite}
 use native.Mathlib.Decide.{ℕ_discrete}
 use Rattle.sk_model.specs.Entries.{Entry, entries_by}
@@ -23,6 +23,7 @@ use Rattle.sk_gate.proofs.Merged.{sizes_length}
 use Rattle.sk_hub.specs.Updaters.{IsFree, IsUpdater, TellsItems, state_of, items_in}
 use Rattle.sk_hub.specs.Hearts.{IsHeart, heart_of}
 use Rattle.sk_hub.specs.Drains.{IsDrained}
+use Rattle.sk_hub.proofs.Knowledge.{hears_own, hears_other}
 
 -- the heart's view after both, and the updater's mine
 abbrev joined_view : View → View → ℕ → View
@@ -77,9 +78,13 @@ module _ {T : Type 0} (hint_of packed : List ℕ → List Entry → ℕ) (k : Te
       } in
       subst (λ z. IsHeart k z vacant (set told number p.told) n admitted) heart_is is
 
-  -- the heart has seen all that both had
+  -- the heart has seen all that it had seen before
   pub seen_then : Begins hs.view.seen ha.view.seen
-  seen_then = asks.heard hs.view.seen (subst (λ z. Contains z.heard hs.view.seen) (sym joined_is) (Contains-append_right hs.view.heard (hs.view.seen ∷ us.view.seen ∷ us.view.heard) hs.view.seen (0, omega arith, refl)))
+  seen_then = asks.heard hs.view.seen (subst (λ z. Contains z.heard hs.view.seen) (sym joined_is) (hears_own hs.view.heard us.view.heard hs.view.seen us.view.seen))
+
+  -- and all that the updater had seen
+  pub hears_then : Begins us.view.seen ha.view.seen
+  hears_then = asks.heard us.view.seen (subst (λ z. Contains z.heard us.view.seen) (sym joined_is) (hears_other hs.view.heard us.view.heard hs.view.seen us.view.seen))
 
   kept_is : (mine_of us.view).handed ++ items_in fill ≡ (mine_of us.view).handed
   kept_is = ap (λ l. (mine_of us.view).handed ++ l) empty ∙ append-nil (mine_of us.view).handed
@@ -99,6 +104,7 @@ module _ {T : Type 0} (hint_of packed : List ℕ → List Entry → ℕ) (k : Te
       map-set held told number p.told ∙ ap (λ z. set (map held told) number z) (some ∙ own_told ∙ ap (λ l. not (is_empty l)) (sym kept_is)) in
       record {
         seen = asks.drained number in_it ∙ known_is ∙ sym kept_is;
+        hears = hears_then;
         known = ap (λ z. known_of z number) view_is ∙ get_or-set_same hs.view.known number mine.handed [] wide ∙ sym kept_is;
         others = λ i ne. ap (λ z. known_of z i) view_is ∙ get_or-set_other hs.view.known number i mine.handed [] ne;
         drained = ap (λ z. z.drained) view_is;

@@ -14,9 +14,10 @@ pub record IsOf (h : HeartState) (u : UpdaterState) : Type 0 where
   pub within : u.number < h.updaters
   pub sized : length u.view.sizes ≡ h.updaters
 
--- the published list has exactly what the updater kept, and the heart knows it
+-- the published list has exactly what the updater kept, and the heart knows it; it has seen what the updater had
 pub record IsDrained (h : HeartState) (u : UpdaterState) (h' : HeartState) : Type 0 where
   pub seen : entries_by u.number h'.view.seen ≡ kept_of u
+  pub hears : Begins u.view.seen h'.view.seen
   pub known : known_of h'.view u.number ≡ kept_of u
   pub others : (i : ℕ) → i ≢ u.number → known_of h'.view i ≡ known_of h.view i
   pub drained : h'.view.drained ≡ h.view.drained ++ u.number ∷ []
@@ -36,6 +37,7 @@ pub record ComesBack (u u' : UpdaterState) : Type 0 where
   pub kept : kept_of u' ≡ kept_of u
   pub handed : Begins (handed_of u) (handed_of u')
   pub base : Begins (base_of u) (base_of u')
+  pub seen : Begins u.view.seen u'.view.seen
   pub number : u'.number ≡ u.number
   pub size : u'.size ≡ u.size
   pub table : u'.table ≡ u.table
