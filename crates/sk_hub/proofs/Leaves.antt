@@ -1,5 +1,5 @@
 -- An updater that is served and flushed until nothing of it is left.
-use Rattle.std.proofs.Common.{◌≡◌, ◌≢◌, ◌⊎◌, inl, inr, ℕ, ◌<◌, List, [], ◌++◌, length, subst, sym, ap, refl, ◌∙◌, append-nil}
+use Rattle.std.proofs.Common.{◌≡◌, ◌≢◌, ◌⊎◌, inl, inr, ℕ, List, [], ◌++◌, length, subst, sym, ap, refl, ◌∙◌, append-nil}
 use Rattle.sk_model.specs.Entries.{Entry, entries_by}
 use Rattle.sk_model.specs.Missing.{Begins}
 use Rattle.sk_model.proofs.Missing.{begins_trans, begins_refl}
@@ -8,7 +8,7 @@ use Rattle.sk_gate.specs.Views.{mine_of, size_of}
 use Rattle.sk_hub.specs.Updaters.{UpdaterState, handed_of, base_of, kept_of, LooksInVain, Renews, HandsOver}
 use Rattle.sk_hub.specs.Hearts.{HeartState}
 use Rattle.sk_hub.specs.Rounds.{KnowsAsMuch, ServesNothing, ServesBatch, IsElsewhere}
-use Rattle.sk_hub.specs.Drains.{IsOf, ComesBack, IsSettled}
+use Rattle.sk_hub.specs.Drains.{ComesBack, IsSettled}
 use Rattle.sk_hub.proofs.Steps.{knows_by}
 
 -- ---- what the heart knows
@@ -101,14 +101,9 @@ comes_handed hint_of u u' r =
       eager = ap (λ z. z.eager) r.state;
     }
 
--- it is of the same hub then
-pub of_hub : (h h' : HeartState) (u u' : UpdaterState) → h' ≡ record h { view = h'.view } → KnowsAsMuch h.view h'.view → ComesBack u u' → IsOf h u → IsOf h' u'
-of_hub h h' u u' stays knows back o = record {
-  table = back.table ∙ o.table ∙ sym (ap (λ z. z.table) stays);
-  name = back.name ∙ o.name ∙ sym (ap (λ z. z.name) knows.view);
-  within = subst (λ z. z < h'.updaters) (sym back.number) (subst (λ z. u.number < z) (sym (ap (λ z. z.updaters) stays)) o.within);
-  sized = ap (λ l. length l) back.sizes ∙ o.sized ∙ sym (ap (λ z. z.updaters) stays);
-}
+-- it is of the heart's table then
+pub same_table : (h h' : HeartState) (u u' : UpdaterState) → h' ≡ record h { view = h'.view } → ComesBack u u' → u.table ≡ h.table → u'.table ≡ h'.table
+same_table h h' u u' stays back same = back.table ∙ same ∙ sym (ap (λ z. z.table) stays)
 
 -- an updater whose buffer is empty was settled
 pub is_settled : (hint_of : List ℕ → List Entry → ℕ) (u u' : UpdaterState) → u.fill ≡ [] → Renews hint_of u u' → IsSettled u'

@@ -1,5 +1,5 @@
 -- What contracts see of an updater, what is true of each, and what its looks lead to.
-use Rattle.std.specs.Prelude.{◌≡◌, ◌≢◌, ◌⊎◌, ℕ, ◌-◌, ◌<◌, ◌≤◌, ◌==◌, if◌then◌else◌, List, [], ◌∷◌, ◌++◌, length, take, Bool, true, false, not, ◌&&◌, ◌||◌, Option, Some, None, is_some}
+use Rattle.std.specs.Prelude.{◌≡◌, ◌≢◌, ◌⊎◌, ℕ, ◌+◌, ◌-◌, ◌<◌, ◌≤◌, ◌==◌, if◌then◌else◌, List, [], ◌∷◌, ◌++◌, length, take, Bool, true, false, not, ◌&&◌, ◌||◌, Option, Some, None, is_some}
 use Rattle.std.specs.Bool.{MatchBool}
 use Rattle.atomic_table.specs.Seated.{TableId}
 use Rattle.sk_model.specs.Entries.{Entry, entries_by}
@@ -81,6 +81,7 @@ pub record IsUpdater {T : Type 0} (hint_of : List ℕ → List Entry → ℕ) (k
   pub own : s.own ≡ own_at_rest size (mine_of s.view)
   pub within : number < updaters
   pub few : updaters ≤ 64
+  pub slots : s.table.slots ≡ updaters + 1
   pub sized : length s.view.sizes ≡ updaters
   pub size_is : size_of s.view number ≡ size
   pub fill_is : fill ≡ Some (contents (items_in fill) size)
