@@ -42,6 +42,7 @@ impl<C: Composable> Heart<C> {
         ensures cause { OnFalse result (IsTrue C.TAKES_MEMORY) }
         ensures stays { self.new ≡ record self.old { view = self.new.view } }
     {
+        // One table has one number of updaters.
         prove!(u.number < self.updaters);
         match self.serve(rt, u.number) {
             Serve::OutOfMemory => false,
