@@ -1,6 +1,7 @@
 pub mod Knowledge
 pub mod Kept
 pub mod Steps
+pub mod Handing
 pub mod Handles
 pub mod Admits
 pub mod Opening
