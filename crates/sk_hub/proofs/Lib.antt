@@ -4,5 +4,6 @@ pub mod Steps
 pub mod Handles
 pub mod Admits
 pub mod Opening
+pub mod Opens
 pub mod Leaves
 pub mod TakenIn
