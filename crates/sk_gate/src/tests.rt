@@ -60,27 +60,6 @@ fn one_updater(alloc: Global) -> Result<Seats, OutOfMemory>
     })
 }
 
-// The same table, whose updater comes late.
-#[tactic(auto, unfolding(sk_model::specs::Entries::items_of_entries))]
-fn late_updater(alloc: Global) -> Result<Seats, OutOfMemory>
-    ensures heart { IfOk result (λ seats. seats.heart ≡ empty_handed (blank_view (0 ∷ []) (2 ∷ []) [] (Root 1) 2) seats.heart.table 1) }
-    ensures updater { IfOk result (λ seats. seats.updater ≡ empty_handed (blank_view (0 ∷ []) (2 ∷ []) [] (Updater 0 blank_mine) 1) seats.heart.table 0) }
-{
-    let global = Theta::new(alloc, 2)?;
-    let parcels = vec![in alloc; parcel(alloc)?]?;
-    let Made {
-        heart,
-        mut updaters,
-        token,
-    } = make(alloc, 1, 0, global, parcels)?;
-    let updater = updaters.remove(0);
-    Ok(Seats {
-        heart,
-        updater,
-        token,
-    })
-}
-
 // Hands a batch over, if the word is not 0. Gives the word.
 fn hand_over(seat: &mut UpdaterSeat<Theta>, full: Parcel<()>) -> u64
     requires mine { mine_of seat.old.view ≡ blank_mine }
@@ -233,15 +212,17 @@ fn a_batch_crosses_threads(rt: HostRuntime) -> Result<(), Fail> {
 }
 
 #[test]
+#[tactic(auto, unfolding(sk_model::specs::Entries::items_of_entries))]
 fn a_late_updater_hands_a_batch_over(rt: HostRuntime) -> Result<(), Fail> {
-    let Seats {
+    let alloc = rt.alloc();
+    let placeholders = vec![in alloc; parcel(alloc)?]?;
+    let Made {
         mut heart,
-        mut updater,
+        mut updaters,
         mut token,
-    } = late_updater(rt.alloc())?;
-    let empty = parcel(rt.alloc())?;
-    let full = full_parcel(rt.alloc(), 5)?;
-    first_batch(&mut updater, 1, empty, full);
+    } = make(alloc, 1, 0, Theta::new(alloc, 2)?, placeholders)?;
+    let mut updater = updaters.remove(0);
+    first_batch(&mut updater, 1, parcel(alloc)?, full_parcel(alloc, 5)?);
     assert_eq!(rt; unpack(token.ask()).count, 0);
     assert_eq!(rt; serve(&rt, &mut heart), 1);
     assert_eq!(rt; unpack(token.ask()).count, 1);

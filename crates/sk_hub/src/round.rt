@@ -1,13 +1,12 @@
 //! Rounds of whoever propagates.
-ghost use Rattle.std.specs.Prelude.{◌≡◌, ◌≢◌, ℕ, ◌+◌, ◌*◌, ◌<◌, ◌≤◌, ◌^◌, ◌++◌, ◌∷◌, [], List, length, true, false, Some, None, IsTrue, IfOk, IfErr, IfSome};
-ghost use Rattle.sk_machine.specs.Coarse.{most_entries, IsBatch};
+ghost use Rattle.std.specs.Prelude.{◌≡◌, ℕ, ◌+◌, ◌*◌, ◌<◌, ◌≤◌, ◌^◌, ◌++◌, ◌∷◌, [], List, length, true, false, IsTrue, IfOk, IfErr};
+ghost use Rattle.sk_machine.specs.Coarse.{most_entries};
 ghost use Rattle.sk_machine.specs.declared.views.Move.{Move};
 ghost use Rattle.sk_machine.specs.declared.views.Move.TheVariants.{Find};
 ghost use Rattle.sk_machine.specs.declared.views.Stage.TheVariants.{Idle, Busy};
 ghost use Rattle.sk_machine.specs.declared.views.Duty.TheVariants.{Leads};
 ghost use Rattle.sk_gate.specs.Slots.{contents, sketching, TrunkOk};
-ghost use Rattle.sk_gate.specs.Views.{size_of, batch_of, stage_of, left_of};
-ghost use Rattle.sk_gate.specs.Hands.{StageKnown};
+ghost use Rattle.sk_gate.specs.Views.{size_of, batch_of, left_of};
 ghost use Rattle.sk_hub.specs.Updaters.{IsFree};
 ghost use Rattle.sk_hub.specs.Rounds.{PublishesBatch, FinishesHeld, ServesOne, ServesEach, Advances, KnowsAsMuch, IsElsewhere, Serves, Refuses};
 ghost use Rattle.sk_hub.specs.Turns.{HasTrunk, IsLifted, IsResumed, IsRefused, RefusesAfter};
