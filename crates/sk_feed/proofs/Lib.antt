@@ -1,0 +1,6 @@
+pub mod Cuts
+pub mod Fields
+pub mod Blocks
+pub mod Kept
+pub mod Items
+pub mod Updaters
