@@ -4,3 +4,4 @@ pub mod Blocks
 pub mod Kept
 pub mod Items
 pub mod Updaters
+pub mod Feeding

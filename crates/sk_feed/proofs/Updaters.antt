@@ -1,5 +1,5 @@
 -- An updater that goes on.
-use Rattle.std.proofs.Common.{◌≡◌, ◌≢◌, ◌⊎◌, inl, inr, ℕ, ◌+◌, ◌≤◌, List, [], ◌∷◌, ◌++◌, length, Bool, true, false, MatchBool, subst, sym, ap, refl, ◌∙◌, append-nil, append_assoc, length-append, arith}
+use Rattle.std.proofs.Common.{◌≡◌, ◌≢◌, ◌⊎◌, inl, inr, ℕ, ◌+◌, ◌≤◌, List, [], ◌∷◌, ◌++◌, length, Bool, true, false, MatchBool, Result, Ok, Err, OnOk, OnErr, subst, sym, ap, refl, ◌∙◌, append-nil, append_assoc, length-append, arith}
 use Rattle.sk_model.specs.Entries.{Entry}
 use Rattle.sk_model.specs.Missing.{Begins}
 use Rattle.sk_model.proofs.Missing.{begins_trans, begins_refl}
@@ -153,3 +153,16 @@ offered keeps early hint_of u u' item update.Filtered hint filtered same kept ha
 offered keeps early hint_of u u' item update.Kept hint filtered same kept handed grows taken = takes_one keeps hint_of u u' item (goes_keeping early u u' item (kept refl)) (grows (inl refl))
 offered keeps early hint_of u u' item update.Handed hint filtered same kept handed grows taken = takes_one keeps hint_of u u' item (goes_handing early hint_of u u' item (handed refl)) (grows (inr refl))
 offered keeps early hint_of u u' item update.Busy hint filtered same kept handed grows taken = absurd (taken refl)
+
+-- what is true is so behind an answer
+pub on_ok : {T E P : Type 0} (r : Result T E) → P → OnOk r P
+on_ok (Ok x) p = p
+on_ok (Err e) p = tt
+
+pub on_err : {T E P : Type 0} (r : Result T E) → P → OnErr r P
+on_err (Ok x) p = tt
+on_err (Err e) p = p
+
+pub not_busy : (r : Update) → (r ≡ update.Kept) ⊎ (r ≡ update.Handed) → r ≢ update.Busy
+not_busy r (inl kept) busy = cc
+not_busy r (inr handed) busy = cc

@@ -2,10 +2,12 @@
 #![tactic(auto)]
 
 mod block;
+mod feed;
 mod laws;
 mod window;
 
 pub use block::Block;
+pub use feed::feed_block;
 pub use sk_ingest::Kind;
 pub use sk_model::OutOfMemory;
 pub use window::Window;
