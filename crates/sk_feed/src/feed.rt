@@ -1,9 +1,9 @@
 //! How the items of a window's lines are fed to an updater.
-ghost use Rattle.std.specs.Prelude.{◌≡◌, ◌≢◌, ◌⊎◌, ℕ, ◌+◌, ◌-◌, ◌<◌, ◌≤◌, [], ◌∷◌, length, slice_range, true, false, Ok, OnOk, OnErr, IfOk, IsTrue};
+ghost use Rattle.std.specs.Prelude.{◌≡◌, ◌≢◌, ◌⊎◌, ℕ, ◌+◌, ◌-◌, ◌<◌, ◌≤◌, [], ◌∷◌, length, slice_index_or, slice_range, true, false, Ok, OnOk, OnErr, IfOk, IsSome, IsTrue};
 ghost use Rattle.sk_model.specs.Width.{item_end};
 ghost use Rattle.sk_machine.specs.Coarse.{most_kept};
 ghost use Rattle.sk_hub.specs.Updaters.{kept_of};
-ghost use Rattle.sk_feed.specs.Windows.{items_in};
+ghost use Rattle.sk_feed.specs.Windows.{item_in, items_in};
 ghost use Rattle.sk_feed.specs.Feeds.{KeepsNone, Takes, IsStuck};
 
 use crate::window::Window;
@@ -33,6 +33,7 @@ pub fn feed_block<C: Composable, R: Wait>(
     ensures taken { IfOk result (λ place. Takes C.keeps_of C.hint_of u.old (items_in kind (slice_range w.now.lines from place)) u.new) }
     ensures all { IfOk result (λ place. help ≡ true → place ≡ to) }
     ensures stuck { IfOk result (λ place. place < to → IsStuck u.new) }
+    ensures item { IfOk result (λ place. place < to → IsSome (item_in kind (slice_index_or w.now.lines place []))) }
     ensures refused { OnErr result ((place : ℕ) × (from ≤ place) × (place ≤ to)
         × Takes C.keeps_of C.hint_of u.old (items_in kind (slice_range w.now.lines from place)) u.new) }
     ensures cause { OnErr result (IsTrue help × IsTrue C.TAKES_MEMORY) }
