@@ -1,16 +1,16 @@
 -- What the lemmas on single steps share: views that stay, and a rule that is kept where little changes.
-use Rattle.std.proofs.Common.{◌≡◌, ◌≢◌, ◌⊎◌, ℕ, zero, suc, ◌+◌, ◌<◌, Bool, true, false, List, [], ◌∷◌, length, get_or, set, Option, sym, refl, ap, ◌∙◌, subst, ⊎_elim, inl, inr, arith, nat_lt, le-ltb, lt-ltb, if◌then◌else◌, length-set, get_or-set_other, get_or-set_same}
+use Rattle.std.proofs.Common.{◌≡◌, ◌≢◌, ◌⊎◌, ℕ, zero, suc, ◌+◌, ◌<◌, Bool, true, List, [], ◌∷◌, length, get_or, set, Option, sym, refl, ap, ◌∙◌, subst, ⊎_elim, inl, inr, arith, length-set, get_or-set_other, get_or-set_same}
 use mathlib.Core.Option.{some, none, some-injective, some-ne-none}
 use mathlib.Core.Option as maybe
 use mathlib.Core.Logic.{dite}
-use native.Mathlib.Decide.{ℕ_discrete, dec_le}
+use native.Mathlib.Decide.{ℕ_discrete}
 use lib.ListN.{get_elem?}
 use lib.Seq.{set-get_or}
 use Rattle.atomic_table.specs.Table.{State}
 use Rattle.atomic_table.proofs.Lists.{at_set, set_here, set_else}
 use Rattle.sk_model.specs.Entries.{Entry}
 use Rattle.sk_model.specs.Missing.{Begins}
-use Rattle.sk_model.proofs.Missing.{begins_refl, begins_trans, begins_shorter, begins_length}
+use Rattle.sk_model.proofs.Missing.{begins_refl, begins_trans}
 use Rattle.sk_machine.specs.Numbered.{put}
 use Rattle.sk_machine.specs.Coarse.{CoarseUpdater, Coarse, At, Meets}
 use Rattle.sk_machine.specs.declared.views.Stage.{Stage}
@@ -25,7 +25,7 @@ use Rattle.sk_machine.proofs.Numbered.{each_put}
 use Rattle.sk_machine.proofs.Coarse as event
 use Rattle.sk_gate.specs.declared.load.Held.{Held}
 use Rattle.sk_gate.specs.Slots.{Slot, contents, Sketching, Telling, HeldOk}
-use Rattle.sk_gate.specs.Views.{given_of, leads, longer, SpeaksBy, SpeaksFor}
+use Rattle.sk_gate.specs.Views.{given_of, leads, SpeaksBy, SpeaksFor}
 use Rattle.sk_gate.specs.Rule.{SlotOk, PostOk, DutyOk, OpenOk, Knows, Has, HasSeen, IsLed, HasGiven, Kept}
 
 -- the live seats, where one has a new view
@@ -272,32 +272,8 @@ module _ {C T : Type 0} (hint packed : List ℕ → List Entry → ℕ) (g : Ske
 
 -- ---- lists
 
-pub bool_cases : (b : Bool) → (b ≡ true) ⊎ (b ≡ false)
-bool_cases true = inl refl
-bool_cases false = inr refl
-
 -- a place past the end has nothing
 pub index_within : (l : List ℕ) (i : ℕ) → get_or l i 0 ≢ 0 → i < length l
 index_within [] i n = absurd (n refl)
 index_within (x ∷ xs) zero n = omega arith
 index_within (x ∷ xs) (suc i) n = let more = index_within xs i n in omega arith
-
-pub longer_right : (xs ys h : List Entry) → Begins xs h → Begins ys h → Begins ys (longer xs ys)
-longer_right xs ys h a b = dite (dec_le (length ys) (length xs))
-    (λ le. subst (λ c. Begins ys (if c then ys else xs)) (sym (le-ltb (length xs) (length ys) le)) (begins_shorter ys xs h b a le))
-    (λ gt. let lt : length xs < length ys = omega arith in subst (λ c. Begins ys (if c then ys else xs)) (sym (lt-ltb (length xs) (length ys) lt)) (begins_refl ys))
-
-pub longer_left : (xs ys h : List Entry) → Begins xs h → Begins ys h → Begins xs (longer xs ys)
-longer_left xs ys h a b = dite (dec_le (length ys) (length xs))
-    (λ le. subst (λ c. Begins xs (if c then ys else xs)) (sym (le-ltb (length xs) (length ys) le)) (begins_refl xs))
-    (λ gt. let lt : length xs < length ys = omega arith in subst (λ c. Begins xs (if c then ys else xs)) (sym (lt-ltb (length xs) (length ys) lt)) (begins_shorter xs ys h a b (omega arith)))
-
-pub longer_in : {A : Type 0} (xs ys h : List A) → Begins xs h → Begins ys h → Begins (longer xs ys) h
-longer_in {A} xs ys h a b = go (nat_lt (length xs) (length ys))
-  where
-    go : (c : Bool) → Begins (if c then ys else xs) h
-    go true = b
-    go false = a
-
-pub longer_same : {A : Type 0} (xs ys : List A) → Begins ys xs → longer xs ys ≡ xs
-longer_same xs ys b = ap (λ c. if c then ys else xs) (le-ltb (length xs) (length ys) (begins_length ys xs b))

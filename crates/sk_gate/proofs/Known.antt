@@ -1,5 +1,5 @@
 -- What a seat knows, where its own step leaves an updater's knowledge of itself as it was.
-use Rattle.std.proofs.Common.{◌≡◌, ◌≢◌, ℕ, zero, suc, ◌<◌, Bool, cond, true, false, List, [], ◌∷◌, length, get_or, set, Option, Some, None, ◌⊎◌, inl, inr, sym, refl, ap, ◌∙◌, get_or-set_other, get_or-set_same, ne_eqb}
+use Rattle.std.proofs.Common.{◌≡◌, ◌≢◌, ℕ, zero, suc, ◌<◌, Bool, cond, true, List, [], ◌∷◌, length, set, Option, Some, None, sym, refl, ap, ◌∙◌, get_or-set_other, get_or-set_same, ne_eqb}
 use Rattle.std.specs.Prelude.{slice_index}
 use mathlib.Core.Option.{some, some-ne-none}
 use mathlib.Core.Logic.{dite}
@@ -17,10 +17,6 @@ use Rattle.sk_machine.specs.declared.views.View.{View}
 use Rattle.sk_gate.specs.Slots.{room}
 use Rattle.sk_gate.specs.Rule.{PostOk, OpenOk, DrainedOk, Knows, Has}
 use Rattle.sk_gate.proofs.Common.{SameUpdater, Stays}
-
-pub bool_cases : (b : Bool) → (b ≡ true) ⊎ (b ≡ false)
-bool_cases true = inl refl
-bool_cases false = inr refl
 
 pub some_none : {A : Type 0} {a : A} → Some a ≡ None → ⊥
 some_none e = cc
@@ -59,12 +55,6 @@ pub set_there : (l : List ℕ) (i b : ℕ) → i < length l → b ≢ 0 → (j :
 set_there l i b inside least j there = dite (ℕ_discrete j i)
     (λ e z. least (sym (get_or-set_same l i b 0 inside) ∙ ap (slice_index (set l i b)) (sym e) ∙ z))
     (λ ne z. there (sym (get_or-set_other l i j b 0 ne) ∙ z))
-
--- a list that is set to a beginning of h stands for a beginning of h there
-pub set_begins : {A : Type 0} (ls : List (List A)) (i : ℕ) (xs h : List A) → Begins xs h → Begins (get_or (set ls i xs) i []) h
-set_begins [] i xs h b = (h, refl)
-set_begins (l ∷ ls) zero xs h b = b
-set_begins (l ∷ ls) (suc i) xs h b = set_begins ls i xs h b
 
 pub post_same : (n : ℕ) (m m' : Coarse) (owner : ℕ → ℕ) (j : ℕ) (seen seen' : List Entry) (sizes sizes' drained : List ℕ) (p : Post) → ((i : ℕ) → (m.updaters i).mine ≡ (m'.updaters i).mine)
     → ((i : ℕ) → slice_index sizes i ≡ m.sizes i → slice_index sizes' i ≡ m'.sizes i) → Begins seen seen' → PostOk n m owner j seen sizes drained p → PostOk n m' owner j seen' sizes' drained p

@@ -1,5 +1,6 @@
 -- What stays true of the slots of whoever propagates, over its calls.
 use Rattle.std.proofs.Common.{◌≡◌, ◌≢◌, ℕ, ◌+◌, ◌-◌, ◌<◌, ◌≤◌, eqb, eq-eqb, ne_eqb, Bool, true, false, true≢false, List, [], ◌∷◌, ◌++◌, length, Some, None, sym, refl, ap, ◌∙◌, subst, ⊎_elim, inl, inr, arith, append_assoc, length-append, length-set, get_or-set_same, get_or-set_other, set}
+use Rattle.std.proofs.lemmas.Bool.{cases_Bool}
 use Rattle.std.specs.Prelude.{slice_index}
 use mir.Val.{bool_byte}
 use mathlib.Core.Logic.{dite}
@@ -25,7 +26,6 @@ use Rattle.sk_gate.specs.Moves.{ResumesAt, TakesTurnAt, MissesTurnAt, YieldsAt, 
 use Rattle.sk_gate.specs.Plays.{Sat, gave_back, left_it, yielded}
 use Rattle.sk_gate.specs.Rule.{Kept}
 use Rattle.sk_gate.specs.Hands.{has_parcel, IsAt, IsPut, Standing, standing_of, StageHand, StageKnown, TrunkHand, LeadsBy, OwnHand, IsPost, Holds}
-use Rattle.sk_gate.proofs.Known.{bool_cases}
 use Rattle.sk_gate.proofs.Own.{post_keeps, leads_keeps, own_keeps}
 use Rattle.sk_gate.proofs.Rounds.{leaves, gives_back}
 use Rattle.sk_gate.proofs.Turns.{yields}
@@ -398,7 +398,7 @@ module _ {C T : Type 0} (g : Sketching C) (k : Telling T) {heart : Bool} {n numb
       let t = kept (l ∙ (λ a. Leads (Busy i (same a)) (off a))) in
       let none-in : h.first ≡ (i, None) ∷ [] = busy_out k v i batch h.first (subst (λ b. StageHand v k (Busy i batch) b h.first) off its.0) (filled_is ∙ away) in
       done t.0 (t.1 ∙ h.hand ∙ ap (λ l. l ++ h.second ++ h.third) none-in))
-      (bool_cases left)
+      (cases_Bool left)
 
   pub put_at : (i behind : ℕ) → old.view.duty ≡ Leads (Published i) false → old.filled ≡ false → behind ≡ 1 + bool_byte own → IsAt i 0 behind m.1
   put_at i behind is away long =

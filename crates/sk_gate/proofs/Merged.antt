@@ -16,6 +16,7 @@ pub blanks_length : (A : Type 0) (n : ℕ) → length (blanks {A = A} n) ≡ n
 blanks_length A zero = refl
 blanks_length A (suc n) = ap suc (blanks_length A n)
 
+-- a list that is set to a beginning of h stands for a beginning of h there
 pub set_begins : {A : Type 0} (ls : List (List A)) (i : ℕ) (xs h : List A) → Begins xs h → Begins (get_or (set ls i xs) i []) h
 set_begins [] i xs h b = begins_nil h
 set_begins (l ∷ ls) zero xs h b = b
@@ -36,6 +37,13 @@ module _ {A : Type 0} (xs ys : List A) where
   pub longer_left : (h : List A) → Begins xs h → Begins ys h → Begins xs (longer xs ys)
   longer_left h a b = ⊎_elim (λ (lt : length xs < length ys). subst (Begins xs) (sym (longer_second lt)) (begins_shorter xs ys h a b (omega arith)))
       (λ (le : length ys ≤ length xs). subst (Begins xs) (sym (longer_first le)) (begins_refl xs)) (cases_lt (length xs) (length ys))
+
+  pub longer_right : (h : List A) → Begins xs h → Begins ys h → Begins ys (longer xs ys)
+  longer_right h a b = ⊎_elim (λ (lt : length xs < length ys). subst (Begins ys) (sym (longer_second lt)) (begins_refl ys))
+      (λ (le : length ys ≤ length xs). subst (Begins ys) (sym (longer_first le)) (begins_shorter ys xs h b a le)) (cases_lt (length xs) (length ys))
+
+  pub longer_same : Begins ys xs → longer xs ys ≡ xs
+  longer_same b = longer_first (begins_length ys xs b)
 
   -- one that is the whole list is the longer
   pub whole_first : (h : List A) → xs ≡ h → Begins ys h → longer xs ys ≡ h

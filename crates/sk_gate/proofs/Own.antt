@@ -1,5 +1,6 @@
 -- What stays true of the slots that a seat has, over an ask and over the calls of an updater.
 use Rattle.std.proofs.Common.{◌≡◌, ◌≢◌, ◌⊎◌, ℕ, ◌+◌, ◌<◌, ◌≤◌, Bool, true, false, not, List, [], ◌∷◌, ◌++◌, length, Option, Some, None, sym, refl, ap, ◌∙◌, subst, ⊎_elim, inl, inr, arith, append-nil, length-append, length-set, set, drop, is_some, if◌then◌else◌, ne_eqb, get_or-set_same, get_or-set_other}
+use Rattle.std.proofs.lemmas.Bool.{cases_Bool}
 use Rattle.std.specs.Prelude.{slice_index}
 use mathlib.Core.Option.{none}
 use mathlib.Core.Logic.{dite}
@@ -23,7 +24,6 @@ use Rattle.sk_gate.specs.Moves.{AsksAt, looked_mine, RenewsAt, LooksAt, AdmitsAt
 use Rattle.sk_gate.specs.Plays.{Sat, LookHand, handed}
 use Rattle.atomic_table.specs.Seated.{TableId}
 use Rattle.sk_gate.specs.Hands.{is_empty, Own, own_looked, Standing, standing_of, rotated, IsAt, IsPut, own_in, IsPost, StageHand, LeadsBy, OwnHand, IsEmptyOwn, IsFullOwn, Holds}
-use Rattle.sk_gate.proofs.Common.{bool_cases}
 use Rattle.sk_gate.specs.Rule.{Kept}
 use Rattle.sk_gate.proofs.Rotated.{placed_first}
 use Rattle.sk_gate.proofs.Updaters.{hands}
@@ -307,7 +307,7 @@ module _ {C T : Type 0} (g : Sketching C) (k : Telling T) where
   pub own_there : (heart : Bool) (n number front : ℕ) (own : Bool) (m : Sat C T) (table : TableId) (now : Standing) (h : Holds g k heart n number front own m) → standing_of m.0 table number front m.1 ≡ now → now.own.items ≢ [] → own ≡ true
   own_there heart n number front own m table now h is some_there = ⊎_elim (λ e. e)
       (λ (off : own ≡ false). absurd (some_there (ap (λ (o : Own). o.items) (sym (own_shown g k heart n number front own m table now h is) ∙ ap own_in (none_own heart n number front own m h off).0))))
-      (bool_cases own)
+      (cases_Bool own)
 
   rotated_own : (heart : Bool) (n number front : ℕ) (own : Bool) (m m₁ : Sat C T) → (h : Holds g k heart n number front own m) → own ≡ true → m₁ ≡ (m.0, rotated front m.1)
       → (p : Parcel T) × (m₁ ≡ (m.0, (number, full p) ∷ (h.first ++ h.second))) × (own_in h.third ≡ own_in {C = C} {T = T} ((number, full p) ∷ [])) × (IsEmptyOwn m.0 k number p ⊎ IsFullOwn m.0 number p) × (size_of m.0 number ≢ 0)
@@ -368,7 +368,7 @@ module _ {C T : Type 0} (g : Sketching C) (k : Telling T) where
 
   -- one that is not admitted has not its own slot
   pub own_vacant : (heart : Bool) (n number front : ℕ) (own : Bool) (m : Sat C T) → Holds g k heart n number front own m → size_of m.0 number ≡ 0 → own ≡ false
-  own_vacant heart n number front own m h vacant = ⊎_elim (λ (on : own ≡ true). absurd ((own_at heart n number front own m h on).4 vacant)) (λ e. e) (bool_cases own)
+  own_vacant heart n number front own m h vacant = ⊎_elim (λ (on : own ≡ true). absurd ((own_at heart n number front own m h on).4 vacant)) (λ e. e) (cases_Bool own)
 
   pub admitted_shown : (n number front : ℕ) (own : Bool) (m m' : Sat C T) (table : TableId) (now : Standing) (p : Parcel T) → (h : Holds g k false n number front own m) → standing_of m.0 table number front m.1 ≡ now → size_of m.0 number ≡ 0
       → m'.1 ≡ (number, full p) ∷ m.1 → p.buffer ≡ contents [] 1 → p.told ≡ None → standing_of m'.0 table number front (turned m'.1) ≡ record now { view = m'.0; own = record { items = []; capacity = 1; told = false } }

@@ -1,5 +1,6 @@
 -- What whoever propagates does at an updater keeps the rule.
 use Rattle.std.proofs.Common.{◌≡◌, ◌≢◌, ℕ, ◌+◌, ◌<◌, ◌≤◌, Bool, true, false, true≢false, List, [], ◌∷◌, ◌++◌, length, get_or, set, Some, None, sym, refl, ap, ◌∙◌, subst, ⊎_elim, arith, length-set, get_or-set_other, get_or-set_same}
+use Rattle.std.proofs.lemmas.Bool.{cases_Bool}
 use Rattle.std.specs.Prelude.{slice_index, slice_index_or}
 use mathlib.Core.Option.{some, none}
 use mathlib.Core.Option as maybe
@@ -29,7 +30,8 @@ use Rattle.sk_gate.specs.Rule.{left_home, SlotOk, DutyOk, Has, HasSeen, HasGiven
 use Rattle.sk_gate.specs.Moves.{IsSeen, FindsAt, LeavesAt, PublishesAt, GivesBackAt}
 use Rattle.sk_gate.specs.Plays.{Sat, found, left_it, published, gave_back}
 use Rattle.sk_gate.proofs.Opened.{open_neutral, open_told}
-use Rattle.sk_gate.proofs.Known.{bool_cases, some_none, some_same, has_own, room_some, sizes_set, size_set, set_there, set_begins, post_same, drained_same, stepped_knows, stepped_stays}
+use Rattle.sk_gate.proofs.Merged.{set_begins}
+use Rattle.sk_gate.proofs.Known.{some_none, some_same, has_own, room_some, sizes_set, size_set, set_there, post_same, drained_same, stepped_knows, stepped_stays}
 use Rattle.sk_gate.proofs.Published.{published_seen}
 use Rattle.sk_gate.proofs.Common.{has_stays, SameUpdater, viewed, propagator_step}
 
@@ -318,7 +320,7 @@ module _ {C T : Type 0} (hint packed : List ℕ → List Entry → ℕ) (g : Ske
           seen,
         ),
       ))
-      (bool_cases (left_of v.duty))
+      (cases_Bool (left_of v.duty))
 
   pub gives_back : (slots id n i x : ℕ) (v : View) (p : Parcel T) (t : T) (more : List (ℕ × Slot C T)) → slots ≡ n + 1 → i < n → v.live ≡ true → v.duty ≡ Leads (Published i) false → size_of v i ≢ 0 → x ≡ hint v.numbers v.seen → x ≢ 0
       → p.buffer ≡ contents [] (size_of v i) → p.told ≡ Some t → TellsList k v.name t v.seen

@@ -1,6 +1,6 @@
 -- A table that keeps its rule shows a whole machine that meets its whole invariant.
-use Rattle.std.proofs.Common.{◌≡◌, ◌≢◌, ◌⊎◌, ℕ, ◌+◌, ◌<◌, ◌≤◌, if◌then◌else◌, Bool, true, false, List, get_or, Contains, Some, None, sym, refl, ap, ◌∙◌, subst, ⊎_elim, inl, inr, arith}
-use Rattle.std.proofs.lemmas.Bool.{true≢false, cases_eq, cases_Bool, ne_eqb}
+use Rattle.std.proofs.Common.{◌≡◌, ◌≢◌, ◌⊎◌, ℕ, ◌+◌, ◌<◌, ◌≤◌, Bool, true, false, List, get_or, Contains, Some, None, sym, refl, ap, ◌∙◌, subst, ⊎_elim, inl, inr, arith}
+use Rattle.std.proofs.lemmas.Bool.{true≢false, cases_eq, cases_Bool}
 use mathlib.Core.Option.{some, none, some-injective, some-ne-none}
 use mathlib.Core.Option as maybe
 use lib.ListN.{get_elem?}
@@ -30,6 +30,7 @@ use Rattle.sk_gate.specs.Views.{known_of, given_of, seat_in, leads, SpeaksBy}
 use Rattle.sk_gate.specs.Rule.{left_home, SlotOk, PostOk, DutyOk, Knows, Has, HasGiven, HasSeen, Kept}
 use Rattle.sk_gate.specs.Shows.{IsPickedBy, IsPicked, HasParcel, ShowsSlot, KnowsOwn, LeadsBy, IsLive, ShowsTrunk, ShowsView, Shown}
 use Rattle.sk_gate.proofs.Common.{held_sizes}
+use Rattle.sk_gate.proofs.Known.{room_some}
 
 marked : (mark : Mark) → mark ≢ Neither → is_ready mark ≡ true
 marked Neither ne = absurd (ne refl)
@@ -49,9 +50,6 @@ at_is updaters in_hand (Found k) i at = at
 at_is updaters in_hand (Holding k) i at = at
 at_is updaters in_hand (Published k) i at = at
 at_is updaters in_hand (Put k) i at = at
-
-room_there : (b : ℕ) → b ≢ 0 → b ≡ room b
-room_there b ne = ap (λ c. if c then 1 else b) (sym (ne_eqb b 0 ne))
 
 module _ {C T : Type 0} where
   abbrev parcel_or : Parcel T → Slot C T → Parcel T
@@ -104,7 +102,7 @@ module _ {C T : Type 0} (hint packed : List ℕ → List Entry → ℕ) (g : Ske
       ⊎_elim
           (λ (z : u.word ≡ 0). let y = c.waiting z (apart p has) in
           let admitted : m.sizes i ≢ 0 = λ vacant. event.open_vacant (hint r.numbers) (m.sizes i) m.published m.stage i u ok vacant z in
-          ap (λ (q : Parcel T). q.buffer) (sym (same_parcel home y.0 p y.1 has)) ∙ y.2 ∙ (λ a. contents (sym (x.waiting (apart p has) z) a) (room_there (m.sizes i) admitted a)) ∙ ap (λ b. contents whole.slot (room b)) (sym x.size))
+          ap (λ (q : Parcel T). q.buffer) (sym (same_parcel home y.0 p y.1 has)) ∙ y.2 ∙ (λ a. contents (sym (x.waiting (apart p has) z) a) (sym (room_some (m.sizes i) admitted) a)) ∙ ap (λ b. contents whole.slot (room b)) (sym x.size))
           (λ (ne : u.word ≢ 0). let y = c.resting ne (off p has) in ap (λ (q : Parcel T). q.buffer) (sym (same_parcel home y.0 p y.1 has)) ∙ y.2 ∙ (λ a. contents (sym (x.empty ne) a) (room (sym x.size a))))
           (cases_eq u.word 0),
     );

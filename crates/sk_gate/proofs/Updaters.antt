@@ -1,5 +1,6 @@
 -- The steps of any seat and of an updater keep the rule.
-use Rattle.std.proofs.Common.{◌≡◌, ◌≢◌, ℕ, ◌+◌, ◌<◌, ◌≤◌, ne_eqb, if◌then◌else◌, Bool, true, false, true≢false, List, [], ◌∷◌, ◌++◌, length, get_or, set, Contains, Option, Some, None, sym, refl, ap, ◌∙◌, subst, ⊎_elim, arith, length-set, get_or-set_other, get_or-set_same}
+use Rattle.std.proofs.Common.{◌≡◌, ◌≢◌, ℕ, ◌+◌, ◌<◌, ◌≤◌, Bool, true, false, true≢false, List, [], ◌∷◌, ◌++◌, length, get_or, set, Contains, Option, Some, None, sym, refl, ap, ◌∙◌, subst, ⊎_elim, arith, length-set, get_or-set_other, get_or-set_same}
+use Rattle.std.proofs.lemmas.Bool.{cases_Bool}
 use Rattle.std.specs.Prelude.{not, is_some}
 use mathlib.Core.Option.{some, none}
 use mathlib.Core.Option as maybe
@@ -32,7 +33,9 @@ use Rattle.sk_gate.specs.Moves.{LacksOwn, looked_mine, RenewsAt, LooksAt, Admits
 use Rattle.sk_gate.specs.Plays.{Sat, asked, LookHand, looked, is_picked, rested_mine, rested, admitted, handed, published}
 use Rattle.sk_gate.proofs.Published.{published_seen, entries_of}
 use Rattle.sk_gate.proofs.Opened.{open_neutral, open_told, open_shut}
-use Rattle.sk_gate.proofs.Common.{Stays, viewed, updater_step, at_within, bool_cases, index_within, longer_right, longer_left, longer_in, longer_same}
+use Rattle.sk_gate.proofs.Common.{Stays, viewed, updater_step, at_within, index_within}
+use Rattle.sk_gate.proofs.Known.{room_some}
+use Rattle.sk_gate.proofs.Merged.{longer_either, longer_left, longer_right, longer_same}
 
 -- a seat that has seen more
 pub post_sees : (n : ℕ) (m : Coarse) (owner : ℕ → ℕ) (j : ℕ) (seen seen' : List Entry) (sizes drained : List ℕ) (p : Post) → Begins seen seen' → PostOk n m owner j seen sizes drained p → PostOk n m owner j seen' sizes drained p
@@ -57,9 +60,6 @@ none_drained l i e d = let c : Contains [] i = subst (λ q. Contains q i) e d in
 pub duty_seen : (n : ℕ) (m : Coarse) (left : Bool) (leader j : ℕ) (seen : List Entry) (p : Post) (d : Duty) → leads d ≡ true → DutyOk n m left leader j seen p d → m.published ≡ seen
 duty_seen n m left leader j seen p Free leads t = absurd (true≢false (sym leads))
 duty_seen n m left leader j seen p (Leads stage its) leads t = sym t.4
-
-pub room_there : (b : ℕ) → b ≢ 0 → room b ≡ b
-room_there b n = ap (λ c. if c then 1 else b) (ne_eqb b 0 n)
 
 abbrev parcel_or : {C T : Type 0} → Parcel T → List (ℕ × Slot C T) → Parcel T
 parcel_or p [] = p
@@ -165,7 +165,7 @@ module _ {C T : Type 0} (hint packed : List ℕ → List Entry → ℕ) (g : Ske
             λ _. record {
               view = refl;
               unready = ap (λ (y : Mine). y.ready) own.2 ∙ ok.closed_ready z;
-              closed = ⊎_elim (λ (known : is_open i v.steps ≡ true). absurd (subst (OpenOk m v.steps) is o.open_is known z)) (λ e. e) (bool_cases (is_open i v.steps));
+              closed = ⊎_elim (λ (known : is_open i v.steps ≡ true). absurd (subst (OpenOk m v.steps) is o.open_is known z)) (λ e. e) (cases_Bool (is_open i v.steps));
               more = subst (λ (y : Mine). length (entries_by i y.base) < length y.handed) (sym own.2) (let a = ok.closed_more z in let c = event.entries_by_longer i u.mine.base u.given ok.base_is in omega arith);
             },
           ),
@@ -183,7 +183,7 @@ module _ {C T : Type 0} (hint packed : List ℕ → List Entry → ℕ) (g : Ske
         known_sized = o.known_sized;
         given_sized = o.given_sized;
         sizes_are = o.sizes_are;
-        seen_is = longer_in v.seen base m.published o.seen_is ok.given_is;
+        seen_is = longer_either v.seen base (λ l. Begins l m.published) o.seen_is ok.given_is;
         heard_is = o.heard_is;
         names_are = o.names_are;
         known_is = λ a. each_put (λ c (y : CoarseUpdater). Begins (known_of v c) y.mine.handed) m.updaters i u' a (o.known_is i) (λ _. o.known_is a);
@@ -245,14 +245,14 @@ module _ {C T : Type 0} (hint packed : List ℕ → List Entry → ℕ) (g : Ske
               p.0,
               refl,
               (
-                p.2 ∙ ap (λ c. contents [] c) (room_there (m.sizes i) admitted ∙ sym b),
+                p.2 ∙ ap (λ c. contents [] c) (room_some (m.sizes i) admitted ∙ sym b),
                 λ unpicked. subst (λ (y : List ℕ × List ℕ). ToldOk k y.0 p.0 y.1 base) (λ a. (sym o.name_is a, (ap (λ (y : Mine). y.handed) (sym own.2)) a)) (p.3 (ap (λ (y : Mine). y.picked) (sym own.2) ∙ unpicked)),
               ),
             );
           },
         ),
       ))
-      (bool_cases u.mine.ready))
+      (cases_Bool u.mine.ready))
 
   -- p: the empty parcel that lies in the slot in hand
   pub rests : (slots id n : ℕ) (v : View) (i : ℕ) (p : Parcel T) (more : List (ℕ × Slot C T)) → slots ≡ n + 1 → v.live ≡ true → v.post ≡ Updater i (mine_of v) → (mine_of v).ready ≡ true → size_of v i ≢ 0 → p.buffer ≡ contents [] (size_of v i)
@@ -273,7 +273,7 @@ module _ {C T : Type 0} (hint packed : List ℕ → List Entry → ℕ) (g : Ske
               resting = λ _ _. (
                 p,
                 set_here s.homes i (some (full p)) (omega arith),
-                empty ∙ ap (λ c. contents [] c) (b ∙ sym (room_there (m.sizes i) admitted)),
+                empty ∙ ap (λ c. contents [] c) (b ∙ sym (room_some (m.sizes i) admitted)),
                 λ unpicked. told_rested k r.name p u.mine.handed u.given (ap (λ (y : Mine). is_picked y.handed (is_some p.told)) (sym own.2) ∙ unpicked)
                     (λ t e. subst (λ (y : List ℕ × Mine × List Entry). (y.1.handed ≢ []) × TellsList k y.0 t y.2) (λ a. (o.name_is a, own.2 a, (ap (λ (y : Mine). y.base) own.2 ∙ ok.ready_base on) a)) (told t e)),
               );

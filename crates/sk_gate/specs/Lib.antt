@@ -7,4 +7,4 @@ pub mod Hands
 pub mod Readers
 pub mod Shows
 pub mod Starts
-pub mod Round
+pub mod Merge

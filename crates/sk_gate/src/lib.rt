@@ -6,9 +6,9 @@ mod heart;
 mod late;
 pub mod laws;
 mod load;
+mod merge;
 mod plays;
 mod propagate;
-mod round;
 mod rule;
 mod seat;
 mod slots;
@@ -18,13 +18,11 @@ mod updater;
 
 pub use late::first_batch;
 pub use load::{Held, Load, Trunk};
-pub use round::{Served, serve};
+pub use merge::merge_batch;
 pub use seat::{HeartSeat, OfHeart, OfUpdater, Propagator, Role, UpdaterSeat};
 pub use sk_model::OutOfMemory;
 pub use start::{Made, make};
 pub use token::{NoteSeat, TokenSeat};
 
-#[cfg(test)]
-mod round_tests;
 #[cfg(test)]
 mod tests;

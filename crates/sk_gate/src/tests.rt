@@ -76,13 +76,42 @@ fn hand_over(seat: &mut UpdaterSeat<Theta>, full: Parcel<()>) -> u64
     word
 }
 
+// One round: merges the batch that waits at updater 0, and gives how many items it has.
+fn serve<R: Wait>(rt: &R, heart: &mut HeartSeat<Theta>) -> u32
+    requires free { leads heart.old.view.duty ≡ false }
+    requires within { 0 < length heart.old.view.sizes }
+    ensures free { leads heart.new.view.duty ≡ false }
+    ensures sizes { length heart.new.view.sizes ≡ length heart.old.view.sizes }
+{
+    if heart.turn().is_err() {
+        return 0;
+    }
+    let mut trunk = heart.lift();
+    if trunk.held.is_some() {
+        heart.lay(trunk);
+        heart.yield_turn();
+        return 0;
+    }
+    if heart.find(0) != 0 {
+        heart.lay(trunk);
+        heart.yield_turn();
+        return 0;
+    }
+    let parcel = heart.take(0);
+    let count = merge_batch(rt, heart, &mut trunk, 0, parcel).unwrap();
+    heart.lay(trunk);
+    heart.yield_turn();
+    count
+}
+
 // Serves the updater until a batch was merged, and gives its length.
 fn serve_until_merged<R: Wait>(rt: &R, heart: &mut HeartSeat<Theta>) -> u32
     requires free { leads heart.old.view.duty ≡ false }
     requires within { 0 < length heart.old.view.sizes }
 {
     'turn: for _ in 0..1_000_000 {
-        if let Ok(Served::Merged(count)) = serve(rt, heart, 0) {
+        let count = serve(rt, heart);
+        if count != 0 {
             return count;
         }
     }
@@ -178,6 +207,24 @@ fn a_batch_crosses_threads(rt: HostRuntime) -> Result<(), Fail> {
         || serve_until_merged(&rt, &mut heart),
     );
     assert_eq!(rt; (word, count), (281_474_976_710_656, 1));
+    assert_eq!(rt; unpack(token.ask()).count, 1);
+    Ok(())
+}
+
+#[test]
+#[tactic(auto, unfolding(sk_model::specs::Entries::items_of_entries))]
+fn a_late_updater_hands_a_batch_over(rt: HostRuntime) -> Result<(), Fail> {
+    let alloc = rt.alloc();
+    let placeholders = vec![in alloc; parcel(alloc)?]?;
+    let Made {
+        mut heart,
+        mut updaters,
+        mut token,
+    } = make(alloc, 1, 0, Theta::new(alloc, 2)?, placeholders)?;
+    let mut updater = updaters.remove(0);
+    first_batch(&mut updater, 1, parcel(alloc)?, full_parcel(alloc, 5)?);
+    assert_eq!(rt; unpack(token.ask()).count, 0);
+    assert_eq!(rt; serve(&rt, &mut heart), 1);
     assert_eq!(rt; unpack(token.ask()).count, 1);
     Ok(())
 }

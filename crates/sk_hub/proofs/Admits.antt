@@ -1,5 +1,5 @@
 -- An updater whose seat was vacant.
-use Rattle.std.proofs.Common.{◌≡◌, ℕ, ◌<◌, ◌≤◌, List, [], ◌∷◌, ◌++◌, length, Bool, not, Option, Some, None, subst, sym, ap, refl, ◌∙◌, length-set, arith}
+use Rattle.std.proofs.Common.{◌≡◌, ℕ, ◌+◌, ◌<◌, ◌≤◌, List, [], ◌∷◌, ◌++◌, length, Bool, not, Option, Some, None, subst, sym, ap, refl, ◌∙◌, length-set, arith}
 use Rattle.std.specs.Prelude.{slice_set}
 use Rattle.atomic_table.specs.Seated.{TableId}
 use Rattle.sk_model.specs.Entries.{Entry}
@@ -12,7 +12,7 @@ use Rattle.sk_gate.specs.Moves.{AdmitsAt, looked_mine}
 use Rattle.sk_gate.specs.Hands.{own_empty, is_empty, Standing}
 use Rattle.sk_hub.specs.Updaters.{IsFree, IsUpdater, state_of}
 use Rattle.sk_hub.specs.Hearts.{IsVacant, AreVacant, heart_of}
-use Rattle.sk_hub.specs.Drains.{IsOf, IsNew}
+use Rattle.sk_hub.specs.Drains.{IsNew}
 
 -- the first of such seats
 pub first_vacant : (n : ℕ) (table : TableId) (numbers name : List ℕ) (number : ℕ) (seats more : List Standing) (s : Standing) → seats ≡ s ∷ more → AreVacant n table numbers name number seats → IsVacant n table numbers name number s
@@ -32,8 +32,8 @@ module _ {T : Type 0} (hint_of : List ℕ → List Entry → ℕ) (k : Telling T
   items : fill.items ≡ []
   items = ap (λ f. f.items) empty
 
-  pub admitted_is : n ≤ 64 → IsUpdater hint_of k p number n b (Some fill) None word 0 0
-  admitted_is few =
+  pub admitted_is : n ≤ 64 → hs.table.slots ≡ n + 1 → IsUpdater hint_of k p number n b (Some fill) None word 0 0
+  admitted_is few slots =
       let x : Standing = seat_admitted s word b in let none = admits.none in
       let size : size_of x.view s.number ≡ b = ap (λ w. size_of w s.number) (sym admits.view) ∙ admits.size in
       let free : IsFree x = record { duty = vacant.free.duty; filled = vacant.free.filled; lifted = vacant.free.lifted } in
@@ -47,6 +47,7 @@ module _ {T : Type 0} (hint_of : List ℕ → List Entry → ℕ) (k : Telling T
         own = own;
         within = within;
         few = few;
+        slots = ap (λ t. t.slots) vacant.table_is ∙ slots;
         sized = length-set s.view.sizes s.number b ∙ vacant.sized;
         size_is = ap (λ z. size_of x.view z) (sym vacant.number_is) ∙ size;
         fill_is = filled;
@@ -60,11 +61,13 @@ module _ {T : Type 0} (hint_of : List ℕ → List Entry → ℕ) (k : Telling T
   pub admitted_new : (admitted : ℕ) (told : List (Option T)) (eager : Bool) → IsNew hint_of number b (heart_of hs n admitted told eager) (state_of {T = T} p number b (Some fill) None word 0 eager)
   admitted_new admitted told eager =
       let x : Standing = seat_admitted s word b in let h = heart_of hs n admitted told eager in
-      let of_hub : IsOf h (state_of {T = T} x number b (Some fill) None word 0 eager) = record { table = vacant.table_is; name = vacant.name_is; within = within; sized = length-set s.view.sizes s.number b ∙ vacant.sized } in
       let new : IsNew hint_of number b h (state_of {T = T} x number b (Some fill) None word 0 eager) = record {
         number_is = refl;
         size_is = refl;
-        of_hub = of_hub;
+        table = vacant.table_is;
+        name = vacant.name_is;
+        within = within;
+        sized = length-set s.view.sizes s.number b ∙ vacant.sized;
         kept = λ e. admits.none e ++ items e;
         base = refl;
         seen = vacant.seen;

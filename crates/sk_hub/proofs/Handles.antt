@@ -30,6 +30,7 @@ updater_stays hint_of k s s' number updaters size fill told hint taken last leas
       own = i.own;
       within = i.within;
       few = i.few;
+      slots = i.slots;
       sized = knows.sized ∙ i.sized;
       size_is = knows.sizes_stay number there ∙ is;
       fill_is = i.fill_is;
@@ -48,6 +49,7 @@ heart_stays k s s' vacant told updaters admitted stays knows i =
     let as_before : IsHeart k x vacant told updaters admitted = record {
       free = free;
       few = i.few;
+      slots = i.slots;
       sized = knows.sized ∙ i.sized;
       known_sized = i.known_sized;
       told_sized = i.told_sized;
@@ -65,6 +67,7 @@ pub told_given : {T : Type 0} (k : Telling T) (s : Standing) (vacant : List Stan
 told_given {T} k s vacant told updaters admitted i o within none h = record {
   free = h.free;
   few = h.few;
+  slots = h.slots;
   sized = h.sized;
   known_sized = h.known_sized;
   told_sized = length-set told i o ∙ h.told_sized;

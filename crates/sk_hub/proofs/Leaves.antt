@@ -1,5 +1,5 @@
 -- An updater that is served and flushed until nothing of it is left.
-use Rattle.std.proofs.Common.{◌≡◌, ◌≢◌, ◌⊎◌, inl, inr, ℕ, ◌<◌, List, [], ◌++◌, length, subst, sym, ap, refl, ◌∙◌, append-nil}
+use Rattle.std.proofs.Common.{◌≡◌, ◌≢◌, ◌⊎◌, inl, inr, ℕ, List, [], ◌++◌, length, subst, sym, ap, refl, ◌∙◌, append-nil}
 use Rattle.sk_model.specs.Entries.{Entry, entries_by}
 use Rattle.sk_model.specs.Missing.{Begins}
 use Rattle.sk_model.proofs.Missing.{begins_trans, begins_refl}
@@ -8,7 +8,7 @@ use Rattle.sk_gate.specs.Views.{mine_of, size_of}
 use Rattle.sk_hub.specs.Updaters.{UpdaterState, handed_of, base_of, kept_of, LooksInVain, Renews, HandsOver}
 use Rattle.sk_hub.specs.Hearts.{HeartState}
 use Rattle.sk_hub.specs.Rounds.{KnowsAsMuch, ServesNothing, ServesBatch, IsElsewhere}
-use Rattle.sk_hub.specs.Drains.{IsOf, ComesBack, IsSettled}
+use Rattle.sk_hub.specs.Drains.{ComesBack, IsSettled}
 use Rattle.sk_hub.proofs.Steps.{knows_by}
 
 -- ---- what the heart knows
@@ -41,13 +41,14 @@ knows_elsewhere v w other e = record {
 -- ---- what an updater comes back with
 
 pub comes_back : (u : UpdaterState) → ComesBack u u
-comes_back u = record { kept = refl; handed = begins_refl (handed_of u); base = begins_refl (base_of u); number = refl; size = refl; table = refl; name = refl; sizes = refl; eager = refl }
+comes_back u = record { kept = refl; handed = begins_refl (handed_of u); base = begins_refl (base_of u); seen = begins_refl u.view.seen; number = refl; size = refl; table = refl; name = refl; sizes = refl; eager = refl }
 
 pub comes_trans : (u v w : UpdaterState) → ComesBack u v → ComesBack v w → ComesBack u w
 comes_trans u v w a b = record {
   kept = b.kept ∙ a.kept;
   handed = begins_trans _ _ _ a.handed b.handed;
   base = begins_trans _ _ _ a.base b.base;
+  seen = begins_trans _ _ _ a.seen b.seen;
   number = b.number ∙ a.number;
   size = b.size ∙ a.size;
   table = b.table ∙ a.table;
@@ -61,6 +62,7 @@ comes_waiting u u' l = record {
   kept = ap (λ z. kept_of z) l.state;
   handed = subst (Begins (handed_of u)) (sym (ap (λ z. handed_of z) l.state)) (begins_refl (handed_of u));
   base = subst (Begins (base_of u)) (sym (ap (λ z. base_of z) l.state)) (begins_refl (base_of u));
+  seen = subst (Begins u.view.seen) (sym (ap (λ z. z.view.seen) l.state)) (begins_refl u.view.seen);
   number = ap (λ z. z.number) l.state;
   size = ap (λ z. z.size) l.state;
   table = ap (λ z. z.table) l.state;
@@ -75,6 +77,7 @@ comes_renewed hint_of u u' r =
       kept = λ e. handed e ++ (r.state e).fill;
       handed = subst (Begins (handed_of u)) (sym handed) (begins_refl (handed_of u));
       base = r.renewed.grows;
+      seen = r.renewed.sees;
       number = ap (λ z. z.number) r.state;
       size = ap (λ z. z.size) r.state;
       table = ap (λ z. z.table) r.state;
@@ -89,6 +92,7 @@ comes_handed hint_of u u' r =
       kept = (λ e. handed e ++ (r.state e).fill) ∙ append-nil (kept_of u);
       handed = (u.fill, handed);
       base = r.renewed.grows;
+      seen = r.renewed.sees;
       number = ap (λ z. z.number) r.state;
       size = ap (λ z. z.size) r.state;
       table = ap (λ z. z.table) r.state;
@@ -97,14 +101,9 @@ comes_handed hint_of u u' r =
       eager = ap (λ z. z.eager) r.state;
     }
 
--- it is of the same hub then
-pub of_hub : (h h' : HeartState) (u u' : UpdaterState) → h' ≡ record h { view = h'.view } → KnowsAsMuch h.view h'.view → ComesBack u u' → IsOf h u → IsOf h' u'
-of_hub h h' u u' stays knows back o = record {
-  table = back.table ∙ o.table ∙ sym (ap (λ z. z.table) stays);
-  name = back.name ∙ o.name ∙ sym (ap (λ z. z.name) knows.view);
-  within = subst (λ z. z < h'.updaters) (sym back.number) (subst (λ z. u.number < z) (sym (ap (λ z. z.updaters) stays)) o.within);
-  sized = ap (λ l. length l) back.sizes ∙ o.sized ∙ sym (ap (λ z. z.updaters) stays);
-}
+-- it is of the heart's table then
+pub same_table : (h h' : HeartState) (u u' : UpdaterState) → h' ≡ record h { view = h'.view } → ComesBack u u' → u.table ≡ h.table → u'.table ≡ h'.table
+same_table h h' u u' stays back same = back.table ∙ same ∙ sym (ap (λ z. z.table) stays)
 
 -- an updater whose buffer is empty was settled
 pub is_settled : (hint_of : List ℕ → List Entry → ℕ) (u u' : UpdaterState) → u.fill ≡ [] → Renews hint_of u u' → IsSettled u'

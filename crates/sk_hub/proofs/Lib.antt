@@ -1,8 +1,10 @@
 pub mod Knowledge
 pub mod Kept
 pub mod Steps
+pub mod Handing
 pub mod Handles
 pub mod Admits
 pub mod Opening
+pub mod Opens
 pub mod Leaves
 pub mod TakenIn

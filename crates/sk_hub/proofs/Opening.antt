@@ -14,7 +14,7 @@ use Rattle.sk_gate.specs.Starts.{empty_handed, blank_of, IsMade}
 use Rattle.sk_gate.specs.Hands.{Standing, Reading}
 use Rattle.sk_hub.specs.Updaters.{IsFree, UpdaterState}
 use Rattle.sk_hub.specs.Hearts.{HeartState, heart_of, IsVacant, AreVacant, IsHeart}
-use Rattle.sk_hub.specs.Drains.{IsOf, IsNew}
+use Rattle.sk_hub.specs.Drains.{IsNew}
 use Rattle.sk_hub.specs.Starts.{IsNewHeart, IsNewToken, AreNew}
 
 -- ---- lists of one element
@@ -87,6 +87,7 @@ module _ {T : Type 0} (k : Telling T) (n : ℕ) (sizes numbers name : List ℕ) 
       record {
         free = free;
         few = few;
+        slots = made.slots;
         sized = sizes_are;
         known_sized = ap (λ s. length s.view.known) h ∙ length-replicate (length sizes) [] ∙ sized;
         told_sized = ap (λ l. length l) told_is ∙ length-replicate n None;
@@ -129,12 +130,13 @@ module _ (hint_of : List ℕ → List Entry → ℕ) where
   -- an updater is new of a hub however many are admitted
   is_new_of : (h : HeartState) (admitted more number size : ℕ) (u : UpdaterState) → IsNew hint_of number size (with_more h admitted) u → IsNew hint_of number size (with_more h more) u
   is_new_of h admitted more number size u i =
-      let o = i.of_hub in
-      let of_hub : IsOf (with_more h more) u = record { table = o.table; name = o.name; within = o.within; sized = o.sized } in
       record {
         number_is = i.number_is;
         size_is = i.size_is;
-        of_hub = of_hub;
+        table = i.table;
+        name = i.name;
+        within = i.within;
+        sized = i.sized;
         kept = i.kept;
         base = i.base;
         seen = i.seen;

@@ -14,7 +14,8 @@ use Rattle.sk_machine.specs.declared.views.Duty.{Duty}
 use Rattle.sk_machine.specs.declared.views.Duty.TheVariants.{Free}
 use Rattle.sk_machine.specs.declared.views.View.{View}
 use Rattle.sk_gate.specs.Views.{size_of, batch_of, stage_of}
-use Rattle.sk_gate.specs.Moves.{AsksAt, FindsBatchAt, PublishesAt, GivesBackAt, LeavesAt, ResumesAt, TakesTurnAt, YieldsAt}
+use Rattle.sk_gate.specs.Moves.{AsksAt, FindsBatchAt, LeavesAt, ResumesAt, TakesTurnAt, YieldsAt}
+use Rattle.sk_gate.specs.Merge.{MergesAt}
 use Rattle.sk_hub.specs.Rounds.{Advances, TakesTurn, KnowsAsMuch, PublishesBatch, FindsNothing, FindsBatch, FinishesHeld, FindsInVain, ServesOne, ServesEach, Serves, ServesNothing, ServesBatch, Refuses, RefusesFound}
 use Rattle.sk_hub.specs.Turns.{RefusesAfter}
 
@@ -33,29 +34,28 @@ advances_trans u v w xs ys a b = record {
   sizes_stay = λ i known. let same = a.sizes_stay i known in b.sizes_stay i (subst (λ z. z ≢ 0) (sym same) known) ∙ same;
 }
 
-publishes : (v w : View) (word i : ℕ) → PublishesAt v word w i → Advances v (Publish word (length (batch_of v)) ∷ []) w
-publishes v w word i e = record {
-  view = only_these v w _ _ _ _ _ e;
-  grows = (tagged i (batch_of v), ap (λ x. x.seen) e);
-  sized = ap (λ x. length x.sizes) e;
-  sizes_stay = λ j _. ap (λ x. size_of x j) e;
-}
+-- a batch was merged: its publish, and the give_back of a hint that is not 0
+publishes_batch : (hint packed : List ℕ → List Entry → ℕ) (v w : View) (i count : ℕ) → count ≡ length (batch_of v) → MergesAt hint packed v w i → hint w.numbers w.seen ≢ 0
+    → (steps : List Move) × PublishesBatch i count steps × Advances v steps w
+publishes_batch hint packed v w i count count_is m lower =
+    let list : List Entry = v.seen ++ tagged i (batch_of v) in
+    let word : ℕ = packed v.numbers list in
+    let told : ℕ = hint v.numbers list in
+    let steps : List Move = Publish word (length (batch_of v)) ∷ GiveBack i told ∷ [] in
+    let is : steps ≡ Publish word count ∷ GiveBack i told ∷ [] = ap (λ z. Publish word z ∷ GiveBack i told ∷ []) (sym count_is) in
+    let lower' : told ≢ 0 = subst (λ (y : View). hint y.numbers y.seen ≢ 0) m lower in
+    let advances : Advances v steps w = record {
+      view = only_these v w _ _ _ _ _ m;
+      grows = (tagged i (batch_of v), ap (λ x. x.seen) m);
+      sized = ap (λ x. length x.sizes) m;
+      sizes_stay = λ j _. ap (λ x. size_of x j) m;
+    } in
+    (steps, (word, told, lower', is), advances)
 
-gives_back : (v w : View) (word i : ℕ) → GivesBackAt v word w i → Advances v (GiveBack i word ∷ []) w
-gives_back v w word i e = record {
-  view = only_these v w _ _ _ _ _ e;
-  grows = subst (Begins v.seen) (sym (ap (λ x. x.seen) e)) (begins_refl v.seen);
-  sized = ap (λ x. length x.sizes) e;
-  sizes_stay = λ j _. ap (λ x. size_of x j) e;
-}
-
--- a publish, and a give_back of the same batch
-pub publishes_batch : (v w w' x : View) (word hint i count : ℕ) → count ≡ length (batch_of v) → PublishesAt v word w i → w' ≡ w → GivesBackAt w' hint x i
-    → (steps : List Move) × PublishesBatch i count steps × Advances v steps x
-publishes_batch v w w' x word hint i count count_is p same b =
-    let steps : List Move = Publish word (length (batch_of v)) ∷ GiveBack i hint ∷ [] in
-    let is : steps ≡ Publish word count ∷ GiveBack i hint ∷ [] = ap (λ z. Publish word z ∷ GiveBack i hint ∷ []) (sym count_is) in
-    (steps, (word, hint, is), advances_trans v w x (Publish word (length (batch_of v)) ∷ []) (GiveBack i hint ∷ []) (publishes v w word i p) (gives_back w x hint i (subst (λ z. GivesBackAt z hint x i) same b)))
+pub publishes_if : {E : Type 0} (hint packed : List ℕ → List Entry → ℕ) (v w : View) (i : ℕ) (r : Result ℕ E) → IfOk r (λ count. count ≡ length (batch_of v)) → IfOk r (λ _. MergesAt hint packed v w i) → IfOk r (λ _. hint w.numbers w.seen ≢ 0)
+    → IfOk r (λ count. (steps : List Move) × PublishesBatch i count steps × Advances v steps w)
+publishes_if hint packed v w i (Ok count) count_is m lower = publishes_batch hint packed v w i count count_is m lower
+publishes_if hint packed v w i (Err e) count_is m lower = tt
 
 -- a size that was learnt leaves those that were known
 sizes_learnt : (sizes : List ℕ) (i b : ℕ) → i < length sizes → (slice_index sizes i ≢ 0 → b ≡ slice_index sizes i) → (j : ℕ) → slice_index sizes j ≢ 0 → slice_index (set sizes i b) j ≡ slice_index sizes j
@@ -86,8 +86,8 @@ finds_nothing v w i word e = record {
 -- a batch was found, taken, published and given back
 pub serves_found : (v w w' x : View) (i count : ℕ) → Advances v (Find i 0 ∷ []) w → w' ≡ w → 0 < count → (steps : List Move) × PublishesBatch i count steps × Advances w' steps x → (steps : List Move) × ServesOne i count steps × Advances v steps x
 serves_found v w w' x i count found same some (steps, published, advances) =
-    let all : Find i 0 ∷ steps ≡ Find i 0 ∷ Publish published.0 count ∷ GiveBack i published.1 ∷ [] = ap (λ l. Find i 0 ∷ l) published.2 in
-    (Find i 0 ∷ steps, inr (published.0, published.1, some, all), advances_trans v w x (Find i 0 ∷ []) steps found (subst (λ z. Advances z steps x) same advances))
+    let all : Find i 0 ∷ steps ≡ Find i 0 ∷ Publish published.0 count ∷ GiveBack i published.1 ∷ [] = ap (λ l. Find i 0 ∷ l) published.3 in
+    (Find i 0 ∷ steps, inr (published.0, published.1, some, published.2, all), advances_trans v w x (Find i 0 ∷ []) steps found (subst (λ z. Advances z steps x) same advances))
 
 pub serves_found_if : {E : Type 0} (v w w' x : View) (i : ℕ) (r : Result ℕ E) → Advances v (Find i 0 ∷ []) w → w' ≡ w → IfOk r (λ count. 0 < count) → IfOk r (λ count. (steps : List Move) × PublishesBatch i count steps × Advances w' steps x) → IfOk r (λ count. (steps : List Move) × ServesOne i count steps × Advances v steps x)
 serves_found_if v w w' x i (Ok count) found same some served = serves_found v w w' x i count found same some served

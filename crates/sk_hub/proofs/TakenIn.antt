@@ -1,8 +1,8 @@
 -- An updater's seat is taken in, and the heart asks.
-use Rattle.std.proofs.Common.{◌≡◌, ◌≢◌, ℕ, ◌<◌, List, [], ◌∷◌, ◌++◌, length, map, get_or, set, Bool, true, false, not, if◌then◌else◌, Option, Some, None, is_some, subst, sym, ap, refl, ◌∙◌, append-nil, arith, length-set, get_or-set_same, get_or-set_other}
+use Rattle.std.proofs.Common.{◌≡◌, ◌≢◌, ℕ, ◌<◌, List, [], ◌∷◌, ◌++◌, ◌+◌, arith, length, map, get_or, set, Bool, true, false, not, if◌then◌else◌, Option, Some, None, is_some, subst, sym, ap, refl, ◌∙◌, append-nil, length-set, get_or-set_same, get_or-set_other}
 use Rattle.std.specs.Prelude.{Contains}
 use Rattle.std.proofs.lemmas.List.{map-set}
-use Rattle.std.proofs.lemmas.List.Elements.{Contains-push, Contains-append_right}
+use Rattle.std.proofs.lemmas.List.Elements.{Contains-push}
 use mathlib.Core.Logic.{dite}
 use native.Mathlib.Decide.{ℕ_discrete}
 use Rattle.sk_model.specs.Entries.{Entry, entries_by}
@@ -23,6 +23,7 @@ use Rattle.sk_gate.proofs.Merged.{sizes_length}
 use Rattle.sk_hub.specs.Updaters.{IsFree, IsUpdater, TellsItems, state_of, items_in}
 use Rattle.sk_hub.specs.Hearts.{IsHeart, heart_of}
 use Rattle.sk_hub.specs.Drains.{IsDrained}
+use Rattle.sk_hub.proofs.Knowledge.{hears_own, hears_other}
 
 -- the heart's view after both, and the updater's mine
 abbrev joined_view : View → View → ℕ → View
@@ -34,12 +35,30 @@ asked_view v seen word = record v { seen = seen; steps = v.steps ++ Ask word ∷
 module _ {T : Type 0} (hint_of packed : List ℕ → List Entry → ℕ) (k : Telling T) (hs us us' hj ha : Standing) (word : ℕ) (vacant : List Standing) (told : List (Option T)) (n admitted number updaters size : ℕ) (fill : Option Contents) (ut : Option T) (hint taken last : ℕ) (p : Parcel T)
     (h : IsHeart k hs vacant told n admitted) (u : IsUpdater hint_of k us number updaters size fill ut hint taken last) (picks : us' ≡ record us { own = own_empty (size_of us.view us.number) }) (tells : TellsBase us.view k p) (some : is_some p.told ≡ us.own.told)
     (joins : hj ≡ record hs { view = after_join hs.view (rested_of us') }) (asks : AsksAt packed hj.view word ha.view) (stays : ha ≡ record hj { view = ha.view })
-    (ready : (mine_of us.view).ready ≡ true) (all : entries_by number (mine_of us.view).base ≡ (mine_of us.view).handed) (empty : items_in fill ≡ []) (name : us.view.name ≡ hs.view.name) (within : number < n) (sized : length us.view.sizes ≡ n) where
+    (ready : (mine_of us.view).ready ≡ true) (all : entries_by number (mine_of us.view).base ≡ (mine_of us.view).handed) (empty : items_in fill ≡ []) (table : us.table ≡ hs.table) where
+  -- one table has one number of updaters
+  same_count : updaters ≡ n
+  same_count =
+      let there : us.table.slots ≡ updaters + 1 = u.slots in
+      let here : hs.table.slots ≡ n + 1 = h.slots in
+      let same : us.table.slots ≡ hs.table.slots = ap (λ t. t.slots) table in
+      omega arith
+
+  within : number < n
+  within = subst (λ z. number < z) same_count u.within
+
+  sized : length us.view.sizes ≡ n
+  sized = u.sized ∙ same_count
+
   joined_is : hj.view ≡ joined_view hs.view us.view number
   joined_is = ap (λ s. s.view) joins ∙ ap (λ s. after_join hs.view (rested_of s)) picks ∙ λ d. after_join (record hs.view { duty = h.free.duty d }) (record us.view { post = Updater (u.number_is d) (rested_mine (mine_of us.view) (is_picked (mine_of us.view).handed false)) })
 
   view_is : ha.view ≡ asked_view (joined_view hs.view us.view number) ha.view.seen word
   view_is = asks.view ∙ λ d. asked_view (joined_is d) ha.view.seen word
+
+  -- the ask tells it of those that were taken in
+  name : us.view.name ≡ hs.view.name
+  name = asks.named us.view.name (subst (λ z. Contains z.names us.view.name) (sym joined_is) (Contains-push hs.view.names us.view.name)) ∙ ap (λ z. z.name) joined_is
 
   heart_is : record hs { view = asked_view (joined_view hs.view us.view number) ha.view.seen word } ≡ ha
   heart_is = sym (stays ∙ λ d. record (joins d) { view = view_is d })
@@ -68,6 +87,7 @@ module _ {T : Type 0} (hint_of packed : List ℕ → List Entry → ℕ) (k : Te
       let is : IsHeart k x vacant (set told number p.told) n admitted = record {
         free = free;
         few = h.few;
+        slots = h.slots;
         sized = sizes_length n hs.view.sizes us.view.sizes h.sized sized;
         known_sized = long;
         told_sized = length-set told number p.told ∙ h.told_sized;
@@ -77,9 +97,13 @@ module _ {T : Type 0} (hint_of packed : List ℕ → List Entry → ℕ) (k : Te
       } in
       subst (λ z. IsHeart k z vacant (set told number p.told) n admitted) heart_is is
 
-  -- the heart has seen all that both had
+  -- the heart has seen all that it had seen before
   pub seen_then : Begins hs.view.seen ha.view.seen
-  seen_then = asks.heard hs.view.seen (subst (λ z. Contains z.heard hs.view.seen) (sym joined_is) (Contains-append_right hs.view.heard (hs.view.seen ∷ us.view.seen ∷ us.view.heard) hs.view.seen (0, omega arith, refl)))
+  seen_then = asks.heard hs.view.seen (subst (λ z. Contains z.heard hs.view.seen) (sym joined_is) (hears_own hs.view.heard us.view.heard hs.view.seen us.view.seen))
+
+  -- and all that the updater had seen
+  pub hears_then : Begins us.view.seen ha.view.seen
+  hears_then = asks.heard us.view.seen (subst (λ z. Contains z.heard us.view.seen) (sym joined_is) (hears_other hs.view.heard us.view.heard hs.view.seen us.view.seen))
 
   kept_is : (mine_of us.view).handed ++ items_in fill ≡ (mine_of us.view).handed
   kept_is = ap (λ l. (mine_of us.view).handed ++ l) empty ∙ append-nil (mine_of us.view).handed
@@ -99,6 +123,7 @@ module _ {T : Type 0} (hint_of packed : List ℕ → List Entry → ℕ) (k : Te
       map-set held told number p.told ∙ ap (λ z. set (map held told) number z) (some ∙ own_told ∙ ap (λ l. not (is_empty l)) (sym kept_is)) in
       record {
         seen = asks.drained number in_it ∙ known_is ∙ sym kept_is;
+        hears = hears_then;
         known = ap (λ z. known_of z number) view_is ∙ get_or-set_same hs.view.known number mine.handed [] wide ∙ sym kept_is;
         others = λ i ne. ap (λ z. known_of z i) view_is ∙ get_or-set_other hs.view.known number i mine.handed [] ne;
         drained = ap (λ z. z.drained) view_is;

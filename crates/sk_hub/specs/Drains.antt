@@ -7,16 +7,10 @@ use Rattle.sk_gate.specs.Hands.{is_empty}
 use Rattle.sk_hub.specs.Updaters.{UpdaterState, handed_of, base_of, kept_of}
 use Rattle.sk_hub.specs.Hearts.{HeartState}
 
--- an updater of this hub
-pub record IsOf (h : HeartState) (u : UpdaterState) : Type 0 where
-  pub table : u.table ≡ h.table
-  pub name : u.view.name ≡ h.view.name
-  pub within : u.number < h.updaters
-  pub sized : length u.view.sizes ≡ h.updaters
-
--- the published list has exactly what the updater kept, and the heart knows it
+-- the published list has exactly what the updater kept, and the heart knows it; it has seen what the updater had
 pub record IsDrained (h : HeartState) (u : UpdaterState) (h' : HeartState) : Type 0 where
   pub seen : entries_by u.number h'.view.seen ≡ kept_of u
+  pub hears : Begins u.view.seen h'.view.seen
   pub known : known_of h'.view u.number ≡ kept_of u
   pub others : (i : ℕ) → i ≢ u.number → known_of h'.view i ≡ known_of h.view i
   pub drained : h'.view.drained ≡ h.view.drained ++ u.number ∷ []
@@ -36,6 +30,7 @@ pub record ComesBack (u u' : UpdaterState) : Type 0 where
   pub kept : kept_of u' ≡ kept_of u
   pub handed : Begins (handed_of u) (handed_of u')
   pub base : Begins (base_of u) (base_of u')
+  pub seen : Begins u.view.seen u'.view.seen
   pub number : u'.number ≡ u.number
   pub size : u'.size ≡ u.size
   pub table : u'.table ≡ u.table
@@ -43,11 +38,14 @@ pub record ComesBack (u u' : UpdaterState) : Type 0 where
   pub sizes : u'.view.sizes ≡ u.view.sizes
   pub eager : u'.eager ≡ u.eager
 
--- an updater that has seen and kept nothing
+-- an updater of the heart's table that has seen and kept nothing
 pub record IsNew (hint_of : List ℕ → List Entry → ℕ) (number size : ℕ) (h : HeartState) (u : UpdaterState) : Type 0 where
   pub number_is : u.number ≡ number
   pub size_is : u.size ≡ size
-  pub of_hub : IsOf h u
+  pub table : u.table ≡ h.table
+  pub name : u.view.name ≡ h.view.name
+  pub within : u.number < h.updaters
+  pub sized : length u.view.sizes ≡ h.updaters
   pub kept : kept_of u ≡ []
   pub base : base_of u ≡ []
   pub seen : u.view.seen ≡ []

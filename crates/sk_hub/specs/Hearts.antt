@@ -46,6 +46,7 @@ AreVacant n table numbers name number (s ∷ more) = IsVacant n table numbers na
 pub record IsHeart {T : Type 0} (k : Telling T) (s : Standing) (vacant : List Standing) (told : List (Option T)) (updaters admitted : ℕ) : Type 0 where
   pub free : IsFree s
   pub few : updaters ≤ 64
+  pub slots : s.table.slots ≡ updaters + 1
   pub sized : length s.view.sizes ≡ updaters
   pub known_sized : length s.view.known ≡ updaters
   pub told_sized : length told ≡ updaters

@@ -8,9 +8,9 @@ use Rattle.sk_gate.specs.Views.{size_of}
 
 -- ---- steps
 
--- a batch of updater i, with so many items, was published, and its parcel given back
+-- a batch of updater i, with so many items, was published, and its parcel given back with a hint that is not 0
 abbrev pub PublishesBatch : ℕ → ℕ → List Move → Type 0
-PublishesBatch i count steps = (word : ℕ) × (hint : ℕ) × (steps ≡ Publish word count ∷ GiveBack i hint ∷ [])
+PublishesBatch i count steps = (word : ℕ) × (hint : ℕ) × (hint ≢ 0) × (steps ≡ Publish word count ∷ GiveBack i hint ∷ [])
 
 -- a batch that was held was published, if there was one
 abbrev pub FinishesHeld : ℕ → List Move → Type 0
@@ -22,7 +22,7 @@ FindsNothing i steps = (word : ℕ) × (word ≢ 0) × (steps ≡ Find i word �
 
 -- it was found at 0, and the batch was published
 abbrev pub FindsBatch : ℕ → ℕ → List Move → Type 0
-FindsBatch i count steps = (word : ℕ) × (hint : ℕ) × (0 < count) × (steps ≡ Find i 0 ∷ Publish word count ∷ GiveBack i hint ∷ [])
+FindsBatch i count steps = (word : ℕ) × (hint : ℕ) × (0 < count) × (hint ≢ 0) × (steps ≡ Find i 0 ∷ Publish word count ∷ GiveBack i hint ∷ [])
 
 abbrev pub ServesOne : ℕ → ℕ → List Move → Type 0
 ServesOne i count steps = ((count ≡ 0) × FindsNothing i steps) ⊎ FindsBatch i count steps

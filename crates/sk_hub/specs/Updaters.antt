@@ -1,5 +1,5 @@
 -- What contracts see of an updater, what is true of each, and what its looks lead to.
-use Rattle.std.specs.Prelude.{◌≡◌, ◌≢◌, ◌⊎◌, ℕ, ◌-◌, ◌<◌, ◌≤◌, ◌==◌, if◌then◌else◌, List, [], ◌∷◌, ◌++◌, length, take, Bool, true, false, not, ◌&&◌, ◌||◌, Option, Some, None, is_some}
+use Rattle.std.specs.Prelude.{◌≡◌, ◌≢◌, ◌⊎◌, ℕ, ◌+◌, ◌-◌, ◌<◌, ◌≤◌, ◌==◌, if◌then◌else◌, List, [], ◌∷◌, ◌++◌, length, take, Bool, true, false, not, ◌&&◌, ◌||◌, Option, Some, None, is_some}
 use Rattle.std.specs.Bool.{MatchBool}
 use Rattle.atomic_table.specs.Seated.{TableId}
 use Rattle.sk_model.specs.Entries.{Entry, entries_by}
@@ -12,7 +12,7 @@ use Rattle.sk_machine.specs.declared.views.Post.TheVariants.{Updater}
 use Rattle.sk_machine.specs.declared.views.Duty.TheVariants.{Free}
 use Rattle.sk_machine.specs.declared.views.View.{View}
 use Rattle.sk_gate.specs.Slots.{contents, Telling, TellsList}
-use Rattle.sk_gate.specs.Views.{size_of, mine_of, longer}
+use Rattle.sk_gate.specs.Views.{size_of, mine_of, longer, is_open}
 use Rattle.sk_gate.specs.Moves.{looked_mine, handed_mine}
 use Rattle.sk_gate.specs.Hands.{Own, no_own, is_empty, Standing}
 
@@ -81,6 +81,7 @@ pub record IsUpdater {T : Type 0} (hint_of : List ℕ → List Entry → ℕ) (k
   pub own : s.own ≡ own_at_rest size (mine_of s.view)
   pub within : number < updaters
   pub few : updaters ≤ 64
+  pub slots : s.table.slots ≡ updaters + 1
   pub sized : length s.view.sizes ≡ updaters
   pub size_is : size_of s.view number ≡ size
   pub fill_is : fill ≡ Some (contents (items_in fill) size)
@@ -95,6 +96,7 @@ pub record IsUpdater {T : Type 0} (hint_of : List ℕ → List Entry → ℕ) (k
 pub record LooksInVain (u u' : UpdaterState) : Type 0 where
   pub state : u' ≡ record u { view = record u.view { steps = u.view.steps ++ Look u.number 0 ∷ [] } }
   pub unready : (mine_of u.view).ready ≡ false
+  pub closed : is_open u.number u.view.steps ≡ false
   pub more : length (entries_by u.number (base_of u)) < length (handed_of u)
 
 -- a number other than 0 was loaded: it is the hint of the new base, which has all that was handed over
@@ -102,6 +104,7 @@ pub record IsRenewed (hint_of : List ℕ → List Entry → ℕ) (u u' : Updater
   pub lower : u'.hint ≢ 0
   pub hint_is : u'.hint ≡ hint_of u.view.numbers (base_of u')
   pub grows : Begins (base_of u) (base_of u')
+  pub sees : Begins u.view.seen u'.view.seen
   pub all : entries_by u.number (base_of u') ≡ handed_of u
 
 -- a look that renewed the hint

@@ -1,5 +1,6 @@
 //! An updater that propagates itself.
-ghost use Rattle.std.specs.Prelude.{◌≡◌, ℕ, length, IsTrue};
+ghost use Rattle.std.specs.Prelude.{◌≡◌, ℕ, length, true, IsTrue};
+ghost use Rattle.sk_gate.specs.Views.{is_open};
 ghost use Rattle.sk_hub.specs.Rounds.{Sweeps, Refuses, IsElsewhere};
 
 use crate::answers::Help;
@@ -13,6 +14,7 @@ impl<C: Composable> Updater<C> {
     /// refused is held, and whoever propagates next finishes it first.
     pub fn help<R: Wait>(&mut self, rt: &R) -> Help
         ensures served { (count : ℕ) → result ≡ Help.Served count → Sweeps self.old.view (length self.old.view.sizes) count self.new.view }
+        ensures opens { (count : ℕ) → result ≡ Help.Served count → is_open self.old.number self.new.view.steps ≡ true }
         ensures elsewhere { (other : ℕ) → result ≡ Help.Elsewhere other → IsElsewhere self.old.view other self.new.view }
         ensures refused { result ≡ Help.OutOfMemory → Refuses self.old.view 0 (length self.old.view.sizes) self.new.view }
         ensures cause { result ≡ Help.OutOfMemory → IsTrue C.TAKES_MEMORY }

@@ -1,9 +1,9 @@
 //! Updaters that leave: the heart takes them in.
-ghost use Rattle.std.specs.Prelude.{◌≡◌, ◌<◌, [], IsTrue};
+ghost use Rattle.std.specs.Prelude.{◌≡◌, [], IsTrue};
 ghost use Rattle.std.specs.Bool.{OnTrue, OnFalse};
 ghost use Rattle.sk_model.specs.Missing.{Begins};
 ghost use Rattle.sk_hub.specs.Rounds.{KnowsAsMuch};
-ghost use Rattle.sk_hub.specs.Drains.{IsOf, IsDrained, ComesBack, IsSettled};
+ghost use Rattle.sk_hub.specs.Drains.{IsDrained, ComesBack, IsSettled};
 
 use crate::answers::{Drain, Flush, Serve, Settle};
 use crate::heart::Heart;
@@ -16,7 +16,7 @@ impl<C: Composable> Heart<C> {
     /// Takes in an updater, once all that it has kept is published. Where another seat propagates it waits,
     /// and tries again.
     pub fn drain<R: Wait>(&mut self, rt: &R, u: Updater<C>) -> Drain<C>
-        requires hub { IsOf self.old u }
+        requires table { u.table ≡ self.old.table }
         ensures drained { result ≡ Drain.Drained → IsDrained self.old u self.new }
         ensures seen { Begins self.old.view.seen self.new.view.seen }
         ensures refused { (u' : _) → result ≡ Drain.OutOfMemory u' → ComesBack u u' }
@@ -36,13 +36,15 @@ impl<C: Composable> Heart<C> {
     }
 
     // Serves an updater, unless memory is wanting. Where another seat propagates it waits a moment.
-    fn serve_for<R: Wait>(&mut self, rt: &R, i: u32, backoff: &Backoff) -> bool
-        requires within { i < self.old.updaters }
+    fn serve_for<R: Wait>(&mut self, rt: &R, u: &Updater<C>, backoff: &Backoff) -> bool
+        requires table { u.now.table ≡ self.old.table }
         ensures known { KnowsAsMuch self.old.view self.new.view }
         ensures cause { OnFalse result (IsTrue C.TAKES_MEMORY) }
         ensures stays { self.new ≡ record self.old { view = self.new.view } }
     {
-        match self.serve(rt, i) {
+        // One table has one number of updaters.
+        prove!(u.number < self.updaters);
+        match self.serve(rt, u.number) {
             Serve::OutOfMemory => false,
             Serve::Nothing => true,
             Serve::Served(_) => true,
@@ -55,7 +57,7 @@ impl<C: Composable> Heart<C> {
 
     // Serves and flushes the updater until its buffer is empty.
     fn flush_all<R: Wait>(&mut self, rt: &R, u: &mut Updater<C>) -> bool
-        requires hub { IsOf self.old u.old }
+        requires table { u.old.table ≡ self.old.table }
         ensures back { ComesBack u.old u.new }
         ensures empty { OnTrue result (u.new.fill ≡ []) }
         ensures known { KnowsAsMuch self.old.view self.new.view }
@@ -64,7 +66,7 @@ impl<C: Composable> Heart<C> {
     {
         let backoff = Backoff::new();
         'flush: for _ in rt.forever() {
-            if !self.serve_for(rt, u.number(), &backoff) {
+            if !self.serve_for(rt, u, &backoff) {
                 return false;
             }
             match u.flush() {
@@ -77,7 +79,7 @@ impl<C: Composable> Heart<C> {
 
     // Serves and settles the updater until all that it handed over is published.
     fn settle_all<R: Wait>(&mut self, rt: &R, u: &mut Updater<C>) -> bool
-        requires hub { IsOf self.old u.old }
+        requires table { u.old.table ≡ self.old.table }
         requires empty { u.old.fill ≡ [] }
         ensures back { ComesBack u.old u.new }
         ensures settled { OnTrue result (IsSettled u.new) }
@@ -87,7 +89,7 @@ impl<C: Composable> Heart<C> {
     {
         let backoff = Backoff::new();
         'settle: for _ in rt.forever() {
-            if !self.serve_for(rt, u.number(), &backoff) {
+            if !self.serve_for(rt, u, &backoff) {
                 return false;
             }
             match u.settle() {
@@ -100,7 +102,7 @@ impl<C: Composable> Heart<C> {
 
     // Takes in the seat of an updater, and what its last parcel told.
     fn take_in(&mut self, u: Updater<C>)
-        requires hub { IsOf self.old u }
+        requires table { u.table ≡ self.old.table }
         requires settled { IsSettled u }
         ensures drained { IsDrained self.old u self.new }
         ensures seen { Begins self.old.view.seen self.new.view.seen }

@@ -1,19 +1,18 @@
 //! Rounds of whoever propagates.
-ghost use Rattle.std.specs.Prelude.{◌≡◌, ◌≢◌, ℕ, ◌+◌, ◌*◌, ◌<◌, ◌≤◌, ◌^◌, ◌++◌, ◌∷◌, [], List, length, true, false, Some, None, IsTrue, IfOk, IfErr, IfSome};
-ghost use Rattle.sk_machine.specs.Coarse.{most_entries, IsBatch};
+ghost use Rattle.std.specs.Prelude.{◌≡◌, ℕ, ◌+◌, ◌*◌, ◌<◌, ◌≤◌, ◌^◌, ◌++◌, ◌∷◌, [], List, length, true, false, IsTrue, IfOk, IfErr};
+ghost use Rattle.sk_machine.specs.Coarse.{most_entries};
 ghost use Rattle.sk_machine.specs.declared.views.Move.{Move};
 ghost use Rattle.sk_machine.specs.declared.views.Move.TheVariants.{Find};
 ghost use Rattle.sk_machine.specs.declared.views.Stage.TheVariants.{Idle, Busy};
 ghost use Rattle.sk_machine.specs.declared.views.Duty.TheVariants.{Leads};
 ghost use Rattle.sk_gate.specs.Slots.{contents, sketching, TrunkOk};
-ghost use Rattle.sk_gate.specs.Views.{size_of, batch_of, stage_of, left_of};
-ghost use Rattle.sk_gate.specs.Hands.{StageKnown};
+ghost use Rattle.sk_gate.specs.Views.{size_of, batch_of, left_of};
 ghost use Rattle.sk_hub.specs.Updaters.{IsFree};
 ghost use Rattle.sk_hub.specs.Rounds.{PublishesBatch, FinishesHeld, ServesOne, ServesEach, Advances, KnowsAsMuch, IsElsewhere, Serves, Refuses};
 ghost use Rattle.sk_hub.specs.Turns.{HasTrunk, IsLifted, IsResumed, IsRefused, RefusesAfter};
 
 use sk_compose::{Composable, Parcel};
-use sk_gate::{Held, OutOfMemory, Propagator, Role, Trunk};
+use sk_gate::{Held, OutOfMemory, Propagator, Role, Trunk, merge_batch};
 use std::sync::Wait;
 
 /// How many items were published, of a batch that was held, and of those that were found.
@@ -30,8 +29,8 @@ pub(crate) enum Stopped {
     OutOfMemory,
 }
 
-// Merges a batch, publishes the sketch and gives the parcel back. A batch that is refused is held.
-fn merge_batch<C: Composable, P: Role, R: Wait>(
+// Merges a batch and publishes it. It gives how many items it has. A batch that is refused is held.
+fn publish_batch<C: Composable, P: Role, R: Wait>(
     rt: &R,
     seat: &mut Propagator<C, P>,
     trunk: &mut Trunk<C>,
@@ -54,18 +53,7 @@ fn merge_batch<C: Composable, P: Role, R: Wait>(
     ensures cause { IfErr result (λ _. IsTrue C.TAKES_MEMORY) }
     ensures seat { seat.new ≡ record seat.old { view = seat.new.view } }
 {
-    let mut parcel = parcel;
-    let count = parcel.buffer.len();
-    if let Err(refused) = trunk.global.merge(rt, i, &parcel.buffer) {
-        trunk.held = Some(Held { i, parcel });
-        return Err(refused);
-    }
-    seat.publish(i, &trunk.global);
-    parcel.buffer.clear();
-    parcel.told = Some(trunk.global.told());
-    seat.put(i, parcel);
-    seat.give_back(i, &trunk.global);
-    Ok(count)
+    merge_batch(rt, seat, trunk, i, parcel)
 }
 
 // Publishes a batch that the trunk held, if there is one.
@@ -85,7 +73,7 @@ fn finish_held<C: Composable, P: Role, R: Wait>(
 {
     match trunk.held.take() {
         None => Ok(0),
-        Some(Held { i, parcel }) => merge_batch(rt, seat, trunk, i, parcel),
+        Some(Held { i, parcel }) => publish_batch(rt, seat, trunk, i, parcel),
     }
 }
 
@@ -110,7 +98,7 @@ fn serve_one<C: Composable, P: Role, R: Wait>(
         return Ok(0);
     }
     let parcel = seat.take(i);
-    merge_batch(rt, seat, trunk, i, parcel)
+    publish_batch(rt, seat, trunk, i, parcel)
 }
 
 // Serves so many updaters from this one on. An `Err` has the number of the one whose batch was refused.

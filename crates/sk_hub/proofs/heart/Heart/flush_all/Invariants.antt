@@ -1,11 +1,11 @@
 use Rattle.std.proofs.Common.{◌≡◌}
 use Rattle.sk_hub.specs.Rounds.{KnowsAsMuch}
-use Rattle.sk_hub.specs.Drains.{IsOf, ComesBack}
+use Rattle.sk_hub.specs.Drains.{ComesBack}
 use Rattle.sk_hub.proofs.heart.Heart.flush_all.Given as goal
 
 abbrev pub invariant-flush : goal.invariant-flush
 invariant-flush g l = record {
-  hub : IsOf l.self l.u;
+  table : l.u.table ≡ l.self.table;
   back : ComesBack l.initial.u l.u;
   known : KnowsAsMuch l.initial.self.view l.self.view;
   stays : l.self ≡ record l.initial.self { view = l.self.view };

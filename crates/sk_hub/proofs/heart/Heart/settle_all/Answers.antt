@@ -1,12 +1,12 @@
 use Rattle.std.proofs.Common.{ap, ◌∙◌}
-use Rattle.sk_hub.proofs.Leaves.{knows_trans, comes_trans, comes_waiting, comes_renewed, is_settled, of_hub}
+use Rattle.sk_hub.proofs.Leaves.{knows_trans, comes_trans, comes_waiting, comes_renewed, is_settled, same_table}
 use Rattle.sk_hub.proofs.heart.Heart.settle_all.Goals as goal
 
 pub settle-preserved : goal.settle-preserved
 settle-preserved g c = let i = c.settle.invariant in let n = c.serve_for.ensures in
     let busy = c.settle-in-settle.ensures.busy c.in-Busy.is in
     let back = comes_waiting c.settle.u c.settle-in-settle.new.self busy in record {
-      hub = of_hub c.settle.self c.serve_for.new.self c.settle.u c.settle-in-settle.new.self n.stays n.known back i.hub;
+      table = same_table c.settle.self c.serve_for.new.self c.settle.u c.settle-in-settle.new.self n.stays back i.table;
       back = comes_trans c.args.u.now c.settle.u c.settle-in-settle.new.self i.back back;
       empty = ap (λ z. z.fill) busy.state ∙ i.empty;
       known = knows_trans c.args.self.now.view c.settle.self.view c.serve_for.new.self.view i.known n.known;

@@ -1,11 +1,11 @@
 use Rattle.std.proofs.Common.{◌≡◌, []}
 use Rattle.sk_hub.specs.Rounds.{KnowsAsMuch}
-use Rattle.sk_hub.specs.Drains.{IsOf, ComesBack}
+use Rattle.sk_hub.specs.Drains.{ComesBack}
 use Rattle.sk_hub.proofs.heart.Heart.settle_all.Given as goal
 
 abbrev pub invariant-settle : goal.invariant-settle
 invariant-settle g l = record {
-  hub : IsOf l.self l.u;
+  table : l.u.table ≡ l.self.table;
   back : ComesBack l.initial.u l.u;
   empty : l.u.fill ≡ [];
   known : KnowsAsMuch l.initial.self.view l.self.view;

@@ -1,6 +1,6 @@
 use Rattle.std.proofs.Common.{ap}
 use Rattle.sk_gate.proofs.Merging.{merges_by}
-use Rattle.sk_gate.proofs.round.merge_batch.Goals as goal
+use Rattle.sk_gate.proofs.merge.merge_batch.Goals as goal
 
 pub returns-clause-merged : goal.returns-clause-merged
 returns-clause-merged g c = let k = g.C.Composable in merges_by k.hint_of k.packed_of c.args.seat.now.view c.publish.new.self.view c.put.new.self.view c.give_back.new.self.view c.args.i c.publish.ensures.told (ap (λ s. s.view) c.put.ensures.seat) c.give_back.ensures.told
