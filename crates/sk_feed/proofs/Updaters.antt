@@ -1,21 +1,38 @@
 -- An updater that goes on.
-use Rattle.std.proofs.Common.{◌≡◌, ◌≢◌, ◌⊎◌, inl, inr, ℕ, ◌+◌, ◌≤◌, List, [], ◌∷◌, ◌++◌, length, Bool, true, false, MatchBool, Result, Ok, Err, OnOk, OnErr, subst, sym, ap, refl, ◌∙◌, append-nil, append_assoc, length-append, arith}
+use Rattle.std.proofs.Common.{◌≡◌, ◌≢◌, ◌⊎◌, inl, inr, ℕ, ◌+◌, ◌-◌, ◌≤◌, List, [], ◌∷◌, ◌++◌, length, take, Bool, true, false, not, MatchBool, Result, Ok, Err, OnOk, OnErr, subst, sym, ap, refl, ◌∙◌, append-nil, append_assoc, length-append, arith}
+use Rattle.std.proofs.lemmas.List.{take_at}
 use Rattle.sk_model.specs.Entries.{Entry}
 use Rattle.sk_model.specs.Missing.{Begins}
 use Rattle.sk_model.proofs.Missing.{begins_trans, begins_refl}
 use Rattle.sk_machine.specs.declared.views.Move.{Move}
 use Rattle.sk_gate.specs.Views.{mine_of}
+use Rattle.sk_gate.specs.Hands.{is_empty}
 use Rattle.sk_hub.specs.declared.answers.Update.{Update}
 use Rattle.sk_hub.specs.declared.answers.Update.TheVariants as update
-use Rattle.sk_hub.specs.Updaters.{UpdaterState, handed_of, base_of, kept_of, with_item, LooksInVain, HandsOver, Keeps, HandsWith}
+use Rattle.sk_hub.specs.Updaters.{UpdaterState, handed_of, base_of, kept_of, earlier_of, with_item, LooksInVain, HandsOver, Keeps, HandsWith}
 use Rattle.sk_hub.specs.Rounds.{TakesTurn, Sweeps, Refuses, IsElsewhere}
-use Rattle.sk_feed.specs.Feeds.{AreKept, GoesOn, KeepsNone, Takes, IsStuck}
+use Rattle.sk_feed.specs.Feeds.{AreKept, HoldsTold, GoesOn, KeepsNone, Takes, IsStuck}
 use Rattle.sk_feed.proofs.Kept.{kept_append, kept_longer, kept_few, one_kept, one_dropped}
+
+-- ---- its told value
+
+told_trans : (u v w : UpdaterState) → HoldsTold u v → HoldsTold v w → HoldsTold u w
+told_trans u v w (inl a) (inl b) = inl (b.0 ∙ a.0, b.1 ∙ a.1, b.2 ∙ a.2)
+told_trans u v w (inr a) (inl b) = inr (b.0 ∙ a ∙ (λ e. not (is_empty (take (length (sym b.1 e) - sym b.2 e) (sym b.1 e)))))
+told_trans u v w a (inr b) = inr b
+
+-- what it had handed over before this hand
+earlier_handed : (hint_of : List ℕ → List Entry → ℕ) (u u' : UpdaterState) (fill : List ℕ) → HandsOver hint_of u fill u' → earlier_of u' ≡ handed_of u
+earlier_handed hint_of u u' fill h =
+    let handed : handed_of u' ≡ handed_of u ++ u.fill = ap (λ v. (mine_of v).handed) h.view in
+    let last : u'.last ≡ length u.fill = ap (λ z. z.last) h.state in
+    let before : length (handed_of u) ≡ length (handed_of u ++ u.fill) - length u.fill = omega (arith, length-append (handed_of u) u.fill) in
+    (λ e. take (length (handed e) - last e) (handed e)) ∙ take_at (handed_of u) u.fill (length (handed_of u ++ u.fill) - length u.fill) before
 
 -- ---- it goes on
 
 goes_refl : (u : UpdaterState) → GoesOn u u
-goes_refl u = record { number = refl; size = refl; table = refl; eager = refl; name = refl; numbers = refl; sized = refl; base = begins_refl (base_of u); handed = begins_refl (handed_of u) }
+goes_refl u = record { number = refl; size = refl; table = refl; eager = refl; name = refl; numbers = refl; sized = refl; base = begins_refl (base_of u); handed = begins_refl (handed_of u); seen = begins_refl u.view.seen; told = inl (refl, refl, refl) }
 
 goes_trans : (u v w : UpdaterState) → GoesOn u v → GoesOn v w → GoesOn u w
 goes_trans u v w a b = record {
@@ -28,14 +45,16 @@ goes_trans u v w a b = record {
   sized = b.sized ∙ a.sized;
   base = begins_trans _ _ _ a.base b.base;
   handed = begins_trans _ _ _ a.handed b.handed;
+  seen = begins_trans _ _ _ a.seen b.seen;
+  told = told_trans u v w a.told b.told;
 }
 
 goes_with : (u : UpdaterState) (item : ℕ) → GoesOn u (with_item u item)
-goes_with u item = record { number = refl; size = refl; table = refl; eager = refl; name = refl; numbers = refl; sized = refl; base = begins_refl (base_of u); handed = begins_refl (handed_of u) }
+goes_with u item = record { number = refl; size = refl; table = refl; eager = refl; name = refl; numbers = refl; sized = refl; base = begins_refl (base_of u); handed = begins_refl (handed_of u); seen = begins_refl u.view.seen; told = inl (refl, refl, refl) }
 
 goes_in_vain : (u u' : UpdaterState) → LooksInVain u u' → GoesOn u u'
 goes_in_vain u u' l = subst (GoesOn u) (sym l.state)
-    (record { number = refl; size = refl; table = refl; eager = refl; name = refl; numbers = refl; sized = refl; base = begins_refl (base_of u); handed = begins_refl (handed_of u) })
+    (record { number = refl; size = refl; table = refl; eager = refl; name = refl; numbers = refl; sized = refl; base = begins_refl (base_of u); handed = begins_refl (handed_of u); seen = begins_refl u.view.seen; told = inl (refl, refl, refl) })
 
 goes_handed : (hint_of : List ℕ → List Entry → ℕ) (u u' : UpdaterState) (fill : List ℕ) → HandsOver hint_of u fill u' → GoesOn u u'
 goes_handed hint_of u u' fill h = record {
@@ -48,6 +67,8 @@ goes_handed hint_of u u' fill h = record {
   sized = ap (λ v. length v.sizes) h.view;
   base = h.renewed.grows;
   handed = (u.fill, ap (λ v. (mine_of v).handed) h.view);
+  seen = h.renewed.sees;
+  told = inr (ap (λ z. z.news) h.state ∙ ap (λ l. not (is_empty l)) (sym (earlier_handed hint_of u u' fill h)));
 }
 
 -- ---- it keeps nothing more
@@ -75,6 +96,8 @@ took_turn u u' steps stays t =
         sized = t.advances.sized;
         base = subst (λ m. Begins (base_of u) m.base) (sym mine) (begins_refl (base_of u));
         handed = subst (λ m. Begins (handed_of u) m.handed) (sym mine) (begins_refl (handed_of u));
+        seen = t.advances.grows;
+        told = inl (ap (λ z. z.news) stays, ap (λ m. m.handed) mine, ap (λ z. z.last) stays);
       };
       kept = λ e. (mine e).handed ++ (stays e).fill;
     }
@@ -90,7 +113,7 @@ pub elsewhere : (u u' : UpdaterState) (other : ℕ) → u' ≡ record u { view =
 elsewhere u u' other stays e =
     let is : u' ≡ record u { view = u'.view } = stays in
     let all = stays ∙ ap (λ v. record u { view = v }) e in
-    subst (KeepsNone u) (sym all) (record { goes = record { number = refl; size = refl; table = refl; eager = refl; name = refl; numbers = refl; sized = refl; base = begins_refl (base_of u); handed = begins_refl (handed_of u) }; kept = refl })
+    subst (KeepsNone u) (sym all) (record { goes = record { number = refl; size = refl; table = refl; eager = refl; name = refl; numbers = refl; sized = refl; base = begins_refl (base_of u); handed = begins_refl (handed_of u); seen = begins_refl u.view.seen; told = inl (refl, refl, refl) }; kept = refl })
 
 -- ---- it takes items
 

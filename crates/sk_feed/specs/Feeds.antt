@@ -1,8 +1,9 @@
 -- What it means that items were fed to an updater.
-use Rattle.std.specs.Prelude.{◌≡◌, ◌⊎◌, ℕ, ◌<◌, List, [], ◌∷◌, ◌++◌, length, Bool, false}
+use Rattle.std.specs.Prelude.{◌≡◌, ◌⊎◌, ℕ, ◌<◌, List, [], ◌∷◌, ◌++◌, length, Bool, false, not}
 use Rattle.sk_model.specs.Entries.{Entry, entries_by}
 use Rattle.sk_model.specs.Missing.{Begins}
-use Rattle.sk_hub.specs.Updaters.{UpdaterState, base_of, handed_of, kept_of}
+use Rattle.sk_gate.specs.Hands.{is_empty}
+use Rattle.sk_hub.specs.Updaters.{UpdaterState, base_of, handed_of, kept_of, earlier_of}
 
 -- ---- items
 
@@ -18,7 +19,11 @@ AreKept keeps hint base (item ∷ items) kept = (IsIdle keeps hint base item × 
 
 -- ---- an updater
 
--- the same updater: it has handed over what it had, or more, and its base is as it was, or longer
+-- it holds a told value where it did, and no hand came since; or where something was handed over before its last hand
+abbrev pub HoldsTold : UpdaterState → UpdaterState → Type 0
+HoldsTold u u' = ((u'.news ≡ u.news) × (handed_of u' ≡ handed_of u) × (u'.last ≡ u.last)) ⊎ (u'.news ≡ not (is_empty (earlier_of u')))
+
+-- the same updater, with longer lists: each begins with what it was
 pub record GoesOn (u u' : UpdaterState) : Type 0 where
   pub number : u'.number ≡ u.number
   pub size : u'.size ≡ u.size
@@ -29,6 +34,8 @@ pub record GoesOn (u u' : UpdaterState) : Type 0 where
   pub sized : length u'.view.sizes ≡ length u.view.sizes
   pub base : Begins (base_of u) (base_of u')
   pub handed : Begins (handed_of u) (handed_of u')
+  pub seen : Begins u.view.seen u'.view.seen
+  pub told : HoldsTold u u'
 
 -- it goes on, and has kept nothing more
 pub record KeepsNone (u u' : UpdaterState) : Type 0 where

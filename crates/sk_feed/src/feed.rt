@@ -36,7 +36,8 @@ pub fn feed_block<C: Composable, R: Wait>(
     ensures item { IfOk result (λ place. place < to → IsSome (item_in kind (slice_index_or w.now.lines place []))) }
     ensures refused { OnErr result ((place : ℕ) × (from ≤ place) × (place ≤ to)
         × Takes C.keeps_of C.hint_of u.old (items_in kind (slice_range w.now.lines from place)) u.new) }
-    ensures cause { OnErr result (IsTrue help × IsTrue C.TAKES_MEMORY) }
+    ensures helping { OnErr result (IsTrue help) }
+    ensures cause { OnErr result (IsTrue C.TAKES_MEMORY) }
 {
     'line: for place in from..to {
         if let Some(item) = w.item(place, kind) {
@@ -58,9 +59,12 @@ fn feed_item<C: Composable, R: Wait>(
     requires item { item < item_end }
     requires room { length (kept_of u.old) < most_kept }
     ensures taken { result ≡ Ok true → Takes C.keeps_of C.hint_of u.old (item ∷ []) u.new }
-    ensures busy { result ≡ Ok false → (help ≡ false) × KeepsNone u.old u.new × IsStuck u.new }
+    ensures busy { result ≡ Ok false → help ≡ false }
+    ensures none { result ≡ Ok false → KeepsNone u.old u.new }
+    ensures stuck { result ≡ Ok false → IsStuck u.new }
     ensures refused { OnErr result (KeepsNone u.old u.new ⊎ Takes C.keeps_of C.hint_of u.old (item ∷ []) u.new) }
-    ensures cause { OnErr result (IsTrue help × IsTrue C.TAKES_MEMORY) }
+    ensures helping { OnErr result (IsTrue help) }
+    ensures cause { OnErr result (IsTrue C.TAKES_MEMORY) }
 {
     if help {
         insist(rt, u, item)?;
@@ -95,7 +99,8 @@ fn offer<C: Composable>(u: &mut Updater<C>, item: u64) -> Update
     requires item { item < item_end }
     requires room { length (kept_of u.old) < most_kept }
     ensures taken { result ≢ Update.Busy → Takes C.keeps_of C.hint_of u.old (item ∷ []) u.new }
-    ensures busy { result ≡ Update.Busy → KeepsNone u.old u.new × IsStuck u.new }
+    ensures none { result ≡ Update.Busy → KeepsNone u.old u.new }
+    ensures stuck { result ≡ Update.Busy → IsStuck u.new }
 {
     // It tells the proof which list the hint is of.
     let _hint = u.hint();

@@ -2,10 +2,11 @@
 ghost use Rattle.std.specs.Prelude.{ℕ, Bool, List, [], ◌∷◌, ◌≡◌, ◌<◌, ◌≤◌, ◌+◌, ◌++◌, All};
 ghost use Rattle.sk_model.specs.Entries.{Entry};
 ghost use Rattle.sk_model.specs.Missing.{Begins};
+ghost use Rattle.sk_hub.specs.Updaters.{UpdaterState};
 ghost use Rattle.sk_ingest.specs.Items.{items_by, IsGood};
 ghost use Rattle.sk_ingest.specs.declared.kind.Kind.{Kind};
 ghost use Rattle.sk_feed.specs.Blocks.{place_of};
-ghost use Rattle.sk_feed.specs.Feeds.{IsIdle, AreKept};
+ghost use Rattle.sk_feed.specs.Feeds.{IsIdle, AreKept, Takes};
 ghost use Rattle.sk_feed.specs.Windows.{items_in};
 
 /// The first block begins at the first line.
@@ -44,4 +45,10 @@ pub fn drops_one_more()
 pub fn kept_stays()
     ensures { (keeps : ℕ → ℕ → Bool) (hint : List Entry → ℕ) (base longer : List Entry) (items kept : List ℕ)
         → Begins base longer → AreKept keeps hint base items kept → AreKept keeps hint longer items kept }
+{}
+
+/// What an updater takes after other items, it takes with them.
+pub fn takes_add_up()
+    ensures { (keeps : ℕ → ℕ → Bool) (hint_of : List ℕ → List Entry → ℕ) (u v w : UpdaterState) (items more : List ℕ)
+        → Takes keeps hint_of u items v → Takes keeps hint_of v more w → Takes keeps hint_of u (items ++ more) w }
 {}

@@ -8,8 +8,8 @@ use sk_model::OutOfMemory;
 use std::alloc::Global;
 use std::marker::Model;
 
-/// As many bytes of lines as this make a window full.
-pub const FULL_BYTES: usize = 67_108_864;
+// As many bytes of lines as this make a window full.
+const FULL_BYTES: usize = 67_108_864;
 
 /// The lines of a source, or the fields of a column, that are fed together.
 #[derive(Drop)]
@@ -32,7 +32,7 @@ impl Model for Window {
 }
 
 impl Window {
-    /// Room for so many lines, from 1 to 1,000,000. Memory is taken as they come.
+    /// A window of at most so many lines, from 1 to 1,000,000. Memory is taken as they come.
     pub fn new(alloc: Global, lines: u32) -> Result<Window, OutOfMemory>
         requires least { 1 ≤ lines }
         requires most { lines ≤ 1000000 }

@@ -25,7 +25,7 @@ pub returns-then-not-branch-clause-taken : goal.returns-then-not-branch-clause-t
 returns-then-not-branch-clause-taken g c =
     let k = g.C.Composable in
     takes_then_none k.keeps_of k.hint_of c.args.u.now c.line.u c.feed_item.new.u (items_in c.args.kind (slice_range c.args.w.now.lines c.args.from c.line.place)) c.line.invariant.taken
-    (c.in_ok-feed_item.ensures.busy (ap Ok c.if-not-branch.true)).1
+    (c.in_ok-feed_item.ensures.none (ap Ok c.if-not-branch.true))
 
 pub line-preserved : goal.line-preserved
 line-preserved g c =

@@ -4,12 +4,12 @@ use Rattle.sk_feed.proofs.feed.insist.Goals as goal
 
 pub again-preserved : goal.again-preserved
 again-preserved g c =
-    none_trans c.args.u.now c.offer.new.u c.help_until_served.new.u (none_trans c.args.u.now c.again.u c.offer.new.u c.again.invariant (c.offer.ensures.busy c.in-Busy.is).0) c.help_until_served.ensures.none
+    none_trans c.args.u.now c.offer.new.u c.help_until_served.new.u (none_trans c.args.u.now c.again.u c.offer.new.u c.again.invariant (c.offer.ensures.none c.in-Busy.is)) c.help_until_served.ensures.none
 
 pub returns-in_err-help_until_served-in-Busy-clause-refused : goal.returns-in_err-help_until_served-in-Busy-clause-refused
 returns-in_err-help_until_served-in-Busy-clause-refused g c =
     on_err c.from_residual.result
-    (inl (none_trans c.args.u.now c.offer.new.u c.help_until_served.new.u (none_trans c.args.u.now c.again.u c.offer.new.u c.again.invariant (c.offer.ensures.busy c.in-Busy.is).0) c.help_until_served.ensures.none))
+    (inl (none_trans c.args.u.now c.offer.new.u c.help_until_served.new.u (none_trans c.args.u.now c.again.u c.offer.new.u c.again.invariant (c.offer.ensures.none c.in-Busy.is)) c.help_until_served.ensures.none))
 
 pub returns-in-Kept-clause-taken : goal.returns-in-Kept-clause-taken
 returns-in-Kept-clause-taken g c =
