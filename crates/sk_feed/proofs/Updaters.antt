@@ -2,16 +2,14 @@
 use Rattle.std.proofs.Common.{◌≡◌, ◌≢◌, ◌⊎◌, inl, inr, ℕ, ◌+◌, ◌-◌, ◌≤◌, List, [], ◌∷◌, ◌++◌, length, take, Bool, true, false, not, MatchBool, Result, Ok, Err, OnOk, OnErr, subst, sym, ap, refl, ◌∙◌, append-nil, append_assoc, length-append, arith}
 use Rattle.std.proofs.lemmas.List.{take_at}
 use Rattle.sk_model.specs.Entries.{Entry}
-use Rattle.sk_model.specs.Missing.{Begins}
 use Rattle.sk_model.proofs.Missing.{begins_trans, begins_refl}
-use Rattle.sk_machine.specs.declared.views.Move.{Move}
 use Rattle.sk_gate.specs.Views.{mine_of}
 use Rattle.sk_gate.specs.Hands.{is_empty}
 use Rattle.sk_hub.specs.declared.answers.Update.{Update}
 use Rattle.sk_hub.specs.declared.answers.Update.TheVariants as update
 use Rattle.sk_hub.specs.Updaters.{UpdaterState, handed_of, base_of, kept_of, earlier_of, with_item, LooksInVain, HandsOver, Keeps, HandsWith}
-use Rattle.sk_hub.specs.Rounds.{TakesTurn, Sweeps, Refuses, IsElsewhere}
-use Rattle.sk_feed.specs.Feeds.{AreKept, HoldsTold, GoesOn, KeepsNone, Takes, IsStuck}
+use Rattle.sk_hub.specs.Rounds.{IsElsewhere}
+use Rattle.sk_feed.specs.Feeds.{AreKept, HoldsTold, GoesOn, KeepsNone, Takes}
 use Rattle.sk_feed.proofs.Kept.{kept_append, kept_longer, kept_few, one_kept, one_dropped}
 
 -- ---- its told value
@@ -79,39 +77,9 @@ none_refl u = record { goes = goes_refl u; kept = refl }
 pub none_trans : (u v w : UpdaterState) → KeepsNone u v → KeepsNone v w → KeepsNone u w
 none_trans u v w a b = record { goes = goes_trans u v w a.goes b.goes; kept = b.kept ∙ a.kept }
 
-pub stuck : (u u' : UpdaterState) → length u.fill ≡ u.size → LooksInVain u u' → KeepsNone u u' × IsStuck u'
-stuck u u' full l = (record { goes = goes_in_vain u u' l; kept = ap (λ z. kept_of z) l.state }, subst IsStuck (sym l.state) (record { full = full; behind = l.more }))
-
--- a turn
-took_turn : (u u' : UpdaterState) (steps : List Move) → u' ≡ record u { view = u'.view } → TakesTurn u.view steps u'.view → KeepsNone u u'
-took_turn u u' steps stays t =
-    let mine = ap (λ v. mine_of v) t.advances.view in record {
-      goes = record {
-        number = ap (λ z. z.number) stays;
-        size = ap (λ z. z.size) stays;
-        table = ap (λ z. z.table) stays;
-        eager = ap (λ z. z.eager) stays;
-        name = ap (λ v. v.name) t.advances.view;
-        numbers = ap (λ v. v.numbers) t.advances.view;
-        sized = t.advances.sized;
-        base = subst (λ m. Begins (base_of u) m.base) (sym mine) (begins_refl (base_of u));
-        handed = subst (λ m. Begins (handed_of u) m.handed) (sym mine) (begins_refl (handed_of u));
-        seen = t.advances.grows;
-        told = inl (ap (λ z. z.news) stays, ap (λ m. m.handed) mine, ap (λ z. z.last) stays);
-      };
-      kept = λ e. (mine e).handed ++ (stays e).fill;
-    }
-
-pub swept : (u u' : UpdaterState) (n count : ℕ) → u' ≡ record u { view = u'.view } → Sweeps u.view n count u'.view → KeepsNone u u'
-swept u u' n count stays s = let serves = s.3 in took_turn u u' (serves.finishing ++ serves.finding) stays serves.turn
-
-pub refused : (u u' : UpdaterState) (n : ℕ) → u' ≡ record u { view = u'.view } → Refuses u.view 0 n u'.view → KeepsNone u u'
-refused u u' n stays (inl turn) = took_turn u u' [] stays turn
-refused u u' n stays (inr found) = took_turn u u' _ stays found.turn
-
+-- the turn was found with another seat
 pub elsewhere : (u u' : UpdaterState) (other : ℕ) → u' ≡ record u { view = u'.view } → IsElsewhere u.view other u'.view → KeepsNone u u'
 elsewhere u u' other stays e =
-    let is : u' ≡ record u { view = u'.view } = stays in
     let all = stays ∙ ap (λ v. record u { view = v }) e in
     subst (KeepsNone u) (sym all) (record { goes = record { number = refl; size = refl; table = refl; eager = refl; name = refl; numbers = refl; sized = refl; base = begins_refl (base_of u); handed = begins_refl (handed_of u); seen = begins_refl u.view.seen; told = inl (refl, refl, refl) }; kept = refl })
 

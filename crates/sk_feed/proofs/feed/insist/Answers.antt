@@ -11,6 +11,11 @@ returns-in_err-help_until_served-in-Busy-clause-refused g c =
     on_err c.from_residual.result
     (inl (none_trans c.args.u.now c.offer.new.u c.help_until_served.new.u (none_trans c.args.u.now c.again.u c.offer.new.u c.again.invariant (c.offer.ensures.none c.in-Busy.is)) c.help_until_served.ensures.none))
 
+pub returns-in-Filtered-clause-taken : goal.returns-in-Filtered-clause-taken
+returns-in-Filtered-clause-taken g c =
+    let k = g.C.Composable in
+    none_then_takes k.keeps_of k.hint_of c.args.u.now c.again.u c.offer.new.u (c.args.item ∷ []) c.again.invariant (c.in-Filtered.ensures.taken (λ e. cc))
+
 pub returns-in-Kept-clause-taken : goal.returns-in-Kept-clause-taken
 returns-in-Kept-clause-taken g c =
     let k = g.C.Composable in let items = c.args.item ∷ [] in
