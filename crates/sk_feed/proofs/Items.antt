@@ -1,0 +1,64 @@
+-- The items of lines.
+use Rattle.std.proofs.Common.{◌≡◌, ℕ, ◌+◌, ◌-◌, ◌<◌, ◌≤◌, List, [], ◌∷◌, ◌++◌, length, get_or, take, drop, slice_range, Option, Some, None, IsSome, All, nat_lt, true, refl, ap, ◌∙◌, arith, append-nil, length-drop}
+use Rattle.std.specs.List.{cons_option}
+use Rattle.std.specs.Option.{unwrap_or}
+use Rattle.std.proofs.lemmas.Bool.{false≢true, lt-ltb}
+use Rattle.std.proofs.lemmas.List.{take_more, get_or-drop}
+use Rattle.std.proofs.lemmas.List.Elements.{filter_map-append, All-head, All-tail}
+use Rattle.sk_ingest.specs.Items.{item_of, items_by, IsGood}
+use Rattle.sk_ingest.specs.declared.kind.Kind.{Kind}
+use Rattle.sk_model.specs.Lines.{items_of, filled}
+use Rattle.sk_feed.specs.Windows.{item_in, items_in}
+
+pub range_none : {A : Type 0} (xs : List A) (at : ℕ) → slice_range xs at at ≡ []
+range_none xs at = let none : at - at ≡ 0 = omega arith in ap (λ n. take n (drop at xs)) none
+
+pub range_more : {A : Type 0} (xs : List A) (from at : ℕ) (d : A) → from ≤ at → at < length xs → slice_range xs from (at + 1) ≡ slice_range xs from at ++ get_or xs at d ∷ []
+range_more xs from at d le within =
+    let next : at + 1 - from ≡ (at - from) + 1 = omega arith in
+    let place : from + (at - from) ≡ at = omega arith in
+    let short : at - from < length (drop from xs) = omega (arith, length-drop from xs) in
+    ap (λ n. take n (drop from xs)) next ∙ take_more (drop from xs) (at - from) d short ∙ ap (λ x. slice_range xs from at ++ x ∷ []) (get_or-drop from xs (at - from) d ∙ ap (λ n. get_or xs n d) place)
+
+items_append : (kind : Kind) (xs ys : List (List ℕ)) → items_in kind (xs ++ ys) ≡ items_in kind xs ++ items_in kind ys
+unfolding items_in
+items_append kind xs ys = filter_map-append (item_in kind) xs ys
+
+one_item : (kind : Kind) (line : List ℕ) (item : ℕ) → item_in kind line ≡ Some item → items_in kind (line ∷ []) ≡ item ∷ []
+unfolding items_in
+one_item kind line item is = rw is
+
+no_item : (kind : Kind) (line : List ℕ) → item_in kind line ≡ None → items_in kind (line ∷ []) ≡ []
+unfolding items_in
+no_item kind line is = rw is
+
+pub no_items : (kind : Kind) → items_in kind [] ≡ []
+unfolding items_in
+no_items kind = refl
+
+-- one line more, which has an item
+pub next_item : (kind : Kind) (lines : List (List ℕ)) (from at item : ℕ) → from ≤ at → at < length lines → item_in kind (get_or lines at []) ≡ Some item
+    → items_in kind (slice_range lines from (at + 1)) ≡ items_in kind (slice_range lines from at) ++ item ∷ []
+next_item kind lines from at item le within is =
+    ap (items_in kind) (range_more lines from at [] le within) ∙ items_append kind (slice_range lines from at) (get_or lines at [] ∷ []) ∙ ap (λ l. items_in kind (slice_range lines from at) ++ l) (one_item kind (get_or lines at []) item is)
+
+-- one more, which has none
+pub next_empty : (kind : Kind) (lines : List (List ℕ)) (from at : ℕ) → from ≤ at → at < length lines → item_in kind (get_or lines at []) ≡ None
+    → items_in kind (slice_range lines from (at + 1)) ≡ items_in kind (slice_range lines from at)
+next_empty kind lines from at le within is =
+    ap (items_in kind) (range_more lines from at [] le within) ∙ items_append kind (slice_range lines from at) (get_or lines at [] ∷ []) ∙ ap (λ l. items_in kind (slice_range lines from at) ++ l) (no_item kind (get_or lines at []) is)
+    ∙ append-nil (items_in kind (slice_range lines from at))
+
+filled_one : (o : Option ℕ) (rest rest' : List ℕ) → IsSome o → rest ≡ rest' → cons_option o rest ≡ unwrap_or o 0 ∷ rest'
+filled_one None rest rest' some e = absurd (false≢true some)
+filled_one (Some x) rest rest' some e = ap (λ l. x ∷ l) e
+
+-- where each line is empty or an item, these are the items that a reader gives
+pub good_items : (kind : Kind) (lines : List (List ℕ)) → All (IsGood kind) lines → items_in kind lines ≡ items_by kind lines
+unfolding items_in items_by items_of filled
+good_items kind [] good = refl
+good_items kind ([] ∷ lines) good = good_items kind lines (All-tail (IsGood kind) [] lines good)
+good_items kind ((byte ∷ line) ∷ lines) good =
+    let some : 0 < length (byte ∷ line) = omega arith in
+    let yes : nat_lt 0 (length (byte ∷ line)) ≡ true = lt-ltb 0 (length (byte ∷ line)) some in
+    rw yes (filled_one (item_of kind (byte ∷ line)) (items_in kind lines) (items_by kind lines) (All-head (IsGood kind) (byte ∷ line) lines good some) (good_items kind lines (All-tail (IsGood kind) (byte ∷ line) lines good)))

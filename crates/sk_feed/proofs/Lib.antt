@@ -1,0 +1,7 @@
+pub mod Cuts
+pub mod Fields
+pub mod Blocks
+pub mod Kept
+pub mod Items
+pub mod Updaters
+pub mod Feeding

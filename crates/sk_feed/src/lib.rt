@@ -1,0 +1,16 @@
+//! Windows of lines, and how their items are fed to the updaters of a hub.
+#![tactic(auto)]
+
+mod block;
+mod feed;
+mod laws;
+mod window;
+
+pub use block::Block;
+pub use feed::feed_block;
+pub use sk_ingest::Kind;
+pub use sk_model::OutOfMemory;
+pub use window::Window;
+
+#[cfg(test)]
+mod tests;
