@@ -1,0 +1,11 @@
+//! Watchers of a sketch's replies, boxed, each at its place on a board.
+#![tactic(auto)]
+
+mod alarm;
+mod board;
+mod watcher;
+
+pub use alarm::Alarm;
+pub use board::{Board, Shows};
+pub use sk_theta::Reply;
+pub use watcher::Watcher;
