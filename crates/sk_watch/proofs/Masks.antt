@@ -1,5 +1,7 @@
 -- Lemmas on masks, as a loop over the places builds them.
-use Rattle.std.proofs.Common.{◌≡◌, ℕ, zero, suc, ◌+◌, ◌*◌, ◌^◌, ◌<◌, ◌≤◌, if◌then◌else◌, Bool, true, false, List, [], ◌∷◌, ◌++◌, length, map, take, get_or, refl, ap, ◌∙◌, sym, subst, arith, length-take-le, take_at}
+use Rattle.std.proofs.Common.{◌≡◌, ℕ, zero, suc, ◌+◌, ◌*◌, ◌^◌, ◌<◌, ◌≤◌, if◌then◌else◌, Bool, true, false, List, [], ◌∷◌, ◌++◌, length, map, take, get_or, refl, ap, ◌∙◌, sym, subst, arith, length-take-le}
+use Rattle.std.specs.Int.{bit_at}
+use Rattle.std.proofs.lemmas.Nat.Bits.{bit_at-zero, bit_at-suc}
 use Rattle.std.proofs.lemmas.Grind.{take_at_read}
 use Rattle.std.proofs.lemmas.List.{length-map, map-append}
 use Rattle.std.proofs.Math.Nat.{pow-succ'}
@@ -44,3 +46,12 @@ one_more f xs i d inside =
 pub mask_more : {X : Type 0} (f : X → Bool) (xs : List X) (i mask : ℕ) (bit : Bool) (d : X) → i < length xs → mask ≡ mask_of (map f (take i xs)) → bit ≡ f (get_or xs i d) →
     mask + (if bit then 2 ^ i else 0) ≡ mask_of (map f (take (i + 1) xs))
 mask_more f xs i mask bit d inside so_far is = rw (so_far, is) (sym (one_more f xs i d inside))
+
+-- a bit of a mask is that of its place
+pub bits_of_masks : (flags : List Bool) (i : ℕ) → bit_at (mask_of flags) i ≡ (if get_or flags i false then 1 else 0)
+unfolding mask_of
+bits_of_masks [] i = bit_at-zero i
+bits_of_masks (true ∷ bs) zero = omega arith
+bits_of_masks (false ∷ bs) zero = omega arith
+bits_of_masks (true ∷ bs) (suc i) = bit_at-suc (1 + 2 * mask_of bs) i ∙ ap (λ n. bit_at n i) (omega arith) ∙ bits_of_masks bs i
+bits_of_masks (false ∷ bs) (suc i) = bit_at-suc (0 + 2 * mask_of bs) i ∙ ap (λ n. bit_at n i) (omega arith) ∙ bits_of_masks bs i

@@ -1,5 +1,5 @@
 -- Lemmas on lists whose members are seen through a function.
-use Rattle.std.proofs.Common.{◌≡◌, ℕ, zero, suc, ◌+◌, ◌-◌, ◌<◌, ◌≤◌, Bool, true, false, List, [], ◌∷◌, ◌++◌, length, map, take, drop, get_or, set, Option, Some, None, option_map, is_some, refl, ap, ◌∙◌, sym, arith, length-take-le}
+use Rattle.std.proofs.Common.{◌≡◌, ℕ, zero, suc, ◌+◌, ◌-◌, ◌<◌, Bool, true, false, List, [], ◌∷◌, ◌++◌, length, map, take, drop, get_or, set, Option, Some, None, option_map, is_some, refl, ap, ◌∙◌, sym, arith, length-take-le}
 use Rattle.std.specs.Option.{IsSome}
 use Rattle.std.proofs.lemmas.List.{length-map, map-set, get_or-map, get_or-append_right, get_or-drop}
 use Rattle.std.proofs.lemmas.List.Edits.{map_over_more}

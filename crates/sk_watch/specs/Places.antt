@@ -1,7 +1,7 @@
 -- The places of a board.
-use Rattle.std.specs.Prelude.{ℕ, if◌then◌else◌, Bool, true, false, List, Option, Some, None, IsSome, is_some, slice_index_or}
+use Rattle.std.specs.Prelude.{ℕ, if◌then◌else◌, Bool, false, List, Option, Some, None, IsSome, option_map, slice_index_or, slice_set}
 use Rattle.sk_theta.specs.declared.reply.Reply.{Reply}
-use Rattle.sk_watch.specs.Watching.{Watching, answers, having_seen}
+use Rattle.sk_watch.specs.Watching.{Watching, armed, answers, having_seen}
 
 -- none, or the watcher that stands there
 abbrev pub Place : Type 0
@@ -10,6 +10,10 @@ Place = Option Watching
 -- a watcher stands at place i
 abbrev pub IsLive : ℕ → List Place → Type 0
 IsLive i places = IsSome (slice_index_or places i None)
+
+-- the places with the watcher at place i armed
+abbrev pub armed_at : ℕ → ℕ → ℕ → List Place → List Place
+armed_at i k mark places = slice_set places i (option_map (armed k mark) (slice_index_or places i None))
 
 -- whether a watcher stands there that answers true
 abbrev pub answers_at : Reply → Place → Bool

@@ -1,7 +1,7 @@
 // Watchers at their places.
-ghost use Rattle.std.specs.Prelude.{◌≡◌, ◌+◌, ◌^◌, ◌<◌, ◌≤◌, ℕ, List, Option, None, length, map, option_map, is_some, if◌then◌else◌, slice_index_or, slice_set};
+ghost use Rattle.std.specs.Prelude.{◌≡◌, ◌+◌, ◌^◌, ◌<◌, ◌≤◌, List, None, length, map, option_map, is_some, if◌then◌else◌, slice_set};
 ghost use Rattle.sk_watch.specs.Masks.{mask_of};
-ghost use Rattle.sk_watch.specs.Places.{Place, IsLive, answers_at, told};
+ghost use Rattle.sk_watch.specs.Places.{Place, IsLive, armed_at, answers_at, told};
 ghost use Rattle.sk_watch.specs.Watching.{armed};
 
 use crate::watcher::Watcher;
@@ -36,8 +36,7 @@ impl Board {
     /// Arms the watcher at a place.
     pub fn arm(&mut self, place: u32, k: u32, mark: u64)
         requires { IsLive place (⟦<Board as Shows>⟧.places self.old) }
-        ensures { ⟦<Board as Shows>⟧.places self.new ≡ slice_set (⟦<Board as Shows>⟧.places self.old) place
-            (option_map (armed k mark) (slice_index_or (⟦<Board as Shows>⟧.places self.old) place None)) }
+        ensures { ⟦<Board as Shows>⟧.places self.new ≡ armed_at place k mark (⟦<Board as Shows>⟧.places self.old) }
     {
         arm_at(&mut self.boxes[place as usize], k, mark);
     }

@@ -3,9 +3,13 @@
 
 mod alarm;
 mod board;
+pub mod laws;
 mod watcher;
 
 pub use alarm::Alarm;
 pub use board::{Board, Shows};
 pub use sk_theta::Reply;
 pub use watcher::Watcher;
+
+#[cfg(test)]
+mod tests;

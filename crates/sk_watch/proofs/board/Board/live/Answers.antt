@@ -1,4 +1,4 @@
-use Rattle.std.proofs.Common.{◌≡◌, ◌+◌, ◌^◌, ◌<◌, ◌≤◌, ◌∙◌, map, is_some, ap, take_all, arith}
+use Rattle.std.proofs.Common.{◌∙◌, map, is_some, ap, take_all, arith}
 use Rattle.sk_watch.specs.Masks.{mask_of}
 use Rattle.sk_watch.proofs.Masks.{no_places, mask_within, mask_more}
 use Rattle.sk_watch.proofs.Places.{seen-is_some}

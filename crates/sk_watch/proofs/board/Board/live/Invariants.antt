@@ -1,4 +1,4 @@
-use Rattle.std.proofs.Common.{◌≡◌, ◌+◌, ◌^◌, ◌<◌, ◌≤◌, ℕ, List, Option, None, length, map, option_map, take, drop, is_some}
+use Rattle.std.proofs.Common.{◌≡◌, map, take, is_some}
 use Rattle.sk_watch.specs.Masks.{mask_of}
 use Rattle.sk_watch.proofs.board.Board.live.Given as goal
 

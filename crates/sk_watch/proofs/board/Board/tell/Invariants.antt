@@ -1,7 +1,6 @@
-use Rattle.std.proofs.Common.{◌≡◌, ◌+◌, ◌^◌, ◌<◌, ◌≤◌, ◌++◌, ℕ, List, Option, None, length, map, option_map, take, drop}
+use Rattle.std.proofs.Common.{◌≡◌, ◌++◌, List, Option, length, map, option_map, take, drop}
 use Rattle.sk_watch.specs.Masks.{mask_of}
-use Rattle.sk_watch.specs.Places.{Place, answers_at, told}
-use Rattle.sk_watch.specs.Watching.{Watching}
+use Rattle.sk_watch.specs.Places.{answers_at, told}
 use Rattle.sk_watch.proofs.board.Board.tell.Given as goal
 
 abbrev pub invariant-tell : goal.invariant-tell
