@@ -36,7 +36,8 @@ impl Board {
     /// Arms the watcher at a place.
     pub fn arm(&mut self, place: u32, k: u32, mark: u64)
         requires { IsLive place (⟦<Board as Shows>⟧.places self.old) }
-        ensures { ⟦<Board as Shows>⟧.places self.new ≡ armed_at place k mark (⟦<Board as Shows>⟧.places self.old) }
+        ensures { ⟦<Board as Shows>⟧.places self.new
+            ≡ armed_at place k mark (⟦<Board as Shows>⟧.places self.old) }
     {
         arm_at(&mut self.boxes[place as usize], k, mark);
     }
@@ -44,7 +45,8 @@ impl Board {
     /// Lets the watcher at a place go, if there is one.
     pub fn drop_at(&mut self, place: u32)
         requires { place < length (⟦<Board as Shows>⟧.places self.old) }
-        ensures { ⟦<Board as Shows>⟧.places self.new ≡ slice_set (⟦<Board as Shows>⟧.places self.old) place None }
+        ensures { ⟦<Board as Shows>⟧.places self.new
+            ≡ slice_set (⟦<Board as Shows>⟧.places self.old) place None }
     {
         self.boxes[place as usize] = None;
     }
@@ -63,8 +65,10 @@ impl Board {
     /// Shows a reply to each watcher, in order. Those that answer true are let go, and their places are the
     /// answer, as the bits of a number.
     pub fn tell(&mut self, reply: Reply) -> u64
-        ensures mask { result ≡ mask_of (map (answers_at reply) (⟦<Board as Shows>⟧.places self.old)) }
-        ensures places { ⟦<Board as Shows>⟧.places self.new ≡ map (told reply) (⟦<Board as Shows>⟧.places self.old) }
+        ensures mask { result
+            ≡ mask_of (map (answers_at reply) (⟦<Board as Shows>⟧.places self.old)) }
+        ensures places { ⟦<Board as Shows>⟧.places self.new
+            ≡ map (told reply) (⟦<Board as Shows>⟧.places self.old) }
     {
         let mut gone = 0;
         'tell: for place in 0..self.boxes.len() {

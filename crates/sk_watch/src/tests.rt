@@ -1,7 +1,6 @@
 ghost use Rattle.std.specs.Prelude.{◌-◌, ◌==◌, [], ◌∷◌, slice_index};
 
 use super::*;
-use std::alloc::Global;
 use std::test::Fail;
 
 // A watcher that answers true at one of the replies that it sees, and shows how many it sees until then.
