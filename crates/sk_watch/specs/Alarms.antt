@@ -24,4 +24,9 @@ alarm_answer shown reply = false
 
 -- an alarm that shows this list
 abbrev pub alarm : List ℕ → Watching
-alarm shown = record { shown = shown; when_armed = λ _ k mark. k ∷ mark ∷ []; answer = alarm_answer; when_seen = λ before _. before }
+alarm shown = record {
+  shown = shown;
+  when_armed = λ _ k mark. k ∷ mark ∷ [];
+  answer = alarm_answer;
+  when_seen = λ before _. before;
+}

@@ -7,9 +7,9 @@ ghost use Rattle.sk_watch.specs.Watching.{armed};
 use crate::watcher::Watcher;
 use sk_theta::Reply;
 
-/// What contracts see of a board.
-pub trait Shows {
-    /// The places, each with what its watcher shows.
+/// A board as contracts see it.
+pub trait Seen {
+    /// The places in order, each with its watcher as contracts see it.
     ghost places: { Self → List Place };
 }
 
@@ -20,7 +20,7 @@ pub struct Board {
     ghost few: { length boxes.items ≤ 64 },
 }
 
-impl Shows for Board {
+impl Seen for Board {
     ghost places = { λ board. map (option_map (λ b. (Watcher-box b).watching b.value)) board.boxes.items };
 }
 
@@ -28,32 +28,32 @@ impl Board {
     /// A board with these watchers.
     pub fn new(boxes: Vec<Option<Box<dyn Watcher>>>) -> Board
         requires { length boxes.items ≤ 64 }
-        ensures { ⟦<Board as Shows>⟧.places result ≡ map (option_map watching) boxes.items }
+        ensures { ⟦<Board as Seen>⟧.places result ≡ map (option_map watching) boxes.items }
     {
         Board { boxes }
     }
 
     /// Arms the watcher at a place.
     pub fn arm(&mut self, place: u32, k: u32, mark: u64)
-        requires { IsLive place (⟦<Board as Shows>⟧.places self.old) }
-        ensures { ⟦<Board as Shows>⟧.places self.new
-            ≡ armed_at place k mark (⟦<Board as Shows>⟧.places self.old) }
+        requires { IsLive place (⟦<Board as Seen>⟧.places self.old) }
+        ensures { ⟦<Board as Seen>⟧.places self.new
+            ≡ armed_at place k mark (⟦<Board as Seen>⟧.places self.old) }
     {
         arm_at(&mut self.boxes[place as usize], k, mark);
     }
 
     /// Lets the watcher at a place go, if there is one.
     pub fn drop_at(&mut self, place: u32)
-        requires { place < length (⟦<Board as Shows>⟧.places self.old) }
-        ensures { ⟦<Board as Shows>⟧.places self.new
-            ≡ slice_set (⟦<Board as Shows>⟧.places self.old) place None }
+        requires { place < length (⟦<Board as Seen>⟧.places self.old) }
+        ensures { ⟦<Board as Seen>⟧.places self.new
+            ≡ slice_set (⟦<Board as Seen>⟧.places self.old) place None }
     {
         self.boxes[place as usize] = None;
     }
 
     /// The places with a watcher, as the bits of a number.
     pub fn live(&self) -> u64
-        ensures { result ≡ mask_of (map is_some (⟦<Board as Shows>⟧.places self.now)) }
+        ensures { result ≡ mask_of (map is_some (⟦<Board as Seen>⟧.places self.now)) }
     {
         let mut live = 0;
         'live: for place in 0..self.boxes.len() {
@@ -66,9 +66,9 @@ impl Board {
     /// answer, as the bits of a number.
     pub fn tell(&mut self, reply: Reply) -> u64
         ensures mask { result
-            ≡ mask_of (map (answers_at reply) (⟦<Board as Shows>⟧.places self.old)) }
-        ensures places { ⟦<Board as Shows>⟧.places self.new
-            ≡ map (told reply) (⟦<Board as Shows>⟧.places self.old) }
+            ≡ mask_of (map (answers_at reply) (⟦<Board as Seen>⟧.places self.old)) }
+        ensures places { ⟦<Board as Seen>⟧.places self.new
+            ≡ map (told reply) (⟦<Board as Seen>⟧.places self.old) }
     {
         let mut gone = 0;
         'tell: for place in 0..self.boxes.len() {

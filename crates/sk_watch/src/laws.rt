@@ -6,7 +6,8 @@ ghost use Rattle.sk_watch.specs.Masks.{mask_of};
 
 /// A bit of a mask is 1 exactly at the places that have true.
 pub fn masks_tell_the_places()
-    ensures { (flags : List Bool) (i : ℕ) → bit_at (mask_of flags) i ≡ (if slice_index_or flags i false then 1 else 0) }
+    ensures { (flags : List Bool) (i : ℕ)
+        → bit_at (mask_of flags) i ≡ (if slice_index_or flags i false then 1 else 0) }
 {}
 
 /// Masks of few places.

@@ -7,7 +7,7 @@ pub mod laws;
 mod watcher;
 
 pub use alarm::Alarm;
-pub use board::{Board, Shows};
+pub use board::{Board, Seen};
 pub use sk_theta::Reply;
 pub use watcher::Watcher;
 
