@@ -1,0 +1,4 @@
+pub mod Alarms
+pub mod Masks
+pub mod Places
+pub mod Watching
