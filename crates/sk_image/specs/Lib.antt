@@ -1,0 +1,3 @@
+pub use Rattle.sk_model.specs.Sketch
+pub use Rattle.sk_model.specs.Width
+pub mod Images

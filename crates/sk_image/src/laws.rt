@@ -1,0 +1,3 @@
+//! Laws of images. Each function is empty: its contract is the law.
+
+pub mod worked;
