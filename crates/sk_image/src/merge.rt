@@ -30,7 +30,8 @@ impl From<OutOfMemory> for JoinStop {
 pub fn join(alloc: Global, a: &Image, b: &Image) -> Result<Image, JoinStop>
     ensures k { IfOk result (λ image. image.k ≡ a.now.k) }
     ensures seed { IfOk result (λ image. image.seed ≡ a.now.seed) }
-    ensures hashes { IfOk result (λ image. image.hashes.items ≡ k_smallest a.now.k (a.now.hashes.items ++ b.now.hashes.items)) }
+    ensures hashes { IfOk result (λ image.
+        image.hashes.items ≡ k_smallest a.now.k (a.now.hashes.items ++ b.now.hashes.items)) }
     ensures mixed { IsErrOf result JoinStop.Mixed ↔ ((a.now.k ≢ b.now.k) ⊎ (a.now.seed ≢ b.now.seed)) }
 {
     if a.k != b.k || a.seed != b.seed {

@@ -2,7 +2,8 @@
 ghost use Rattle.std.specs.Prelude.{◌≡◌, ◌≤◌, ◌<◌, ◌++◌, ◌∷◌, [], OnOk, OnErr, IfOk, IsErrOf, string_bytes, codes};
 ghost use Rattle.std.specs.Io.KnownBytes.{Appends};
 ghost use Rattle.sk_model.specs.Causes.{Rose, AppendsFront};
-ghost use Rattle.sk_image.specs.Images.{hex_digit, first_line, hash_line, last_line, joined, text_of};
+ghost use Rattle.sk_image.specs.Written.{image_text};
+ghost use Rattle.sk_image.specs.Images.{hex_digit, first_line, hash_line, last_line};
 
 use crate::image::Image;
 use sk_io::{Failed, Sink, write_all};
@@ -45,8 +46,9 @@ impl From<OutOfMemory> for WriteStop {
 
 /// Writes the text of an image. All of it is taken into memory first.
 pub fn write<O: Sink>(alloc: Global, out: &mut O, image: &Image) -> Result<(), WriteStop>
-    ensures ok { OnOk result (Appends (O.written out.old) (O.written out.new) (text_of image.now.k image.now.seed image.now.hashes.items)) }
-    ensures failed { IsErrOf result WriteStop.Failed → AppendsFront (O.written out.old) (O.written out.new) (text_of image.now.k image.now.seed image.now.hashes.items) }
+    ensures ok { OnOk result (Appends (O.written out.old) (O.written out.new) (image_text image.now)) }
+    ensures failed { IsErrOf result WriteStop.Failed →
+        AppendsFront (O.written out.old) (O.written out.new) (image_text image.now) }
     ensures cause { IsErrOf result WriteStop.Failed → Rose (O.faults out.old) (O.faults out.new) }
     ensures memory { IsErrOf result WriteStop.OutOfMemory → out.new ≡ out.old }
     ensures later { O.faults out.old ≤ O.faults out.new }
@@ -58,7 +60,7 @@ pub fn write<O: Sink>(alloc: Global, out: &mut O, image: &Image) -> Result<(), W
 
 // The text of an image.
 fn text(alloc: Global, image: &Image) -> Result<Vec<u8>, OutOfMemory>
-    ensures { IfOk result (λ text. text.items ≡ text_of image.now.k image.now.seed image.now.hashes.items) }
+    ensures { IfOk result (λ text. text.items ≡ image_text image.now) }
 {
     let mut text = Vec::new(alloc);
     push_line(&mut text, first(alloc, image.k, image.seed)?.as_bytes())?;

@@ -1,5 +1,5 @@
-use Rattle.std.proofs.Common.{◌≡◌, ◌+◌, ◌-◌, ◌<◌, ◌≤◌, ◌/◌, ◌%◌, ◌++◌, ◌∷◌, [], ℕ, length, drop, set, sym, ap, ◌∙◌, arith, rules}
-use Rattle.sk_image.specs.Images.{hex, hex_digit, hash_line}
+use Rattle.std.proofs.Common.{◌≡◌, ◌+◌, ◌-◌, ◌<◌, ◌/◌, ◌++◌, ℕ, length, drop, set, sym, ap, ◌∙◌, arith, rules}
+use Rattle.sk_image.specs.Images.{hex}
 use Rattle.sk_image.proofs.Digits.{digit_more, no_hex}
 use Rattle.sk_image.proofs.writer.line_of.Goals as goal
 

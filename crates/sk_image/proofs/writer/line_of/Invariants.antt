@@ -1,4 +1,4 @@
-use Rattle.std.proofs.Common.{◌≡◌, ◌≤◌, ◌++◌, ◌∷◌, [], codes, drop, length}
+use Rattle.std.proofs.Common.{◌≡◌, ◌≤◌, ◌++◌, codes, drop, length}
 use Rattle.sk_image.specs.Images.{hex, hash_line}
 use Rattle.sk_image.proofs.writer.line_of.Given as goal
 
