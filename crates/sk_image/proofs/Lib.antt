@@ -1,0 +1,7 @@
+pub mod Digits
+pub mod Drafts
+pub mod Grammar
+pub mod Joins
+pub mod Numbers
+pub mod Splits
+pub mod Texts

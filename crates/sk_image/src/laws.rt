@@ -1,0 +1,28 @@
+//! Laws of images. Each function is empty: its contract is the law.
+
+ghost use Rattle.std.specs.Prelude.{◌≡◌, ◌+◌, ℕ, List, ◌∷◌, length, map};
+ghost use Rattle.sk_image.specs.Images.{IsImage, first_line, hash_line, joined, text_of};
+ghost use Rattle.sk_image.specs.Reading.{IsBadAt};
+
+pub mod worked;
+
+/// No two images have one text.
+pub fn one_image()
+    ensures k { (k k' seed seed' : ℕ) (hashes hashes' : List ℕ) → IsImage k seed hashes
+        → IsImage k' seed' hashes' → text_of k seed hashes ≡ text_of k' seed' hashes' → k ≡ k' }
+    ensures seed { (k k' seed seed' : ℕ) (hashes hashes' : List ℕ) → IsImage k seed hashes
+        → IsImage k' seed' hashes' → text_of k seed hashes ≡ text_of k' seed' hashes' → seed ≡ seed' }
+    ensures hashes { (k k' seed seed' : ℕ) (hashes hashes' : List ℕ) → IsImage k seed hashes
+        → IsImage k' seed' hashes' → text_of k seed hashes ≡ text_of k' seed' hashes' → hashes ≡ hashes' }
+{}
+
+/// No other line of a text is the first that is not as its place requires.
+pub fn one_bad_line()
+    ensures { (m n : ℕ) (text : List ℕ) → IsBadAt m text → IsBadAt n text → m ≡ n }
+{}
+
+/// Where the last line of an image is missing, it is the line that is due.
+pub fn the_last_line_is_missed()
+    ensures { (k seed : ℕ) (hashes : List ℕ) → IsImage k seed hashes
+        → IsBadAt (length hashes + 2) (joined (first_line k seed ∷ map hash_line hashes)) }
+{}

@@ -1,0 +1,38 @@
+// Why an image is not read.
+ghost use Rattle.std.specs.Prelude.{◌≡◌};
+
+use sk_io::Failed;
+use std::alloc::AllocFailed;
+
+/// Why a source was not read as an image.
+#[derive(Clone, Copy, Debug, PartialEq, Eq)]
+pub enum ReadStop {
+    /// A read failed.
+    ReadFault,
+    /// The line of this number, counted from 1, is the first that is not as its place requires.
+    BadImage(u64),
+    /// As many bytes were taken as are too much, and all their lines are as their places require.
+    TooMuch,
+    /// No memory was left.
+    OutOfMemory,
+}
+
+impl From<Failed> for ReadStop {
+    ghost use Rattle.sk_image.specs.declared.stop.ReadStop.TheVariants as stop;
+
+    ghost from_gives = { λ _ e. e ≡ stop.ReadFault };
+
+    fn from(_: Failed) -> Self {
+        ReadStop::ReadFault
+    }
+}
+
+impl<T: Drop> From<AllocFailed<T>> for ReadStop {
+    ghost use Rattle.sk_image.specs.declared.stop.ReadStop.TheVariants as stop;
+
+    ghost from_gives = { λ _ e. e ≡ stop.OutOfMemory };
+
+    fn from(_: AllocFailed<T>) -> Self {
+        ReadStop::OutOfMemory
+    }
+}
