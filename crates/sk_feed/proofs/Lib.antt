@@ -5,3 +5,4 @@ pub mod Kept
 pub mod Items
 pub mod Updaters
 pub mod Feeding
+pub mod Rounds
