@@ -6,3 +6,4 @@ pub mod Items
 pub mod Updaters
 pub mod Feeding
 pub mod Rounds
+pub mod Tables
