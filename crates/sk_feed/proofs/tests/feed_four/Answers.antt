@@ -1,4 +1,4 @@
-use Rattle.std.proofs.Common.{◌≡◌, ◌++◌, length, take, drop, map, All, sym, subst, ap, ◌∙◌, arith}
+use Rattle.std.proofs.Common.{◌≡◌, length, drop, map, All, sym, subst, arith}
 use Rattle.std.proofs.lemmas.List.{take_at, length-map}
 use Rattle.sk_feed.proofs.Tables.{all_stay}
 use Rattle.sk_feed.proofs.tests.feed_four.Goals as goal

@@ -1,4 +1,4 @@
-use Rattle.std.proofs.Common.{◌≡◌, ◌≤◌, ◌+◌, sym, subst, slice_range, length, ap, ◌∙◌, arith}
+use Rattle.std.proofs.Common.{◌≡◌, ◌≤◌, ◌+◌, subst, slice_range, length, ap, ◌∙◌}
 use Rattle.sk_feed.specs.Blocks.{place_of}
 use Rattle.sk_feed.specs.Windows.{items_in}
 use Rattle.sk_feed.specs.Feeds.{Takes}
