@@ -5,3 +5,5 @@ pub mod Kept
 pub mod Items
 pub mod Updaters
 pub mod Feeding
+pub mod Rounds
+pub mod Tables

@@ -1,3 +1,4 @@
 pub mod Windows
 pub mod Blocks
 pub mod Feeds
+pub mod Rounds

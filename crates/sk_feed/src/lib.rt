@@ -3,11 +3,13 @@
 
 mod block;
 mod feed;
+mod feeder;
 mod laws;
 mod window;
 
 pub use block::Block;
 pub use feed::feed_block;
+pub use feeder::{Feeder, feed_window, feeders_of, have_room};
 pub use sk_ingest::Kind;
 pub use sk_model::OutOfMemory;
 pub use window::Window;
