@@ -11,6 +11,7 @@ use sk_compose::{Composable, Parcel};
 
 impl<C: Composable> Updater<C> {
     /// Keeps an item below 2^48, unless no later reply would change by it. At most 2^40 items are kept.
+    #[inline(always)]
     pub fn update(&mut self, item: u64) -> Update
         requires item { item < item_end }
         requires room { length (kept_of self.old) < most_kept }
@@ -27,6 +28,21 @@ impl<C: Composable> Updater<C> {
         if !C::keeps(self.hint, item) {
             return Update::Filtered;
         }
+        self.keep(item)
+    }
+
+    // The rest of `update`, for an item that is kept unless the updater is busy.
+    #[inline(never)]
+    fn keep(&mut self, item: u64) -> Update
+        requires item { item < item_end }
+        requires room { length (kept_of self.old) < most_kept }
+        ensures offered { result ≢ Update.Filtered }
+        ensures full { result ≡ Update.Busy → length self.old.fill ≡ self.old.size }
+        ensures busy { result ≡ Update.Busy → LooksInVain self.old self.new }
+        ensures kept { result ≡ Update.Kept → Keeps C.early_of self.old item self.new }
+        ensures handed { result ≡ Update.Handed → HandsWith C.early_of C.hint_of self.old item self.new }
+        ensures grows { (result ≡ Update.Kept) ⊎ (result ≡ Update.Handed) → kept_of self.new ≡ kept_of self.old ++ item ∷ [] }
+    {
         if self.len() == self.size() {
             if !self.hand_over() {
                 return Update::Busy;

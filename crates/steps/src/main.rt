@@ -1,6 +1,9 @@
-//! Takes so many steps of a table with one updater, for `bench/steps` to time. The words are a kind of step
-//! (`asks`, `turns` or `exchanges`) and a number; without words nothing is done.
+//! Takes so many steps of a table with one updater, or updates of a sketch and of a hub, for `bench/steps` to
+//! time. The words are a kind (`asks`, `turns` or `exchanges`, `sketch` or `hub`) and a number; without words
+//! nothing is done.
 #![tactic(auto)]
+
+mod updates;
 
 ghost use Rattle.std.specs.Prelude.{◌≡◌, true, false, IfOk};
 ghost use Rattle.sk_gate.specs.Views.{leads};
@@ -54,6 +57,13 @@ fn exchange(heart: &mut HeartSeat<Theta>, count: u64)
     }
 }
 
+fn outcome(done: Result<(), OutOfMemory>) -> ExitCode {
+    match done {
+        Ok(()) => ExitCode::SUCCESS,
+        Err(OutOfMemory) => ExitCode::FAILURE,
+    }
+}
+
 fn main(rt: HostRuntime) -> ExitCode {
     let alloc = rt.alloc();
     let Ok(mut words) = env::args(&rt) else {
@@ -66,10 +76,16 @@ fn main(rt: HostRuntime) -> ExitCode {
     let (Ok(count), Ok(mut made)) = (count.parse::<u64>(), table(alloc)) else {
         return ExitCode::FAILURE;
     };
+    let distinct = match words.next().map(|word| word.parse::<u64>()) {
+        Some(Ok(distinct)) => distinct,
+        _ => count,
+    };
     match kind.as_str() {
         "asks" => ask(&mut made.token, count),
         "turns" => turn(&mut made.heart, count),
         "exchanges" => exchange(&mut made.heart, count),
+        "sketch" => return outcome(updates::sketch(alloc, distinct, count)),
+        "hub" => return outcome(updates::hub(&rt, alloc, distinct, count)),
         _ => return ExitCode::FAILURE,
     }
     ExitCode::SUCCESS

@@ -1,0 +1,67 @@
+// Updates of a sketch alone, and of a hub with one updater that helps itself.
+ghost use Rattle.std.specs.Prelude.{◌<◌};
+ghost use Rattle.sk_model.specs.Width.{item_end};
+
+use sk_compose::OutOfMemory;
+use sk_heap::HeapTheta;
+use sk_hub::{Help, Update, Updater, open};
+use sk_theta::{ITEM_END, Shape};
+use std::alloc::Global;
+use std::sync::Wait;
+
+// As many hashes as `count` keeps by default, and as many items in a buffer.
+const K: u32 = 4_096;
+const BUFFER: u32 = 64;
+
+// The item at a place, of so many distinct ones.
+fn item_at(place: u64, distinct: u64) -> u64
+    ensures { result < item_end }
+{
+    let number = if distinct == 0 { place } else { place % distinct };
+    number.wrapping_mul(0x9E37_79B9_7F4A_7C15) % ITEM_END
+}
+
+/// So many updates of a sketch.
+pub fn sketch(alloc: Global, distinct: u64, count: u64) -> Result<(), OutOfMemory> {
+    let mut sketch = HeapTheta::new(alloc, K)?;
+    'update: for place in 0..count {
+        sketch.update(item_at(place, distinct));
+    }
+    Ok(())
+}
+
+/// So many updates of a hub.
+#[tactic(auto, unfolding(sk_model::specs::Entries::items_of_entries))]
+pub fn hub<R: Wait>(rt: &R, alloc: Global, distinct: u64, count: u64) -> Result<(), OutOfMemory> {
+    let Ok(shape) = Shape::new(K, BUFFER, 1, 0, true) else {
+        return Err(OutOfMemory);
+    };
+    let mut opened = open(alloc, &shape, HeapTheta::new(alloc, K)?)?;
+    let mut updater = opened.updaters.remove(0);
+    'update: for place in 0..count {
+        update(rt, &mut updater, item_at(place, distinct));
+    }
+    Ok(())
+}
+
+// Updates with an item, and helps where there is no room or each item is handed over.
+fn update<R: Wait>(rt: &R, updater: &mut Updater<HeapTheta>, item: u64)
+    requires item { item < item_end }
+{
+    if updater.taken() == 1 << 40 {
+        return;
+    }
+    match updater.update(item) {
+        Update::Filtered | Update::Kept => {}
+        Update::Handed => {
+            if updater.is_eager() {
+                let _ = updater.help(rt);
+            }
+        }
+        Update::Busy => {
+            if let Help::Served(_) = updater.help(rt) {
+                let _ = updater.update(item);
+            }
+        }
+    }
+}
