@@ -11,13 +11,18 @@ use std::sync::Wait;
 
 // As many hashes as `count` keeps by default, and as many items in a buffer.
 const K: u32 = 4_096;
+
 const BUFFER: u32 = 64;
 
 // The item at a place, of so many distinct ones.
 fn item_at(place: u64, distinct: u64) -> u64
     ensures { result < item_end }
 {
-    let number = if distinct == 0 { place } else { place % distinct };
+    let number = if distinct == 0 {
+        place
+    } else {
+        place % distinct
+    };
     number.wrapping_mul(0x9E37_79B9_7F4A_7C15) % ITEM_END
 }
 
