@@ -20,7 +20,7 @@ range_more xs from at d le within =
     let short : at - from < length (drop from xs) = omega (arith, length-drop from xs) in
     ap (λ n. take n (drop from xs)) next ∙ take_more (drop from xs) (at - from) d short ∙ ap (λ x. slice_range xs from at ++ x ∷ []) (get_or-drop from xs (at - from) d ∙ ap (λ n. get_or xs n d) place)
 
-items_append : (kind : Kind) (xs ys : List (List ℕ)) → items_in kind (xs ++ ys) ≡ items_in kind xs ++ items_in kind ys
+pub items_append : (kind : Kind) (xs ys : List (List ℕ)) → items_in kind (xs ++ ys) ≡ items_in kind xs ++ items_in kind ys
 unfolding items_in
 items_append kind xs ys = filter_map-append (item_in kind) xs ys
 

@@ -3,6 +3,7 @@ pub mod Fields
 pub mod Blocks
 pub mod Kept
 pub mod Items
+pub mod Joined
 pub mod Updaters
 pub mod Feeding
 pub mod Rounds
