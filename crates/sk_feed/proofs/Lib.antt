@@ -4,6 +4,8 @@ pub mod Blocks
 pub mod Kept
 pub mod Items
 pub mod Joined
+pub mod Idle
+pub mod Totals
 pub mod Updaters
 pub mod Feeding
 pub mod Rounds

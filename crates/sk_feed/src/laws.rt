@@ -11,6 +11,8 @@ ghost use Rattle.sk_feed.specs.Rounds.{block_of};
 ghost use Rattle.sk_feed.specs.Feeds.{IsIdle, AreKept, Takes};
 ghost use Rattle.sk_feed.specs.Windows.{items_in};
 
+pub mod idle;
+
 /// The first block begins at the first line.
 pub fn blocks_begin()
     ensures { (lines n : ℕ) → place_of lines 0 n ≡ 0 }
