@@ -5,8 +5,8 @@ pub mod Kept
 pub mod Items
 pub mod Joined
 pub mod Idle
-pub mod Totals
 pub mod Updaters
+pub mod Totals
 pub mod Feeding
 pub mod Rounds
 pub mod Tables

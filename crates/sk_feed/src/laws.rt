@@ -3,6 +3,7 @@ ghost use Rattle.std.specs.Prelude.{ℕ, Bool, List, [], ◌∷◌, ◌≡◌, �
 ghost use Rattle.std.specs.List.{range_with_len};
 ghost use Rattle.sk_model.specs.Entries.{Entry};
 ghost use Rattle.sk_model.specs.Missing.{Begins};
+ghost use Rattle.sk_model.specs.Width.{AreItems};
 ghost use Rattle.sk_hub.specs.Updaters.{UpdaterState};
 ghost use Rattle.sk_ingest.specs.Items.{items_by, IsGood};
 ghost use Rattle.sk_ingest.specs.declared.kind.Kind.{Kind};
@@ -12,6 +13,7 @@ ghost use Rattle.sk_feed.specs.Feeds.{IsIdle, AreKept, Takes};
 ghost use Rattle.sk_feed.specs.Windows.{items_in};
 
 pub mod idle;
+pub mod totals;
 
 /// The first block begins at the first line.
 pub fn blocks_begin()
@@ -39,6 +41,11 @@ pub fn blocks_are_the_lines()
 /// Where each line is empty or an item, the items are those that a reader of these lines gives.
 pub fn items_of_good_lines()
     ensures { (kind : Kind) (lines : List (List ℕ)) → All (IsGood kind) lines → items_in kind lines ≡ items_by kind lines }
+{}
+
+/// Items of lines are below the end of the items.
+pub fn items_of_lines_are_below()
+    ensures { (kind : Kind) (lines : List (List ℕ)) → AreItems (items_in kind lines) }
 {}
 
 /// One item more at the end, which is kept.

@@ -1,5 +1,5 @@
 //! Items that were not kept change no reply.
-ghost use Rattle.std.specs.Prelude.{ℕ, List, ◌≡◌, ◌<◌, ◌++◌, All, flat_map};
+ghost use Rattle.std.specs.Prelude.{ℕ, List, ◌≡◌, ◌<◌, ◌++◌, All, Contains, flat_map};
 ghost use Rattle.std.specs.List.{range_with_len};
 ghost use Rattle.sk_model.specs.Entries.{Entry, entries_by, tagged};
 ghost use Rattle.sk_model.specs.Missing.{Begins};
@@ -27,4 +27,10 @@ pub fn the_word_is_of_all_items<C: ThetaKind>(_sketch: PhantomData<C>)
         → All (λ entry. entry.0 < n) list → ((i : ℕ) → i < n → AreItems (items i))
         → ((i : ℕ) → i < n → AreKept C.keeps_of (C.hint_of numbers) list (items i) (entries_by i list))
         → C.packed_of numbers list ≡ packed_of (k_of numbers) (flat_map items (range_with_len 0 n)) }
+{}
+
+/// Lists with the same members have one word, in whatever order.
+pub fn order_changes_no_word()
+    ensures { (k : ℕ) (xs ys : List ℕ) → ((x : ℕ) → Contains xs x → Contains ys x)
+        → ((x : ℕ) → Contains ys x → Contains xs x) → packed_of k xs ≡ packed_of k ys }
 {}
