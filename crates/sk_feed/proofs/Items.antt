@@ -1,12 +1,16 @@
 -- The items of lines.
 use Rattle.std.proofs.Common.{◌≡◌, ℕ, ◌+◌, ◌-◌, ◌<◌, ◌≤◌, List, [], ◌∷◌, ◌++◌, length, get_or, take, drop, slice_range, Option, Some, None, IsSome, All, nat_lt, true, refl, ap, ◌∙◌, arith, append-nil, length-drop}
 use Rattle.std.specs.List.{cons_option}
-use Rattle.std.specs.Option.{unwrap_or}
+use Rattle.std.specs.Option.{unwrap_or, IfSome}
 use Rattle.std.proofs.lemmas.Bool.{false≢true, lt-ltb}
 use Rattle.std.proofs.lemmas.List.{take_more, get_or-drop}
-use Rattle.std.proofs.lemmas.List.Elements.{filter_map-append, All-head, All-tail}
+use Rattle.std.proofs.lemmas.List.Elements.{filter_map-append, All-nil, All-cons, All-head, All-tail}
 use Rattle.sk_ingest.specs.Items.{item_of, items_by, IsGood}
 use Rattle.sk_ingest.specs.declared.kind.Kind.{Kind}
+use Rattle.sk_ingest.specs.declared.kind.Kind.TheVariants.{Hash, Raw}
+use Rattle.sk_model.specs.Width.{item_end, AreItems}
+use Rattle.sk_model.proofs.Murmur.{hash_of-lt}
+use Rattle.sk_model.proofs.Numbers.{number_below}
 use Rattle.sk_model.specs.Lines.{items_of, filled}
 use Rattle.sk_feed.specs.Windows.{item_in, items_in}
 
@@ -20,7 +24,7 @@ range_more xs from at d le within =
     let short : at - from < length (drop from xs) = omega (arith, length-drop from xs) in
     ap (λ n. take n (drop from xs)) next ∙ take_more (drop from xs) (at - from) d short ∙ ap (λ x. slice_range xs from at ++ x ∷ []) (get_or-drop from xs (at - from) d ∙ ap (λ n. get_or xs n d) place)
 
-items_append : (kind : Kind) (xs ys : List (List ℕ)) → items_in kind (xs ++ ys) ≡ items_in kind xs ++ items_in kind ys
+pub items_append : (kind : Kind) (xs ys : List (List ℕ)) → items_in kind (xs ++ ys) ≡ items_in kind xs ++ items_in kind ys
 unfolding items_in
 items_append kind xs ys = filter_map-append (item_in kind) xs ys
 
@@ -62,3 +66,17 @@ good_items kind ((byte ∷ line) ∷ lines) good =
     let some : 0 < length (byte ∷ line) = omega arith in
     let yes : nat_lt 0 (length (byte ∷ line)) ≡ true = lt-ltb 0 (length (byte ∷ line)) some in
     rw yes (filled_one (item_of kind (byte ∷ line)) (items_in kind lines) (items_by kind lines) (All-head (IsGood kind) (byte ∷ line) lines good some) (good_items kind lines (All-tail (IsGood kind) (byte ∷ line) lines good)))
+
+line_below : (kind : Kind) (line : List ℕ) → IfSome (item_in kind line) (λ item. item < item_end)
+line_below kind [] = tt
+line_below (Hash seed) (byte ∷ line) = hash_of-lt seed (byte ∷ line)
+line_below Raw (byte ∷ line) = number_below item_end (byte ∷ line)
+
+one_below : (item : Option ℕ) (items : List ℕ) → IfSome item (λ x. x < item_end) → AreItems items → AreItems (cons_option item items)
+one_below None items below rest = rest
+one_below (Some x) items below rest = All-cons (λ item. item < item_end) x items below rest
+
+pub items_below : (kind : Kind) (lines : List (List ℕ)) → AreItems (items_in kind lines)
+unfolding items_in
+items_below kind [] = All-nil (λ item. item < item_end)
+items_below kind (line ∷ lines) = one_below (item_in kind line) (items_in kind lines) (line_below kind line) (items_below kind lines)

@@ -3,7 +3,10 @@ pub mod Fields
 pub mod Blocks
 pub mod Kept
 pub mod Items
+pub mod Joined
+pub mod Idle
 pub mod Updaters
+pub mod Totals
 pub mod Feeding
 pub mod Rounds
 pub mod Tables

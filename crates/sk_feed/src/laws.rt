@@ -1,13 +1,19 @@
 //! What follows from the definitions alone.
-ghost use Rattle.std.specs.Prelude.{ℕ, Bool, List, [], ◌∷◌, ◌≡◌, ◌<◌, ◌≤◌, ◌+◌, ◌++◌, All};
+ghost use Rattle.std.specs.Prelude.{ℕ, Bool, List, [], ◌∷◌, ◌≡◌, ◌<◌, ◌≤◌, ◌+◌, ◌++◌, All, flat_map};
+ghost use Rattle.std.specs.List.{range_with_len};
 ghost use Rattle.sk_model.specs.Entries.{Entry};
 ghost use Rattle.sk_model.specs.Missing.{Begins};
+ghost use Rattle.sk_model.specs.Width.{AreItems};
 ghost use Rattle.sk_hub.specs.Updaters.{UpdaterState};
 ghost use Rattle.sk_ingest.specs.Items.{items_by, IsGood};
 ghost use Rattle.sk_ingest.specs.declared.kind.Kind.{Kind};
 ghost use Rattle.sk_feed.specs.Blocks.{place_of};
+ghost use Rattle.sk_feed.specs.Rounds.{block_of};
 ghost use Rattle.sk_feed.specs.Feeds.{IsIdle, AreKept, Takes};
 ghost use Rattle.sk_feed.specs.Windows.{items_in};
+
+pub mod idle;
+pub mod totals;
 
 /// The first block begins at the first line.
 pub fn blocks_begin()
@@ -24,9 +30,22 @@ pub fn blocks_rise()
     ensures { (lines i n : ℕ) → 0 < n → place_of lines i n ≤ place_of lines (i + 1) n }
 {}
 
+/// The blocks, one behind another, are the lines, and their items are those of the lines.
+pub fn blocks_are_the_lines()
+    ensures lines { (lines : List (List ℕ)) (n : ℕ) → 0 < n
+        → flat_map (λ i. block_of lines i n) (range_with_len 0 n) ≡ lines }
+    ensures items { (kind : Kind) (lines : List (List ℕ)) (n : ℕ) → 0 < n
+        → flat_map (λ i. items_in kind (block_of lines i n)) (range_with_len 0 n) ≡ items_in kind lines }
+{}
+
 /// Where each line is empty or an item, the items are those that a reader of these lines gives.
 pub fn items_of_good_lines()
     ensures { (kind : Kind) (lines : List (List ℕ)) → All (IsGood kind) lines → items_in kind lines ≡ items_by kind lines }
+{}
+
+/// Items of lines are below the end of the items.
+pub fn items_of_lines_are_below()
+    ensures { (kind : Kind) (lines : List (List ℕ)) → AreItems (items_in kind lines) }
 {}
 
 /// One item more at the end, which is kept.

@@ -4,7 +4,7 @@
 mod block;
 mod feed;
 mod feeder;
-mod laws;
+pub mod laws;
 mod window;
 
 pub use block::Block;
