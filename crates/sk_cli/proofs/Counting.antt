@@ -6,11 +6,11 @@ use Rattle.std.specs.Io.KnownBytes.{Appends, Consumes, IsAtEnd}
 use Rattle.std.proofs.KnownBytes.{Appends-nil}
 use Rattle.sk_model.specs.Causes.{Rose, AppendsFront}
 use Rattle.sk_model.specs.Sketch.{estimate_of}
-use Rattle.sk_ingest.specs.declared.kind.Kind.{Kind}
-use Rattle.sk_ingest.specs.declared.items.Fault.{Fault as ReadingFault}
-use Rattle.sk_ingest.specs.declared.items.Fault.TheVariants as reading
-use Rattle.sk_ingest.specs.Items.{items_by}
-use Rattle.sk_ingest.specs.Units.{units_of, IsReadable, IsReadableSoFar, IsLongUnit, IsBadUnit, IsUnevenUnit}
+use Rattle.sk_read.specs.declared.kind.Kind.{Kind}
+use Rattle.sk_read.specs.declared.items.Fault.{Fault as ReadingFault}
+use Rattle.sk_read.specs.declared.items.Fault.TheVariants as reading
+use Rattle.sk_read.specs.Items.{items_by}
+use Rattle.sk_read.specs.Units.{units_of, IsReadable, IsReadableSoFar, IsLongUnit, IsBadUnit, IsUnevenUnit}
 use Rattle.sk_cli.specs.declared.fault.Fault.{Fault}
 use Rattle.sk_cli.specs.declared.fault.Fault.TheVariants as fault
 use Rattle.sk_cli.specs.declared.command.Command.TheVariants.{Count}

@@ -5,12 +5,12 @@ use Rattle.std.specs.Io.KnownBytes.{Appends}
 use Rattle.std.proofs.KnownBytes.{Appends-nil}
 use Rattle.sk_model.specs.Causes.{AppendsFront}
 use Rattle.sk_model.specs.Lines.{AreWithin}
-use Rattle.sk_ingest.specs.Items.{line_limit}
 use Rattle.sk_cli.specs.declared.command.Command.{Command}
 use Rattle.sk_cli.specs.declared.fault.Fault.{Fault}
 use Rattle.sk_cli.specs.declared.fault.Fault.TheVariants as fault
 use Rattle.sk_cli.specs.Due.{text_for, IsDue, IsDueBefore, WritesFront}
 use Rattle.sk_cli.specs.Run.{Streams, Finishes, Ends, EndsWithin, Executes}
+use Rattle.sk_model.specs.Limits.{line_limit}
 
 -- what holds of every text holds of one that is told
 pub all_told : (told : Option (List ℕ)) (P : List ℕ → Type 0) → ((text : List ℕ) → P text) → IfSome told P

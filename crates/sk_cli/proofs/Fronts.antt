@@ -4,6 +4,7 @@ use Rattle.std.proofs.lemmas.List.{take-append-le}
 use Rattle.std.specs.Io.KnownBytes.{Appends}
 use Rattle.std.proofs.KnownBytes.{Appends-trans}
 use Rattle.sk_model.specs.Causes.{AppendsFront}
+use Rattle.sk_model.specs.Missing.{longer}
 
 -- a front of a text is one of a longer text
 pub front_longer : (a b : Option (List ℕ)) (xs ys : List ℕ) → AppendsFront a b xs → AppendsFront a b (xs ++ ys)

@@ -9,16 +9,17 @@ use Rattle.sk_model.specs.Causes.{Rose, AppendsFront}
 use Rattle.sk_model.specs.Missing.{Begins}
 use Rattle.sk_model.specs.Murmur.{hash_of}
 use Rattle.sk_model.specs.Lines.{lines_of, open_lines_of, AreWithin, IsFirstLong}
-use Rattle.sk_ingest.specs.declared.kind.Kind.TheVariants as kind
-use Rattle.sk_ingest.specs.declared.reader.LineFault.{LineFault}
-use Rattle.sk_ingest.specs.declared.reader.LineFault.TheVariants as stop
-use Rattle.sk_ingest.specs.Items.{line_limit, complete_lines_of}
-use Rattle.sk_ingest.specs.Reading.{Reading, HasGiven, GivesNext, GivesNone, FindsLong, Stands, Stops as StopsAt, ComesLong}
-use Rattle.sk_ingest.proofs.ItemLaws.{front_is, told_by, with_rest, stood, has_begun, read_whole}
+use Rattle.sk_read.specs.declared.kind.Kind.TheVariants as kind
+use Rattle.sk_read.specs.declared.reader.LineFault.{LineFault}
+use Rattle.sk_read.specs.declared.reader.LineFault.TheVariants as stop
+use Rattle.sk_read.specs.Items.{complete_lines_of}
+use Rattle.sk_read.specs.Reading.{Reading, HasGiven, GivesNext, GivesNone, FindsLong, Stands, Stops as StopsAt, ComesLong}
+use Rattle.sk_read.proofs.ItemLaws.{front_is, told_by, with_rest, stood, has_begun, read_whole}
 use Rattle.sk_cli.specs.declared.command.Command.{Command}
 use Rattle.sk_cli.specs.Due.{reads, text_for, IsDue, IsDueSoFar, IsDueBefore, IsLongLine, IsLong, Writes, WritesFront}
 use Rattle.sk_cli.specs.Fault.{fault_by_line}
 use Rattle.sk_cli.specs.Run.{Streams, Stops, Finishes, Ends, EndsWithin}
+use Rattle.sk_model.specs.Limits.{line_limit}
 
 -- how far a command has come with the lines of a source
 pub record Reads (r : Reading) (left now : Option (List ℕ)) (most : ℕ) (given : List (List ℕ)) (taken : List ℕ) : Type 0 where

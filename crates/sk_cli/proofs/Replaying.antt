@@ -13,9 +13,8 @@ use Rattle.sk_core.specs.Texts.{event_of, fields_of}
 use Rattle.sk_core.specs.declared.event.Event.{Event}
 use Rattle.sk_core.specs.declared.event.Answer.{Answer}
 use Rattle.sk_core.proofs.Runs.{run_more, run_empty}
-use Rattle.sk_ingest.specs.Items.{line_limit}
-use Rattle.sk_ingest.specs.Reading.{Reading, GivesNone}
-use Rattle.sk_ingest.proofs.ItemLaws.{told_by, with_rest, has_begun, read_whole}
+use Rattle.sk_read.specs.Reading.{Reading, GivesNone}
+use Rattle.sk_read.proofs.ItemLaws.{told_by, with_rest, has_begun, read_whole}
 use Rattle.sk_cli.specs.declared.command.Command.TheVariants.{Replay}
 use Rattle.sk_cli.specs.Replay.{start_of, IsPlay, Played, answer_line, answers_text, IsAnswered, IsNoMore}
 use Rattle.sk_cli.specs.Due.{IsDueBefore, IsBadLine, IsBadEvent, Writes}
@@ -23,6 +22,7 @@ use Rattle.sk_cli.specs.Run.{Streams, Refuses, EndsWithin}
 use Rattle.sk_cli.proofs.Endings.{none_within}
 use Rattle.sk_cli.proofs.Fronts.{front_behind}
 use Rattle.sk_cli.proofs.Reading.{ByLines, Reads, within_given, first_are, cut_short}
+use Rattle.sk_model.specs.Limits.{line_limit}
 
 pub answers_more : (answers : List Answer) (a : Answer) → answers_text (answers ++ a ∷ []) ≡ answers_text answers ++ answer_line a
 unfolding answers_text

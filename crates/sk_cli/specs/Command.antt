@@ -1,13 +1,14 @@
 -- The words of a command line as a command.
 use Rattle.std.specs.Prelude.{ℕ, ◌≤◌, ◌-◌, ◌^◌, List, [], ◌∷◌, codes, if◌then◌else◌, Option, Some, None, option_and_then, option_map, bytes_eq}
 use Rattle.std.specs.Option.{option_copied}
-use Rattle.sk_ingest.specs.declared.kind.Kind.TheVariants as kind
+use Rattle.sk_read.specs.declared.kind.Kind.TheVariants as kind
 use Rattle.sk_cli.specs.declared.options.Verb.TheVariants as verb
 use Rattle.sk_cli.specs.declared.options.Name.TheVariants as name
 use Rattle.sk_cli.specs.declared.command.Request.{Request}
 use Rattle.sk_cli.specs.declared.command.Command.{Command}
 use Rattle.sk_cli.specs.declared.command.Command.TheVariants.{Count, Hash, Replay, Help, Version}
 use Rattle.sk_cli.specs.Options.{Word, Given, spelled_by, value_behind, is_given, number_in}
+use Rattle.sk_model.specs.Limits.{most_k}
 
 -- the seed of the hash
 abbrev pub seed_by : List Given → Option ℕ
@@ -44,7 +45,7 @@ column_by given = if is_given name.Csv given then number_in 1 4096 1 (value_behi
 abbrev pub count_by : List Given → Option Command
 count_by given =
     option_and_then (λ k. option_and_then (λ seed. option_map (λ column. Count k (if is_given name.Raw given then kind.Raw else kind.Hash seed) column) (column_by given)) (seed_by given))
-    (number_in 2 32768 4096 (value_behind name.K given))
+    (number_in least_k most_k 4096 (value_behind name.K given))
 
 -- the options of `hash`
 abbrev pub hash_by : List Given → Option Command
@@ -71,7 +72,7 @@ request_of (word ∷ words) =
 
 -- the numbers of a command are within their limits
 abbrev pub IsWithin : Command → Type 0
-IsWithin (Count k kind column) = (2 ≤ k) × (k ≤ 32768)
+IsWithin (Count k kind column) = (2 ≤ k) × (k ≤ most_k)
 IsWithin (Hash seed) = Unit {0}
 IsWithin Replay = Unit {0}
 IsWithin Help = Unit {0}

@@ -4,14 +4,15 @@ use Rattle.std.specs.Io.KnownBytes.{Appends}
 use Rattle.sk_model.specs.Causes.{AppendsFront}
 use Rattle.sk_model.specs.Lines.{lines_of, open_lines_of, AreWithin, IsFirstLong}
 use Rattle.sk_model.specs.Sketch.{estimate_of}
-use Rattle.sk_ingest.specs.Items.{line_limit, items_by, complete_lines_of}
-use Rattle.sk_ingest.specs.Units.{units_of, IsReadable, IsReadableSoFar, IsLongUnit, IsBadUnit, IsUnevenUnit}
+use Rattle.sk_read.specs.Items.{items_by, complete_lines_of}
+use Rattle.sk_read.specs.Units.{units_of, IsReadable, IsReadableSoFar, IsLongUnit, IsBadUnit, IsUnevenUnit}
 use Rattle.sk_cli.specs.Count.{estimate_line}
 use Rattle.sk_cli.specs.Hash.{hash_text}
 use Rattle.sk_cli.specs.Replay.{IsAnswered, IsNoMore}
 use Rattle.sk_cli.specs.declared.help.TheConstants.{HELP, VERSION}
 use Rattle.sk_cli.specs.declared.command.Command.{Command}
 use Rattle.sk_cli.specs.declared.command.Command.TheVariants.{Count, Hash, Replay, Help, Version}
+use Rattle.sk_model.specs.Limits.{line_limit}
 
 -- whether a command reads
 abbrev pub reads : Command → Bool

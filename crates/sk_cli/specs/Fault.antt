@@ -1,9 +1,9 @@
 -- Statuses, and what standard error gets.
 use Rattle.std.specs.Prelude.{ℕ, zero, suc, List, ◌++◌, codes, decimal}
-use Rattle.sk_ingest.specs.declared.items.Fault.{Fault as ReadingFault}
-use Rattle.sk_ingest.specs.declared.items.Fault.TheVariants as reading
-use Rattle.sk_ingest.specs.declared.reader.LineFault.{LineFault}
-use Rattle.sk_ingest.specs.declared.reader.LineFault.TheVariants as stop
+use Rattle.sk_read.specs.declared.items.Fault.{Fault as ReadingFault}
+use Rattle.sk_read.specs.declared.items.Fault.TheVariants as reading
+use Rattle.sk_read.specs.declared.reader.LineFault.{LineFault}
+use Rattle.sk_read.specs.declared.reader.LineFault.TheVariants as stop
 use Rattle.sk_cli.specs.declared.fault.Fault.{Fault}
 use Rattle.sk_cli.specs.declared.fault.Fault.TheVariants.{OutOfMemory, Usage, ReadFault, WriteFault, LongLine, BadItem, BadField, BadEvent, OpenFault, BadCsv, TooMuch}
 

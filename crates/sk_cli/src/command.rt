@@ -5,7 +5,8 @@ ghost use Rattle.sk_cli.specs.Options.{texts_of};
 ghost use Rattle.sk_cli.specs.Command.{request_of, asked_of, count_by, hash_by, replay_by, seed_by, column_by, file_by, asked_by, alone, IsWithin};
 
 use crate::options::{Name, Options, Verb};
-use sk_ingest::Kind;
+use sk_read::Kind;
+use sk_model::limits::{LEAST_K, MOST_K};
 
 /// What the program is asked to do.
 #[derive(Clone, Copy, Debug, PartialEq, Eq)]
@@ -80,7 +81,7 @@ impl Command {
         ensures value { result ≡ count_by options.now }
         ensures limits { IfSome result IsWithin }
     {
-        let k = options.number(Name::K, 2, 32_768, 4_096)? as u32;
+        let k = options.number(Name::K, u64::from(LEAST_K), u64::from(MOST_K), 4_096)? as u32;
         let seed = seed_in(options)?;
         let kind = if options.has(Name::Raw) {
             Kind::Raw

@@ -4,11 +4,12 @@ ghost use Rattle.sk_cli.specs.Count.{estimate_line};
 ghost use Rattle.sk_cli.specs.Fault.{fault_by};
 ghost use Rattle.sk_cli.specs.Run.{streams, Executes};
 ghost use Rattle.sk_cli.specs.declared.command.Command.TheVariants as command;
+ghost use Rattle.sk_model.specs.Limits.{most_k, source_limit};
 
 use crate::fault::Fault;
 use crate::write::write_text;
 use sk_heap::HeapTheta;
-use sk_ingest::{Fault as ReadingFault, Intake, Kind, read_items};
+use sk_read::{Fault as ReadingFault, Intake, Kind, read_items};
 use sk_io::{Sink, Source};
 use std::alloc::{AllocError, Global};
 
@@ -37,8 +38,8 @@ pub fn count<S: Source, O: Sink>(
     out: &mut O,
 ) -> Result<(), Fault>
     requires least { 2 ≤ k }
-    requires most { k ≤ 32768 }
-    requires bound { most ≤ 2 ^ 40 }
+    requires most { k ≤ most_k }
+    requires bound { most ≤ source_limit }
     ensures done { Executes (command.Count k kind column) most
         (streams (S.left source.old) (S.faults source.old) (O.written out.old) (O.faults out.old))
         (streams (S.left source.new) (S.faults source.new) (O.written out.new) (O.faults out.new)) result }

@@ -4,6 +4,7 @@ ghost use Rattle.std.specs.Option.{option_copied};
 ghost use Rattle.sk_io.specs.Files.{IsMissing};
 ghost use Rattle.sk_cli.specs.Command.{IsWithin};
 ghost use Rattle.sk_cli.specs.Run.{streams, outside, Executes, Performs};
+ghost use Rattle.sk_model.specs.Limits.{source_limit};
 
 use crate::command::Command;
 use crate::count::count;
@@ -27,7 +28,7 @@ pub fn perform<S: Source, O: Sink, F: Shelf>(
     shelf: &mut F,
 ) -> Result<(), Fault>
     requires within { IsWithin command }
-    requires bound { most ≤ 2 ^ 40 }
+    requires bound { most ≤ source_limit }
     ensures done { Performs (record { command = command; file = option_copied file.entry }) most
         (outside (S.left input.old) (S.faults input.old) (F.files shelf.old) (F.open_faults shelf.old) (F.read_faults shelf.old)
         (O.written out.old) (O.faults out.old))
@@ -57,7 +58,7 @@ fn execute_on<F: Shelf, O: Sink>(
     out: &mut O,
 ) -> Result<(), Fault>
     requires within { IsWithin command }
-    requires bound { most ≤ 2 ^ 40 }
+    requires bound { most ≤ source_limit }
     ensures done { Executes command most
         (streams (F.left shelf.old file.old) (F.read_faults shelf.old) (O.written out.old) (O.faults out.old))
         (streams (F.left shelf.new file.new) (F.read_faults shelf.new) (O.written out.new) (O.faults out.new)) result }
@@ -77,7 +78,7 @@ pub fn execute<S: Source, O: Sink>(
     out: &mut O,
 ) -> Result<(), Fault>
     requires within { IsWithin command }
-    requires bound { most ≤ 2 ^ 40 }
+    requires bound { most ≤ source_limit }
     ensures done { Executes command most
         (streams (S.left source.old) (S.faults source.old) (O.written out.old) (O.faults out.old))
         (streams (S.left source.new) (S.faults source.new) (O.written out.new) (O.faults out.new)) result }

@@ -5,7 +5,7 @@ ghost use Rattle.sk_model.specs.Causes.{HasCause, AppendsFront};
 ghost use Rattle.sk_cli.specs.Fault.{status_of, message_of, unit_message, fault_by};
 
 use itoa::Buffer;
-use sk_ingest::{Fault as ReadingFault, LineFault};
+use sk_read::{Fault as ReadingFault, LineFault};
 use sk_io::{Failed, Sink, write_all};
 use sk_model::OutOfMemory;
 use std::alloc::AllocError;

@@ -5,11 +5,12 @@ ghost use Rattle.sk_model.specs.Causes.{HasCause, AppendsFront};
 ghost use Rattle.sk_cli.specs.Hash.{hash_line, hash_text, hex_digit};
 ghost use Rattle.sk_cli.specs.Run.{streams, Executes};
 ghost use Rattle.sk_cli.specs.declared.command.Command.TheVariants as command;
+ghost use Rattle.sk_model.specs.Limits.{source_limit};
 
 use crate::fault::Fault;
 use crate::write::write_text;
 use sk_hash::hash48;
-use sk_ingest::LineReader;
+use sk_read::LineReader;
 use sk_io::{Sink, Source};
 use std::alloc::Global;
 
@@ -65,7 +66,7 @@ pub fn hash<S: Source, O: Sink>(
     source: &mut S,
     out: &mut O,
 ) -> Result<(), Fault>
-    requires bound { most ≤ 2 ^ 40 }
+    requires bound { most ≤ source_limit }
     ensures done { Executes (command.Hash seed) most
         (streams (S.left source.old) (S.faults source.old) (O.written out.old) (O.faults out.old))
         (streams (S.left source.new) (S.faults source.new) (O.written out.new) (O.faults out.new)) result }

@@ -8,15 +8,14 @@ ghost use Rattle.sk_cli.specs.Fault.{message_of, status_of};
 ghost use Rattle.sk_cli.specs.Run.{outside, Over, Finishes, Fails, Reports};
 ghost use Rattle.sk_cli.specs.declared.fault.Fault.{Fault};
 ghost use Rattle.sk_cli.specs.declared.fault.Fault.TheVariants as fault;
+ghost use Rattle.sk_model.specs.Limits.{source_limit};
 
 use crate::command::Request;
 use crate::execute::perform;
 use crate::fault::Fault;
 use sk_io::{Shelf, Sink, Source};
+use sk_model::limits::SOURCE_LIMIT;
 use std::alloc::Global;
-
-// As many bytes as this of one source are too much.
-const MOST_BYTES: u64 = 1 << 40;
 
 /// Runs the program over the words that stand behind its name, and answers its exit status. What
 /// standard error is told is written as far as it goes, and a fault of that write changes nothing.
@@ -33,7 +32,7 @@ pub fn run<S: Source, O: Sink, E: Sink, F: Shelf>(
     ensures usage_alone { result ≡ 2 → (input.new ≡ input.old) × (shelf.new ≡ shelf.old) × (out.new ≡ out.old) }
 
     // What the command reads was read to its end, no line is refused, and the whole text was written.
-    ensures ok { result ≡ 0 → IfSome (request_of (texts_of words.now)) (λ asked. Over asked.file (λ a b. Finishes asked.command (2 ^ 40) a b)
+    ensures ok { result ≡ 0 → IfSome (request_of (texts_of words.now)) (λ asked. Over asked.file (λ a b. Finishes asked.command source_limit a b)
         (outside (S.left input.old) (S.faults input.old) (F.files shelf.old) (F.open_faults shelf.old) (F.read_faults shelf.old)
         (O.written out.old) (O.faults out.old))
         (outside (S.left input.new) (S.faults input.new) (F.files shelf.new) (F.open_faults shelf.new) (F.read_faults shelf.new)
@@ -43,7 +42,7 @@ pub fn run<S: Source, O: Sink, E: Sink, F: Shelf>(
     // Every other status is that of a fault, which has its cause and its place, and of which standard error is told.
     ensures fault { result ≢ 0 → (f : Fault) × (result ≡ status_of f)
         × Reports (E.written err.old) (E.written err.new) (E.faults err.old) (E.faults err.new) (message_of f)
-        × MatchOption (request_of (texts_of words.now)) (f ≡ fault.Usage) (λ asked. Fails asked (2 ^ 40)
+        × MatchOption (request_of (texts_of words.now)) (f ≡ fault.Usage) (λ asked. Fails asked source_limit
         (outside (S.left input.old) (S.faults input.old) (F.files shelf.old) (F.open_faults shelf.old) (F.read_faults shelf.old)
         (O.written out.old) (O.faults out.old))
         (outside (S.left input.new) (S.faults input.new) (F.files shelf.new) (F.open_faults shelf.new) (F.read_faults shelf.new)
@@ -64,7 +63,7 @@ pub fn run<S: Source, O: Sink, E: Sink, F: Shelf>(
         alloc,
         request.command,
         request.file,
-        MOST_BYTES,
+        SOURCE_LIMIT,
         input,
         out,
         shelf,

@@ -5,11 +5,12 @@ ghost use Rattle.sk_core.specs.Stored.{machine_of};
 ghost use Rattle.sk_cli.specs.Replay.{start_of, started, MeetsThere, answer_line, IsPlay, IsNoPlay};
 ghost use Rattle.sk_cli.specs.Run.{streams, Executes};
 ghost use Rattle.sk_cli.specs.declared.command.Command.TheVariants as command;
+ghost use Rattle.sk_model.specs.Limits.{source_limit};
 
 use crate::fault::Fault;
 use crate::write::write_text;
 use sk_core::{Answer, State, push_answer, read_event, read_machine, read_vacant};
-use sk_ingest::LineReader;
+use sk_read::LineReader;
 use sk_io::{Sink, Source};
 use sk_model::OutOfMemory;
 use std::alloc::Global;
@@ -55,7 +56,7 @@ pub fn replay<S: Source, O: Sink>(
     source: &mut S,
     out: &mut O,
 ) -> Result<(), Fault>
-    requires bound { most ≤ 2 ^ 40 }
+    requires bound { most ≤ source_limit }
     ensures done { Executes command.Replay most
         (streams (S.left source.old) (S.faults source.old) (O.written out.old) (O.faults out.old))
         (streams (S.left source.new) (S.faults source.new) (O.written out.new) (O.faults out.new)) result }

@@ -6,7 +6,7 @@ use super::*;
 use crate::command::Command;
 use crate::execute::execute;
 use crate::fault::Fault;
-use sk_ingest::Kind;
+use sk_read::Kind;
 use sk_io::{MemShelf, MemSink, MemSource, Shelf};
 use std::alloc::Global;
 use std::process::Abort;

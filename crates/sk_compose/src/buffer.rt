@@ -1,7 +1,8 @@
 //! The items that wait to be merged, and what lies in a slot.
 ghost use Rattle.std.specs.Prelude.{◌≡◌, ◌↔◌, ◌<◌, ◌≤◌, [], ◌∷◌, ◌++◌, length, IsTrue, IfOk};
-ghost use Rattle.sk_model.specs.Width.{item_end};
 ghost use Rattle.sk_compose.specs.Buffers.{IsBuffer};
+ghost use Rattle.sk_model.specs.Width.{IsItem};
+ghost use Rattle.sk_model.specs.Limits.{most_size};
 
 use sk_model::OutOfMemory;
 use std::alloc::Global;
@@ -30,7 +31,7 @@ impl Buffer {
     /// Room for b items, from 1 to 4,096. All its memory is taken here.
     pub fn new(alloc: Global, b: u32) -> Result<Buffer, OutOfMemory>
         requires least { 1 ≤ b }
-        requires most { b ≤ 4096 }
+        requires most { b ≤ most_size }
         ensures items { IfOk result (λ buffer. buffer.items ≡ []) }
         ensures capacity { IfOk result (λ buffer. buffer.capacity ≡ b) }
     {
@@ -43,7 +44,7 @@ impl Buffer {
     /// Puts an item to the end.
     pub fn push(&mut self, item: u64)
         requires room { length self.old.items < self.old.capacity }
-        requires item { item < item_end }
+        requires item { IsItem item }
         ensures items { self.new.items ≡ self.old.items ++ item ∷ [] }
         ensures capacity { self.new.capacity ≡ self.old.capacity }
     {

@@ -1,7 +1,8 @@
 //! What a sketch owes to be run concurrently.
 ghost use Rattle.std.specs.Prelude.{◌≡◌, ◌↔◌, ◌+◌, ◌<◌, ◌≤◌, ◌^◌, ℕ, Bool, true, false, List, ◌∷◌, ◌++◌, length, IsTrue, IfOk, IfErr};
 ghost use Rattle.sk_model.specs.Entries.{Entry, tagged};
-ghost use Rattle.sk_model.specs.Width.{item_end};
+ghost use Rattle.sk_model.specs.Width.{IsItem};
+ghost use Rattle.sk_model.specs.Missing.{longer};
 
 use crate::buffer::Buffer;
 use sk_model::OutOfMemory;
@@ -90,14 +91,14 @@ pub trait Composable: Drop {
 
     // An item that the hint of a list does not keep may be left out of any longer list.
     ghost idle_replies: { (numbers : List ℕ) (list more rest : List Entry) (i item : ℕ)
-        → item < item_end
+        → IsItem item
         → keeps_of (hint_of numbers list) item ≡ false
         → (hint_of numbers ((list ++ more) ++ (i, item) ∷ rest)
         ≡ hint_of numbers ((list ++ more) ++ rest))
         × (packed_of numbers ((list ++ more) ++ (i, item) ∷ rest)
         ≡ packed_of numbers ((list ++ more) ++ rest)) };
 
-    ghost idle_lists: { (s : Self) (list more rest : List Entry) (i item : ℕ) → item < item_end
+    ghost idle_lists: { (s : Self) (list more rest : List Entry) (i item : ℕ) → IsItem item
         → keeps_of (hint_of (numbers s) list) item ≡ false
         → (is_of s ((list ++ more) ++ (i, item) ∷ rest) ↔ is_of s ((list ++ more) ++ rest)) };
 }

@@ -2,6 +2,7 @@ ghost use Rattle.std.specs.Prelude.{◌≡◌, ◌≤◌, List, [], IfOk};
 ghost use Rattle.sk_model.specs.Entries.{Entry, items_of_entries};
 ghost use Rattle.sk_model.specs.Sketch.{packed_of, unpacked};
 ghost use Rattle.sk_compose.specs.Numbers.{k_of};
+ghost use Rattle.sk_model.specs.Limits.{most_size};
 
 use super::*;
 use crate::round::{Published, offer, serve};
@@ -83,7 +84,7 @@ impl Composable for Tally {
 
 fn parcel<T: Drop>(alloc: Global, b: u32) -> Result<Parcel<T>, OutOfMemory>
     requires least { 1 ≤ b }
-    requires most { b ≤ 4096 }
+    requires most { b ≤ most_size }
     ensures items { IfOk result (λ p. p.buffer.items ≡ []) }
     ensures capacity { IfOk result (λ p. p.buffer.capacity ≡ b) }
 {

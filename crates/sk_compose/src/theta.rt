@@ -1,5 +1,6 @@
 //! The sorted array as a sketch of its kind.
 ghost use Rattle.std.specs.Prelude.{◌≡◌};
+ghost use Rattle.sk_model.specs.Width.{item_end};
 
 use crate::buffer::Buffer;
 use crate::composable::Composable;

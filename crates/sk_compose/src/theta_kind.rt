@@ -2,8 +2,9 @@
 ghost use Rattle.std.specs.Prelude.{◌≡◌, ◌≤◌, ℕ, List, [], ◌∷◌, false, nat_lt, ◌==◌};
 ghost use Rattle.sk_model.specs.Entries.{Entry, items_of_entries};
 ghost use Rattle.sk_model.specs.Sketch as k_min;
-ghost use Rattle.sk_model.specs.Width.{item_end};
 ghost use Rattle.sk_compose.specs.Numbers.{k_of};
+ghost use Rattle.sk_model.specs.Width.{item_end};
+ghost use Rattle.sk_model.specs.Limits.{most_k};
 
 use crate::composable::Composable;
 
@@ -14,7 +15,7 @@ pub trait ThetaKind: Composable<Told = ()> {
     fn k(&self) -> u32
         ensures value { Self.numbers self.now ≡ result ∷ [] }
         ensures least { 2 ≤ result }
-        ensures most { result ≤ 32768 };
+        ensures most { result ≤ most_k };
 
     ghost hint_is: { (numbers : List ℕ) (list : List Entry)
         → Self.hint_of numbers list ≡ k_min.theta_of (k_of numbers) (items_of_entries list) };

@@ -8,10 +8,11 @@ use mathlib.Core.Logic.{dite}
 use native.Mathlib.Decide.{dec_le}
 use borrow.Author.Tests.{eqb-true}
 use Rattle.sk_model.specs.Numbers.{number_of, value_of}
-use Rattle.sk_model.specs.Width.{item_end}
 use Rattle.sk_core.specs.Texts.{fields_of, onto_first, number_from, event_of_two, event_of_fields, event_of, machine_of_fields, machine_line_of, vacant_of_fields, vacant_line_of}
 use Rattle.sk_core.specs.declared.event.Event.{Event}
 use Rattle.sk_core.proofs.Fields.{is_space, cut_some, cut_none}
+use Rattle.sk_model.specs.Width.{item_end}
+use Rattle.sk_model.specs.Limits.{least_k, most_k, most_size, most_updaters}
 
 -- a text with a space is no number
 spaced_digits : (text : List ℕ) → position_or_len is_space text < length text → list_all is_ascii_digit text ≡ false
@@ -69,14 +70,14 @@ event_of_three line word rest n m first second =
 -- ---- the first line
 
 abbrev vacant_numbers : List ℕ → List ℕ → Option (ℕ × ℕ)
-vacant_numbers k n = option_and_then (λ k. option_and_then (λ n. Some (k, n)) (number_from 1 64 n)) (number_from 2 32768 k)
+vacant_numbers k n = option_and_then (λ k. option_and_then (λ n. Some (k, n)) (number_from 1 most_updaters n)) (number_from least_k most_k k)
 
 pub vacant_of_line : (line word rest k n : List ℕ) → fields_of line ≡ word ∷ fields_of rest → fields_of rest ≡ k ∷ fields_of n → vacant_line_of line ≡ cond (bytes_eq word (codes "vacant")) (vacant_numbers k n) None
 vacant_of_line line word rest k n first second =
     ap vacant_of_fields (first ∙ ap (λ l. word ∷ l) second) ∙ ⊎_elim
     (λ one. ap (λ l. vacant_of_fields (word ∷ k ∷ l)) one)
-    (λ more. ap (λ l. vacant_of_fields (word ∷ k ∷ l)) more.3 ∙ sym (ap (λ o. cond (bytes_eq word (codes "vacant")) (option_and_then (λ k. option_and_then (λ n. Some (k, n)) (option_and_then (λ n. cond (nat_le 1 n && nat_le n 64) (Some n) None) o)) (number_from 2 32768 k)) None) more.4
-    ∙ ap (λ o. cond (bytes_eq word (codes "vacant")) o None) (and_none (number_from 2 32768 k)) ∙ same (bytes_eq word (codes "vacant"))))
+    (λ more. ap (λ l. vacant_of_fields (word ∷ k ∷ l)) more.3 ∙ sym (ap (λ o. cond (bytes_eq word (codes "vacant")) (option_and_then (λ k. option_and_then (λ n. Some (k, n)) (option_and_then (λ n. cond (nat_le 1 n && nat_le n 64) (Some n) None) o)) (number_from least_k most_k k)) None) more.4
+    ∙ ap (λ o. cond (bytes_eq word (codes "vacant")) o None) (and_none (number_from least_k most_k k)) ∙ same (bytes_eq word (codes "vacant"))))
     (tail_of n)
   where
     same : {A : Type 0} (b : Bool) → cond b (let none : Option A = None in none) None ≡ None
@@ -84,21 +85,21 @@ vacant_of_line line word rest k n first second =
     same false = refl
 
 abbrev machine_numbers : List ℕ → List ℕ → List ℕ → Option (ℕ × ℕ × ℕ)
-machine_numbers k b n = option_and_then (λ k. option_and_then (λ b. option_and_then (λ n. Some (k, b, n)) (number_from 1 64 n)) (number_from 1 4096 b)) (number_from 2 32768 k)
+machine_numbers k b n = option_and_then (λ k. option_and_then (λ b. option_and_then (λ n. Some (k, b, n)) (number_from 1 most_updaters n)) (number_from 1 most_size b)) (number_from least_k most_k k)
 
 pub machine_of_line : (line word rest k rest' b n : List ℕ) → fields_of line ≡ word ∷ fields_of rest → fields_of rest ≡ k ∷ fields_of rest' → fields_of rest' ≡ b ∷ fields_of n
     → machine_line_of line ≡ cond (bytes_eq word (codes "machine")) (machine_numbers k b n) None
 machine_of_line line word rest k rest' b n first second third =
     ap machine_of_fields (first ∙ ap (λ l. word ∷ l) (second ∙ ap (λ l. k ∷ l) third)) ∙ ⊎_elim
     (λ one. ap (λ l. machine_of_fields (word ∷ k ∷ b ∷ l)) one)
-    (λ more. ap (λ l. machine_of_fields (word ∷ k ∷ b ∷ l)) more.3 ∙ sym (ap (λ o. cond (bytes_eq word (codes "machine")) (option_and_then (λ k. option_and_then (λ b. option_and_then (λ n. Some (k, b, n)) (option_and_then (λ n. cond (nat_le 1 n && nat_le n 64) (Some n) None) o)) (number_from 1 4096 b)) (number_from 2 32768 k)) None) more.4
-    ∙ ap (λ o. cond (bytes_eq word (codes "machine")) o None) (none_of (number_from 2 32768 k)) ∙ same (bytes_eq word (codes "machine"))))
+    (λ more. ap (λ l. machine_of_fields (word ∷ k ∷ b ∷ l)) more.3 ∙ sym (ap (λ o. cond (bytes_eq word (codes "machine")) (option_and_then (λ k. option_and_then (λ b. option_and_then (λ n. Some (k, b, n)) (option_and_then (λ n. cond (nat_le 1 n && nat_le n 64) (Some n) None) o)) (number_from 1 most_size b)) (number_from least_k most_k k)) None) more.4
+    ∙ ap (λ o. cond (bytes_eq word (codes "machine")) o None) (none_of (number_from least_k most_k k)) ∙ same (bytes_eq word (codes "machine"))))
     (tail_of n)
   where
     same : {A : Type 0} (b : Bool) → cond b (let none : Option A = None in none) None ≡ None
     same true = refl
     same false = refl
 
-    none_of : (o : Option ℕ) → option_and_then (λ k. option_and_then (λ b. let none : Option (ℕ × ℕ × ℕ) = None in none) (number_from 1 4096 b)) o ≡ None
+    none_of : (o : Option ℕ) → option_and_then (λ k. option_and_then (λ b. let none : Option (ℕ × ℕ × ℕ) = None in none) (number_from 1 most_size b)) o ≡ None
     none_of None = refl
-    none_of (Some k) = and_none (number_from 1 4096 b)
+    none_of (Some k) = and_none (number_from 1 most_size b)

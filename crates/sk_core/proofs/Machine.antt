@@ -5,7 +5,6 @@ use Rattle.std.proofs.lemmas.List.Elements.{All-map, All-take}
 use mathlib.Core.Logic.{dite}
 use native.Mathlib.Decide.{ℕ_discrete}
 use Rattle.sk_model.specs.Entries.{Entry, entries_by, items_of_entries}
-use Rattle.sk_model.specs.Width.{item_end, AreItems}
 use Rattle.sk_model.proofs.Entries.{entries_by_append}
 use Rattle.sk_model.proofs.Sketch.{theta_within, theta_positive}
 use Rattle.sk_machine.specs.Coarse.{IsEntry}
@@ -19,6 +18,8 @@ use Rattle.sk_machine.specs.declared.states.Progress.{Progress}
 use Rattle.sk_machine.proofs.Numbered.{put_here, put_else}
 use Rattle.sk_core.specs.Stored.{StoredUpdater, Stored, blank_updater, blank_token, updater_of, token_of, updater_at, token_at, machine_of, hint_by, word_by, IsWithin, IsStored}
 use Rattle.sk_core.specs.declared.token.Token.{Token}
+use Rattle.sk_model.specs.Width.{item_end, IsItem, AreItems}
+use Rattle.sk_model.specs.Limits.{most_updaters}
 
 -- a list that is set at one place, under a function of the place too
 put-set_at : {A B : Type 0} (f : ℕ → A → B) (l : List A) (i : ℕ) (x d : A) → i < length l → (λ (j : ℕ). f j (get_or (set l i x) j d)) ≡ put (λ j. f j (get_or l j d)) i (f i x)
@@ -73,7 +74,7 @@ pub stores_updater : (s : Stored) (i : ℕ) (u : StoredUpdater) (p : Progress) (
 stores_updater s i u p in_hand ok inside within sound = record {
   least = ok.least;
   most = ok.most;
-  few_updaters = subst (λ n. n ≤ 64) (sym (length-set s.updaters i u)) ok.few_updaters;
+  few_updaters = subst (λ n. n ≤ most_updaters) (sym (length-set s.updaters i u)) ok.few_updaters;
   few_offers = ok.few_offers;
   few_tokens = ok.few_tokens;
   of_updaters = subst (λ n. All (λ (e : Entry). e.0 < n) s.offers) (sym (length-set s.updaters i u)) ok.of_updaters;
@@ -145,7 +146,7 @@ is_put g f i c here others = λ a j. at j a
 
 pub items_of : (n : ℕ) (l : List Entry) → All (IsEntry n) l → AreItems (items_of_entries l)
 unfolding items_of_entries
-items_of n l all = All-map (λ (x : ℕ). x < item_end) (λ (e : Entry). e.1) l (λ i d inside. (all i d inside).1)
+items_of n l all = All-map IsItem (λ (e : Entry). e.1) l (λ i d inside. (all i d inside).1)
 
 -- the items of a beginning of the published list
 pub items_published : (s : Stored) (m : ℕ) → IsStored s → AreItems (items_of_entries (take m s.published))

@@ -5,7 +5,6 @@ use Rattle.std.proofs.lemmas.List.Elements.{All-append, All-weaker}
 use mathlib.Core.Logic.{dite}
 use native.Mathlib.Decide.{ℕ_discrete}
 use Rattle.sk_model.specs.Entries.{Entry, entries_by, items_of_entries, tagged}
-use Rattle.sk_model.specs.Width.{AreItems}
 use Rattle.sk_model.proofs.Entries.{items_append, items_tagged, entries_by_more}
 use Rattle.sk_model.proofs.Missing.{begins_length}
 use Rattle.sk_machine.specs.Coarse.{IsEntry}
@@ -22,6 +21,7 @@ use Rattle.sk_core.specs.Stored.{StoredUpdater, Stored, updater_of, token_of, up
 use Rattle.sk_core.specs.declared.event.Event.TheVariants as event
 use Rattle.sk_core.specs.declared.event.Answer.TheVariants as answer
 use Rattle.sk_core.proofs.Machine.{Outcome, enacted, set_updater, stores_updater, if_zero, take_stays, take_whole, hint_positive}
+use Rattle.sk_model.specs.Width.{AreItems}
 
 -- the propagator is at an updater that there is
 pub inside_at : (s : Stored) (i : ℕ) → IsStored s → IsAt s.progress i → i < length s.updaters

@@ -4,7 +4,6 @@ use Rattle.std.proofs.lemmas.List.{take_more}
 use mathlib.Core.Logic.{dite}
 use native.Mathlib.Decide.{dec_le}
 use Rattle.sk_model.specs.Entries.{items_of_entries}
-use Rattle.sk_model.specs.Width.{item_end, AreItems}
 use Rattle.sk_model.proofs.Entries.{items_append}
 use Rattle.sk_model.proofs.Sketch.{theta_within}
 use Rattle.sk_machine.specs.Fine.{Fine}
@@ -23,6 +22,7 @@ use Rattle.sk_core.specs.declared.event.Answer.{Answer}
 use Rattle.sk_core.specs.declared.event.Answer.TheVariants as answers
 use Rattle.sk_core.specs.declared.event.NotEnabled.{NotEnabled}
 use Rattle.sk_core.proofs.Machine.{items_of, hint_positive}
+use Rattle.sk_model.specs.Width.{item_end, AreItems}
 
 module _ (k : ℕ) (two : 2 ≤ k) (f : Fine) (ok : IsSound (hint_by k) (word_by k) f) where
   -- a hint is at most the end of the items

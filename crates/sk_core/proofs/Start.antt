@@ -6,7 +6,6 @@ use mathlib.Core.Logic.{dite}
 use native.Mathlib.Decide.{dec_le}
 use Rattle.sk_model.specs.Entries.{Entry, items_of_entries}
 use Rattle.sk_model.specs.Sketch.{theta_of}
-use Rattle.sk_model.specs.Width.{item_end}
 use Rattle.sk_model.proofs.Entries.{entries_by_nil}
 use Rattle.sk_model.proofs.Sketch.{k_smallest-nil}
 use Rattle.sk_machine.specs.Fine.{fine_start}
@@ -18,6 +17,8 @@ use Rattle.sk_core.specs.Stored.{StoredUpdater, Stored, blank_updater, blank_tok
 use Rattle.sk_core.specs.Runs.{MeetsAll}
 use Rattle.sk_core.specs.declared.token.Token.{Token}
 use Rattle.sk_core.proofs.Machine.{hint_positive}
+use Rattle.sk_model.specs.Width.{item_end}
+use Rattle.sk_model.specs.Limits.{most_k, most_updaters}
 
 replicate_more : {A : Type 0} (n : ℕ) (x : A) → replicate n x ++ x ∷ [] ≡ replicate (n + 1) x
 replicate_more n x = let e : suc n ≡ n + 1 = omega arith in go n x ∙ ap (λ k. replicate k x) e
@@ -83,7 +84,7 @@ machine_at_start k n b word two is = λ a. record {
     none : token_of [] [] blank_token ≡ record { live = true; seen = []; known = λ i. [] }
     none = λ a. record { live = true; seen = []; known = λ i. (ap (take (slice_index (replicate 64 0) i)) (entries_by_nil i) ∙ none_taken (slice_index (replicate 64 0) i)) a }
 
-stored_at_start : (k n b word : ℕ) → 2 ≤ k → k ≤ 32768 → n ≤ 64 → word ≡ word_by k [] → IsStored (stored_start k n b word)
+stored_at_start : (k n b word : ℕ) → 2 ≤ k → k ≤ most_k → n ≤ most_updaters → word ≡ word_by k [] → IsStored (stored_start k n b word)
 stored_at_start k n b word two most few is = record {
   least = two;
   most = most;
@@ -110,7 +111,7 @@ module _ (k n b word : ℕ) (offers published : List Entry) (updaters : List Sto
   is_start : stored_start k n b word ≡ made
   is_start = λ a. record { k = k; offers = sym offers_are a; published = sym published_are a; word = word; updaters = sym updaters_are a; progress = Idle; in_hand = sym in_hand_is a; turn = n + 1; tokens = sym tokens_are a }
 
-  pub starts_stored : k ≤ 32768 → n ≤ 64 → IsStored made
+  pub starts_stored : k ≤ most_k → n ≤ most_updaters → IsStored made
   starts_stored most few = subst IsStored is_start (stored_at_start k n b word two most few is)
 
   pub starts_as : machine_of made ≡ fine_start (hint_by k) (word_by k) n (sizes_of n b)

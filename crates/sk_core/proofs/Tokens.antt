@@ -5,9 +5,8 @@ use mathlib.Core.Logic.{dite}
 use native.Mathlib.Decide.{ℕ_discrete, dec_le}
 use Rattle.sk_model.specs.Entries.{Entry, entries_by, items_of_entries}
 use Rattle.sk_model.specs.Sketch.{count_of, theta_of, packed_of, unpacked, fraction_of, estimate_of}
-use Rattle.sk_model.specs.Width.{AreItems}
 use Rattle.sk_model.proofs.Sketch.{packed_reads_back}
-use Rattle.sk_machine.specs.Fine.{Fine, IsLive, longer, known_of, with_token, with_new_token, after_ask, MaySplit, after_split, MayNote, after_note, MayJoin, after_join}
+use Rattle.sk_machine.specs.Fine.{Fine, IsLive, known_of, with_token, with_new_token, after_ask, MaySplit, after_split, MayNote, after_note, MayJoin, after_join}
 use Rattle.sk_machine.specs.Fine as fine
 use Rattle.sk_machine.specs.Invariant.{IsSound}
 use Rattle.sk_machine.proofs.Tokens.{asks, splits, notes, joins}
@@ -16,6 +15,8 @@ use Rattle.sk_core.specs.declared.token.Token.{Token}
 use Rattle.sk_core.specs.declared.event.Event.TheVariants as event
 use Rattle.sk_core.specs.declared.event.Answer.TheVariants as answer
 use Rattle.sk_core.proofs.Machine.{Outcome, set_token, each_set, read_at, take_whole, is_put, items_all}
+use Rattle.sk_model.specs.Width.{AreItems}
+use Rattle.sk_model.specs.Missing.{longer}
 
 -- ---- other tokens
 

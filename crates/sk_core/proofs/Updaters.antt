@@ -14,6 +14,7 @@ use Rattle.sk_core.specs.Events.{Happens}
 use Rattle.sk_core.specs.declared.event.Event.TheVariants as event
 use Rattle.sk_core.specs.declared.event.Answer.TheVariants as answer
 use Rattle.sk_core.proofs.Machine.{Outcome, set_updater, stores_updater, each_set, read_at, enacted, if_not_zero, take_all_of, take_offers, offers_grow, is_put, hint_within}
+use Rattle.sk_model.specs.Limits.{most_updaters}
 
 pub looks_stored : (s : Stored) (i : ℕ) → IsStored s → (updater_at s i).word ≢ 0 → MayLook i (machine_of s)
     → Outcome (event.Look i) s (record s { updaters = set s.updaters i (record (updater_at s i) { hint = (updater_at s i).word; base = (updater_at s i).given; mark = Ready }) }) (answer.Hint (updater_at s i).word)
@@ -113,7 +114,7 @@ keeps_stored s i x ok below may =
       record {
         least = ok.least;
         most = ok.most;
-        few_updaters = subst (λ n. n ≤ 64) (sym size) ok.few_updaters;
+        few_updaters = subst (λ n. n ≤ most_updaters) (sym size) ok.few_updaters;
         few_offers = omega (arith, length-append s.offers ((i, x) ∷ []));
         few_tokens = ok.few_tokens;
         of_updaters = subst (λ n. All (λ (e : Entry). e.0 < n) (s.offers ++ (i, x) ∷ [])) (sym size) (All-push (λ (e : Entry). e.0 < length s.updaters) s.offers (i, x) ok.of_updaters inside);

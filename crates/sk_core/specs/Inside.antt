@@ -4,6 +4,7 @@ use Rattle.sk_model.specs.Entries.{items_of_entries}
 use Rattle.sk_theta.specs.Kept.{StandsFor}
 use Rattle.sk_core.specs.declared.state.State.TheInside.{Inside}
 use Rattle.sk_core.specs.Stored.{Stored, IsStored}
+use Rattle.sk_model.specs.Limits.{most_size}
 
 abbrev pub stored_of : Inside → Stored
 stored_of s = record {
@@ -24,5 +25,5 @@ pub record IsKept (s : Inside) : Type 0 where
   pub sketch : StandsFor s.sketch (items_of_entries s.published.items)
   pub room_offers : 1000000 ≤ vec_capacity s.offers
   pub room_published : 1000000 ≤ vec_capacity s.published
-  pub room_in_hand : 4096 ≤ vec_capacity s.in_hand
+  pub room_in_hand : most_size ≤ vec_capacity s.in_hand
   pub room_tokens : 256 ≤ vec_capacity s.tokens

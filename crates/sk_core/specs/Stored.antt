@@ -2,14 +2,15 @@
 use Rattle.std.specs.Prelude.{ℕ, ◌<◌, ◌≤◌, List, [], length, take, replicate, nat_lt, if◌then◌else◌, Bool, true, All, slice_index, slice_index_or}
 use Rattle.sk_model.specs.Entries.{Entry, entries_by, items_of_entries}
 use Rattle.sk_model.specs.Sketch.{theta_of, packed_of}
-use Rattle.sk_model.specs.Width.{item_end}
-use Rattle.sk_machine.specs.Fine.{most_offers, most_tokens, most_size, FineUpdater, Fine}
+use Rattle.sk_machine.specs.Fine.{most_offers, most_tokens, FineUpdater, Fine}
 use Rattle.sk_machine.specs.Fine as fine
 use Rattle.sk_machine.specs.Invariant.{IsSound}
 use Rattle.sk_machine.specs.declared.states.Mark.{Mark}
 use Rattle.sk_machine.specs.declared.states.Mark.TheVariants.{Neither}
 use Rattle.sk_machine.specs.declared.states.Progress.{Progress}
 use Rattle.sk_core.specs.declared.token.Token.{Token}
+use Rattle.sk_model.specs.Width.{item_end}
+use Rattle.sk_model.specs.Limits.{most_k, most_updaters}
 
 -- an updater: of what it kept so many items are handed over, and of the published list so many entries are
 -- its `given` and its `base`
@@ -115,8 +116,8 @@ pub record KnowsWithin (offers published : List Entry) (t : Token) : Type 0 wher
 
 pub record IsStored (s : Stored) : Type 0 where
   pub least : 2 ≤ s.k
-  pub most : s.k ≤ 32768
-  pub few_updaters : length s.updaters ≤ 64
+  pub most : s.k ≤ most_k
+  pub few_updaters : length s.updaters ≤ most_updaters
   pub few_offers : length s.offers ≤ most_offers
   pub few_tokens : length s.tokens ≤ most_tokens
   pub of_updaters : All (λ e. e.0 < length s.updaters) s.offers

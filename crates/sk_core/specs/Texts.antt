@@ -2,12 +2,13 @@
 use Rattle.std.specs.Prelude.{ℕ, ◌++◌, ◌==◌, ◌&&◌, nat_le, if◌then◌else◌, List, [], ◌∷◌, codes, decimal, Option, Some, None, option_and_then}
 use Rattle.std.specs.Str.{bytes_eq}
 use Rattle.sk_model.specs.Numbers.{number_of}
-use Rattle.sk_model.specs.Width.{item_end}
 use Rattle.sk_lines.specs.Fractions.{fraction_text}
 use Rattle.sk_core.specs.declared.event.Answer.{Answer}
 use Rattle.sk_core.specs.declared.event.Answer.TheVariants as answers
 use Rattle.sk_core.specs.declared.event.Event.{Event}
 use Rattle.sk_core.specs.declared.event.Event.TheVariants.{Offer, Look, Swap, Hand, Find, Take, Publish, Put, GiveBack, Ask, Split, Note, Join, Turn, YieldTurn, Admit}
+use Rattle.sk_model.specs.Width.{item_end}
+use Rattle.sk_model.specs.Limits.{least_k, most_k, most_size, most_updaters}
 
 -- a field more at the front of the first one
 abbrev pub onto_first : ℕ → List (List ℕ) → List (List ℕ)
@@ -70,7 +71,7 @@ machine_of_fields (word ∷ []) = None
 machine_of_fields (word ∷ k ∷ []) = None
 machine_of_fields (word ∷ k ∷ b ∷ []) = None
 machine_of_fields (word ∷ k ∷ b ∷ n ∷ []) = if bytes_eq word (codes "machine")
-    then option_and_then (λ k. option_and_then (λ b. option_and_then (λ n. Some (k, b, n)) (number_from 1 64 n)) (number_from 1 4096 b)) (number_from 2 32768 k)
+    then option_and_then (λ k. option_and_then (λ b. option_and_then (λ n. Some (k, b, n)) (number_from 1 most_updaters n)) (number_from 1 most_size b)) (number_from least_k most_k k)
     else None
 machine_of_fields (word ∷ k ∷ b ∷ n ∷ c ∷ more) = None
 
@@ -83,7 +84,7 @@ vacant_of_fields [] = None
 vacant_of_fields (word ∷ []) = None
 vacant_of_fields (word ∷ k ∷ []) = None
 vacant_of_fields (word ∷ k ∷ n ∷ []) = if bytes_eq word (codes "vacant")
-    then option_and_then (λ k. option_and_then (λ n. Some (k, n)) (number_from 1 64 n)) (number_from 2 32768 k)
+    then option_and_then (λ k. option_and_then (λ n. Some (k, n)) (number_from 1 most_updaters n)) (number_from least_k most_k k)
     else None
 vacant_of_fields (word ∷ k ∷ n ∷ c ∷ more) = None
 

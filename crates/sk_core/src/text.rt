@@ -1,10 +1,11 @@
 //! Schedules as text.
 ghost use Rattle.std.specs.Prelude.{◌≡◌, ◌==◌, [], ◌∷◌, position, MatchOption, IfSome};
-ghost use Rattle.sk_theta.specs.Sizes.{IsFrom};
 ghost use Rattle.sk_core.specs.Texts.{fields_of, event_of_one, event_of_two, event_of, number_from, machine_line_of, vacant_line_of};
+ghost use Rattle.sk_model.specs.Limits.{least_k, most_k, most_size, most_updaters, IsFrom};
 
 use crate::event::Event;
 use sk_lines::read_number;
+use sk_model::limits::{LEAST_K, MOST_K, MOST_SIZE, MOST_UPDATERS};
 use sk_theta::ITEM_END;
 
 /// The event that a line names: a word and one or two numbers, parted by one space.
@@ -21,7 +22,7 @@ pub fn read_event(line: &[u8]) -> Option<Event>
 /// What a first line `machine K B N` says, where the three numbers are within their limits.
 pub fn read_machine(line: &[u8]) -> Option<(u32, u32, u32)>
     ensures value { result ≡ machine_line_of line.now }
-    ensures limits { IfSome result (λ m. IsFrom 2 32768 m.0 × IsFrom 1 4096 m.1 × IsFrom 1 64 m.2) }
+    ensures limits { IfSome result (λ m. IsFrom least_k most_k m.0 × IsFrom 1 most_size m.1 × IsFrom 1 most_updaters m.2) }
 {
     let (word, rest) = cut(line)?;
     let (k, rest) = cut(rest)?;
@@ -30,23 +31,23 @@ pub fn read_machine(line: &[u8]) -> Option<(u32, u32, u32)>
         return None;
     }
     Some((
-        number(k, 2, 32_768)?,
-        number(b, 1, 4_096)?,
-        number(n, 1, 64)?,
+        number(k, u64::from(LEAST_K), u64::from(MOST_K))?,
+        number(b, 1, u64::from(MOST_SIZE))?,
+        number(n, 1, u64::from(MOST_UPDATERS))?,
     ))
 }
 
 /// What a first line `vacant K N` says, where both numbers are within their limits.
 pub fn read_vacant(line: &[u8]) -> Option<(u32, u32)>
     ensures value { result ≡ vacant_line_of line.now }
-    ensures limits { IfSome result (λ m. IsFrom 2 32768 m.0 × IsFrom 1 64 m.1) }
+    ensures limits { IfSome result (λ m. IsFrom least_k most_k m.0 × IsFrom 1 most_updaters m.1) }
 {
     let (word, rest) = cut(line)?;
     let (k, n) = cut(rest)?;
     if word != b"vacant".as_slice() {
         return None;
     }
-    Some((number(k, 2, 32_768)?, number(n, 1, 64)?))
+    Some((number(k, u64::from(LEAST_K), u64::from(MOST_K))?, number(n, 1, u64::from(MOST_UPDATERS))?))
 }
 
 // What stands before the first space of a text, and what stands behind it.

@@ -3,15 +3,17 @@ ghost use Rattle.std.specs.Prelude.{◌≡◌, ◌+◌, ◌<◌, ◌≤◌, [], 
 ghost use Rattle.sk_machine.specs.declared.states.Mark.TheVariants.{Neither, Ready, Swapped};
 ghost use Rattle.sk_core.specs.Stored.{StoredUpdater};
 ghost use Rattle.sk_model.specs.Width.{item_end};
+ghost use Rattle.sk_model.specs.Limits.{most_size};
 
 use sk_machine::Mark;
 use sk_model::OutOfMemory;
+use sk_model::limits;
 use sk_theta::ITEM_END;
 use std::alloc::Global;
 use std::marker::Model;
 
-/// The most items of a buffer.
-pub const MOST_SIZE: usize = 4096;
+/// The most items of a buffer, as a length.
+pub const MOST_SIZE: usize = limits::MOST_SIZE as usize;
 
 #[derive(Drop)]
 pub struct Updater {
@@ -35,13 +37,13 @@ impl Model for Updater {
 
     ghost view = { λ u. record { size = u.size; hint = u.hint; fill = u.fill.items; word = u.word; slot = u.slot.items; home = u.home; mark = u.mark; handed = u.handed; given = u.given; base = u.base } };
 
-    ghost invariant = { λ u. (u.size ≤ 4096) × (4096 ≤ vec_capacity u.fill) × (4096 ≤ vec_capacity u.slot) };
+    ghost invariant = { λ u. (u.size ≤ most_size) × (most_size ≤ vec_capacity u.fill) × (most_size ≤ vec_capacity u.slot) };
 }
 
 impl Updater {
     // One that has done nothing. All its memory is taken here.
     pub fn new(alloc: Global, size: usize) -> Result<Updater, OutOfMemory>
-        requires { size ≤ 4096 }
+        requires { size ≤ most_size }
         ensures { IfOk result (λ u. u ≡ record { size = size; hint = item_end; fill = []; word = item_end; slot = []; home = true; mark = Neither; handed = 0; given = 0; base = 0 }) }
     {
         Ok(Updater {
@@ -60,7 +62,7 @@ impl Updater {
 
     pub fn size(&self) -> usize
         ensures value { result ≡ self.now.size }
-        ensures most { result ≤ 4096 }
+        ensures most { result ≤ most_size }
     {
         self.size
     }
@@ -139,10 +141,10 @@ impl Updater {
 
     // The slot's batch goes out of it, into `batch`.
     pub fn take(&mut self, batch: &mut Vec<u64>)
-        requires { 4096 ≤ vec_capacity batch.old }
+        requires { most_size ≤ vec_capacity batch.old }
         ensures updater { self.new ≡ record self.old { slot = []; home = false } }
         ensures batch { batch.new.items ≡ self.old.slot }
-        ensures room { 4096 ≤ vec_capacity batch.new }
+        ensures room { most_size ≤ vec_capacity batch.new }
     {
         batch.clear();
         std::mem::swap(&mut self.slot, batch);
@@ -166,7 +168,7 @@ impl Updater {
     }
 
     pub fn admit(&mut self, size: usize)
-        requires { size ≤ 4096 }
+        requires { size ≤ most_size }
         ensures { self.new ≡ record self.old { size = size } }
     {
         self.size = size;

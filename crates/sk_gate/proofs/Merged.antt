@@ -1,9 +1,9 @@
 -- Lists of two views, put together place by place.
 use Rattle.std.proofs.Common.{◌≡◌, ◌≢◌, ℕ, zero, suc, ◌<◌, ◌≤◌, if◌then◌else◌, List, [], ◌∷◌, ◌++◌, length, get_or, set, sym, refl, ap, ◌∙◌, subst, ⊎_elim, arith, length-append, append-nil}
 use Rattle.std.proofs.lemmas.Bool.{lt-ltb, le-ltb, cases_lt, cases_eq, eq-eqb, ne_eqb}
-use Rattle.sk_model.specs.Missing.{Begins}
+use Rattle.sk_model.specs.Missing.{Begins, longer}
 use Rattle.sk_model.proofs.Missing.{begins_refl, begins_nil, begins_length, begins_shorter}
-use Rattle.sk_gate.specs.Views.{longer, merged, sizes_merged, blanks}
+use Rattle.sk_gate.specs.Views.{merged, sizes_merged, blanks}
 
 -- ---- blank lists
 

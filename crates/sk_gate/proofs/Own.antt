@@ -9,7 +9,7 @@ use Rattle.atomic_table.specs.Table.{step, Allows, turned}
 use Rattle.sk_model.specs.Entries.{Entry}
 use Rattle.sk_compose.specs.Buffers.{Contents}
 use Rattle.sk_compose.specs.declared.buffer.Parcel.{Parcel}
-use Rattle.sk_machine.specs.Coarse.{most_kept, most_entries, IsBatch}
+use Rattle.sk_machine.specs.Coarse.{most_entries, IsBatch}
 use Rattle.sk_machine.specs.declared.views.Mine.{Mine}
 use Rattle.sk_machine.specs.declared.views.Stage.TheVariants.{Idle, Busy, Published}
 use Rattle.sk_machine.specs.declared.views.Post.TheVariants.{Updater}
@@ -28,6 +28,7 @@ use Rattle.sk_gate.specs.Rule.{Kept}
 use Rattle.sk_gate.proofs.Rotated.{placed_first}
 use Rattle.sk_gate.proofs.Updaters.{hands}
 use Rattle.sk_gate.proofs.Standing.{shown_with, own_shown}
+use Rattle.sk_model.specs.Limits.{most_kept}
 
 -- a new view that speaks for the same seat
 pub post_keeps : (v w : View) (heart : Bool) (n number : ℕ) → w.post ≡ v.post → IsPost v heart n number → IsPost w heart n number

@@ -34,6 +34,7 @@ use Rattle.sk_gate.proofs.Merged.{set_begins}
 use Rattle.sk_gate.proofs.Known.{some_none, some_same, has_own, room_some, sizes_set, size_set, set_there, post_same, drained_same, stepped_knows, stepped_stays}
 use Rattle.sk_gate.proofs.Published.{published_seen}
 use Rattle.sk_gate.proofs.Common.{has_stays, SameUpdater, viewed, propagator_step}
+use Rattle.sk_model.specs.Limits.{most_updaters}
 
 module _ {C T : Type 0} (hint packed : List ℕ → List Entry → ℕ) (g : Sketching C) (k : Telling T) where
   abbrev Rule : State (Slot C T) View → Type 0
@@ -43,7 +44,7 @@ module _ {C T : Type 0} (hint packed : List ℕ → List Entry → ℕ) (g : Ske
   abbrev FoundBy : Sat C T → ℕ → Sat C T → ℕ → Type 0
   FoundBy m x m' i = FindsAt m.0 x m'.0 i × (x ≢ 0 → m'.1 ≡ m.1) × (x ≡ 0 → (p : Parcel T) × (m'.1 ≡ (i, full p) ∷ m.1) × (p.buffer ≡ contents (batch_of m'.0) (size_of m'.0 i)))
 
-  pub finds : (slots id n i : ℕ) (me : Sat C T) → slots ≡ n + 1 → i < n → n ≤ 64 → me.0.live ≡ true → me.0.duty ≡ Leads Idle false → Allows Rule slots id me (i + 1) (λ x. x) (found (step slots (i + 1) 0 0 none) me)
+  pub finds : (slots id n i : ℕ) (me : Sat C T) → slots ≡ n + 1 → i < n → n ≤ most_updaters → me.0.live ≡ true → me.0.duty ≡ Leads Idle false → Allows Rule slots id me (i + 1) (λ x. x) (found (step slots (i + 1) 0 0 none) me)
   finds slots id n i me size inside small live leads s r deep at _ =
       let v : View = me.0 in
       let m = r.machine in

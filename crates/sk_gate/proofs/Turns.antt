@@ -29,6 +29,7 @@ use Rattle.sk_gate.proofs.Opened.{open_neutral}
 use Rattle.sk_gate.proofs.Known.{has_own, sizes_set, size_set, set_there, post_same, drained_same, stepped_knows, stepped_stays}
 use Rattle.sk_gate.proofs.Published.{published_seen}
 use Rattle.sk_gate.proofs.Common.{seats_stay, has_stays, viewed, others_know}
+use Rattle.sk_model.specs.Limits.{most_updaters}
 
 -- ---- stages
 
@@ -178,7 +179,7 @@ module _ {C T : Type 0} (hint packed : List ℕ → List Entry → ℕ) (g : Ske
   abbrev Lifts : Sat C T → Sat C T → ℕ → Type 0
   Lifts m m' n = (t : Trunk C T) × (m'.1 ≡ (n, trunk t) ∷ m.1) × TrunkOk g m'.0.numbers m'.0.name m'.0.seen (stage_of m'.0.duty) (size_of m'.0) t
 
-  pub turns : (slots id n who : ℕ) (me : Sat C T) → slots ≡ n + 1 → n ≤ 64 → who ≡ seat_in n me.0.post → who ≤ n → me.0.live ≡ true → leads me.0.duty ≡ false
+  pub turns : (slots id n who : ℕ) (me : Sat C T) → slots ≡ n + 1 → n ≤ most_updaters → who ≡ seat_in n me.0.post → who ≤ n → me.0.live ≡ true → leads me.0.duty ≡ false
       → Allows Rule slots id me (n + 1) (λ x. either (eqb x 0) (who + 1) x) (turned g (step slots (n + 1) 0 (who + 1) none) me)
   turns slots id n who me size small is within live free s r deep at _ =
       let v : View = me.0 in

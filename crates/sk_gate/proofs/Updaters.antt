@@ -10,12 +10,11 @@ use lib.ListN.{get_elem?}
 use Rattle.atomic_table.specs.Table.{State, step, keeps, takes, gives, Allows, rest}
 use Rattle.atomic_table.proofs.Lists.{set_here, set_else}
 use Rattle.sk_model.specs.Entries.{Entry, entries_by}
-use Rattle.sk_model.specs.Missing.{Begins, LacksAtMost}
-use Rattle.sk_model.specs.Width.{AreItems}
+use Rattle.sk_model.specs.Missing.{Begins, LacksAtMost, longer}
 use Rattle.sk_model.proofs.Missing.{begins_refl, begins_nil, begins_more, begins_trans}
 use Rattle.sk_compose.specs.declared.buffer.Parcel.{Parcel}
 use Rattle.sk_machine.specs.Numbered.{put}
-use Rattle.sk_machine.specs.Coarse.{most_kept, CoarseUpdater, Coarse, IsBatch, after_admit}
+use Rattle.sk_machine.specs.Coarse.{CoarseUpdater, Coarse, IsBatch, after_admit}
 use Rattle.sk_machine.specs.declared.views.Mine.{Mine}
 use Rattle.sk_machine.specs.declared.views.Move.TheVariants.{Ask, Look, Hand}
 use Rattle.sk_machine.specs.declared.views.Post.{Post}
@@ -27,7 +26,7 @@ use Rattle.sk_machine.proofs.Numbered.{put_here, put_else, each_put}
 use Rattle.sk_machine.proofs.Coarse as event
 use Rattle.sk_gate.specs.declared.load.Load.TheVariants as load
 use Rattle.sk_gate.specs.Slots.{Slot, full, contents, room, Sketching, Telling, TellsList, ToldOk}
-use Rattle.sk_gate.specs.Views.{known_of, given_of, size_of, mine_of, seat_in, leads, longer, is_open, SpeaksBy}
+use Rattle.sk_gate.specs.Views.{known_of, given_of, size_of, mine_of, seat_in, leads, is_open, SpeaksBy}
 use Rattle.sk_gate.specs.Rule.{PostOk, DutyOk, OpenOk, Knows, Kept}
 use Rattle.sk_gate.specs.Moves.{LacksOwn, looked_mine, RenewsAt, LooksAt, AdmitsAt, handed_mine}
 use Rattle.sk_gate.specs.Plays.{Sat, asked, LookHand, looked, is_picked, rested_mine, rested, admitted, handed, published}
@@ -36,6 +35,8 @@ use Rattle.sk_gate.proofs.Opened.{open_neutral, open_told, open_shut}
 use Rattle.sk_gate.proofs.Common.{Stays, viewed, updater_step, at_within, index_within}
 use Rattle.sk_gate.proofs.Known.{room_some}
 use Rattle.sk_gate.proofs.Merged.{longer_either, longer_left, longer_right, longer_same}
+use Rattle.sk_model.specs.Width.{AreItems}
+use Rattle.sk_model.specs.Limits.{most_kept}
 
 -- a seat that has seen more
 pub post_sees : (n : ℕ) (m : Coarse) (owner : ℕ → ℕ) (j : ℕ) (seen seen' : List Entry) (sizes drained : List ℕ) (p : Post) → Begins seen seen' → PostOk n m owner j seen sizes drained p → PostOk n m owner j seen' sizes drained p

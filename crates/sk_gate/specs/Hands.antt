@@ -2,9 +2,8 @@
 use Rattle.std.specs.Prelude.{◌≡◌, ◌≢◌, ◌⊎◌, ℕ, zero, suc, ◌+◌, ◌-◌, ◌<◌, ◌≤◌, nat_lt, ◌==◌, if◌then◌else◌, List, [], ◌∷◌, ◌++◌, length, drop, Bool, true, false, not, ◌&&◌, Some, None, is_some}
 use Rattle.atomic_table.specs.Table.{turned}
 use Rattle.atomic_table.specs.Seated.{TableId}
-use Rattle.sk_model.specs.Width.{AreItems}
 use Rattle.sk_compose.specs.declared.buffer.Parcel.{Parcel}
-use Rattle.sk_machine.specs.Coarse.{most_kept, most_entries, IsBatch}
+use Rattle.sk_machine.specs.Coarse.{most_entries, IsBatch}
 use Rattle.sk_machine.specs.declared.views.Stage.{Stage}
 use Rattle.sk_machine.specs.declared.views.Stage.TheVariants.{Idle, Busy, Published}
 use Rattle.sk_machine.specs.declared.views.Post.TheVariants.{Root, Updater}
@@ -16,6 +15,8 @@ use Rattle.sk_gate.specs.declared.load.Load.TheVariants as load
 use Rattle.sk_gate.specs.Slots.{Slot, full, trunk, contents, Sketching, Telling, TellsList, TrunkOk}
 use Rattle.sk_gate.specs.Views.{size_of, mine_of, stage_of}
 use Rattle.sk_gate.specs.Plays.{Sat, is_picked, rested_mine}
+use Rattle.sk_model.specs.Width.{AreItems}
+use Rattle.sk_model.specs.Limits.{most_kept}
 
 -- ---- lists of slots
 

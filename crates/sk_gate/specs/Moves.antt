@@ -1,7 +1,7 @@
 -- What each call on a word tells: the view before, the number loaded or stored, and the view after.
 use Rattle.std.specs.Prelude.{◌≡◌, ◌≢◌, ℕ, ◌+◌, ◌<◌, ◌≤◌, List, [], ◌∷◌, ◌++◌, length, true, false, All, Contains, slice_set}
 use Rattle.sk_model.specs.Entries.{Entry, entries_by, tagged}
-use Rattle.sk_model.specs.Missing.{Begins, LacksAtMost}
+use Rattle.sk_model.specs.Missing.{Begins, LacksAtMost, longer}
 use Rattle.sk_machine.specs.Coarse.{most_entries, IsEntry, IsBatch}
 use Rattle.sk_machine.specs.declared.views.Mine.{Mine}
 use Rattle.sk_machine.specs.declared.views.Stage.{Stage}
@@ -11,7 +11,7 @@ use Rattle.sk_machine.specs.declared.views.Post.{Post}
 use Rattle.sk_machine.specs.declared.views.Post.TheVariants.{Guest, Root, Updater}
 use Rattle.sk_machine.specs.declared.views.Duty.TheVariants.{Free, Leads}
 use Rattle.sk_machine.specs.declared.views.View.{View}
-use Rattle.sk_gate.specs.Views.{known_of, size_of, mine_of, leads, stage_of, left_of, batch_of, longer, is_open}
+use Rattle.sk_gate.specs.Views.{known_of, size_of, mine_of, leads, stage_of, left_of, batch_of, is_open}
 
 -- ---- any seat
 

@@ -13,6 +13,7 @@ use Rattle.sk_machine.specs.declared.views.Post.TheVariants.{Guest, Root, Update
 use Rattle.sk_machine.specs.declared.views.Duty.{Duty}
 use Rattle.sk_machine.specs.declared.views.Duty.TheVariants.{Free, Leads}
 use Rattle.sk_machine.specs.declared.views.View.{View}
+use Rattle.sk_model.specs.Missing.{longer}
 
 -- ---- parts of a view
 
@@ -82,10 +83,6 @@ MayYield (Leads (Busy i batch) left) = left ≡ true
 MayYield (Leads (Published i) left) = ⊥
 
 -- ---- lists of views
-
--- of two beginnings of one list, the longer
-abbrev pub longer : {A : Type 0} → List A → List A → List A
-longer xs ys = if nat_lt (length xs) (length ys) then ys else xs
 
 -- place by place
 unfoldable pub merged : {A : Type 0} → List (List A) → List (List A) → List (List A)

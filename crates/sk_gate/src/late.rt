@@ -4,6 +4,7 @@ ghost use Rattle.sk_machine.specs.Coarse.{IsBatch};
 ghost use Rattle.sk_gate.specs.Slots.{contents};
 ghost use Rattle.sk_gate.specs.Views.{size_of, mine_of};
 ghost use Rattle.sk_gate.specs.Hands.{no_own};
+ghost use Rattle.sk_model.specs.Limits.{most_size};
 
 use crate::seat::UpdaterSeat;
 use sk_compose::{Composable, Parcel};
@@ -17,7 +18,7 @@ pub fn first_batch<C: Composable>(
     full: Parcel<C::Told>,
 ) -> Parcel<C::Told>
     requires vacant { size_of seat.old.view seat.old.number ≡ 0 }
-    requires most { b ≤ 4096 }
+    requires most { b ≤ most_size }
     requires empty { empty.buffer ≡ contents [] b }
     requires told { empty.told ≡ None }
     requires batch { IsBatch b full.buffer.items }

@@ -1,6 +1,7 @@
 //! A seat that may propagate: an updater's or the heart's.
 ghost use Rattle.std.specs.Prelude.{◌≡◌, ◌≤◌};
 ghost use Rattle.sk_gate.specs.Hands.{rotated, IsAt, IsPut};
+ghost use Rattle.sk_model.specs.Limits.{most_updaters};
 
 use crate::rule::{Hub, Slot};
 use atomic_table::Seat;
@@ -64,7 +65,7 @@ impl<C: Composable, R: Role> Model for Propagator<C, R> {
     ghost invariant = { λ s. (s.seat.table_id ≡ (arc_value s.hub).shared.table_id)
         × (s.seat.table_id.words ≡ s.updaters + 2)
         × (s.seat.table_id.slots ≡ s.updaters + 1)
-        × (s.updaters ≤ 64)
+        × (s.updaters ≤ most_updaters)
         × Holds (sketching C.is_of C.numbers C.name) (telling C.tells C.told_name C.told_of)
         R.is_heart s.updaters s.number s.front s.own s.seat.me };
 }

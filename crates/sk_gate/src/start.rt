@@ -6,6 +6,7 @@ ghost use Rattle.sk_machine.specs.declared.views.Post.TheVariants.{Guest, Root, 
 ghost use Rattle.sk_gate.specs.Slots.{full, trunk};
 ghost use Rattle.sk_gate.specs.Views.{sizes_of};
 ghost use Rattle.sk_gate.specs.Starts.{AreFirstWords, blank_view, empty_handed, blank_of, IsBlank, AreNew, IsMade};
+ghost use Rattle.sk_model.specs.Limits.{most_updaters};
 
 use crate::load::{Load, Trunk};
 use crate::plays::{Copying, NextUpdater};
@@ -31,7 +32,7 @@ pub struct Made<C: Composable> {
 
 // The published word, the words of the updaters, and the turn.
 fn first_words<C: Composable>(alloc: Global, n: u32, global: &C) -> Result<Vec<u64>, OutOfMemory>
-    requires most { n ≤ 64 }
+    requires most { n ≤ most_updaters }
     requires fresh { C.is_of global.now [] }
     ensures { IfOk result (λ words. AreFirstWords (C.packed_of (C.numbers global.now) [])
         (C.hint_of (C.numbers global.now) []) n words.items) }
@@ -48,7 +49,7 @@ fn first_slots<C: Composable>(
     parcels: Vec<Parcel<C::Told>>,
     global: C,
 ) -> Result<Vec<Slot<C>>, OutOfMemory>
-    requires few { length parcels.items ≤ 64 }
+    requires few { length parcels.items ≤ most_updaters }
     ensures { IfOk result (λ slots. slots.items
         ≡ map (λ p. full p) parcels.items ++ trunk (record { global = global; held = None }) ∷ []) }
 {
@@ -69,7 +70,7 @@ fn new_table<C: Composable>(
     global: C,
     parcels: Vec<Parcel<C::Told>>,
 ) -> Result<(Arc<Hub<C>, Global>, Seat<Slot<C>, View>), OutOfMemory>
-    requires most { n ≤ 64 }
+    requires most { n ≤ most_updaters }
     requires count { length parcels.items ≡ n }
     requires empty { All (λ p. (p.buffer.items ≡ []) × (p.told ≡ None)) parcels.items }
     requires rooms { All (λ p. 1 ≤ p.buffer.capacity) parcels.items }
@@ -104,7 +105,7 @@ fn next_updater<C: Composable>(
     requires table { seat.old.table_id ≡ (arc_value hub.now).shared.table_id }
     requires words { seat.old.table_id.words ≡ updaters + 2 }
     requires slots { seat.old.table_id.slots ≡ updaters + 1 }
-    requires most { updaters ≤ 64 }
+    requires most { updaters ≤ most_updaters }
     requires within { number < updaters }
     requires sizes { length seat.old.me.0.sizes ≡ updaters }
     requires blank { IsBlank seat.old.me.0 (Root number) number seat.old.me }
@@ -138,7 +139,7 @@ fn all_updaters<C: Composable>(
     requires table { seat.old.table_id ≡ (arc_value hub.now).shared.table_id }
     requires words { seat.old.table_id.words ≡ n + 2 }
     requires slots { seat.old.table_id.slots ≡ n + 1 }
-    requires most { n ≤ 64 }
+    requires most { n ≤ most_updaters }
     requires sizes { length seat.old.me.0.sizes ≡ n }
     requires blank { IsBlank seat.old.me.0 (Root 0) 0 seat.old.me }
     ensures table { seat.new.table_id ≡ seat.old.table_id }
@@ -184,7 +185,7 @@ pub fn make<C: Composable>(
     parcels: Vec<Parcel<C::Told>>,
 ) -> Result<Made<C>, OutOfMemory>
     requires least { 1 ≤ n }
-    requires most { n ≤ 64 }
+    requires most { n ≤ most_updaters }
     requires admitted { admitted ≤ n }
     requires count { length parcels.items ≡ n }
     requires empty { All (λ p. (p.buffer.items ≡ []) × (p.told ≡ None)) parcels.items }

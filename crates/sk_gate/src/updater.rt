@@ -1,6 +1,6 @@
 //! The calls of an updater's seat.
 ghost use Rattle.std.specs.Prelude.{◌≡◌, ◌≢◌, ◌+◌, ◌<◌, ◌≤◌, [], length, true, false, Some, None, is_some, IsTrue};
-ghost use Rattle.sk_machine.specs.Coarse.{most_kept, IsBatch};
+ghost use Rattle.sk_machine.specs.Coarse.{IsBatch};
 ghost use Rattle.atomic_table.specs.Table.{Allows, step};
 ghost use mathlib.Core.Option.{none};
 ghost use Rattle.sk_gate.specs.Slots.{contents, sketching, telling};
@@ -9,6 +9,7 @@ ghost use Rattle.sk_gate.specs.Plays.{admitted};
 ghost use Rattle.sk_gate.specs.Views.{size_of, mine_of};
 ghost use Rattle.sk_gate.specs.Hands.{no_own, own_with, own_empty, own_looked, TellsBase};
 ghost use Rattle.sk_gate.specs.Moves.{LooksAt, AdmitsAt, HandsAt};
+ghost use Rattle.sk_model.specs.Limits.{most_size, most_kept};
 
 use crate::load::Load;
 use crate::plays::{Admit, Hand, Look, Rest, Size};
@@ -121,7 +122,7 @@ impl<C: Composable> Propagator<C, OfUpdater> {
     pub fn admit(&mut self, b: u32) -> u64
         requires vacant { size_of self.old.view self.old.number ≡ 0 }
         requires least { 1 ≤ b }
-        requires most { b ≤ 4096 }
+        requires most { b ≤ most_size }
         ensures told { AdmitsAt C.hint_of self.old.view result self.new.view self.old.number b }
         ensures seat { self.new ≡ record self.old { view = self.new.view; own = own_empty 1 } }
     {

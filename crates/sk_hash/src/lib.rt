@@ -3,7 +3,7 @@
 
 ghost use Rattle.std.specs.Prelude.{◌≡◌, ◌+◌, ◌<◌, ◌≤◌, ◌^◌, length};
 ghost use Rattle.sk_model.specs.Murmur.{word_at, scrambled_first, scrambled_second, after_block, with_tail, finished_word, finished, murmur128_of, hash_of};
-ghost use Rattle.sk_model.specs.Width.{item_end};
+ghost use Rattle.sk_model.specs.Width.{IsItem};
 
 #[cfg(test)]
 mod tests;
@@ -171,7 +171,7 @@ pub fn murmur128(seed: u32, bytes: &[u8]) -> (u64, u64)
 #[tactic(auto, unfolding(sk_model::specs::Murmur::hash_of))]
 pub fn hash48(seed: u32, bytes: &[u8]) -> u64
     ensures value { result ≡ hash_of seed bytes.now }
-    ensures item { result < item_end }
+    ensures item { IsItem result }
 {
     murmur128(seed, bytes).0 >> 16
 }

@@ -8,7 +8,6 @@ use Rattle.std.proofs.lemmas.List.Elements.{All-contains, All-cons, All-tail}
 use Rattle.std.proofs.lemmas.List.Sorted.{length_permutation, All-permutation, IsPermutation-sym}
 use Rattle.std.proofs.lemmas.Map.Keys.{IsDistinct-tail}
 use Rattle.std.specs.Int.{IsNextPowerOfTwo}
-use Rattle.sk_model.specs.Width.{item_end, AreItems}
 use Rattle.sk_model.proofs.Rising.{Has, Has-from_Contains, Contains-from_Has}
 use Rattle.sk_heap.specs.Heap.{times, HasSame}
 use Rattle.sk_heap.specs.Table.{IsProbed, IsProbedOver, IsFirstEmpty}
@@ -16,6 +15,7 @@ use Rattle.sk_heap.specs.Held.{IsHeld, IsExchanged}
 use Rattle.sk_heap.proofs.Counts.{once, once-suc, once-other, once-same, times-cons, same_set, same_permutation, times_from_at, at_from_times}
 use Rattle.sk_heap.proofs.Distinct.{Has-permutation, distinct_more, distinct_moved}
 use Rattle.sk_heap.proofs.Probes.{is_absent, one_more_probed}
+use Rattle.sk_model.specs.Width.{IsItem, AreItems}
 
 pub contains_from_times : (xs : List ℕ) (x : ℕ) → 1 ≤ times x xs → Contains xs x
 contains_from_times xs x some = let at = at_from_times xs x some in (at.0, at.1, get_or_default xs at.0 x 0 at.1 ∙ at.2)
@@ -41,7 +41,7 @@ module _ (k : ℕ) (heap table : List ℕ) (held : IsHeld k heap table) where
   heap_lacks h at first there =
       is_absent table h at (held.probed) first (contains_from_times table (h + 1) (omega (arith, held.entries h, times_from_contains heap h (Contains-from_Has heap h there))))
 
-  module _ (hash at : ℕ) (small : hash < item_end) (first : IsFirstEmpty hash table at) where
+  module _ (hash at : ℕ) (small : IsItem hash) (first : IsFirstEmpty hash table at) where
     abbrev pub marked : List ℕ
     marked = set table at (hash + 1)
 
@@ -79,8 +79,8 @@ module _ (k : ℕ) (heap table : List ℕ) (held : IsHeld k heap table) where
         subst (λ (len : ℕ). IsProbedOver len marked) (sym long)
         (one_more_probed (length table) table hash at (first.steps) refl (held.probed) (first.within) (first.is) (first.passed))
 
-    new_items : (new : List ℕ) → AreItems new → (z : ℕ) → Has new z → z < item_end
-    new_items new items z g = All-contains (λ z. z < item_end) new z items (Contains-from_Has new z g)
+    new_items : (new : List ℕ) → AreItems new → (z : ℕ) → Has new z → IsItem z
+    new_items new items z g = All-contains IsItem new z items (Contains-from_Has new z g)
 
     pub held_added : (new : List ℕ) → IsPermutation (hash ∷ heap) new → IsHeap nat_cmp new → length heap < k → IsHeld k new marked
     held_added new moved order few =
@@ -89,7 +89,7 @@ module _ (k : ℕ) (heap table : List ℕ) (held : IsHeld k heap table) where
           least = held.least;
           most = held.most;
           within = omega arith;
-          items = All-permutation (λ z. z < item_end) (hash ∷ heap) new moved (All-cons (λ z. z < item_end) hash heap small (held.items));
+          items = All-permutation IsItem (hash ∷ heap) new moved (All-cons IsItem hash heap small (held.items));
           distinct = distinct_moved (hash ∷ heap) new moved (distinct_more hash heap (heap_lacks hash at first) (held.distinct));
           order = order;
           size = subst (λ (len : ℕ). IsNextPowerOfTwo (2 * k) len) (sym long) (held.size);
@@ -102,8 +102,8 @@ module _ (k : ℕ) (heap table : List ℕ) (held : IsHeld k heap table) where
       out_first : Has heap greatest
       out_first = Has-permutation (greatest ∷ e.rest) heap greatest (IsPermutation-sym heap (greatest ∷ e.rest) (e.out)) (inl refl)
 
-      pub greatest_small : greatest < item_end
-      greatest_small = All-contains (λ z. z < item_end) heap greatest (held.items) (Contains-from_Has heap greatest out_first)
+      pub greatest_small : IsItem greatest
+      greatest_small = All-contains IsItem heap greatest (held.items) (Contains-from_Has heap greatest out_first)
 
       pub marked_holds : Contains marked (greatest + 1)
       marked_holds = contains_from_times marked (greatest + 1) (omega (arith, marked_has greatest, times_from_contains heap greatest (Contains-from_Has heap greatest out_first)))
@@ -121,12 +121,12 @@ module _ (k : ℕ) (heap table : List ℕ) (held : IsHeld k heap table) where
           let not_in_rest : Has rest hash → ⊥ = λ g. heap_lacks hash at first (Has-permutation (greatest ∷ rest) heap hash (IsPermutation-sym heap (greatest ∷ rest) (e.out)) (inr g)) in
           let one_less : length (greatest ∷ rest) ≡ length heap = length_permutation heap (greatest ∷ rest) (e.out) in
           let one_more : length new ≡ length (hash ∷ rest) = length_permutation (hash ∷ rest) new (e.put) in
-          let items_out = All-permutation (λ z. z < item_end) heap (greatest ∷ rest) (e.out) (held.items) in
+          let items_out = All-permutation IsItem heap (greatest ∷ rest) (e.out) (held.items) in
           record {
             least = held.least;
             most = held.most;
             within = omega arith;
-            items = All-permutation (λ z. z < item_end) (hash ∷ rest) new (e.put) (All-cons (λ z. z < item_end) hash rest small (All-tail (λ z. z < item_end) greatest rest items_out));
+            items = All-permutation IsItem (hash ∷ rest) new (e.put) (All-cons IsItem hash rest small (All-tail IsItem greatest rest items_out));
             distinct = distinct_moved (hash ∷ rest) new (e.put) (distinct_more hash rest not_in_rest (IsDistinct-tail nat_eq greatest rest distinct_out));
             order = order;
             size = subst (λ (len : ℕ). IsNextPowerOfTwo (2 * k) len) (sym (as_long ∙ long)) (held.size);

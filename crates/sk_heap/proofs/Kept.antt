@@ -9,12 +9,13 @@ use Rattle.std.proofs.lemmas.List.Kept.{AllPairs-from_increasing}
 use Rattle.std.proofs.lemmas.List.Sorted.{length_permutation, IsPermutation-sym}
 use Rattle.std.proofs.lemmas.List.{get_or_default}
 use Rattle.sk_model.specs.Sketch.{placed, rising, k_smallest}
-use Rattle.sk_model.specs.Width.{item_end}
 use Rattle.sk_model.proofs.Rising.{Has, Has-from_Contains, Contains-from_Has, increasing_from_RisesFrom}
 use Rattle.sk_model.proofs.Sketch.{RisesFrom-rising, Has-rising, rising-has, k_smallest_is, one_more}
 use Rattle.sk_theta.specs.Kept.{theta_kept}
 use Rattle.sk_heap.specs.Held.{IsExchanged}
 use Rattle.sk_heap.proofs.Distinct.{Has-permutation, All-from_Has, head_once, distinct_moved, rising_moves}
+use Rattle.sk_model.specs.Width.{item_end}
+use Rattle.sk_model.specs.Missing.{longer}
 
 pub rises : (xs : List ℕ) → IsStrictlyIncreasing (rising xs)
 rises xs = increasing_from_RisesFrom 0 (rising xs) (RisesFrom-rising xs)

@@ -10,7 +10,6 @@ use Rattle.std.proofs.lemmas.List.Elements.{All-nil}
 use Rattle.std.proofs.lemmas.List.Sorted.{All-permutation, Contains-permutation, IsPermutation-sym, IsNonDecreasingBy-from_sort}
 use Rattle.std.proofs.lemmas.Map.Keys.{IsStrictlyIncreasing-from_distinct, ge_from_not_lt}
 use Rattle.sk_model.specs.Sketch.{rising}
-use Rattle.sk_model.specs.Width.{item_end}
 use Rattle.sk_model.proofs.Sketch.{theta_positive, theta_within, rising_is}
 use Rattle.sk_theta.specs.Kept.{Sketch, IsWhole, theta_kept}
 use Rattle.sk_theta.proofs.Sketches.{stands_for_kept}
@@ -19,6 +18,8 @@ use Rattle.sk_heap.specs.Held.{IsHeld}
 use Rattle.sk_heap.proofs.Counts.{once-same, once-other, times-cons}
 use Rattle.sk_heap.proofs.Distinct.{rising_moves, distinct_moved}
 use Rattle.sk_heap.proofs.Kept.{rises, length_rising}
+use Rattle.sk_model.specs.Width.{item_end, IsItem}
+use Rattle.sk_model.specs.Limits.{most_k}
 
 abbrev pub sketch_of : ℕ → List ℕ → Sketch
 sketch_of k heap = record { k = k; kept = rising heap }
@@ -30,7 +31,7 @@ held_whole k heap table held =
       most = held.most;
       rises = rises heap;
       within = omega (arith, length_rising heap (held.distinct), held.within);
-      items = All-permutation (λ z. z < item_end) heap (rising heap) (IsPermutation-sym (rising heap) heap (rising_moves heap (held.distinct))) (held.items);
+      items = All-permutation IsItem heap (rising heap) (IsPermutation-sym (rising heap) heap (rising_moves heap (held.distinct))) (held.items);
     }
 
 pub theta_lower : (s : Sketch) → IsWhole s → 1 ≤ theta_kept s.k s.kept
@@ -76,7 +77,7 @@ distinct_nil = tt
 abbrev zeros_of : ℕ → List ℕ
 zeros_of n = replicate n 0
 
-pub held_empty : (k n : ℕ) (heap table : List ℕ) → 2 ≤ k → k ≤ 32768 → IsNextPowerOfTwo (2 * k) n → heap ≡ [] → table ≡ replicate n 0 → IsHeap nat_cmp heap → IsHeld k heap table
+pub held_empty : (k n : ℕ) (heap table : List ℕ) → 2 ≤ k → k ≤ most_k → IsNextPowerOfTwo (2 * k) n → heap ≡ [] → table ≡ replicate n 0 → IsHeap nat_cmp heap → IsHeld k heap table
 held_empty k n heap table least most size none zeros order =
     subst (λ (heap : List ℕ). IsHeld k heap table) (sym none)
     (subst (λ (table : List ℕ). IsHeld k [] table) (sym zeros)
@@ -84,7 +85,7 @@ held_empty k n heap table least most size none zeros order =
       least = least;
       most = most;
       within = omega arith;
-      items = All-nil (λ z. z < item_end);
+      items = All-nil IsItem;
       distinct = distinct_nil;
       order = subst (λ (heap : List ℕ). IsHeap nat_cmp heap) none order;
       size = subst (λ (len : ℕ). IsNextPowerOfTwo (2 * k) len) (sym (length-replicate {A = ℕ} n 0)) size;

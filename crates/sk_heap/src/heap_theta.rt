@@ -2,10 +2,11 @@
 ghost use Rattle.std.specs.Prelude.{◌≡◌, ◌≢◌, ◌↔◌, ◌+◌, ◌*◌, ◌<◌, ◌≤◌, ℕ, List, [], ◌∷◌, ◌++◌, length, take, IsTrue, IfOk};
 ghost use Rattle.std.specs.Int.{IsNextPowerOfTwo};
 ghost use Rattle.sk_model.specs.Sketch.{placed, k_smallest, count_of, theta_of, estimate_of, packed_of, unpacked};
-ghost use Rattle.sk_model.specs.Width.{item_end, AreItems};
 ghost use Rattle.sk_theta.specs.Kept.{Sketch, StandsFor, IsWhole, theta_kept};
 ghost use Rattle.sk_heap.specs.Heap.{HasSame, IsMaxHeap};
 ghost use Rattle.sk_heap.specs.Table.{IsProbed, HoldsEach};
+ghost use Rattle.sk_model.specs.Width.{item_end, IsItem, AreItems};
+ghost use Rattle.sk_model.specs.Limits.{most_k};
 
 use crate::held::{put_in, sorted, theta_of};
 use sk_model::OutOfMemory;
@@ -43,7 +44,7 @@ impl HeapTheta {
     /// The sketch of the empty list. All its memory is taken here. k is from 2 to 32,768.
     pub fn new(alloc: Global, k: u32) -> Result<HeapTheta, OutOfMemory>
         requires least { 2 ≤ k }
-        requires most { k ≤ 32768 }
+        requires most { k ≤ most_k }
         ensures numbers { IfOk result (λ s. s.k ≡ k) }
         ensures stands { IfOk result (λ s. StandsFor s []) }
     {
@@ -58,7 +59,7 @@ impl HeapTheta {
     /// Puts a hash to the end of the list, and answers whether the k smallest changed.
     #[inline(always)]
     pub fn update(&mut self, h: u64) -> bool
-        requires item { h < item_end }
+        requires item { IsItem h }
         ensures numbers { self.new.k ≡ self.old.k }
         ensures stands { (hashes : List ℕ) → StandsFor self.old hashes → StandsFor self.new (hashes ++ h ∷ []) }
         ensures changed { (hashes : List ℕ) → StandsFor self.old hashes
@@ -73,7 +74,7 @@ impl HeapTheta {
     // The rest of `update`, for a hash that most often changes something.
     #[inline(never)]
     fn put(&mut self, h: u64) -> bool
-        requires item { h < item_end }
+        requires item { IsItem h }
         requires below { h < theta_kept self.old.k self.old.kept }
         ensures numbers { self.new.k ≡ self.old.k }
         ensures kept { self.new.kept ≡ take self.old.k (placed h self.old.kept) }

@@ -4,10 +4,10 @@ ghost use Rattle.std.specs.BinaryHeap.{IsHeap, heap_items, heap_len, heap_capaci
 ghost use Rattle.std.specs.List.{IsDistinct};
 ghost use Rattle.std.specs.Ordering.{nat_cmp};
 ghost use Rattle.sk_model.specs.Sketch.{placed, rising};
-ghost use Rattle.sk_model.specs.Width.{item_end};
 ghost use Rattle.sk_theta.specs.Kept.{theta_kept};
 ghost use Rattle.sk_heap.specs.Held.{IsHeld, IsExchanged};
 ghost use Rattle.sk_heap.specs.Table.{IsFirstEmpty};
+ghost use Rattle.sk_model.specs.Width.{IsItem};
 
 use crate::table::{find, remove};
 use sk_model::OutOfMemory;
@@ -31,7 +31,7 @@ fn replace_greatest(heap: &mut BinaryHeap<u64>, hash: u64) -> u64
 // Puts a hash to fewer than k others, at its empty place of the table.
 fn add(heap: &mut BinaryHeap<u64>, table: &mut [u64], k: usize, at: usize, hash: u64)
     requires held { IsHeld k (heap_items heap.old) table.old }
-    requires item { hash < item_end }
+    requires item { IsItem hash }
     requires empty { IsFirstEmpty hash table.old at }
     requires few { heap_len heap.old < k }
     requires room { k ≤ heap_capacity heap.old }
@@ -46,7 +46,7 @@ fn add(heap: &mut BinaryHeap<u64>, table: &mut [u64], k: usize, at: usize, hash:
 // Puts a hash in the place of the greatest of k.
 fn exchange(heap: &mut BinaryHeap<u64>, table: &mut [u64], k: usize, at: usize, hash: u64) -> u64
     requires held { IsHeld k (heap_items heap.old) table.old }
-    requires item { hash < item_end }
+    requires item { IsItem hash }
     requires empty { IsFirstEmpty hash table.old at }
     requires full { heap_len heap.old ≡ k }
     requires room { k ≤ heap_capacity heap.old }
@@ -63,7 +63,7 @@ fn exchange(heap: &mut BinaryHeap<u64>, table: &mut [u64], k: usize, at: usize, 
 // Puts a hash below theta among the k smallest, and answers whether they changed.
 pub fn put_in(heap: &mut BinaryHeap<u64>, table: &mut [u64], k: usize, hash: u64) -> bool
     requires held { IsHeld k (heap_items heap.old) table.old }
-    requires item { hash < item_end }
+    requires item { IsItem hash }
     requires below { hash < theta_kept k (rising (heap_items heap.old)) }
     requires room { k ≤ heap_capacity heap.old }
     ensures held { IsHeld k (heap_items heap.new) table.new }

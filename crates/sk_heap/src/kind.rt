@@ -1,5 +1,6 @@
 //! The heap as a sketch of its kind.
 ghost use Rattle.std.specs.Prelude.{◌≡◌};
+ghost use Rattle.sk_model.specs.Width.{item_end};
 
 use crate::heap_theta::HeapTheta;
 use sk_compose::{Buffer, Composable, ThetaKind};

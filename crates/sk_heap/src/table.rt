@@ -2,9 +2,9 @@
 //! empty places; a deletion shifts entries back (Knuth, The Art of Computer Programming 3, 6.4, algorithm R).
 ghost use Rattle.std.specs.Prelude.{◌≡◌, ◌≢◌, ◌+◌, ◌-◌, ◌%◌, ◌^◌, ◌<◌, ◌≤◌, ℕ, ◌∷◌, length, slice_index, Contains, IfOk, IfErr};
 ghost use Rattle.std.specs.Int.{IsPowerOfTwo};
-ghost use Rattle.sk_model.specs.Width.{item_end};
 ghost use Rattle.sk_heap.specs.Heap.{HasSame};
 ghost use Rattle.sk_heap.specs.Table.{IsProbed, IsFirstEmpty, IsGap, going_round};
+ghost use Rattle.sk_model.specs.Width.{IsItem};
 
 // The place of a number in a table of that length.
 #[inline(always)]
@@ -29,7 +29,7 @@ fn steps_to(hash: u64, at: usize, len: usize) -> usize
 
 // The place of a hash, or the first empty one on the way.
 pub fn find(table: &[u64], hash: u64) -> Result<usize, usize>
-    requires item { hash < item_end }
+    requires item { IsItem hash }
     requires power { IsPowerOfTwo (length table.now) }
     requires short { length table.now ≤ 2 ^ 17 }
     requires probed { IsProbed table.now }
@@ -96,7 +96,7 @@ fn close_gap(table: &mut [u64], start: usize)
 
 // Takes a hash out.
 pub fn remove(table: &mut [u64], hash: u64)
-    requires item { hash < item_end }
+    requires item { IsItem hash }
     requires power { IsPowerOfTwo (length table.old) }
     requires short { length table.old ≤ 2 ^ 17 }
     requires probed { IsProbed table.old }

@@ -1,5 +1,6 @@
 ghost use Rattle.std.specs.Prelude.{◌<◌, ◌≤◌};
-ghost use Rattle.sk_model.specs.Width.{item_end};
+ghost use Rattle.sk_model.specs.Width.{IsItem};
+ghost use Rattle.sk_model.specs.Limits.{most_k};
 
 use super::*;
 use sk_compose::round::offer;
@@ -60,7 +61,7 @@ fn a_repeat_in_a_batch_counts_once(rt: HostRuntime) -> Result<(), Fail> {
 
 // The next of a fixed sequence (Knuth's MMIX constants), below a bound and below the end of the items.
 fn draw(state: &mut u64, bound: u64) -> u64
-    ensures { result < item_end }
+    ensures { IsItem result }
 {
     *state = state
         .wrapping_mul(6_364_136_223_846_793_005)
@@ -71,7 +72,7 @@ fn draw(state: &mut u64, bound: u64) -> u64
 // Whether both forms, over so many numbers below the bound, are the plain form of them.
 fn agrees(alloc: Global, k: u32, bound: u64, count: u32, state: &mut u64) -> Result<bool, Fail>
     requires least { 2 ≤ k }
-    requires most { k ≤ 32768 }
+    requires most { k ≤ most_k }
 {
     let mut heap = HeapTheta::new(alloc, k)?;
     let mut array = Theta::new(alloc, k)?;

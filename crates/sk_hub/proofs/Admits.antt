@@ -13,6 +13,7 @@ use Rattle.sk_gate.specs.Hands.{own_empty, is_empty, Standing}
 use Rattle.sk_hub.specs.Updaters.{IsFree, IsUpdater, state_of}
 use Rattle.sk_hub.specs.Hearts.{IsVacant, AreVacant, heart_of}
 use Rattle.sk_hub.specs.Drains.{IsNew}
+use Rattle.sk_model.specs.Limits.{most_updaters}
 
 -- the first of such seats
 pub first_vacant : (n : ℕ) (table : TableId) (numbers name : List ℕ) (number : ℕ) (seats more : List Standing) (s : Standing) → seats ≡ s ∷ more → AreVacant n table numbers name number seats → IsVacant n table numbers name number s
@@ -32,7 +33,7 @@ module _ {T : Type 0} (hint_of : List ℕ → List Entry → ℕ) (k : Telling T
   items : fill.items ≡ []
   items = ap (λ f. f.items) empty
 
-  pub admitted_is : n ≤ 64 → hs.table.slots ≡ n + 1 → IsUpdater hint_of k p number n b (Some fill) None word 0 0
+  pub admitted_is : n ≤ most_updaters → hs.table.slots ≡ n + 1 → IsUpdater hint_of k p number n b (Some fill) None word 0 0
   admitted_is few slots =
       let x : Standing = seat_admitted s word b in let none = admits.none in
       let size : size_of x.view s.number ≡ b = ap (λ w. size_of w s.number) (sym admits.view) ∙ admits.size in

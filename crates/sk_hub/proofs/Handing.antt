@@ -1,11 +1,11 @@
 -- A look that renewed, and a hand.
 use Rattle.std.proofs.Common.{◌≡◌, ℕ, List, [], ◌∷◌, ◌++◌, subst, sym, ap, ◌∙◌, append_assoc}
 use Rattle.sk_model.specs.Entries.{Entry}
-use Rattle.sk_model.specs.Missing.{Begins}
+use Rattle.sk_model.specs.Missing.{Begins, longer}
 use Rattle.sk_machine.specs.declared.views.Move.TheVariants.{Look, Hand}
 use Rattle.sk_machine.specs.declared.views.Post.TheVariants.{Updater}
 use Rattle.sk_machine.specs.declared.views.View.{View}
-use Rattle.sk_gate.specs.Views.{mine_of, longer}
+use Rattle.sk_gate.specs.Views.{mine_of}
 use Rattle.sk_gate.specs.Moves.{RenewsAt, HandsAt, looked_mine, handed_mine}
 
 module _ (hint : List ℕ → List Entry → ℕ) (v w x y : View) (word i : ℕ) (batch : List ℕ) (renews : RenewsAt hint v word w i) (same : x ≡ w) (hands : HandsAt x y i batch) where

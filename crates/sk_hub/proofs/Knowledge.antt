@@ -4,7 +4,8 @@ use Rattle.std.proofs.lemmas.List.Elements.{Contains-append_right}
 use Rattle.std.specs.Prelude.{slice_index_or}
 use Rattle.sk_machine.specs.declared.views.Post.{Post}
 use Rattle.sk_machine.specs.declared.views.Post.TheVariants.{Guest}
-use Rattle.sk_gate.specs.Views.{longer, merged, known_with}
+use Rattle.sk_gate.specs.Views.{merged, known_with}
+use Rattle.sk_model.specs.Missing.{longer}
 
 longer_all : {A : Type 0} (ys : List A) → ys ≡ longer [] ys
 longer_all [] = refl

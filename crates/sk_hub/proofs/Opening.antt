@@ -16,6 +16,7 @@ use Rattle.sk_hub.specs.Updaters.{IsFree, UpdaterState}
 use Rattle.sk_hub.specs.Hearts.{HeartState, heart_of, IsVacant, AreVacant, IsHeart}
 use Rattle.sk_hub.specs.Drains.{IsNew}
 use Rattle.sk_hub.specs.Starts.{IsNewHeart, IsNewToken, AreNew}
+use Rattle.sk_model.specs.Limits.{most_updaters}
 
 -- ---- lists of one element
 
@@ -77,7 +78,7 @@ module _ {T : Type 0} (k : Telling T) (n : ℕ) (sizes numbers name : List ℕ) 
   sized : length sizes ≡ n
   sized = ap (λ l. length l) none ∙ length-replicate n 0
 
-  pub is_heart : n ≤ 64 → IsHeart k heart updaters told n 0
+  pub is_heart : n ≤ most_updaters → IsHeart k heart updaters told n 0
   is_heart few =
       let h = made.heart_is in
       let sizes_are : length heart.view.sizes ≡ n = ap (λ s. length s.view.sizes) h ∙ sized in

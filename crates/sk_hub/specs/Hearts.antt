@@ -8,6 +8,7 @@ use Rattle.sk_gate.specs.Slots.{Telling}
 use Rattle.sk_gate.specs.Views.{known_of, size_of}
 use Rattle.sk_gate.specs.Hands.{no_own, Standing}
 use Rattle.sk_hub.specs.Updaters.{IsFree, TellsItems}
+use Rattle.sk_model.specs.Limits.{most_updaters}
 
 pub record HeartState : Type 0 where
   -- what its seat knows, and of which table it is
@@ -45,7 +46,7 @@ AreVacant n table numbers name number (s ∷ more) = IsVacant n table numbers na
 
 pub record IsHeart {T : Type 0} (k : Telling T) (s : Standing) (vacant : List Standing) (told : List (Option T)) (updaters admitted : ℕ) : Type 0 where
   pub free : IsFree s
-  pub few : updaters ≤ 64
+  pub few : updaters ≤ most_updaters
   pub slots : s.table.slots ≡ updaters + 1
   pub sized : length s.view.sizes ≡ updaters
   pub known_sized : length s.view.known ≡ updaters

@@ -3,18 +3,18 @@ use Rattle.std.specs.Prelude.{◌≡◌, ◌≢◌, ◌⊎◌, ℕ, ◌+◌, ◌
 use Rattle.std.specs.Bool.{MatchBool}
 use Rattle.atomic_table.specs.Seated.{TableId}
 use Rattle.sk_model.specs.Entries.{Entry, entries_by}
-use Rattle.sk_model.specs.Missing.{Begins}
+use Rattle.sk_model.specs.Missing.{Begins, longer}
 use Rattle.sk_compose.specs.Buffers.{Contents}
-use Rattle.sk_machine.specs.Coarse.{most_kept}
 use Rattle.sk_machine.specs.declared.views.Mine.{Mine}
 use Rattle.sk_machine.specs.declared.views.Move.TheVariants.{Look, Hand}
 use Rattle.sk_machine.specs.declared.views.Post.TheVariants.{Updater}
 use Rattle.sk_machine.specs.declared.views.Duty.TheVariants.{Free}
 use Rattle.sk_machine.specs.declared.views.View.{View}
 use Rattle.sk_gate.specs.Slots.{contents, Telling, TellsList}
-use Rattle.sk_gate.specs.Views.{size_of, mine_of, longer, is_open}
+use Rattle.sk_gate.specs.Views.{size_of, mine_of, is_open}
 use Rattle.sk_gate.specs.Moves.{looked_mine, handed_mine}
 use Rattle.sk_gate.specs.Hands.{Own, no_own, is_empty, Standing}
+use Rattle.sk_model.specs.Limits.{most_updaters, most_kept}
 
 pub record UpdaterState : Type 0 where
   -- what its seat knows, and of which table it is
@@ -80,7 +80,7 @@ pub record IsUpdater {T : Type 0} (hint_of : List ℕ → List Entry → ℕ) (k
   pub free : IsFree s
   pub own : s.own ≡ own_at_rest size (mine_of s.view)
   pub within : number < updaters
-  pub few : updaters ≤ 64
+  pub few : updaters ≤ most_updaters
   pub slots : s.table.slots ≡ updaters + 1
   pub sized : length s.view.sizes ≡ updaters
   pub size_is : size_of s.view number ≡ size

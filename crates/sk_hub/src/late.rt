@@ -1,6 +1,7 @@
 //! Updaters that come late.
 ghost use Rattle.std.specs.Prelude.{◌≡◌, ◌+◌, ◌≤◌};
 ghost use Rattle.sk_hub.specs.Drains.{IsNew};
+ghost use Rattle.sk_model.specs.Limits.{most_size};
 
 use crate::answers::Admit;
 use crate::heart::Heart;
@@ -12,7 +13,7 @@ impl<C: Composable> Heart<C> {
     /// Admits the next updater, with buffers of b items, from 1 to 4,096.
     pub fn admit(&mut self, alloc: Global, b: u32) -> Admit<C>
         requires least { 1 ≤ b }
-        requires most { b ≤ 4096 }
+        requires most { b ≤ most_size }
         ensures full { result ≡ Admit.Full → self.old.admitted ≡ self.old.updaters }
         ensures admitted { (u : _) → result ≡ Admit.Admitted u → IsNew C.hint_of self.old.admitted b self.old u }
         ensures count { (u : _) → result ≡ Admit.Admitted u → self.new ≡ record self.old { admitted = self.old.admitted + 1 } }

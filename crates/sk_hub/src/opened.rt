@@ -1,6 +1,7 @@
 //! A hub at its start.
 ghost use Rattle.std.specs.Prelude.{◌≡◌, ◌≤◌, All, [], None, length, replicate, IfOk};
 ghost use Rattle.sk_hub.specs.Starts.{IsNewHeart, IsNewToken, AreNew};
+ghost use Rattle.sk_model.specs.Limits.{most_size, most_updaters};
 
 use crate::answers::Admit;
 use crate::heart::Heart;
@@ -47,7 +48,7 @@ pub fn open_sized<C: Composable>(
 ) -> Result<Opened<C>, OutOfMemory>
     requires count { length sizes.now ≤ shape.now.n }
     requires least { All (λ b. 1 ≤ b) sizes.now }
-    requires most { All (λ b. b ≤ 4096) sizes.now }
+    requires most { All (λ b. b ≤ most_size) sizes.now }
     requires fresh { C.is_of global [] }
     ensures heart { IfOk result (λ opened. IsNewHeart shape.now.n (C.numbers global) (C.name global) shape.now.eager opened.heart) }
     ensures admitted { IfOk result (λ opened. opened.heart.admitted ≡ length sizes.now) }
@@ -97,7 +98,7 @@ fn start<C: Composable>(
     global: C,
 ) -> Result<(Heart<C>, Token<C>), OutOfMemory>
     requires least { 1 ≤ n }
-    requires most { n ≤ 64 }
+    requires most { n ≤ most_updaters }
     requires fresh { C.is_of global [] }
     ensures heart { IfOk result (λ made. IsNewHeart n (C.numbers global) (C.name global) eager made.0) }
     ensures admitted { IfOk result (λ made. made.0.admitted ≡ 0) }
@@ -129,7 +130,7 @@ fn admit_each<C: Composable>(
     requires none { heart.old.admitted ≡ 0 }
     requires count { length sizes.now ≤ heart.old.updaters }
     requires least { All (λ b. 1 ≤ b) sizes.now }
-    requires most { All (λ b. b ≤ 4096) sizes.now }
+    requires most { All (λ b. b ≤ most_size) sizes.now }
     ensures count { IfOk result (λ updaters. length updaters.items ≡ length sizes.now) }
     ensures updaters { IfOk result (λ updaters. AreNew C.hint_of sizes.now heart.old updaters.items) }
     ensures heart { IfOk result (λ _. heart.new ≡ record heart.old { admitted = length sizes.now }) }

@@ -1,8 +1,8 @@
 //! What an updater tells of itself, without a step.
 ghost use Rattle.std.specs.Prelude.{◌≡◌, ◌≤◌, ◌&&◌, length, false, is_some, Some};
 ghost use Rattle.sk_gate.specs.Slots.{telling};
-ghost use Rattle.sk_machine.specs.Coarse.{most_kept};
 ghost use Rattle.sk_hub.specs.Updaters.{base_of, kept_of, earlier_of, TellsItems};
+ghost use Rattle.sk_model.specs.Limits.{most_size, most_kept};
 
 use crate::updater::Updater;
 use sk_compose::Composable;
@@ -18,7 +18,7 @@ impl<C: Composable> Updater<C> {
     pub fn size(&self) -> u32
         ensures value { result ≡ self.now.size }
         ensures least { 1 ≤ result }
-        ensures most { result ≤ 4096 }
+        ensures most { result ≤ most_size }
     {
         if let Some(fill) = &self.fill {
             let _count = fill.len();

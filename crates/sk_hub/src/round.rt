@@ -10,6 +10,7 @@ ghost use Rattle.sk_gate.specs.Views.{size_of, batch_of, left_of};
 ghost use Rattle.sk_hub.specs.Updaters.{IsFree};
 ghost use Rattle.sk_hub.specs.Rounds.{PublishesBatch, FinishesHeld, ServesOne, ServesEach, Advances, KnowsAsMuch, IsElsewhere, Serves, Refuses};
 ghost use Rattle.sk_hub.specs.Turns.{HasTrunk, IsLifted, IsResumed, IsRefused, RefusesAfter};
+ghost use Rattle.sk_model.specs.Limits.{most_size, most_updaters};
 
 use sk_compose::{Composable, Parcel};
 use sk_gate::{Held, OutOfMemory, Propagator, Role, Trunk, merge_batch};
@@ -46,7 +47,7 @@ fn publish_batch<C: Composable, P: Role, R: Wait>(
     requires trunk { TrunkOk (sketching C.is_of C.numbers C.name) seat.old.view.numbers seat.old.view.name seat.old.view.seen Idle (size_of seat.old.view) trunk.old }
     ensures steps { IfOk result (λ count. (steps : List Move) × PublishesBatch i count steps × Advances seat.old.view steps seat.new.view) }
     ensures some { IfOk result (λ count. 0 < count) }
-    ensures few { IfOk result (λ count. count ≤ 4096) }
+    ensures few { IfOk result (λ count. count ≤ most_size) }
     ensures idle { IfOk result (λ _. IsLifted (sketching C.is_of C.numbers C.name) seat.new trunk.new) }
     ensures refused { IfErr result (λ _. seat.new ≡ seat.old) }
     ensures held { IfErr result (λ _. HasTrunk (sketching C.is_of C.numbers C.name) seat.old trunk.new) }
@@ -64,7 +65,7 @@ fn finish_held<C: Composable, P: Role, R: Wait>(
 ) -> Result<u32, OutOfMemory>
     requires resumed { IsResumed (sketching C.is_of C.numbers C.name) seat.old trunk.old }
     ensures steps { IfOk result (λ count. (steps : List Move) × FinishesHeld count steps × Advances seat.old.view steps seat.new.view) }
-    ensures few { IfOk result (λ count. count ≤ 4096) }
+    ensures few { IfOk result (λ count. count ≤ most_size) }
     ensures idle { IfOk result (λ _. IsLifted (sketching C.is_of C.numbers C.name) seat.new trunk.new) }
     ensures refused { IfErr result (λ _. seat.new ≡ seat.old) }
     ensures held { IfErr result (λ _. IsResumed (sketching C.is_of C.numbers C.name) seat.old trunk.new) }
@@ -87,7 +88,7 @@ fn serve_one<C: Composable, P: Role, R: Wait>(
     requires within { i < length seat.old.view.sizes }
     requires idle { IsLifted (sketching C.is_of C.numbers C.name) seat.old trunk.old }
     ensures steps { IfOk result (λ count. (steps : List Move) × ServesOne i count steps × Advances seat.old.view steps seat.new.view) }
-    ensures few { IfOk result (λ count. count ≤ 4096) }
+    ensures few { IfOk result (λ count. count ≤ most_size) }
     ensures idle { IfOk result (λ _. IsLifted (sketching C.is_of C.numbers C.name) seat.new trunk.new) }
     ensures found { IfErr result (λ _. Advances seat.old.view (Find i 0 ∷ []) seat.new.view) }
     ensures held { IfErr result (λ _. IsRefused (sketching C.is_of C.numbers C.name) i seat.new trunk.new) }
@@ -110,10 +111,10 @@ fn serve_each<C: Composable, P: Role, R: Wait>(
     updaters: u32,
 ) -> Result<u32, u32>
     requires within { from + updaters ≤ length seat.old.view.sizes }
-    requires few { from + updaters ≤ 64 }
+    requires few { from + updaters ≤ most_updaters }
     requires idle { IsLifted (sketching C.is_of C.numbers C.name) seat.old trunk.old }
     ensures steps { IfOk result (λ count. (steps : List Move) × ServesEach from updaters count steps × Advances seat.old.view steps seat.new.view) }
-    ensures few { IfOk result (λ count. count ≤ 4096 * updaters) }
+    ensures few { IfOk result (λ count. count ≤ most_size * updaters) }
     ensures idle { IfOk result (λ _. IsLifted (sketching C.is_of C.numbers C.name) seat.new trunk.new) }
     ensures found { IfErr result (λ i. RefusesAfter seat.old.view from updaters i seat.new.view) }
     ensures held { IfErr result (λ i. IsRefused (sketching C.is_of C.numbers C.name) i seat.new trunk.new) }
@@ -139,7 +140,7 @@ pub(crate) fn propagate<C: Composable, P: Role, R: Wait>(
 ) -> Result<Done, Stopped>
     requires free { IsFree seat.old }
     requires within { from + updaters ≤ length seat.old.view.sizes }
-    requires few { from + updaters ≤ 64 }
+    requires few { from + updaters ≤ most_updaters }
     ensures serves { IfOk result (λ done. Serves seat.old.view from updaters done.held done.found seat.new.view) }
     ensures few { IfOk result (λ done. done.held + done.found < 2 ^ 32) }
     ensures elsewhere { (other : ℕ) → result ≡ Err (Stopped.Elsewhere other) → IsElsewhere seat.old.view other seat.new.view }

@@ -2,6 +2,7 @@ ghost use Rattle.std.specs.Prelude.{◌≡◌, ◌≤◌, [], IfOk};
 ghost use Rattle.sk_model.specs.Entries.{items_of_entries};
 ghost use Rattle.sk_theta.specs.Kept.{StandsFor};
 ghost use Rattle.sk_hub.specs.Updaters.{kept_of};
+ghost use Rattle.sk_model.specs.Limits.{most_k, most_size};
 
 mod refused;
 
@@ -27,7 +28,7 @@ struct Hub<C: Composable> {
 fn hub_of<C: Composable>(alloc: Global, n: u32, b: u32, global: C) -> Result<Hub<C>, OutOfMemory>
     requires some { 1 ≤ n }
     requires least { 1 ≤ b }
-    requires most { b ≤ 4096 }
+    requires most { b ≤ most_size }
     requires fresh { C.is_of global [] }
     ensures kept { IfOk result (λ hub. kept_of hub.updater ≡ []) }
     ensures count { IfOk result (λ hub. hub.heart.updaters ≡ n) }
@@ -54,7 +55,7 @@ fn hub_of<C: Composable>(alloc: Global, n: u32, b: u32, global: C) -> Result<Hub
 #[tactic(auto, unfolding(sk_model::specs::Entries::items_of_entries))]
 fn sketch(alloc: Global, k: u32) -> Result<Theta, OutOfMemory>
     requires least { 2 ≤ k }
-    requires most { k ≤ 32768 }
+    requires most { k ≤ most_k }
     ensures { IfOk result (λ s. StandsFor s (items_of_entries [])) }
 {
     Theta::new(alloc, k)
@@ -98,7 +99,7 @@ fn settle<C: Composable>(updater: &mut Updater<C>) -> Settle
 
 fn admit<C: Composable, R: Abort>(rt: &R, alloc: Global, heart: &mut Heart<C>, b: u32) -> Updater<C>
     requires least { 1 ≤ b }
-    requires most { b ≤ 4096 }
+    requires most { b ≤ most_size }
     ensures heart { heart.new.table ≡ heart.old.table }
     ensures updater { result.table ≡ heart.new.table }
 {

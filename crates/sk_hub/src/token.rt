@@ -1,7 +1,7 @@
 //! Tokens, which ask, and the notes that they meet.
 ghost use Rattle.std.specs.Prelude.{◌≡◌, ℕ, IfOk, IfErr};
-ghost use Rattle.sk_model.specs.Missing.{Begins};
-ghost use Rattle.sk_gate.specs.Views.{known_of, longer, after_split, after_join};
+ghost use Rattle.sk_model.specs.Missing.{Begins, longer};
+ghost use Rattle.sk_gate.specs.Views.{known_of, after_split, after_join};
 ghost use Rattle.sk_hub.specs.Replies.{IsRelaxedReply};
 
 use sk_compose::Composable;

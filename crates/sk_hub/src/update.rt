@@ -1,9 +1,9 @@
 //! How an updater keeps items, and hands them over.
 ghost use Rattle.std.specs.Prelude.{◌≡◌, ◌≢◌, ◌↔◌, ◌⊎◌, ◌<◌, ◌++◌, ◌∷◌, [], length, true, false};
 ghost use Rattle.std.specs.Bool.{OnTrue, OnFalse};
-ghost use Rattle.sk_model.specs.Width.{item_end};
-ghost use Rattle.sk_machine.specs.Coarse.{most_kept};
 ghost use Rattle.sk_hub.specs.Updaters.{handed_of, kept_of, with_item, LooksInVain, Renews, HandsOver, Keeps, HandsWith};
+ghost use Rattle.sk_model.specs.Width.{IsItem};
+ghost use Rattle.sk_model.specs.Limits.{most_kept};
 
 use crate::answers::{Flush, Settle, Update};
 use crate::updater::Updater;
@@ -13,7 +13,7 @@ impl<C: Composable> Updater<C> {
     /// Keeps an item below 2^48, unless no later reply would change by it. At most 2^40 items are kept.
     #[inline(always)]
     pub fn update(&mut self, item: u64) -> Update
-        requires item { item < item_end }
+        requires item { IsItem item }
         requires room { length (kept_of self.old) < most_kept }
         ensures filtered { (result ≡ Update.Filtered) ↔ (C.keeps_of self.old.hint item ≡ false) }
         ensures unchanged { result ≡ Update.Filtered → self.new ≡ self.old }
@@ -34,7 +34,7 @@ impl<C: Composable> Updater<C> {
     // The rest of `update`, for an item that is kept unless the updater is busy.
     #[inline(never)]
     fn keep(&mut self, item: u64) -> Update
-        requires item { item < item_end }
+        requires item { IsItem item }
         requires room { length (kept_of self.old) < most_kept }
         ensures offered { result ≢ Update.Filtered }
         ensures full { result ≡ Update.Busy → length self.old.fill ≡ self.old.size }
@@ -91,7 +91,7 @@ impl<C: Composable> Updater<C> {
 
     // Puts an item into the fill buffer.
     fn put(&mut self, item: u64)
-        requires item { item < item_end }
+        requires item { IsItem item }
         requires room { length self.old.fill < self.old.size }
         requires few { length (kept_of self.old) < most_kept }
         ensures { self.new ≡ with_item self.old item }

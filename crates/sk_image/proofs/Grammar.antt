@@ -6,12 +6,13 @@ use Rattle.std.proofs.lemmas.Fmt.{decimal_by_steps, decimal_injective, length-de
 use Rattle.std.proofs.lemmas.List.Elements.{All-nil, All-cons, All-head, All-tail, All-same, All-append, All-push, All-weaker, All-take}
 use Rattle.std.proofs.lemmas.List.{append_cancel_left, take_at, get_or_append_left, length-map}
 use Rattle.std.specs.List.Sorted.{IsStrictlyIncreasing}
-use Rattle.sk_model.specs.Width.{item_end, AreItems}
 use Rattle.sk_lines.specs.Cutter.{HasNoLf}
 use Rattle.sk_image.specs.Images.{IsImage, hex_digit, hex, first_line, hash_line, last_line, lines_of_image}
 use Rattle.sk_image.specs.Reading.{line_limit, BeginAnImage}
 use Rattle.sk_image.proofs.Digits.{length_hex}
 use Rattle.sk_image.proofs.Splits.{heads, tails, conses, no_cons, no_cons_behind, ends, cut}
+use Rattle.sk_model.specs.Width.{IsItem, AreItems}
+use Rattle.sk_model.specs.Limits.{most_k, line_limit}
 
 -- between the least digit and the greatest, so neither LF nor a blank nor `n`
 pub digit_from : (d : ℕ) → 48 ≤ hex_digit d
@@ -54,7 +55,7 @@ hex_injective (suc width) a b sa sb e =
     let low : a % 16 ≡ b % 16 = digit_injective (a % 16) (b % 16) (omega arith) (omega arith) parts.1 in
     omega (arith, high, low)
 
-pub hash_injective : (a b : ℕ) → a < item_end → b < item_end → hash_line a ≡ hash_line b → a ≡ b
+pub hash_injective : (a b : ℕ) → IsItem a → IsItem b → hash_line a ≡ hash_line b → a ≡ b
 hash_injective a b sa sb e = hex_injective 12 a b (omega (arith, sa)) (omega (arith, sb)) e
 
 pub hash_is_not_last : (hash count : ℕ) → hash_line hash ≡ last_line count → ⊥
@@ -170,17 +171,17 @@ image_front k seed xs ys whole = record {
   most = whole.most;
   seed_fits = whole.seed_fits;
   rises = front_rises xs ys whole.rises;
-  items = All-front (λ item. item < item_end) xs ys whole.items;
+  items = All-front IsItem xs ys whole.items;
   within = omega (arith, whole.within, length-append xs ys);
 }
 
-pub new_image : (k seed : ℕ) → 2 ≤ k → k ≤ 32768 → seed < 2 ^ 32 → IsImage k seed []
+pub new_image : (k seed : ℕ) → 2 ≤ k → k ≤ most_k → seed < 2 ^ 32 → IsImage k seed []
 new_image k seed least most fits = record {
   least = least;
   most = most;
   seed_fits = fits;
   rises = λ k below. absurd (omega (arith, below));
-  items = All-nil (λ item. item < item_end);
+  items = All-nil IsItem;
   within = omega arith;
 }
 
@@ -196,7 +197,7 @@ goes_on [] (h ∷ hashes') count line rest i i' e = inr (h, hashes', refl, sym (
 goes_on (h ∷ hashes) [] count line rest i i' e =
     absurd (hash_is_not_last h count (sym (heads (last_line count) (hash_line h) [] (map hash_line hashes ++ line ∷ rest) e)))
 goes_on (h ∷ hashes) (h' ∷ hashes') count line rest i i' e =
-    let P : ℕ → Type 0 = λ item. item < item_end in
+    let P : ℕ → Type 0 = λ item. IsItem item in
     let front = heads (hash_line h') (hash_line h) (map hash_line hashes' ++ last_line count ∷ []) (map hash_line hashes ++ line ∷ rest) e in
     let back = tails (hash_line h') (hash_line h) (map hash_line hashes' ++ last_line count ∷ []) (map hash_line hashes ++ line ∷ rest) e in
     let same : h' ≡ h = hash_injective h' h (All-head P h' hashes' i') (All-head P h hashes i) front in
@@ -262,7 +263,7 @@ nothing_begins = record {
 }
 
 -- a line that is no first one begins no image
-pub bad_first : (line : List ℕ) → ((k seed : ℕ) → 2 ≤ k → k ≤ 32768 → seed < 2 ^ 32 → line ≡ first_line k seed → ⊥) → ¬ BeginAnImage (line ∷ [])
+pub bad_first : (line : List ℕ) → ((k seed : ℕ) → 2 ≤ k → k ≤ most_k → seed < 2 ^ 32 → line ≡ first_line k seed → ⊥) → ¬ BeginAnImage (line ∷ [])
 unfolding lines_of_image
 bad_first line none = λ b.
     none b.k b.seed b.whole.least b.whole.most b.whole.seed_fits

@@ -8,6 +8,7 @@ use Rattle.sk_image.specs.Reading.{line_limit, BeginAnImage, IsBadAt, IsGoodSoFa
 use Rattle.sk_image.specs.Inside.{IsBadFrom}
 use Rattle.sk_image.proofs.Splits.{conses, no_cons_behind, lines_split, joined_first, joined_none, cut, no_cut, cut_late}
 use Rattle.sk_image.proofs.Grammar.{IsLine, beginning_has_lines, without_lf, open_begins, whole_begins, open_is_not_whole, same_lines}
+use Rattle.sk_model.specs.Limits.{line_limit}
 
 no_lf_in_none : HasNoLf []
 no_lf_in_none = All-nil (λ byte. byte ≢ 10)

@@ -2,11 +2,12 @@
 use Rattle.std.specs.Prelude.{ℕ, zero, suc, ◌+◌, ◌/◌, ◌%◌, ◌^◌, ◌<◌, ◌≤◌, nat_lt, if◌then◌else◌, List, [], ◌∷◌, ◌++◌, length, map, flat_map, codes, decimal}
 use Rattle.std.specs.List.Sorted.{IsStrictlyIncreasing}
 use Rattle.sk_model.specs.Width.{AreItems}
+use Rattle.sk_model.specs.Limits.{most_k}
 
 -- the numbers of a sketch, and the hashes that it keeps
 pub record IsImage (k seed : ℕ) (hashes : List ℕ) : Type 0 where
   pub least : 2 ≤ k
-  pub most : k ≤ 32768
+  pub most : k ≤ most_k
   pub seed_fits : seed < 2 ^ 32
   pub rises : IsStrictlyIncreasing hashes
   pub items : AreItems hashes

@@ -6,6 +6,7 @@ use Rattle.sk_image.specs.Reading.{line_limit, BeginAnImage, IsBadAt, IsGoodSoFa
 use Rattle.sk_image.specs.declared.part.Part.{Part}
 use Rattle.sk_image.specs.declared.part.Part.TheVariants.{Nothing, Open, Whole}
 use Rattle.sk_image.specs.declared.draft.Draft.{Draft}
+use Rattle.sk_model.specs.Limits.{line_limit}
 
 -- exactly these lines were taken
 abbrev pub Holds : Part → List (List ℕ) → Type 0

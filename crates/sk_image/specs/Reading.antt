@@ -3,6 +3,7 @@ use Rattle.std.specs.Prelude.{◌≡◌, ℕ, ◌+◌, ◌≤◌, List, [], ◌�
 use Rattle.sk_model.specs.Missing.{Begins}
 use Rattle.sk_lines.specs.Cutter.{HasNoLf}
 use Rattle.sk_image.specs.Images.{IsImage, lines_of_image, joined, text_of}
+use Rattle.sk_model.specs.Limits.{line_limit}
 
 -- no line of an image has more bytes
 abbrev pub line_limit : ℕ

@@ -1,27 +1,26 @@
 // The lines of an image, each alone.
 ghost use Rattle.std.specs.Prelude.{◌≡◌, ◌≢◌, ◌↔◌, ◌<◌, ◌≤◌, ◌+◌, ◌^◌, ◌++◌, ◌∷◌, ℕ, List, Some, None, All, IfSome, IsNone, MatchOption, IsTrue, decimal, length, codes};
-ghost use Rattle.sk_model.specs.Width.{item_end};
 ghost use Rattle.sk_image.specs.Images.{hex_digit, first_line, hash_line, last_line};
+ghost use Rattle.sk_model.specs.Width.{IsItem};
+ghost use Rattle.sk_model.specs.Limits.{most_k};
 
 use sk_lines::read_number;
+use sk_model::limits::{ITEM_DIGITS, LEAST_K, MOST_K};
 
-// A hash has so many digits.
-const DIGITS: usize = 12;
-
-const K_END: u64 = 32_769;
+const K_END: u64 = MOST_K as u64 + 1;
 
 const SEED_END: u64 = 1 << 32;
 
 /// The k and the seed of a first line.
 pub fn read_first(line: &[u8]) -> Option<(u32, u32)>
-    ensures limits { IfSome result (λ first. (2 ≤ first.0) × (first.0 ≤ 32768)) }
-    ensures exact { (k seed : ℕ) → 2 ≤ k → k ≤ 32768 → seed < 2 ^ 32
+    ensures limits { IfSome result (λ first. (2 ≤ first.0) × (first.0 ≤ most_k)) }
+    ensures exact { (k seed : ℕ) → 2 ≤ k → k ≤ most_k → seed < 2 ^ 32
         → (result ≡ Some (k, seed) ↔ line.now ≡ first_line k seed) }
 {
     let (k, seed) = numbers_of(line)?;
     let k = read_plain(k, K_END)?;
     let seed = read_plain(seed, SEED_END)?;
-    if k < 2 {
+    if k < u64::from(LEAST_K) {
         return None;
     }
     Some((k as u32, seed as u32))
@@ -29,10 +28,10 @@ pub fn read_first(line: &[u8]) -> Option<(u32, u32)>
 
 /// The hash of a line.
 pub fn read_hash(line: &[u8]) -> Option<u64>
-    ensures limit { IfSome result (λ hash. hash < item_end) }
-    ensures exact { (hash : ℕ) → hash < item_end → (result ≡ Some hash ↔ line.now ≡ hash_line hash) }
+    ensures limit { IfSome result IsItem }
+    ensures exact { (hash : ℕ) → IsItem hash → (result ≡ Some hash ↔ line.now ≡ hash_line hash) }
 {
-    if line.len() != DIGITS {
+    if line.len() != ITEM_DIGITS {
         return None;
     }
     let mut hash = 0;
@@ -44,7 +43,7 @@ pub fn read_hash(line: &[u8]) -> Option<u64>
 
 /// Whether a line is the last one behind so many hashes.
 pub fn is_last(line: &[u8], count: usize) -> bool
-    requires { count ≤ 32768 }
+    requires { count ≤ most_k }
     ensures { IsTrue result ↔ line.now ≡ last_line count }
 {
     match line.strip_prefix(b"end ") {

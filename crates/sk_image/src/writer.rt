@@ -8,10 +8,8 @@ ghost use Rattle.sk_image.specs.Images.{hex_digit, first_line, hash_line, last_l
 use crate::image::Image;
 use sk_io::{Failed, Sink, write_all};
 use sk_model::OutOfMemory;
+use sk_model::limits::ITEM_DIGITS;
 use std::alloc::{AllocError, Global};
-
-// A hash has so many digits.
-const DIGITS: usize = 12;
 
 const HASH_LINE_LEN: usize = 13;
 
@@ -109,7 +107,7 @@ fn line_of(hash: u64) -> [u8; HASH_LINE_LEN]
     ensures { result ≡ hash_line hash ++ codes "\n" }
 {
     let mut line = [b'\n'; HASH_LINE_LEN];
-    let mut place = DIGITS;
+    let mut place = ITEM_DIGITS;
     let mut rest = hash;
     'digit: while place > 0 {
         place -= 1;

@@ -1,146 +1,99 @@
--- Where a text of records may be cut, as it grows.
-use Rattle.std.proofs.Common.{◌≡◌, ◌⊎◌, ℕ, ◌+◌, ◌<◌, true, List, [], ◌∷◌, ◌++◌, length, refl, sym, ap, ◌∙◌, subst, inl, inr, arith, append_assoc, append-nil, length-append}
-use Rattle.csv.specs.Machine.{step}
-use Rattle.csv.specs.Reading.{default_config}
-use Rattle.csv.specs.declared.parser.State.{State}
-use Rattle.csv.specs.declared.parser.State.TheVariants as st
-use Rattle.sk_ingest.specs.declared.place.Place.{Place}
-use Rattle.sk_ingest.specs.declared.place.Place.TheVariants as place
-use Rattle.sk_ingest.specs.Places.{IsEnd, state_of, settled, is_inside, state_after, StaysInside, IsCut}
-use Rattle.sk_ingest.proofs.Steps.{settled_goes_on, settled_twice, inside_settled, between_is_end}
+-- Pieces of a text.
+use Rattle.std.proofs.Common.{◌≡◌, ℕ, zero, suc, ◌+◌, ◌-◌, ◌<◌, ◌≤◌, List, [], ◌∷◌, ◌++◌, length, get_or, take, drop, slice_range, refl, sym, ap, ◌∙◌, subst, arith, length-append, length-drop, le_refl, add-one}
+use Rattle.std.specs.List.{concat}
+use Rattle.std.proofs.lemmas.List.{drop-append-le, take-append-le, drop_at, take_all, drop_all, take-append-drop, drop-drop}
+use Rattle.sk_ingest.specs.Windows.{cut_from, cut_at, Rises, AreCuts}
 
-pub place_settled : (p : Place) → settled (state_of p) ≡ state_of p
-place_settled place.Between = refl
-place_settled place.FieldStart = refl
-place_settled place.InField = refl
-place_settled place.InQuotes = refl
-place_settled place.AfterQuote = refl
+-- ---- places
 
--- a place lies between two records or inside one
-pub between_or_inside : (p : Place) → (state_of p ≡ st.StartRecord) ⊎ (is_inside (state_of p) ≡ true)
-between_or_inside place.Between = inl refl
-between_or_inside place.FieldStart = inr refl
-between_or_inside place.InField = inr refl
-between_or_inside place.InQuotes = inr refl
-between_or_inside place.AfterQuote = inr refl
+rises_le : (from : ℕ) (more : List ℕ) (end : ℕ) → Rises from more end → from ≤ end
+unfolding Rises
+rises_le from [] end r = subst (λ z. from ≤ z) r (le_refl from)
+rises_le from (to ∷ more) end r = let rest = rises_le to more end r.1 in omega arith
 
--- what is settled goes on alike
-pub after_settled : (s : State) (xs : List ℕ) → state_after (settled s) xs ≡ state_after s xs
-unfolding state_after
-after_settled s [] = settled_twice s
-after_settled s (c ∷ rest) = rw (settled_goes_on s c) refl
+rises_more : (from : ℕ) (more : List ℕ) (end next : ℕ) → Rises from more end → end ≤ next → Rises from (more ++ next ∷ []) next
+unfolding Rises
+rises_more from [] end next r le = (subst (λ z. z ≤ next) (sym r) le, refl)
+rises_more from (to ∷ more) end next r le = (r.0, rises_more to more end next r.1 le)
 
-pub stays_settled : (s : State) (xs : List ℕ) → StaysInside (settled s) xs → StaysInside s xs
-unfolding StaysInside
-stays_settled s [] stays = tt
-stays_settled s (c ∷ rest) stays = rw (settled_goes_on s c) at stays
+-- place i is no larger than the next, nor that one than the end
+rises_at : (from : ℕ) (more : List ℕ) (end i : ℕ) → Rises from more end → i < length more → (get_or (from ∷ more) i 0 ≤ get_or more i 0) × (get_or more i 0 ≤ end)
+unfolding Rises
+rises_at from [] end i r within = absurd (omega arith)
+rises_at from (to ∷ more) end zero r within = (r.0, rises_le to more end r.1)
+rises_at from (to ∷ more) end (suc i) r within = rises_at to more end i r.1 (omega arith)
 
-pub after_append : (s : State) (xs ys : List ℕ) → state_after s (xs ++ ys) ≡ state_after (state_after s xs) ys
-unfolding state_after
-after_append s [] ys = sym (after_settled s ys)
-after_append s (c ∷ rest) ys = after_append (step default_config s c).0 rest ys
+pub cuts_at : (places text : List ℕ) (i : ℕ) → AreCuts places text → i + 1 < length places → (get_or places i 0 ≤ get_or places (i + 1) 0) × (get_or places (i + 1) 0 ≤ length text)
+cuts_at [] text i c within = absurd c
+cuts_at (from ∷ more) text i c within = rw add-one (rises_at from more (length text) i c.1 (omega arith))
 
-pub stays_append : (s : State) (xs ys : List ℕ) → StaysInside s xs → StaysInside (state_after s xs) ys → StaysInside s (xs ++ ys)
-unfolding state_after StaysInside
-stays_append s [] ys stays more = stays_settled s ys more
-stays_append s (c ∷ rest) ys stays more = (stays.0, stays_append (step default_config s c).0 rest ys stays.1 more)
+pub cuts_more : (places text line : List ℕ) (end : ℕ) → AreCuts places text → end ≡ length (text ++ line) → AreCuts (places ++ end ∷ []) (text ++ line)
+cuts_more [] text line end c is = absurd c
+cuts_more (from ∷ more) text line end c is = (c.0, subst (λ z. Rises from (more ++ end ∷ []) z) is (rises_more from more (length text) end c.1 (omega (arith, length-append text line))))
 
-pub after_byte : (s : State) (c : ℕ) → state_after s (c ∷ []) ≡ settled (step default_config s c).0
-unfolding state_after
-after_byte s c = refl
+-- ---- pieces
 
-pub after_none : (s : State) → state_after s [] ≡ settled s
-unfolding state_after
-after_none s = refl
+length_from : (from : ℕ) (more text : List ℕ) → length (cut_from from more text) ≡ length more
+unfolding cut_from
+length_from from [] text = refl
+length_from from (to ∷ more) text = ap suc (length_from to more text)
 
--- a text that ends between two records ends in LF or CR
-pub last_is_end : (s : State) (xs : List ℕ) (c : ℕ) → state_after s (xs ++ c ∷ []) ≡ st.StartRecord → IsEnd c
-last_is_end s xs c between =
-    between_is_end (state_after s xs) c (sym (after_byte (state_after s xs) c) ∙ sym (after_append s xs (c ∷ [])) ∙ between)
+-- there is a place more than there are pieces
+pub places_of : (places text : List ℕ) → AreCuts places text → length places ≡ length (cut_at places text) + 1
+places_of [] text c = absurd c
+places_of (from ∷ more) text c = omega (arith, length_from from more text)
 
--- nothing is read yet
-pub cut_none : (p : Place) → IsCut (state_of p) [] (state_of p) 0
-unfolding StaysInside
-cut_none p = record {
-  front = [];
-  back = [];
-  joined = refl;
-  size = refl;
-  between = λ some. absurd (omega (arith, some));
-  inside = tt;
-  ends = sym (after_none (state_of p) ∙ place_settled p);
-}
+piece_from : (from : ℕ) (more text : List ℕ) (i : ℕ) → i < length more → get_or (cut_from from more text) i [] ≡ slice_range text (get_or (from ∷ more) i 0) (get_or more i 0)
+unfolding cut_from
+piece_from from [] text i within = absurd (omega arith)
+piece_from from (to ∷ more) text zero within = refl
+piece_from from (to ∷ more) text (suc i) within = piece_from to more text i (omega arith)
 
--- one byte more, behind which it stands between two records
-pub cut_here : (s : State) (xs : List ℕ) (state next : State) (cut c : ℕ) → IsCut s xs state cut → next ≡ settled (step default_config state c).0 → next ≡ st.StartRecord →
-    IsCut s (xs ++ c ∷ []) next (length xs + 1)
-unfolding StaysInside
-cut_here s xs state next cut c is goes between =
-    let ends : next ≡ state_after s (xs ++ c ∷ []) =
-    goes ∙ sym (after_byte state c) ∙ ap (λ (t : State). state_after t (c ∷ [])) is.ends ∙ sym (after_append s xs (c ∷ [])) in
-    record {
-      front = xs ++ c ∷ [];
-      back = [];
-      joined = sym (append-nil (xs ++ c ∷ []));
-      size = length-append xs (c ∷ []);
-      between = λ some. sym ends ∙ between;
-      inside = tt;
-      ends = ends;
-    }
+pub piece_at : (places text : List ℕ) (i : ℕ) → i + 1 < length places → get_or (cut_at places text) i [] ≡ slice_range text (get_or places i 0) (get_or places (i + 1) 0)
+piece_at [] text i within = absurd (omega arith)
+piece_at (from ∷ more) text i within = rw add-one (piece_from from more text i (omega arith))
 
--- one byte more, behind which it stands inside a record
-pub cut_before : (s : State) (xs : List ℕ) (state next : State) (cut c : ℕ) → IsCut s xs state cut → next ≡ settled (step default_config state c).0 → is_inside next ≡ true →
-    IsCut s (xs ++ c ∷ []) next cut
-unfolding StaysInside
-cut_before s xs state next cut c is goes inside =
-    let reached : state ≡ state_after (state_after s is.front) is.back = is.ends ∙ ap (state_after s) is.joined ∙ after_append s is.front is.back in
-    let within : is_inside (step default_config (state_after (state_after s is.front) is.back) c).0 ≡ true =
-    subst (λ (t : State). is_inside (step default_config t c).0 ≡ true) reached (sym (inside_settled (step default_config state c).0) ∙ ap is_inside (sym goes) ∙ inside) in
-    record {
-      front = is.front;
-      back = is.back ++ c ∷ [];
-      joined = ap (λ (l : List ℕ). l ++ c ∷ []) is.joined ∙ append_assoc is.front is.back (c ∷ []);
-      size = is.size;
-      between = is.between;
-      inside = stays_append (state_after s is.front) is.back (c ∷ []) is.inside (within, tt);
-      ends = goes ∙ sym (after_byte state c) ∙ ap (λ (t : State). state_after t (c ∷ [])) is.ends ∙ sym (after_append s xs (c ∷ []));
-    }
+-- all pieces together are the text
+joined_from : (from : ℕ) (more text : List ℕ) → Rises from more (length text) → concat (cut_from from more text) ≡ drop from text
+unfolding cut_from Rises
+joined_from from [] text r = sym (drop_all from text (omega arith))
+joined_from from (to ∷ more) text r =
+    let whole : from + (to - from) ≡ to = omega arith in
+    ap (λ l. slice_range text from to ++ l) (joined_from to more text r.1 ∙ ap (λ k. drop k text) (sym whole) ∙ sym (drop-drop (to - from) from text)) ∙ take-append-drop (to - from) (drop from text)
 
--- one piece more, with a place between two records
-pub cut_later : (s : State) (xs ys : List ℕ) (state next : State) (cut more : ℕ) → IsCut s xs state cut → IsCut state ys next more → 0 < more →
-    IsCut s (xs ++ ys) next (length xs + more)
-cut_later s xs ys state next cut more is then some =
-    let front : state_after s (xs ++ then.front) ≡ st.StartRecord =
-    after_append s xs then.front ∙ ap (λ (t : State). state_after t then.front) (sym is.ends) ∙ then.between some in
-    record {
-      front = xs ++ then.front;
-      back = then.back;
-      joined = ap (λ (l : List ℕ). xs ++ l) then.joined ∙ sym (append_assoc xs then.front then.back);
-      size = length-append xs then.front ∙ ap (λ (n : ℕ). length xs + n) then.size;
-      between = λ _. front;
-      inside = subst (λ (t : State). StaysInside t then.back) (then.between some ∙ sym front) then.inside;
-      ends = then.ends ∙ ap (λ (t : State). state_after t ys) is.ends ∙ sym (after_append s xs ys);
-    }
+pub joined : (places text : List ℕ) → AreCuts places text → concat (cut_at places text) ≡ text
+joined [] text c = absurd c
+joined (from ∷ more) text c = joined_from from more text c.1 ∙ ap (λ k. drop k text) c.0
 
-no_front : (xs : List ℕ) → length xs ≡ 0 → xs ≡ []
-no_front [] none = refl
-no_front (x ∷ xs) none = absurd (omega arith)
+-- a piece that ends within a text stays
+range_stays : (text line : List ℕ) (from to : ℕ) → from ≤ to → to ≤ length text → slice_range (text ++ line) from to ≡ slice_range text from to
+range_stays text line from to le within =
+    let inside : from ≤ length text = omega arith in
+    let short : to - from ≤ length (drop from text) = omega (arith, length-drop from text) in
+    ap (take (to - from)) (drop-append-le from text line inside) ∙ take-append-le (to - from) (drop from text) line short
 
--- one piece more, with no such place
-pub cut_stays : (s : State) (xs ys : List ℕ) (state next : State) (cut : ℕ) → IsCut s xs state cut → IsCut state ys next 0 → IsCut s (xs ++ ys) next cut
-cut_stays s xs ys state next cut is then =
-    let none : then.front ≡ [] = no_front then.front then.size in
-    let reached : state ≡ state_after (state_after s is.front) is.back = is.ends ∙ ap (state_after s) is.joined ∙ after_append s is.front is.back in
-    let back : ys ≡ then.back = then.joined ∙ ap (λ (l : List ℕ). l ++ then.back) none in
-    let start : state_after state then.front ≡ settled (state_after (state_after s is.front) is.back) =
-    ap (state_after state) none ∙ after_none state ∙ ap settled reached in
-    record {
-      front = is.front;
-      back = is.back ++ ys;
-      joined = ap (λ (l : List ℕ). l ++ ys) is.joined ∙ append_assoc is.front is.back ys;
-      size = is.size;
-      between = is.between;
-      inside = stays_append (state_after s is.front) is.back ys is.inside
-          (stays_settled _ ys (subst (λ (l : List ℕ). StaysInside (settled (state_after (state_after s is.front) is.back)) l) (sym back) (subst (λ (t : State). StaysInside t then.back) start then.inside)));
-      ends = then.ends ∙ ap (λ (t : State). state_after t ys) is.ends ∙ sym (after_append s xs ys);
-    }
+cut_from_more : (from : ℕ) (more text line : List ℕ) (end : ℕ) → Rises from more (length text) → end ≡ length (text ++ line) → cut_from from (more ++ end ∷ []) (text ++ line) ≡ cut_from from more text ++ line ∷ []
+unfolding cut_from Rises
+cut_from_more from [] text line end r is =
+    let all : length line ≤ end - from = omega (arith, length-append text line) in
+    ap (λ l. l ∷ []) (ap (take (end - from)) (drop_at text line from (sym r)) ∙ take_all (end - from) line all)
+cut_from_more from (to ∷ more) text line end r is =
+    let within : to ≤ length text = rises_le to more (length text) r.1 in
+    ap (λ l. l ∷ cut_from to (more ++ end ∷ []) (text ++ line)) (range_stays text line from to r.0 within) ∙ ap (λ l. slice_range text from to ∷ l) (cut_from_more to more text line end r.1 is)
+
+-- a line behind the text is one piece more
+pub cut_more : (places text line : List ℕ) (end : ℕ) → AreCuts places text → end ≡ length (text ++ line) → cut_at (places ++ end ∷ []) (text ++ line) ≡ cut_at places text ++ line ∷ []
+cut_more [] text line end c is = absurd c
+cut_more (from ∷ more) text line end c is = cut_from_more from more text line end c.1 is
+
+-- ---- no pieces
+
+pub cuts_none : (places text : List ℕ) → AreCuts places text → AreCuts (take 1 places) []
+unfolding Rises
+cuts_none [] text c = absurd c
+cuts_none (from ∷ more) text c = (c.0, c.0)
+
+pub cut_none : (places text : List ℕ) → cut_at (take 1 places) text ≡ []
+unfolding cut_from
+cut_none [] text = refl
+cut_none (from ∷ more) text = refl

@@ -1,12 +1,5 @@
-pub use Rattle.sk_model.specs.Causes
-pub use Rattle.sk_model.specs.Lines
-pub mod Faults
-pub mod Inside
-pub mod Items
-pub mod Parts
-pub mod Places
-pub mod Reading
-pub mod Records
-pub mod Rows
-pub mod Table
-pub mod Units
+pub mod Windows
+pub mod Blocks
+pub mod Feeds
+pub mod Rounds
+pub mod Totals

@@ -1,20 +1,18 @@
-//! The way from a stream of bytes to items: its lines or a column of its records, what makes one of
-//! these an item, and who takes it.
+//! Windows of lines, and how their items are fed to the updaters of a hub.
 #![tactic(auto)]
 
-mod counted;
-mod items;
-mod kind;
-mod lines;
-mod parts;
-mod place;
-mod reader;
-mod records;
-mod table;
+mod block;
+mod feed;
+mod feeder;
+pub mod laws;
+mod window;
 
-pub use items::{Fault, Intake, Taker, read_items};
-pub use kind::Kind;
-pub use reader::{LINE_LIMIT, LineFault, LineReader};
+pub use block::Block;
+pub use feed::feed_block;
+pub use feeder::{Feeder, feed_window, feeders_of, have_room};
+pub use sk_read::Kind;
+pub use sk_model::OutOfMemory;
+pub use window::Window;
 
 #[cfg(test)]
 mod tests;

@@ -69,11 +69,12 @@ after_write s bytes = if refuses s
     then record s { calls = failed (called s.calls) }
     else record s { written = s.written ++ take (next_taken s (length bytes)) bytes; calls = called s.calls }
 
--- a shelf: its files, and its calls of `open` and of `read`
+-- a shelf: its files, its calls of `open` and of `read`, and the file that was opened or read last
 pub record ShelfState : Type 0 where
   pub files : List (List ℕ × List ℕ)
   pub opens : Calls
   pub reads : Calls
+  pub last : MemFile
 
 -- each file as its name beside its bytes
 abbrev pub stored : {Z Y : Type 0} → List (String Z × Vec ℕ Y) → List (List ℕ × List ℕ)
@@ -91,14 +92,14 @@ unread s file = drop file.at (bytes_of s.files file.number)
 abbrev pub cannot_open : ShelfState → List ℕ → Bool
 cannot_open s name = next_fails s.opens || is_none (file_named s.files name)
 
--- after an open of this name
+-- after an open of this name, but for the file that was opened
 abbrev pub after_open : ShelfState → List ℕ → ShelfState
 after_open s name = if cannot_open s name
     then record s { opens = failed (called s.opens) }
     else record s { opens = called s.opens }
 
--- after a read
-abbrev pub after_shelf_read : ShelfState → ShelfState
-after_shelf_read s = if next_fails s.reads
-    then record s { reads = failed (called s.reads) }
-    else record s { reads = called s.reads }
+-- after a read of this file
+abbrev pub after_shelf_read : ShelfState → MemFile → ShelfState
+after_shelf_read s file = if next_fails s.reads
+    then record s { reads = failed (called s.reads); last = file }
+    else record s { reads = called s.reads; last = file }

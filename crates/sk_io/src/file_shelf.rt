@@ -42,6 +42,8 @@ impl<R: Files> Shelf for FileShelf<R> {
 
     ghost left = { λ _ _. None };
 
+    ghost rest = { λ _. None };
+
     fn open(&mut self, name: &str) -> Result<R::File, Failed> {
         match fs::open(&self.rt, name) {
             Ok(file) => Ok(file),
@@ -56,6 +58,8 @@ impl<R: Files> Shelf for FileShelf<R> {
         requires { 0 < length buf.old }
         ensures bound { ReadsAtMost result buf.new }
         ensures bytes { ReadConsumes None None result buf.new }
+        ensures last { let shelf = ⟦<FileShelf<R> as Shelf>⟧ in
+            shelf.rest self.new ≡ shelf.left self.new file.new }
         ensures file { ReadConsumes (R.File.remaining file.old) (R.File.remaining file.new) result buf.new }
         ensures cause { let faults = ⟦<FileShelf<R> as Shelf>⟧.read_faults in
             HasCause (faults self.old) (faults self.new) result }

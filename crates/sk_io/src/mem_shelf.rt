@@ -17,6 +17,8 @@ pub struct MemShelf {
     files: Vec<(String, Vec<u8>)>,
     opens: Plan,
     reads: Plan,
+    // the file that was opened or read last
+    last: MemFile,
 }
 
 impl Model for MemShelf {
@@ -24,7 +26,8 @@ impl Model for MemShelf {
 
     ghost Value = { ShelfState };
 
-    ghost view = { λ s. record { files = stored s.files.items; opens = s.opens; reads = s.reads } };
+    ghost view = { λ s.
+        record { files = stored s.files.items; opens = s.opens; reads = s.reads; last = s.last } };
 }
 
 /// An open file of a `MemShelf`: its number there, from 0, and how many bytes it has given.
@@ -42,12 +45,14 @@ impl MemShelf {
           files = stored files.items;
           opens = planned open_fails.items;
           reads = planned read_fails.items;
+          last = result.last;
         } }
     {
         MemShelf {
             files,
             opens: Plan::new(open_fails),
             reads: Plan::new(read_fails),
+            last: MemFile { number: 0, at: 0 },
         }
     }
 }
@@ -63,19 +68,25 @@ impl Shelf for MemShelf {
 
     ghost left = { λ s file. Some (unread s file) };
 
+    ghost rest = { λ s. Some (unread s s.last) };
+
     /// Fails exactly at the calls with the listed numbers and at a name that no file has.
     fn open(&mut self, name: &str) -> Result<MemFile, Failed>
         ensures content { IfOk result (λ file. Some (unread self.new file) ≡ file_named self.old.files name.now) }
+        ensures last { IfOk result (λ file. self.new.last ≡ file) }
         ensures missing { IsNone (file_named self.old.files name.now) → IsErr result }
         ensures cause { HasCause self.old.opens.faults self.new.opens.faults result }
         ensures fails { is_err result ≡ cannot_open self.old name.now }
-        ensures shelf { self.new ≡ after_open self.old name.now }
+        ensures shelf { self.new ≡ record (after_open self.old name.now) { last = self.new.last } }
     {
         if self.opens.call() {
             return Err(self.opens.fail());
         }
         match number_of(&self.files, name) {
-            Some(number) => Ok(MemFile { number, at: 0 }),
+            Some(number) => {
+                self.last = MemFile { number, at: 0 };
+                Ok(self.last)
+            }
             None => Err(self.opens.fail()),
         }
     }
@@ -89,14 +100,17 @@ impl Shelf for MemShelf {
         ensures cause { HasCause self.old.reads.faults self.new.reads.faults result }
         ensures fails { is_err result ≡ next_fails self.old.reads }
         ensures count { IfOk result (λ n. n ≡ min (length buf.old) (length (unread self.old file.old))) }
-        ensures shelf { self.new ≡ after_shelf_read self.old }
+        ensures shelf { self.new ≡ after_shelf_read self.old file.new }
+        ensures last { self.new.last ≡ file.new }
     {
         if self.reads.call() {
+            self.last = *file;
             return Err(self.reads.fail());
         }
         let most = buf.len();
         let n = give(left_of(&self.files, file), buf, most);
         file.at += n;
+        self.last = *file;
         Ok(n)
     }
 }

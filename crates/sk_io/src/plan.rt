@@ -1,5 +1,5 @@
 // Which calls of a form in memory are to fail.
-ghost use Rattle.std.specs.Prelude.{◌≡◌, ◌≤◌};
+ghost use Rattle.std.specs.Prelude.{◌≡◌};
 ghost use Rattle.sk_model.specs.Causes.{Rose};
 
 use crate::stream::Failed;
@@ -47,7 +47,6 @@ impl Plan {
     /// Counts a fault.
     pub fn fail(&mut self) -> Failed
         ensures calls { self.new ≡ failed self.old }
-        ensures later { self.old.faults ≤ self.new.faults }
         ensures rose { Rose self.old.faults self.new.faults }
     {
         self.faults = self.faults.saturating_add(1);

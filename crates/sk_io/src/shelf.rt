@@ -24,9 +24,13 @@ pub trait Shelf {
     /// The bytes that reads of an open file will give from here on, where the shelf tells them.
     ghost left: { Self → Self.File → Option (List ℕ) };
 
+    /// The same of the file that was opened or read last: what a caller sees once that file is closed.
+    ghost rest: { Self → Option (List ℕ) };
+
     /// Opens the file of this name at its first byte. A shelf that has no such file fails.
     fn open(&mut self, name: &str) -> Result<Self::File, Failed>
         ensures content { IfOk result (λ file. left self.new file ≡ told_file (files self.old) name.now) }
+        ensures last { IfOk result (λ file. rest self.new ≡ left self.new file) }
         ensures missing { IsMissing (files self.old) name.now → IsErr result }
         ensures cause { HasCause (open_faults self.old) (open_faults self.new) result }
         ensures reads { read_faults self.new ≡ read_faults self.old }
@@ -37,22 +41,25 @@ pub trait Shelf {
         requires { 0 < length buf.old }
         ensures bound { ReadsAtMost result buf.new }
         ensures bytes { ReadConsumes (left self.old file.old) (left self.new file.new) result buf.new }
+        ensures last { rest self.new ≡ left self.new file.new }
         ensures cause { HasCause (read_faults self.old) (read_faults self.new) result }
         ensures opens { open_faults self.new ≡ open_faults self.old }
         ensures files { files self.new ≡ files self.old };
 }
 
-/// An open file of a shelf as a source. It stands on both borrows and on what the shelf has beside
-/// its count of failed reads.
+/// An open file of a shelf as a source, the file that was opened or read last. It stands on both borrows
+/// and on what the shelf has beside its count of failed reads.
 #[derive(Drop)]
 pub struct OnShelf<'a, F: Shelf> {
     pub shelf: &'a mut F,
     pub file: &'a mut F::File,
+    pub ghost last: { F.rest shelf.now ≡ F.left shelf.now file.now },
 }
 
 impl<'a, F: Shelf> OnShelf<'a, F> {
     /// The source of what `file` has left, which is a file of `shelf`.
     pub fn new(shelf: &'a mut F, file: &'a mut F::File) -> Self
+        requires { F.rest shelf.old ≡ F.left shelf.old file.old }
         ensures shelf { result.shelf.ghost_name ≡ shelf.entry.ghost_name }
         ensures shelf_now { result.shelf.now ≡ shelf.old }
         ensures file { result.file.ghost_name ≡ file.entry.ghost_name }

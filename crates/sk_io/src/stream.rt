@@ -2,7 +2,7 @@
 ghost use Rattle.std.specs.Prelude.{◌≡◌, ◌<◌, ℕ, List, Option, length, OnOk, OnErr, IfOk};
 ghost use Rattle.std.specs.Io.{ReadsAtMost, WritesAtMost};
 ghost use Rattle.std.specs.Io.KnownBytes.{Appends, ReadConsumes, WriteAppends};
-ghost use Rattle.sk_model.specs.Causes.{HasCause, AppendsFront};
+ghost use Rattle.sk_model.specs.Causes.{HasCause, AppendsPart};
 ghost use Rattle.sk_io.specs.Base.{Base};
 
 /// A call on a stream failed, and raised its count of faults.
@@ -14,7 +14,7 @@ pub trait Source {
     /// The bytes that reads will give from here on, where the source tells them.
     ghost left: { Self → Option (List ℕ) };
 
-    /// How often a read has failed. The count stops at the largest `u64`.
+    /// How often a read has failed. The count stops at the largest `u64`, and only a read that fails moves it.
     ghost faults: { Self → ℕ };
 
     /// What no read changes.
@@ -34,7 +34,7 @@ pub trait Sink {
     /// The bytes that were written, where the sink tells them.
     ghost written: { Self → Option (List ℕ) };
 
-    /// How often a write has failed. The count stops at the largest `u64`.
+    /// How often a write has failed. The count stops at the largest `u64`, and only a write that fails moves it.
     ghost faults: { Self → ℕ };
 
     /// Writes at least one byte from the front of `bytes`. A write that fails writes none.
@@ -46,10 +46,10 @@ pub trait Sink {
         ensures cause { HasCause (faults self.old) (faults self.new) result };
 }
 
-/// Writes all of `bytes`. Where it fails, a part from their front was written.
+/// Writes all of `bytes`. Where it fails, a part from their front was written, and not all.
 pub fn write_all<O: Sink>(out: &mut O, bytes: &[u8]) -> Result<(), Failed>
     ensures ok { OnOk result (Appends (O.written out.old) (O.written out.new) bytes.now) }
-    ensures err { OnErr result (AppendsFront (O.written out.old) (O.written out.new) bytes.now) }
+    ensures err { OnErr result (AppendsPart (O.written out.old) (O.written out.new) bytes.now) }
     ensures cause { HasCause (O.faults out.old) (O.faults out.new) result }
 {
     let mut at = 0;

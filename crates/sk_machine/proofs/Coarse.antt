@@ -6,13 +6,14 @@ use mathlib.Core.Logic.{dite}
 use native.Mathlib.Decide.{ℕ_discrete}
 use Rattle.sk_model.specs.Entries.{Entry, entries_by, tagged}
 use Rattle.sk_model.specs.Missing.{Begins, LacksAtMost}
-use Rattle.sk_model.specs.Width.{item_end, AreItems}
 use Rattle.sk_model.proofs.Entries.{entries_by_append, entries_by_others, entries_by_more, entries_by_nil}
 use Rattle.sk_model.proofs.Missing.{begins_refl, begins_more, begins_trans, begins_length, lacks_none, lacks_some, lacks_begins, missing_adds_up}
-use Rattle.sk_machine.specs.Coarse.{most_kept, most_entries, CoarseUpdater, Coarse, IsEntry, At, MayRest, IsBatch, IsBehindBy, IsClosed, MeetsUpdater, Meets, coarse_start, after_look, after_hand, after_rest, after_find, after_publish, after_give_back, after_turn, after_yield, after_admit}
+use Rattle.sk_machine.specs.Coarse.{most_entries, CoarseUpdater, Coarse, IsEntry, At, MayRest, IsBatch, IsBehindBy, IsClosed, MeetsUpdater, Meets, coarse_start, after_look, after_hand, after_rest, after_find, after_publish, after_give_back, after_turn, after_yield, after_admit}
 use Rattle.sk_machine.specs.declared.views.Stage.{Stage}
 use Rattle.sk_machine.specs.declared.views.Stage.TheVariants.{Idle, Busy, Published}
 use Rattle.sk_machine.proofs.Numbered.{each_put, sum_below_most, length_by}
+use Rattle.sk_model.specs.Width.{IsItem, AreItems}
+use Rattle.sk_model.specs.Limits.{most_updaters, most_kept}
 
 -- ---- lists
 
@@ -31,7 +32,7 @@ tagged_are_entries n i batch inside items = All-map (IsEntry n) (λ (x : ℕ). (
 
 items_of_front : (xs ys : List ℕ) → AreItems (xs ++ ys) → AreItems ys
 items_of_front [] ys items = items
-items_of_front (x ∷ xs) ys items = items_of_front xs ys (All-tail (λ (y : ℕ). y < item_end) x (xs ++ ys) items)
+items_of_front (x ∷ xs) ys items = items_of_front xs ys (All-tail IsItem x (xs ++ ys) items)
 
 -- ---- what holds of one updater
 
@@ -112,7 +113,7 @@ module _ (hint : List Entry → ℕ) (b : ℕ) (h : List Entry) (s : Stage) (i :
         ready_base = λ on. absurd (true≢false (sym on));
         closed_more = λ _. let some = is.0 in let same = ap length (o.open_given w) in omega (arith, length-append u.mine.handed batch);
         closed = λ _. waits b h i u' s (o.open_apart w) (is, ap (λ l. l ++ batch) (sym (o.open_all w)));
-        items = All-append (λ (x : ℕ). x < item_end) u.mine.handed batch o.items items;
+        items = All-append IsItem u.mine.handed batch o.items items;
         few = omega (arith, length-append u.mine.handed batch);
         vacant = λ z. absurd (admitted z);
       }
@@ -204,7 +205,7 @@ module _ (hint : List Entry → ℕ) (n : ℕ) where
       (missing_adds_up (handed ++ more) handed (entries_by i m.published) (m.sizes i) (m.sizes i) (lacks_some (handed ++ more) handed more (m.sizes i) refl short) (lacks m i ok inside))
 
   -- the published list and a batch together are short
-  pub entries_are_few : (m : Coarse) (i : ℕ) (batch : List ℕ) → Meets hint n m → n ≤ 64 → m.stage ≡ Busy i batch → length m.published + length batch ≤ most_entries
+  pub entries_are_few : (m : Coarse) (i : ℕ) (batch : List ℕ) → Meets hint n m → n ≤ most_updaters → m.stage ≡ Busy i batch → length m.published + length batch ≤ most_entries
   entries_are_few m i batch ok few has =
       let all : List Entry = m.published ++ tagged i batch in
       let inside : i < n = ok.stage_at i (subst (λ s. At s i) (sym has) refl) in
@@ -240,7 +241,7 @@ module _ (hint : List Entry → ℕ) (n : ℕ) where
       ready_base = λ _. refl;
       closed_more = λ z. absurd (open_now z);
       closed = λ z. absurd (open_now z);
-      items = All-nil (λ (x : ℕ). x < item_end);
+      items = All-nil IsItem;
       few = omega arith;
       vacant = λ _. (refl, refl);
     };

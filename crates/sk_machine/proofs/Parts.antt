@@ -5,7 +5,6 @@ use mathlib.Core.Logic.{dite}
 use native.Mathlib.Decide.{ℕ_discrete}
 use Rattle.sk_model.specs.Entries.{Entry, entries_by}
 use Rattle.sk_model.specs.Missing.{LacksAtMost}
-use Rattle.sk_model.specs.Width.{item_end}
 use Rattle.sk_model.proofs.Missing.{begins_refl, lacks_some, missing_adds_up}
 use Rattle.sk_machine.specs.Coarse.{Coarse, At, MeetsUpdater, Meets}
 use Rattle.sk_machine.specs.Coarse as coarse
@@ -17,6 +16,7 @@ use Rattle.sk_machine.specs.declared.states.Progress.{Progress}
 use Rattle.sk_machine.specs.declared.states.Progress.TheVariants.{Idle, Found, Holding, Published, Put}
 use Rattle.sk_machine.proofs.Coarse.{starts, open_ready, lacks, lacks_known}
 use Rattle.sk_machine.proofs.Sound.{neither_of, ready_of, at_of}
+use Rattle.sk_model.specs.Width.{IsItem}
 
 -- the five cases of the propagator's progress, for an updater whose word is 0
 served : (published : List Entry) (updaters : ℕ → FineUpdater) (in_hand : List ℕ) (offers i : ℕ) (hint : List Entry → ℕ) (p : Progress)
@@ -100,7 +100,7 @@ starts_sound hint packed n sizes some = record {
     word = refl;
     free = λ z. absurd (omega arith);
     each = λ i near. record {
-      items = record { items = All-nil (λ (x : ℕ). x < item_end); few = omega arith };
+      items = record { items = All-nil IsItem; few = omega arith };
       holds = record { kept = refl; fill = omega arith; swapped = λ s. absurd (not_swapped s); vacant = λ _. (refl, refl) };
       hint_is = refl;
       counted = omega arith;

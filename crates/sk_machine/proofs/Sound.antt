@@ -5,10 +5,9 @@ use mathlib.Core.Logic.{dite}
 use native.Mathlib.Decide.{ℕ_discrete, dec_le}
 use Rattle.sk_model.specs.Entries.{Entry}
 use Rattle.sk_model.specs.Missing.{Begins}
-use Rattle.sk_model.specs.Width.{item_end, AreItems}
 use Rattle.sk_model.proofs.Missing.{begins_trans}
 use Rattle.sk_machine.specs.Numbered.{put}
-use Rattle.sk_machine.specs.Coarse.{most_kept, CoarseUpdater, Coarse, IsEntry, At, IsBatch, MeetsUpdater, Meets}
+use Rattle.sk_machine.specs.Coarse.{CoarseUpdater, Coarse, IsEntry, At, IsBatch, MeetsUpdater, Meets}
 use Rattle.sk_machine.specs.Coarse as coarse
 use Rattle.sk_machine.specs.Fine.{FineUpdater, Token, Fine, with_updater}
 use Rattle.sk_machine.specs.Invariant.{IsAt, IsOut, IsBehind, FitsUpdater, swapped_items, is_ready, coarse_updater, stage_of, coarse_of}
@@ -19,6 +18,7 @@ use Rattle.sk_machine.specs.declared.states.Progress.TheVariants.{Idle, Found, H
 use Rattle.sk_machine.specs.declared.views.Stage.{Stage}
 use Rattle.sk_machine.specs.declared.views.Stage.TheVariants as stages
 use Rattle.sk_machine.proofs.Numbered.{put_here, put_else, each_put}
+use Rattle.sk_model.specs.Width.{IsItem, AreItems}
 
 -- ---- tests
 
@@ -152,8 +152,8 @@ not_empty (x ∷ xs) ne = omega arith
 
 pub items_of_back : (xs ys : List ℕ) → AreItems (xs ++ ys) → AreItems ys
 items_of_back [] ys items = items
-items_of_back (x ∷ xs) ys items = items_of_back xs ys (All-tail (λ (y : ℕ). y < item_end) x (xs ++ ys) items)
+items_of_back (x ∷ xs) ys items = items_of_back xs ys (All-tail IsItem x (xs ++ ys) items)
 
 pub items_of_begin : (xs ys : List ℕ) → AreItems (xs ++ ys) → AreItems xs
-items_of_begin [] ys items = All-nil (λ (y : ℕ). y < item_end)
-items_of_begin (x ∷ xs) ys items = All-cons (λ (y : ℕ). y < item_end) x xs (All-head (λ (y : ℕ). y < item_end) x (xs ++ ys) items) (items_of_begin xs ys (All-tail (λ (y : ℕ). y < item_end) x (xs ++ ys) items))
+items_of_begin [] ys items = All-nil IsItem
+items_of_begin (x ∷ xs) ys items = All-cons IsItem x xs (All-head IsItem x (xs ++ ys) items) (items_of_begin xs ys (All-tail IsItem x (xs ++ ys) items))

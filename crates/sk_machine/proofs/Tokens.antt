@@ -1,10 +1,10 @@
 -- What tokens do keeps the invariant of the whole machine.
 use Rattle.std.proofs.Common.{◌≡◌, ℕ, ◌+◌, ◌<◌, List, [], length, true, false, true≢false, arith, sym, subst}
 use Rattle.sk_model.specs.Entries.{Entry}
-use Rattle.sk_model.specs.Missing.{Begins}
+use Rattle.sk_model.specs.Missing.{Begins, longer}
 use Rattle.sk_model.proofs.Missing.{begins_refl, begins_nil}
 use Rattle.sk_machine.specs.Numbered.{put}
-use Rattle.sk_machine.specs.Fine.{Token, Fine, IsLive, longer, known_of, with_new_token, after_ask, MaySplit, after_split, MayNote, after_note, MayJoin, after_join}
+use Rattle.sk_machine.specs.Fine.{Token, Fine, IsLive, known_of, with_new_token, after_ask, MaySplit, after_split, MayNote, after_note, MayJoin, after_join}
 use Rattle.sk_machine.specs.Invariant.{IsBehind, IsSound}
 use Rattle.sk_machine.proofs.Numbered.{each_put}
 use Rattle.sk_machine.proofs.Sound.{if_less, if_equal}

@@ -3,7 +3,6 @@ use Rattle.std.proofs.Common.{◌≡◌, ◌≢◌, ℕ, ◌+◌, ◌<◌, ◌�
 use Rattle.std.proofs.lemmas.List.Elements.{All-push}
 use Rattle.sk_model.specs.Entries.{Entry}
 use Rattle.sk_model.specs.Missing.{Begins}
-use Rattle.sk_model.specs.Width.{item_end, AreItems}
 use Rattle.sk_model.proofs.Missing.{begins_refl, begins_append}
 use Rattle.sk_machine.specs.Coarse.{MeetsUpdater}
 use Rattle.sk_machine.specs.Fine.{FineUpdater, Fine, with_updater, MayOffer, after_kept, after_offer, MayLook, after_renewal, after_look, MaySwap, after_swap, MayHand, after_hand, MayAdmit, after_admit}
@@ -14,6 +13,7 @@ use Rattle.sk_machine.specs.declared.states.Progress.TheVariants.{Found}
 use Rattle.sk_machine.proofs.Numbered.{each_put}
 use Rattle.sk_machine.proofs.Coarse.{looked, handed_over, admitted, waiting_free, open_ready}
 use Rattle.sk_machine.proofs.Sound.{if_less, if_equal, ready_of, ready_swapped, ready_neither, swapped_neither, unswapped, at_of, meets_updater, behind_updater, not_empty, items_of_back}
+use Rattle.sk_model.specs.Width.{IsItem, AreItems}
 
 module _ (hint packed : List Entry → ℕ) (f : Fine) (i : ℕ) where
   abbrev stage : Rattle.sk_machine.specs.declared.views.Stage.Stage
@@ -45,7 +45,7 @@ module _ (hint packed : List Entry → ℕ) (f : Fine) (i : ℕ) where
         laid = o.laid;
       }
 
-  pub keeps : (x : ℕ) → IsSound hint packed f → MayOffer i x f → x < (f.updaters i).hint → x < item_end → IsSound hint packed (after_kept i x f)
+  pub keeps : (x : ℕ) → IsSound hint packed f → MayOffer i x f → x < (f.updaters i).hint → IsItem x → IsSound hint packed (after_kept i x f)
   keeps x ok may below item =
       let u = f.updaters i in let inside = may.0.0 in let o = ok.fits.each i inside in let few = may.3 in let counted = o.counted in
       let longer : length (u.kept ++ x ∷ []) ≡ length u.kept + 1 = omega (arith, length-append u.kept (x ∷ [])) in
@@ -53,7 +53,7 @@ module _ (hint packed : List Entry → ℕ) (f : Fine) (i : ℕ) where
       let room = may.2 below in
       changes (record u { fill = u.fill ++ x ∷ []; kept = u.kept ++ x ∷ [] }) (f.offers + 1) ok inside (omega arith) (λ _. refl) (ok.coarse.each i inside)
       (record {
-        items = record { items = All-push (λ (y : ℕ). y < item_end) u.kept x o.items.items item; few = omega arith };
+        items = record { items = All-push IsItem u.kept x o.items.items item; few = omega arith };
         holds = record {
           kept = ap (λ l. l ++ x ∷ []) o.holds.kept ∙ append_assoc (u.handed ++ swapped_items u.mark u.slot) u.fill (x ∷ []);
           fill = omega arith;
@@ -69,7 +69,7 @@ module _ (hint packed : List Entry → ℕ) (f : Fine) (i : ℕ) where
       })
       (begins_refl u.handed)
 
-  pub offers : (x : ℕ) → IsSound hint packed f → MayOffer i x f → (x < (f.updaters i).hint → x < item_end) → IsSound hint packed (after_offer i x f)
+  pub offers : (x : ℕ) → IsSound hint packed f → MayOffer i x f → (x < (f.updaters i).hint → IsItem x) → IsSound hint packed (after_offer i x f)
   offers x ok may item = if_less (IsSound hint packed) x (f.updaters i).hint (after_kept i x f) f (λ below. keeps x ok may below (item below)) (λ _. ok)
 
   pub renews : IsSound hint packed f → MayLook i f → (f.updaters i).word ≢ 0 → IsSound hint packed (after_renewal i f)

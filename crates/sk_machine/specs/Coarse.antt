@@ -4,16 +4,14 @@
 use Rattle.std.specs.Prelude.{◌≡◌, ◌≢◌, ℕ, ◌+◌, ◌^◌, ◌<◌, ◌≤◌, List, [], ◌++◌, length, Bool, true, false, All}
 use Rattle.sk_model.specs.Entries.{Entry, entries_by, tagged}
 use Rattle.sk_model.specs.Missing.{Begins}
-use Rattle.sk_model.specs.Width.{item_end, AreItems}
 use Rattle.sk_machine.specs.Numbered.{put}
 use Rattle.sk_machine.specs.declared.views.Mine.{Mine}
 use Rattle.sk_machine.specs.declared.views.Stage.{Stage}
 use Rattle.sk_machine.specs.declared.views.Stage.TheVariants.{Idle, Busy, Published}
+use Rattle.sk_model.specs.Width.{IsItem, AreItems}
+use Rattle.sk_model.specs.Limits.{most_kept}
 
--- most items that an updater keeps, and most entries that all of them hand over
-abbrev pub most_kept : ℕ
-most_kept = 2 ^ 40
-
+-- most entries that all updaters hand over
 abbrev pub most_entries : ℕ
 most_entries = 2 ^ 46
 
@@ -38,7 +36,7 @@ pub record Coarse : Type 0 where
 
 -- an entry of an updater below n
 abbrev pub IsEntry : ℕ → Entry → Type 0
-IsEntry n entry = (entry.0 < n) × (entry.1 < item_end)
+IsEntry n entry = (entry.0 < n) × IsItem entry.1
 
 -- the propagator is at updater i
 abbrev pub At : Stage → ℕ → Type 0

@@ -7,6 +7,8 @@ use Rattle.sk_machine.specs.declared.states.Mark.{Mark}
 use Rattle.sk_machine.specs.declared.states.Mark.TheVariants.{Neither, Ready, Swapped}
 use Rattle.sk_machine.specs.declared.states.Progress.{Progress}
 use Rattle.sk_machine.specs.declared.states.Progress.TheVariants.{Idle, Found, Holding, Published, Put}
+use Rattle.sk_model.specs.Limits.{most_size}
+use Rattle.sk_model.specs.Missing.{longer}
 
 -- most offers that are kept, and most tokens that are made
 abbrev pub most_offers : ℕ
@@ -14,10 +16,6 @@ most_offers = 1000000
 
 abbrev pub most_tokens : ℕ
 most_tokens = 256
-
--- most items of a buffer
-abbrev pub most_size : ℕ
-most_size = 4096
 
 pub record FineUpdater : Type 0 where
   -- the size of its buffers, 0 where it is not admitted
@@ -176,10 +174,6 @@ abbrev pub after_yield : Fine → Fine
 after_yield f = record f { turn = 0 }
 
 -- ---- tokens
-
--- of two lists the longer; where they are of one length, the first
-abbrev pub longer : List ℕ → List ℕ → List ℕ
-longer xs ys = if nat_lt (length xs) (length ys) then ys else xs
 
 abbrev pub after_ask : ℕ → Fine → Fine
 after_ask t f = with_token t (record (f.tokens t) { seen = f.published }) f

@@ -2,8 +2,7 @@
 use Rattle.std.specs.Prelude.{◌≡◌, ◌≢◌, ℕ, ◌+◌, ◌<◌, ◌≤◌, List, [], ◌++◌, length, Bool, true, false, All}
 use Rattle.sk_model.specs.Entries.{Entry, entries_by}
 use Rattle.sk_model.specs.Missing.{Begins}
-use Rattle.sk_model.specs.Width.{AreItems}
-use Rattle.sk_machine.specs.Coarse.{most_kept, CoarseUpdater, Coarse, IsEntry, IsBatch, Meets}
+use Rattle.sk_machine.specs.Coarse.{CoarseUpdater, Coarse, IsEntry, IsBatch, Meets}
 use Rattle.sk_machine.specs.Fine.{FineUpdater, Token, Fine, MayRest}
 use Rattle.sk_machine.specs.declared.states.Mark.{Mark}
 use Rattle.sk_machine.specs.declared.states.Mark.TheVariants.{Neither, Ready, Swapped}
@@ -11,6 +10,8 @@ use Rattle.sk_machine.specs.declared.states.Progress.{Progress}
 use Rattle.sk_machine.specs.declared.states.Progress.TheVariants.{Idle, Found, Holding, Published, Put}
 use Rattle.sk_machine.specs.declared.views.Stage.{Stage}
 use Rattle.sk_machine.specs.declared.views.Stage.TheVariants as stages
+use Rattle.sk_model.specs.Width.{AreItems}
+use Rattle.sk_model.specs.Limits.{most_kept}
 
 -- the propagator is at updater i
 abbrev pub IsAt : Progress → ℕ → Type 0

@@ -1,5 +1,6 @@
 pub mod Causes
 pub mod Entries
+pub mod Limits
 pub mod Lines
 pub mod Missing
 pub mod Murmur

@@ -9,6 +9,14 @@ item_end = 2 ^ 48
 abbrev pub hash_cut : ℕ
 hash_cut = 2 ^ 16
 
+-- how many digits base 16 takes for an item
+abbrev pub item_digits : ℕ
+item_digits = 12
+
+-- a number is an item
+abbrev pub IsItem : ℕ → Type 0
+IsItem number = number < item_end
+
 -- each member is an item
 abbrev pub AreItems : List ℕ → Type 0
-AreItems items = All (λ item. item < item_end) items
+AreItems items = All IsItem items

@@ -2,10 +2,8 @@
 ghost use Rattle.std.specs.Prelude.{◌≡◌, ◌<◌, ◌≤◌, ℕ, OnOk, IfOk, length, take, slice_index, All};
 ghost use Rattle.sk_model.specs.Sketch.{placed, k_smallest, estimate_of};
 
+use crate::limits::ITEM_END;
 use std::alloc::{AllocError, Global};
-
-/// 2^48, the end of the items, as it stands in an estimate's numerator.
-const ITEM_END: u128 = 1 << 48;
 
 // How many of those that rise stand before a hash.
 fn place_of(kept: &[u64], hash: u64) -> usize
@@ -55,7 +53,7 @@ pub fn estimate(alloc: Global, k: usize, hashes: &[u64]) -> Result<(u128, u64), 
     }
     let most = k.saturating_sub(1);
     let theta = kept.get(most).copied().unwrap_or(0);
-    Ok((most as u128 * ITEM_END, theta))
+    Ok((most as u128 * u128::from(ITEM_END), theta))
 }
 
 #[cfg(test)]

@@ -8,7 +8,3 @@ pub record Sizes : Type 0 where
   pub n : ℕ
   pub seed : ℕ
   pub eager : Bool
-
--- low and high count too
-abbrev pub IsFrom : ℕ → ℕ → ℕ → Type 0
-IsFrom low high n = (low ≤ n) × (n ≤ high)

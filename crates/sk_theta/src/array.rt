@@ -1,17 +1,16 @@
 //! The sketch as an array of the kept hashes, rising.
 ghost use Rattle.std.specs.Prelude.{◌≡◌, ◌≢◌, ◌↔◌, ◌+◌, ◌<◌, ◌≤◌, ℕ, List, [], ◌∷◌, ◌++◌, length, take, IsTrue, IfOk};
 ghost use Rattle.sk_model.specs.Sketch.{placed, k_smallest, count_of, theta_of, estimate_of, packed_of, unpacked};
-ghost use Rattle.sk_model.specs.Width.{item_end, AreItems};
 ghost use Rattle.sk_theta.specs.Kept.{Sketch, StandsFor, IsWhole, theta_kept};
+ghost use Rattle.sk_model.specs.Width.{item_end, IsItem, AreItems};
+ghost use Rattle.sk_model.specs.Limits.{most_k};
 
 use crate::place::put_among;
 use crate::reply::Reply;
 use sk_model::OutOfMemory;
+use sk_model::limits::ITEM_END;
 use std::alloc::Global;
 use std::marker::Model;
-
-/// 2^48, the end of the items and hashes. As theta it stands for 1.
-pub const ITEM_END: u64 = 1 << 48;
 
 /// The sketch of the k smallest hashes of a list, after Bar-Yossef and others (RANDOM 2002).
 #[derive(Drop)]
@@ -36,7 +35,7 @@ impl Theta {
     /// The sketch of the empty list. All its memory is taken here. k is from 2 to 32,768.
     pub fn new(alloc: Global, k: u32) -> Result<Theta, OutOfMemory>
         requires least { 2 ≤ k }
-        requires most { k ≤ 32768 }
+        requires most { k ≤ most_k }
         ensures numbers { IfOk result (λ s. s.k ≡ k) }
         ensures stands { IfOk result (λ s. StandsFor s []) }
     {
@@ -50,7 +49,7 @@ impl Theta {
     /// Puts a hash to the end of the list, and answers whether the k smallest changed.
     #[inline(always)]
     pub fn update(&mut self, h: u64) -> bool
-        requires item { h < item_end }
+        requires item { IsItem h }
         ensures numbers { self.new.k ≡ self.old.k }
         ensures stands { (hashes : List ℕ) → StandsFor self.old hashes → StandsFor self.new (hashes ++ h ∷ []) }
         ensures changed { (hashes : List ℕ) → StandsFor self.old hashes
@@ -65,7 +64,7 @@ impl Theta {
     // The rest of `update`, for a hash that most often changes something.
     #[inline(never)]
     fn put(&mut self, h: u64) -> bool
-        requires item { h < item_end }
+        requires item { IsItem h }
         ensures numbers { self.new.k ≡ self.old.k }
         ensures kept { self.new.kept ≡ take self.old.k (placed h self.old.kept) }
         ensures changed { IsTrue result ↔ (self.new.kept ≢ self.old.kept) }

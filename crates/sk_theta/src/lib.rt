@@ -6,10 +6,11 @@ mod place;
 mod reply;
 mod sizes;
 
-pub use array::{ITEM_END, Theta};
+pub use array::Theta;
 pub use reply::{Reply, unpack};
 pub use sizes::{BadShape, Shape};
 pub use sk_model::OutOfMemory;
+pub use sk_model::limits::ITEM_END;
 
 #[cfg(test)]
 mod tests;

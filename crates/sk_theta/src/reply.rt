@@ -1,8 +1,9 @@
 //! A count and a theta, as a sketch answers them in one word.
 ghost use Rattle.std.specs.Prelude.{◌≡◌, ◌≤◌};
 ghost use Rattle.sk_model.specs.Sketch.{fraction_of, unpacked};
+ghost use Rattle.sk_model.specs.Limits.{most_k};
 
-use crate::array::ITEM_END;
+use sk_model::limits::ITEM_END;
 
 /// How many hashes a sketch keeps, and its theta.
 #[derive(Clone, Copy, Debug, PartialEq, Eq, Hash)]
@@ -15,7 +16,7 @@ impl Reply {
     /// The estimate as a numerator and a denominator, not reduced.
     pub fn fraction(&self, k: u32) -> (u64, u64)
         requires least { 2 ≤ k }
-        requires most { k ≤ 32768 }
+        requires most { k ≤ most_k }
         requires count { self.now.count ≤ k }
         requires theta { 1 ≤ self.now.theta }
         ensures value { result ≡ fraction_of k self.now.count self.now.theta }

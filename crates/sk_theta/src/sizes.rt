@@ -1,7 +1,9 @@
 //! The numbers that shape a run, within their limits.
 ghost use Rattle.std.specs.Prelude.{◌≡◌, ◌↔◌, IfOk, IsErrOf};
-ghost use Rattle.sk_theta.specs.Sizes.{Sizes, IsFrom};
+ghost use Rattle.sk_theta.specs.Sizes.{Sizes};
+ghost use Rattle.sk_model.specs.Limits.{least_k, most_k, most_size, most_updaters, IsFrom};
 
+use sk_model::limits::{LEAST_K, MOST_K, MOST_SIZE, MOST_UPDATERS};
 use std::marker::Model;
 
 /// Which number is out of its limits.
@@ -31,24 +33,24 @@ impl Model for Shape {
 
     ghost view = { λ s. record { k = s.k; b = s.b; n = s.n; seed = s.seed; eager = s.eager } };
 
-    ghost invariant = { λ s. IsFrom 2 32768 s.k × IsFrom 1 4096 s.b × IsFrom 1 64 s.n };
+    ghost invariant = { λ s. IsFrom least_k most_k s.k × IsFrom 1 most_size s.b × IsFrom 1 most_updaters s.n };
 }
 
 impl Shape {
     /// Those numbers, where they are within their limits. The first that is not is the error.
     pub fn new(k: u32, b: u32, n: u32, seed: u32, eager: bool) -> Result<Shape, BadShape>
         ensures ok { IfOk result (λ s. s ≡ record { k = k; b = b; n = n; seed = seed; eager = eager }) }
-        ensures k { IsErrOf result BadShape.K ↔ (IsFrom 2 32768 k → ⊥) }
-        ensures b { IsErrOf result BadShape.B ↔ (IsFrom 2 32768 k × (IsFrom 1 4096 b → ⊥)) }
-        ensures n { IsErrOf result BadShape.N ↔ (IsFrom 2 32768 k × IsFrom 1 4096 b × (IsFrom 1 64 n → ⊥)) }
+        ensures k { IsErrOf result BadShape.K ↔ (IsFrom least_k most_k k → ⊥) }
+        ensures b { IsErrOf result BadShape.B ↔ (IsFrom least_k most_k k × (IsFrom 1 most_size b → ⊥)) }
+        ensures n { IsErrOf result BadShape.N ↔ (IsFrom least_k most_k k × IsFrom 1 most_size b × (IsFrom 1 most_updaters n → ⊥)) }
     {
-        if !(2..=32_768).contains(&k) {
+        if !(LEAST_K..=MOST_K).contains(&k) {
             return Err(BadShape::K);
         }
-        if !(1..=4_096).contains(&b) {
+        if !(1..=MOST_SIZE).contains(&b) {
             return Err(BadShape::B);
         }
-        if !(1..=64).contains(&n) {
+        if !(1..=MOST_UPDATERS).contains(&n) {
             return Err(BadShape::N);
         }
         Ok(Shape {
@@ -63,7 +65,7 @@ impl Shape {
     /// How many hashes the sketch keeps.
     pub fn k(&self) -> u32
         ensures value { result ≡ self.now.k }
-        ensures limits { IsFrom 2 32768 result }
+        ensures limits { IsFrom least_k most_k result }
     {
         self.k
     }
@@ -71,7 +73,7 @@ impl Shape {
     /// How many items a buffer holds.
     pub fn b(&self) -> u32
         ensures value { result ≡ self.now.b }
-        ensures limits { IsFrom 1 4096 result }
+        ensures limits { IsFrom 1 most_size result }
     {
         self.b
     }
@@ -79,7 +81,7 @@ impl Shape {
     /// How many updaters there are.
     pub fn n(&self) -> u32
         ensures value { result ≡ self.now.n }
-        ensures limits { IsFrom 1 64 result }
+        ensures limits { IsFrom 1 most_updaters result }
     {
         self.n
     }

@@ -1,5 +1,6 @@
 ghost use Rattle.std.specs.Prelude.{◌<◌, ◌≤◌};
-ghost use Rattle.sk_model.specs.Width.{item_end};
+ghost use Rattle.sk_model.specs.Width.{IsItem};
+ghost use Rattle.sk_model.specs.Limits.{most_k};
 
 use super::*;
 use sk_model::plain;
@@ -65,7 +66,7 @@ fn the_first_number_out_of_its_limits_is_the_error(rt: HostRuntime) {
 
 // The next of a fixed sequence (Knuth's MMIX constants), below a bound and below the end of the items.
 fn draw(state: &mut u64, bound: u64) -> u64
-    ensures { result < item_end }
+    ensures { IsItem result }
 {
     *state = state
         .wrapping_mul(6_364_136_223_846_793_005)
@@ -76,7 +77,7 @@ fn draw(state: &mut u64, bound: u64) -> u64
 // Whether a sketch of numbers below the bound, one by one and as batches, is that of the plain form.
 fn agrees(alloc: Global, k: u32, bound: u64, state: &mut u64) -> Result<bool, Fail>
     requires least { 2 ≤ k }
-    requires most { k ≤ 32768 }
+    requires most { k ≤ most_k }
 {
     let mut single = Theta::new(alloc, k)?;
     let mut batched = Theta::new(alloc, k)?;

@@ -3,6 +3,7 @@ use Rattle.std.specs.Prelude.{ℕ, ◌*◌, ◌&&◌, nat_le, Bool, false, List,
 use Rattle.sk_model.specs.Sketch.{fraction_of}
 use Rattle.sk_theta.specs.declared.reply.Reply.{Reply}
 use Rattle.sk_watch.specs.Watching.{Watching}
+use Rattle.sk_model.specs.Limits.{least_k, most_k}
 
 -- what an alarm shows: nothing, or the k and the mark that it is armed with
 abbrev pub numbers_of : Option (ℕ × ℕ) → List ℕ
@@ -11,7 +12,7 @@ numbers_of (Some (k, mark)) = k ∷ mark ∷ []
 
 -- whether the reply may be of a sketch that keeps k hashes
 abbrev pub has_fraction : ℕ → Reply → Bool
-has_fraction k reply = nat_le 2 k && nat_le k 32768 && nat_le reply.count k && nat_le 1 reply.theta
+has_fraction k reply = nat_le least_k k && nat_le k most_k && nat_le reply.count k && nat_le 1 reply.theta
 
 -- whether a fraction is the mark or more
 abbrev pub comes_up_to : ℕ → ℕ × ℕ → Bool

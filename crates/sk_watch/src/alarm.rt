@@ -3,6 +3,7 @@ ghost use Rattle.std.specs.Prelude.{◌≡◌, ◌≤◌, []};
 ghost use Rattle.sk_watch.specs.Alarms.{alarm, has_fraction, comes_up_to};
 
 use crate::watcher::Watcher;
+use sk_model::limits::{LEAST_K, MOST_K};
 use sk_theta::Reply;
 use std::marker::Model;
 
@@ -50,7 +51,7 @@ impl Watcher for Alarm {
 fn has_fraction(k: u32, reply: Reply) -> bool
     ensures { result ≡ has_fraction k reply }
 {
-    (2..=32_768).contains(&k) && reply.count <= k && 1 <= reply.theta
+    (LEAST_K..=MOST_K).contains(&k) && reply.count <= k && 1 <= reply.theta
 }
 
 // Whether a fraction is the mark or more.

@@ -1,6 +1,6 @@
 // Updates of a sketch alone, and of a hub with one updater that helps itself.
 ghost use Rattle.std.specs.Prelude.{◌<◌};
-ghost use Rattle.sk_model.specs.Width.{item_end};
+ghost use Rattle.sk_model.specs.Width.{IsItem};
 
 use sk_compose::OutOfMemory;
 use sk_heap::HeapTheta;
@@ -16,7 +16,7 @@ const BUFFER: u32 = 64;
 
 // The item at a place, of so many distinct ones.
 fn item_at(place: u64, distinct: u64) -> u64
-    ensures { result < item_end }
+    ensures { IsItem result }
 {
     let number = if distinct == 0 {
         place
@@ -51,7 +51,7 @@ pub fn hub<R: Wait>(rt: &R, alloc: Global, distinct: u64, count: u64) -> Result<
 
 // Updates with an item, and helps where there is no room or each item is handed over.
 fn update<R: Wait>(rt: &R, updater: &mut Updater<HeapTheta>, item: u64)
-    requires item { item < item_end }
+    requires item { IsItem item }
 {
     if updater.taken() == 1 << 40 {
         return;

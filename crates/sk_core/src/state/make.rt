@@ -3,6 +3,7 @@ ghost use Rattle.std.specs.Prelude.{◌≡◌, ◌≤◌, IfOk, replicate};
 ghost use Rattle.sk_machine.specs.Fine.{fine_start};
 ghost use Rattle.sk_core.specs.Stored.{hint_by, word_by, machine_of, sizes_of, blank_updater};
 ghost use Rattle.sk_core.specs.Runs.{MeetsAll};
+ghost use Rattle.sk_model.specs.Limits.{most_k, most_size, most_updaters};
 
 use super::{MOST_OFFERS, MOST_TOKENS, State};
 use crate::token::{MOST_UPDATERS, Token};
@@ -17,9 +18,9 @@ impl State {
     /// from 2 to 32,768, b from 1 to 4,096, and n from 1 to 64.
     pub fn new(alloc: Global, k: u32, b: u32, n: u32) -> Result<State, OutOfMemory>
         requires least { 2 ≤ k }
-        requires most { k ≤ 32768 }
-        requires size { b ≤ 4096 }
-        requires updaters { n ≤ 64 }
+        requires most { k ≤ most_k }
+        requires size { b ≤ most_size }
+        requires updaters { n ≤ most_updaters }
         ensures sketch { IfOk result (λ s. s.k ≡ k) }
         ensures machine { IfOk result (λ s. machine_of s ≡ fine_start (hint_by k) (word_by k) n (sizes_of n b)) }
         ensures invariant { IfOk result (λ s. MeetsAll s.k (machine_of s)) }
@@ -49,8 +50,8 @@ impl State {
     /// The same, but nobody is admitted.
     pub fn vacant(alloc: Global, k: u32, n: u32) -> Result<State, OutOfMemory>
         requires least { 2 ≤ k }
-        requires most { k ≤ 32768 }
-        requires updaters { n ≤ 64 }
+        requires most { k ≤ most_k }
+        requires updaters { n ≤ most_updaters }
         ensures sketch { IfOk result (λ s. s.k ≡ k) }
         ensures machine { IfOk result (λ s. machine_of s ≡ fine_start (hint_by k) (word_by k) n (sizes_of n 0)) }
         ensures invariant { IfOk result (λ s. MeetsAll s.k (machine_of s)) }
@@ -61,7 +62,7 @@ impl State {
 
 // So many updaters that have done nothing.
 fn new_updaters(alloc: Global, n: usize, size: usize) -> Result<Vec<Updater>, OutOfMemory>
-    requires { size ≤ 4096 }
+    requires { size ≤ most_size }
     ensures { IfOk result (λ updaters. updaters.items ≡ replicate n (blank_updater size)) }
 {
     let mut updaters = Vec::with_capacity(alloc, n)?;

@@ -4,9 +4,10 @@
 ghost use Rattle.std.specs.Prelude.{◌≡◌, ◌≢◌, ◌+◌, ◌*◌, ◌<◌, ◌≤◌, ℕ, List, [], ◌++◌, length, Bool, true};
 ghost use Rattle.sk_model.specs.Entries.{Entry, entries_by};
 ghost use Rattle.sk_model.specs.Missing.{Begins, LacksAtMost};
-ghost use Rattle.sk_model.specs.Width.{AreItems};
-ghost use Rattle.sk_machine.specs.Coarse.{most_kept, most_entries, Coarse, MayRest, IsBatch, Meets, coarse_start, after_look, after_hand, after_rest, after_find, after_publish, after_give_back, after_turn, after_yield, after_admit};
+ghost use Rattle.sk_machine.specs.Coarse.{most_entries, Coarse, MayRest, IsBatch, Meets, coarse_start, after_look, after_hand, after_rest, after_find, after_publish, after_give_back, after_turn, after_yield, after_admit};
 ghost use Rattle.sk_machine.specs.declared.views.Stage.TheVariants.{Idle, Busy, Published};
+ghost use Rattle.sk_model.specs.Width.{AreItems};
+ghost use Rattle.sk_model.specs.Limits.{most_updaters, most_kept};
 
 /// Whoever holds the turn, and whoever is admitted, the machine starts within its invariant.
 pub fn the_start_meets_it()
@@ -54,6 +55,6 @@ pub fn missing_is_bounded()
 
 /// The published list and a batch that is found are few entries together.
 pub fn entries_are_few()
-    ensures { (hint : List Entry → ℕ) (n : ℕ) (m : Coarse) (i : ℕ) (batch : List ℕ) → Meets hint n m → n ≤ 64
+    ensures { (hint : List Entry → ℕ) (n : ℕ) (m : Coarse) (i : ℕ) (batch : List ℕ) → Meets hint n m → n ≤ most_updaters
         → m.stage ≡ Busy i batch → length m.published + length batch ≤ most_entries }
 {}

@@ -3,9 +3,9 @@
 ghost use Rattle.std.specs.Prelude.{◌≡◌, ◌≢◌, ◌*◌, ◌<◌, ℕ, List, [], true};
 ghost use Rattle.sk_model.specs.Entries.{Entry, entries_by};
 ghost use Rattle.sk_model.specs.Missing.{LacksAtMost};
-ghost use Rattle.sk_model.specs.Width.{item_end};
 ghost use Rattle.sk_machine.specs.Fine.{Fine, IsLive, MayOffer, after_offer, MayLook, after_look, MaySwap, after_swap, MayHand, after_hand, MayAdmit, after_admit, MayFind, after_find, MayTake, after_take, MayPublish, after_publish, MayPut, after_put, MayReturn, after_return, MayTurn, after_turn, MayYield, after_yield, after_ask, MaySplit, after_split, MayNote, after_note, MayJoin, after_join, fine_start};
 ghost use Rattle.sk_machine.specs.Invariant.{Invariant, IsSound};
+ghost use Rattle.sk_model.specs.Width.{IsItem};
 
 /// The form that events keep gives the eight parts.
 pub fn sound_machines_meet_the_invariant()
@@ -21,7 +21,7 @@ pub fn the_start_is_sound()
 /// The events of an updater. A hint keeps items alone.
 pub fn updaters_keep_it()
     ensures offer { (hint packed : List Entry → ℕ) (f : Fine) (i x : ℕ) → IsSound hint packed f → MayOffer i x f
-        → (x < (f.updaters i).hint → x < item_end) → IsSound hint packed (after_offer i x f) }
+        → (x < (f.updaters i).hint → IsItem x) → IsSound hint packed (after_offer i x f) }
     ensures look { (hint packed : List Entry → ℕ) (f : Fine) (i : ℕ) → IsSound hint packed f → MayLook i f → IsSound hint packed (after_look i f) }
     ensures swap { (hint packed : List Entry → ℕ) (f : Fine) (i : ℕ) → IsSound hint packed f → MaySwap i f → IsSound hint packed (after_swap i f) }
     ensures hand { (hint packed : List Entry → ℕ) (f : Fine) (i : ℕ) → IsSound hint packed f → MayHand i f → IsSound hint packed (after_hand i f) }

@@ -2,7 +2,8 @@
 ghost use Rattle.std.specs.Prelude.{◌≡◌, ◌+◌, ◌-◌, ◌^◌, ◌<◌, ◌≤◌, ◌⊎◌, ℕ, List, [], ◌∷◌, ◌++◌, length, take, All, Contains};
 ghost use Rattle.std.specs.List.Sorted.{IsStrictlyIncreasing};
 ghost use Rattle.sk_model.specs.Sketch.{placed, rising, k_smallest, count_of, theta_of, IsIdle, packed_of, unpacked};
-ghost use Rattle.sk_model.specs.Width.{item_end, AreItems};
+ghost use Rattle.sk_model.specs.Limits.{most_k};
+ghost use Rattle.sk_model.specs.Width.{item_end, IsItem, AreItems};
 
 /// The k smallest rise, and none stands twice.
 pub fn k_smallest_rises()
@@ -73,12 +74,12 @@ pub fn theta_falls()
 
 /// An idle item stays idle as the list grows.
 pub fn idle_stays()
-    ensures { (k h : ℕ) (hashes more : List ℕ) → h < item_end → IsIdle k h hashes → IsIdle k h (hashes ++ more) }
+    ensures { (k h : ℕ) (hashes more : List ℕ) → IsItem h → IsIdle k h hashes → IsIdle k h (hashes ++ more) }
 {}
 
 /// An idle item may be left out wherever it comes later.
 pub fn idle_changes_nothing()
-    ensures { (k h : ℕ) (hashes more rest : List ℕ) → h < item_end → IsIdle k h hashes
+    ensures { (k h : ℕ) (hashes more rest : List ℕ) → IsItem h → IsIdle k h hashes
         → k_smallest k ((hashes ++ more) ++ h ∷ rest) ≡ k_smallest k ((hashes ++ more) ++ rest) }
 {}
 
@@ -86,5 +87,5 @@ pub fn idle_changes_nothing()
 pub fn packed_reads_back()
     ensures same { (k : ℕ) (hashes : List ℕ) → 2 ≤ k → AreItems hashes
         → unpacked (packed_of k hashes) ≡ (count_of k hashes, theta_of k hashes) }
-    ensures fits { (k : ℕ) (hashes : List ℕ) → k ≤ 32768 → packed_of k hashes < 2 ^ 64 }
+    ensures fits { (k : ℕ) (hashes : List ℕ) → k ≤ most_k → packed_of k hashes < 2 ^ 64 }
 {}

@@ -1,6 +1,6 @@
 use Rattle.std.proofs.Common.{Err, refl, sym, ap, ◌∙◌, subst}
-use Rattle.sk_ingest.specs.declared.items.Fault.{Fault as ReadingFault}
-use Rattle.sk_ingest.specs.Units.{IsLongUnit, IsBadUnit, IsUnevenUnit}
+use Rattle.sk_read.specs.declared.items.Fault.{Fault as ReadingFault}
+use Rattle.sk_read.specs.Units.{IsLongUnit, IsBadUnit, IsUnevenUnit}
 use Rattle.sk_cli.specs.Run.{Streams, streams, Ends}
 use Rattle.sk_cli.specs.declared.fault.Fault.{Fault}
 use Rattle.sk_cli.specs.declared.fault.Fault.TheVariants as fault

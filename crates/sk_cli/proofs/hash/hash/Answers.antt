@@ -2,7 +2,7 @@ use Rattle.std.proofs.Common.{◌≡◌, ◌∷◌, ◌++◌, [], ℕ, List, Ok,
 use Rattle.std.specs.Io.KnownBytes.{Appends}
 use Rattle.std.proofs.KnownBytes.{Appends-nil, Appends-trans}
 use Rattle.sk_model.specs.Causes.{AppendsFront}
-use Rattle.sk_ingest.specs.declared.reader.LineFault.{LineFault}
+use Rattle.sk_read.specs.declared.reader.LineFault.{LineFault}
 use Rattle.sk_cli.specs.Hash.{hash_text}
 use Rattle.sk_cli.specs.Run.{Streams, streams, Ends}
 use Rattle.sk_cli.specs.Fault.{fault_by_line}

@@ -1,6 +1,6 @@
 use Rattle.std.proofs.Common.{◌≡◌, ◌≤◌, List, ℕ}
 use Rattle.std.specs.Io.KnownBytes.{Appends}
-use Rattle.sk_ingest.specs.Reading.{remaining_of}
+use Rattle.sk_read.specs.Reading.{remaining_of}
 use Rattle.sk_cli.specs.Hash.{hash_text}
 use Rattle.sk_cli.proofs.Reading.{Reads}
 use Rattle.sk_cli.proofs.hash.hash.Given as goal

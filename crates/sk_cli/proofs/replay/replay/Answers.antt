@@ -4,11 +4,10 @@ use Rattle.std.specs.Io.KnownBytes.{Appends}
 use Rattle.std.proofs.KnownBytes.{Appends-nil, Appends-trans}
 use Rattle.sk_model.specs.Causes.{AppendsFront}
 use Rattle.sk_core.specs.Stored.{machine_of}
-use Rattle.sk_ingest.specs.declared.reader.LineFault.{LineFault}
-use Rattle.sk_ingest.proofs.ItemLaws.{has_few}
+use Rattle.sk_read.specs.declared.reader.LineFault.{LineFault}
+use Rattle.sk_read.proofs.ItemLaws.{has_few}
 use Rattle.sk_cli.specs.Replay.{start_of, started, MeetsThere, Played, IsPlay, IsNoPlay, IsAnswered, answers_text, answer_line}
 use Rattle.sk_model.specs.Lines.{lines_of, AreWithin}
-use Rattle.sk_ingest.specs.Items.{line_limit}
 use Rattle.sk_cli.specs.Due.{IsDue}
 use Rattle.sk_cli.specs.Run.{Streams, streams, Ends}
 use Rattle.sk_cli.specs.Fault.{fault_by_line}
@@ -19,6 +18,7 @@ use Rattle.sk_cli.proofs.Endings.{ends_by, nothing_yet, front_of_any}
 use Rattle.sk_cli.proofs.Reading.{Failed, reads_none, reads_line, within_given, failed, read_to_end}
 use Rattle.sk_cli.proofs.Replaying.{answers_more, no_answers, played_none, played_more, answered, replay_by_lines, no_answer_yet, refuses, refuses_nothing, answer_cut_short}
 use Rattle.sk_cli.proofs.replay.replay.Goals as goal
+use Rattle.sk_model.specs.Limits.{line_limit}
 
 pub returns-in_err-reader-clause-done : goal.returns-in_err-reader-clause-done
 returns-in_err-reader-clause-done g c =

@@ -2,7 +2,7 @@ use Rattle.std.proofs.Common.{◌≡◌, ◌≤◌, ◌∷◌, List, ℕ}
 use Rattle.std.specs.Io.KnownBytes.{Appends}
 use Rattle.sk_core.specs.Stored.{machine_of}
 use Rattle.sk_core.specs.declared.event.Answer.{Answer}
-use Rattle.sk_ingest.specs.Reading.{remaining_of}
+use Rattle.sk_read.specs.Reading.{remaining_of}
 use Rattle.sk_cli.specs.Replay.{Played, answers_text}
 use Rattle.sk_cli.proofs.Reading.{Reads}
 use Rattle.sk_cli.proofs.replay.replay.Given as goal

@@ -1,14 +1,13 @@
 use Rattle.std.proofs.Common.{◌≡◌, ◌<◌, ◌≤◌, ◌^◌, ℕ, List, length, get_or, Some, refl, sym, arith, ap, ◌∙◌, take_all}
-use Rattle.sk_model.specs.Width.{item_end}
 use Rattle.sk_image.specs.Images.{hex, hash_line}
 use Rattle.sk_image.proofs.Digits.{length_hex, no_hex, hex_at, hex_push, room_for_digit, more_digits_small}
 use Rattle.sk_image.proofs.Grammar.{hash_injective}
 use Rattle.sk_image.proofs.lines.read_hash.Goals as goal
 
-pub returns-then-line-ne-DIGITS-clause-exact : goal.returns-then-line-ne-DIGITS-clause-exact
-returns-then-line-ne-DIGITS-clause-exact c = λ hash small. (
+pub returns-then-line-ne-ITEM_DIGITS-clause-exact : goal.returns-then-line-ne-ITEM_DIGITS-clause-exact
+returns-then-line-ne-ITEM_DIGITS-clause-exact c = λ hash small. (
   λ e. absurd cc,
-  λ e. absurd (c.if-line-ne-DIGITS.true (ap (λ (l : List ℕ). length l) e ∙ length_hex 12 hash)),
+  λ e. absurd (c.if-line-ne-ITEM_DIGITS.true (ap (λ (l : List ℕ). length l) e ∙ length_hex 12 hash)),
 )
 
 pub digit-init : goal.digit-init
@@ -16,14 +15,14 @@ digit-init c = record { small = omega arith; spelt = sym (no_hex 0) }
 
 pub overflow_mul-hash : goal.overflow_mul-hash
 overflow_mul-hash c =
-    omega (arith, room_for_digit c.digit.byte-index c.digit.hash (omega (arith, c.digit-test.true, c.if-line-ne-DIGITS.false)) c.digit.invariant.small)
+    omega (arith, room_for_digit c.digit.byte-index c.digit.hash (omega (arith, c.digit-test.true, c.if-line-ne-ITEM_DIGITS.false)) c.digit.invariant.small)
 
 pub returns-in_err-hash-clause-exact : goal.returns-in_err-hash-clause-exact
 returns-in_err-hash-clause-exact c = rw c.from_residual.ensures (λ hash small. (
   λ e. absurd cc,
   λ e.
       let i = c.digit.byte-index in
-      let there = hex_at 12 hash i (omega (arith, c.digit-test.true, c.if-line-ne-DIGITS.false)) in
+      let there = hex_at 12 hash i (omega (arith, c.digit-test.true, c.if-line-ne-ITEM_DIGITS.false)) in
       let none = (c.in_err-hash.ensures.exact there.0 there.1).1 (ap (λ (l : List ℕ). get_or l i 0) e ∙ there.2) in
       absurd cc,
 ))
@@ -41,10 +40,10 @@ digit-preserved c =
 pub returns-clause-exact : goal.returns-clause-exact
 returns-clause-exact c = λ hash small.
     let full : length c.args.line.now ≤ c.digit.byte-index = omega (arith, c.digit-test.false) in
-    let twelve : c.digit.byte-index ≡ 12 = omega (arith, c.digit-test.false, c.digit.auto.byte-index-end, c.if-line-ne-DIGITS.false) in
+    let twelve : c.digit.byte-index ≡ 12 = omega (arith, c.digit-test.false, c.digit.auto.byte-index-end, c.if-line-ne-ITEM_DIGITS.false) in
     let spelt : c.args.line.now ≡ hash_line c.digit.hash =
     sym (take_all c.digit.byte-index c.args.line.now full) ∙ c.digit.invariant.spelt ∙ ap (λ (i : ℕ). hex i c.digit.hash) twelve in
-    let few : c.digit.hash < item_end = omega (arith, c.digit.invariant.small, ap (λ (i : ℕ). 16 ^ i) twelve) in (
+    let few : c.digit.IsItem hash = omega (arith, c.digit.invariant.small, ap (λ (i : ℕ). 16 ^ i) twelve) in (
       λ e. let same : c.digit.hash ≡ hash = cc in spelt ∙ ap hash_line same,
       λ e. ap (λ (h : ℕ). Some h) (hash_injective c.digit.hash hash few small (sym spelt ∙ e)),
     )

@@ -1,4 +1,4 @@
-use Rattle.std.proofs.Common.{arith, length-drop, length-take}
+use Rattle.std.proofs.Common.{◌∙◌, arith, length-drop, length-take}
 use Rattle.sk_io.proofs.Pieces.{written_more}
 use Rattle.sk_io.proofs.stream.write_all.Goals as goal
 
@@ -6,4 +6,4 @@ pub write-preserved : goal.write-preserved
 write-preserved g c =
     let within = simp (length-take, length-drop) at c.in_ok-at.ensures.bound in
     let grew = written_more _ _ _ c.args.bytes.now c.write.at c.in_ok-at.field-0 c.write.invariant.1 c.in_ok-at.ensures.bytes in
-    (omega arith, grew, omega (arith, c.write.invariant.2, c.in_ok-at.ensures.cause.later))
+    (omega arith, grew, c.in_ok-at.ensures.cause.steady ∙ c.write.invariant.2)

@@ -6,6 +6,7 @@ use Rattle.sk_machine.specs.Fine.{fine_start}
 use Rattle.sk_core.specs.Stored.{blank_token, hint_by, word_by, sizes_of}
 use Rattle.sk_core.proofs.Start.{no_items, starts_stored, starts_as, starts_meeting}
 use Rattle.sk_core.proofs.state.State.new.Goals as goal
+use Rattle.sk_model.specs.Limits.{most_k}
 
 pub invariant_of-result-2 : goal.invariant_of-result-2
 invariant_of-result-2 c =
@@ -15,7 +16,7 @@ invariant_of-result-2 c =
     let two = subst (λ n. 2 ≤ n) (sym k) c.requires.least in
     let word = c.packed-word.ensures.value [] c.in_ok-sketch.ensures.stands ∙ ap (λ n. packed_of n []) (sym (ap (λ (s : Sketch). s.k) c.sketch.view_is)) ∙ ap (packed_of inside.k) (sym no_items) in
     let tokens = c.push_reserved.ensures.items ∙ ap (λ l. l ++ blank_token ∷ []) c.in_ok-tokens.ensures.items in
-    let stored = starts_stored inside.k c.args.n c.args.b c.packed-word.result c.in_ok-with_capacity.field-0.items c.in_ok-with_capacity-2.field-0.items c.in_ok-new_updaters.field-0.items c.in_ok-with_capacity-3.field-0.items c.push_reserved.new.self.items two word c.in_ok-with_capacity.ensures.items c.in_ok-with_capacity-2.ensures.items c.in_ok-new_updaters.ensures c.in_ok-with_capacity-3.ensures.items tokens (subst (λ n. n ≤ 32768) (sym k) c.requires.most) c.requires.updaters in
+    let stored = starts_stored inside.k c.args.n c.args.b c.packed-word.result c.in_ok-with_capacity.field-0.items c.in_ok-with_capacity-2.field-0.items c.in_ok-new_updaters.field-0.items c.in_ok-with_capacity-3.field-0.items c.push_reserved.new.self.items two word c.in_ok-with_capacity.ensures.items c.in_ok-with_capacity-2.ensures.items c.in_ok-new_updaters.ensures c.in_ok-with_capacity-3.ensures.items tokens (subst (λ n. n ≤ most_k) (sym k) c.requires.most) c.requires.updaters in
     let offers = c.in_ok-with_capacity.ensures.exact in
     let published = c.in_ok-with_capacity-2.ensures.exact in
     let hand = c.in_ok-with_capacity-3.ensures.exact in

@@ -1,10 +1,10 @@
 use Rattle.std.proofs.Common.{rules, arith, ap, ◌++◌, ◌∙◌, length, subst, sym}
-use Rattle.sk_model.specs.Width.{AreItems}
 use Rattle.sk_model.specs.Entries.{tagged, items_of_entries}
 use Rattle.sk_model.specs.Sketch.{packed_of}
 use Rattle.sk_core.specs.Inside.{stored_of}
 use Rattle.sk_core.proofs.Propagator.{publishes_at, batch_items, batch_fits, stands_after}
 use Rattle.sk_core.proofs.state.State.publish.Goals as goal
+use Rattle.sk_model.specs.Width.{AreItems}
 
 pub append_batch-requires : goal.append_batch-requires
 append_batch-requires c =

@@ -1,10 +1,11 @@
 use Rattle.std.proofs.Common.{rules, ◌≡◌, ◌≢◌, ◌∙◌, [], subst, ap, sym, true, false, inr, length, ◌+◌, ◌≤◌}
-use Rattle.sk_machine.specs.Coarse.{most_kept, IsBatch}
+use Rattle.sk_machine.specs.Coarse.{IsBatch}
 use Rattle.sk_gate.specs.Slots.{sketching, telling, TellsList}
 use Rattle.sk_gate.specs.Views.{size_of, mine_of}
 use Rattle.sk_gate.specs.Hands.{Standing, standing_of, Holds}
 use Rattle.sk_gate.proofs.Own.{own_placed, own_put, own_taken, put_own, exchanged_shown}
 use Rattle.sk_gate.proofs.updater.Propagator+C+OfUpdater.swap.Goals as goal
+use Rattle.sk_model.specs.Limits.{most_kept}
 
 pub exchange-empty-requires-clause-placed : goal.exchange-empty-requires-clause-placed
 exchange-empty-requires-clause-placed g c = let k = g.C.Composable in let i = c.self.invariant in let on = i.4.own_is ∙ subst (λ s. (mine_of s.view).ready ≡ true) (sym c.self.view_is) c.requires.ready in

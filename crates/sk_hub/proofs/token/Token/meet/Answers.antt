@@ -1,6 +1,6 @@
 use Rattle.std.proofs.Common.{Contains, ◌∙◌, ap, subst, sym}
-use Rattle.sk_model.specs.Missing.{Begins}
-use Rattle.sk_gate.specs.Views.{known_of, longer}
+use Rattle.sk_model.specs.Missing.{Begins, longer}
+use Rattle.sk_gate.specs.Views.{known_of}
 use Rattle.sk_hub.proofs.Knowledge.{known_with_note, hears_own, hears_other}
 use Rattle.sk_hub.proofs.token.Token.meet.Goals as goal
 

@@ -1,5 +1,0 @@
-use Rattle.sk_feed.specs.Feeds.{KeepsNone}
-use Rattle.sk_feed.proofs.feed.help_until_served.Given as goal
-
-abbrev pub invariant-help : goal.invariant-help
-invariant-help g l = KeepsNone l.initial.u l.u

@@ -1,0 +1,47 @@
+use Rattle.std.proofs.Common.{◌<◌, ◌≤◌, ◌+◌, ◌-◌, length, Ok, sym, subst, ap, ◌∙◌, arith, slice_range}
+use Rattle.sk_hub.specs.Updaters.{kept_of}
+use Rattle.sk_ingest.specs.Windows.{items_in}
+use Rattle.sk_ingest.specs.Feeds.{Takes}
+use Rattle.sk_ingest.proofs.Updaters.{takes_then_none, on_err}
+use Rattle.sk_ingest.proofs.Feeding.{no_line, line_taken, line_passed, line_refused, room_after, room_passed}
+use Rattle.sk_ingest.proofs.feed.feed_block.Goals as goal
+use Rattle.sk_ingest.proofs.feed.feed_block.Goals.{in-Some+in_ok-feed_item+else-not-branch, in_default}
+use Rattle.sk_model.specs.Limits.{most_kept}
+
+pub line-init : goal.line-init
+line-init g c = let k = g.C.Composable in record {
+  taken = no_line k.keeps_of k.hint_of c.args.u.now c.args.kind c.args.w.now.lines c.args.from;
+  room = c.requires.room;
+}
+
+pub returns-in_err-feed_item-clause-refused : goal.returns-in_err-feed_item-clause-refused
+returns-in_err-feed_item-clause-refused g c =
+    let k = g.C.Composable in
+    on_err c.from_residual.result
+    (line_refused k.keeps_of k.hint_of c.args.u.now c.line.u c.feed_item.new.u c.args.kind c.args.w.now.lines c.args.from c.line.place c.args.to c.in-Some.item c.line.auto.place c.line-test.true c.requires.within
+    (sym c.item.ensures.value ∙ c.in-Some.is) c.line.invariant.taken c.in_err-feed_item.ensures.refused)
+
+pub returns-then-not-branch-clause-taken : goal.returns-then-not-branch-clause-taken
+returns-then-not-branch-clause-taken g c =
+    let k = g.C.Composable in
+    takes_then_none k.keeps_of k.hint_of c.args.u.now c.line.u c.feed_item.new.u (items_in c.args.kind (slice_range c.args.w.now.lines c.args.from c.line.place)) c.line.invariant.taken
+    (c.in_ok-feed_item.ensures.none (ap Ok c.if-not-branch.true))
+
+pub line-preserved : goal.line-preserved
+line-preserved g c =
+    let k = g.C.Composable in
+    let inside : c.line.place < length c.args.w.now.lines = omega (arith, c.requires.within, c.line-test.true) in
+    elim c.match-item.branch [
+      | in-Some+in_ok-feed_item+else-not-branch w ↦
+          let taken = w.in_ok-feed_item.ensures.taken (ap Ok w.if-not-branch.false) in record {
+            taken = subst (λ z. Takes k.keeps_of k.hint_of c.args.u.now (items_in c.args.kind (slice_range c.args.w.now.lines c.args.from (c.line.place + 1))) z) (sym w.u-is)
+                (line_taken k.keeps_of k.hint_of c.args.u.now c.line.u w.feed_item.new.u c.args.kind c.args.w.now.lines c.args.from c.line.place w.in-Some.item c.line.auto.place inside (sym c.item.ensures.value ∙ w.in-Some.is) c.line.invariant.taken taken);
+            room = subst (λ z. length (kept_of z) + (c.args.to - (c.line.place + 1)) ≤ most_kept) (sym w.u-is)
+                (room_after k.keeps_of k.hint_of c.line.u w.feed_item.new.u w.in-Some.item c.line.place c.args.to most_kept taken c.line-test.true c.line.invariant.room);
+          }
+      | in_default w ↦ record {
+        taken = subst (λ z. Takes k.keeps_of k.hint_of c.args.u.now (items_in c.args.kind (slice_range c.args.w.now.lines c.args.from (c.line.place + 1))) z) (sym w.u-is)
+            (line_passed k.keeps_of k.hint_of c.args.u.now c.line.u c.args.kind c.args.w.now.lines c.args.from c.line.place c.line.auto.place inside (sym c.item.ensures.value ∙ w.in_default.is) c.line.invariant.taken);
+        room = subst (λ z. length (kept_of z) + (c.args.to - (c.line.place + 1)) ≤ most_kept) (sym w.u-is) (room_passed (length (kept_of c.line.u)) c.line.place c.args.to most_kept c.line.invariant.room);
+      }
+    ]

@@ -1,0 +1,146 @@
+//! How the items of a window's lines are fed to an updater.
+ghost use Rattle.std.specs.Prelude.{◌≡◌, ◌≢◌, ◌⊎◌, ℕ, ◌+◌, ◌-◌, ◌<◌, ◌≤◌, [], ◌∷◌, length, slice_index_or, slice_range, true, false, Ok, OnOk, OnErr, IfOk, IsSome, IsTrue};
+ghost use Rattle.sk_hub.specs.Updaters.{kept_of};
+ghost use Rattle.sk_ingest.specs.Windows.{item_in, items_in};
+ghost use Rattle.sk_ingest.specs.Feeds.{KeepsNone, Takes, IsStuck};
+ghost use Rattle.sk_model.specs.Width.{IsItem};
+ghost use Rattle.sk_model.specs.Limits.{most_kept};
+
+use crate::window::Window;
+use crossbeam_utils::Backoff;
+use sk_compose::Composable;
+use sk_hub::{Help, Update, Updater};
+use sk_read::Kind;
+use sk_model::OutOfMemory;
+use std::sync::Wait;
+
+/// Feeds the items of the lines from one place up to another, in order, and answers the first place that was
+/// not taken. With `help` the updater propagates where it is busy or eager, and all are taken; it then waits
+/// while another seat propagates.
+pub fn feed_block<C: Composable, R: Wait>(
+    rt: &R,
+    u: &mut Updater<C>,
+    w: &Window,
+    from: u32,
+    to: u32,
+    kind: Kind,
+    help: bool,
+) -> Result<u32, OutOfMemory>
+    requires order { from ≤ to }
+    requires within { to ≤ length w.now.lines }
+    requires room { length (kept_of u.old) + (to - from) ≤ most_kept }
+    ensures place { IfOk result (λ place. (from ≤ place) × (place ≤ to)) }
+    ensures taken { IfOk result (λ place. Takes C.keeps_of C.hint_of u.old (items_in kind (slice_range w.now.lines from place)) u.new) }
+    ensures all { IfOk result (λ place. help ≡ true → place ≡ to) }
+    ensures stuck { IfOk result (λ place. place < to → IsStuck u.new) }
+    ensures item { IfOk result (λ place. place < to → IsSome (item_in kind (slice_index_or w.now.lines place []))) }
+    ensures refused { OnErr result ((place : ℕ) × (from ≤ place) × (place ≤ to)
+        × Takes C.keeps_of C.hint_of u.old (items_in kind (slice_range w.now.lines from place)) u.new) }
+    ensures helping { OnErr result (IsTrue help) }
+    ensures cause { OnErr result (IsTrue C.TAKES_MEMORY) }
+{
+    'line: for place in from..to {
+        if let Some(item) = w.item(place, kind) {
+            if !feed_item(rt, u, item, help)? {
+                return Ok(place);
+            }
+        }
+    }
+    Ok(to)
+}
+
+// Feeds an item. Without `help` it is offered once, and may not be taken.
+fn feed_item<C: Composable, R: Wait>(
+    rt: &R,
+    u: &mut Updater<C>,
+    item: u64,
+    help: bool,
+) -> Result<bool, OutOfMemory>
+    requires item { IsItem item }
+    requires room { length (kept_of u.old) < most_kept }
+    ensures taken { result ≡ Ok true → Takes C.keeps_of C.hint_of u.old (item ∷ []) u.new }
+    ensures busy { result ≡ Ok false → help ≡ false }
+    ensures none { result ≡ Ok false → KeepsNone u.old u.new }
+    ensures stuck { result ≡ Ok false → IsStuck u.new }
+    ensures refused { OnErr result (KeepsNone u.old u.new ⊎ Takes C.keeps_of C.hint_of u.old (item ∷ []) u.new) }
+    ensures helping { OnErr result (IsTrue help) }
+    ensures cause { OnErr result (IsTrue C.TAKES_MEMORY) }
+{
+    if help {
+        insist(rt, u, item)?;
+        return Ok(true);
+    }
+    match offer(u, item) {
+        Update::Busy => Ok(false),
+        Update::Filtered | Update::Kept | Update::Handed => Ok(true),
+    }
+}
+
+// Offers an item until it is taken, and propagates in between. An eager updater propagates after it, too.
+fn insist<C: Composable, R: Wait>(rt: &R, u: &mut Updater<C>, item: u64) -> Result<(), OutOfMemory>
+    requires item { IsItem item }
+    requires room { length (kept_of u.old) < most_kept }
+    ensures taken { OnOk result (Takes C.keeps_of C.hint_of u.old (item ∷ []) u.new) }
+    ensures refused { OnErr result (KeepsNone u.old u.new ⊎ Takes C.keeps_of C.hint_of u.old (item ∷ []) u.new) }
+    ensures cause { OnErr result (IsTrue C.TAKES_MEMORY) }
+{
+    'again: for _ in rt.forever() {
+        match offer(u, item) {
+            Update::Busy => help_until_served(rt, u)?,
+            Update::Filtered => return Ok(()),
+            Update::Kept | Update::Handed => return help_if_eager(rt, u),
+        }
+    }
+    unreachable!()
+}
+
+// Offers an item once.
+fn offer<C: Composable>(u: &mut Updater<C>, item: u64) -> Update
+    requires item { IsItem item }
+    requires room { length (kept_of u.old) < most_kept }
+    ensures taken { result ≢ Update.Busy → Takes C.keeps_of C.hint_of u.old (item ∷ []) u.new }
+    ensures none { result ≡ Update.Busy → KeepsNone u.old u.new }
+    ensures stuck { result ≡ Update.Busy → IsStuck u.new }
+{
+    // It tells the proof which list the hint is of.
+    let _hint = u.hint();
+    u.update(item)
+}
+
+// Propagates once, if the updater is eager and no other seat propagates.
+fn help_if_eager<C: Composable, R: Wait>(rt: &R, u: &mut Updater<C>) -> Result<(), OutOfMemory>
+    ensures none { KeepsNone u.old u.new }
+    ensures cause { OnErr result (IsTrue C.TAKES_MEMORY) }
+{
+    if u.is_eager() {
+        help_once(rt, u)?;
+    }
+    Ok(())
+}
+
+// Propagates, and waits while another seat does.
+fn help_until_served<C: Composable, R: Wait>(rt: &R, u: &mut Updater<C>) -> Result<(), OutOfMemory>
+    ensures none { KeepsNone u.old u.new }
+    ensures cause { OnErr result (IsTrue C.TAKES_MEMORY) }
+{
+    let backoff = Backoff::new();
+    'help: for _ in rt.forever() {
+        if help_once(rt, u)? {
+            return Ok(());
+        }
+        backoff.snooze();
+    }
+    unreachable!()
+}
+
+// Propagates once, and answers whether no other seat did.
+fn help_once<C: Composable, R: Wait>(rt: &R, u: &mut Updater<C>) -> Result<bool, OutOfMemory>
+    ensures none { KeepsNone u.old u.new }
+    ensures cause { OnErr result (IsTrue C.TAKES_MEMORY) }
+{
+    match u.help(rt) {
+        Help::Served(_) => Ok(true),
+        Help::Elsewhere(_) => Ok(false),
+        Help::OutOfMemory => Err(OutOfMemory),
+    }
+}

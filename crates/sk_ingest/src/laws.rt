@@ -1,0 +1,73 @@
+//! What follows from the definitions alone.
+ghost use Rattle.std.specs.Prelude.{ℕ, Bool, List, [], ◌∷◌, ◌≡◌, ◌<◌, ◌≤◌, ◌+◌, ◌++◌, All, flat_map};
+ghost use Rattle.std.specs.List.{range_with_len};
+ghost use Rattle.sk_model.specs.Entries.{Entry};
+ghost use Rattle.sk_model.specs.Missing.{Begins};
+ghost use Rattle.sk_hub.specs.Updaters.{UpdaterState};
+ghost use Rattle.sk_read.specs.Items.{items_by, IsGood};
+ghost use Rattle.sk_read.specs.declared.kind.Kind.{Kind};
+ghost use Rattle.sk_ingest.specs.Blocks.{place_of};
+ghost use Rattle.sk_ingest.specs.Rounds.{block_of};
+ghost use Rattle.sk_ingest.specs.Feeds.{IsIdle, AreKept, Takes};
+ghost use Rattle.sk_ingest.specs.Windows.{items_in};
+ghost use Rattle.sk_model.specs.Width.{AreItems};
+
+pub mod idle;
+pub mod totals;
+
+/// The first block begins at the first line.
+pub fn blocks_begin()
+    ensures { (lines n : ℕ) → place_of lines 0 n ≡ 0 }
+{}
+
+/// The last block ends behind the last line.
+pub fn blocks_end()
+    ensures { (lines n : ℕ) → 0 < n → place_of lines n n ≡ lines }
+{}
+
+/// Each block ends where it begins, or behind.
+pub fn blocks_rise()
+    ensures { (lines i n : ℕ) → 0 < n → place_of lines i n ≤ place_of lines (i + 1) n }
+{}
+
+/// The blocks, one behind another, are the lines, and their items are those of the lines.
+pub fn blocks_are_the_lines()
+    ensures lines { (lines : List (List ℕ)) (n : ℕ) → 0 < n
+        → flat_map (λ i. block_of lines i n) (range_with_len 0 n) ≡ lines }
+    ensures items { (kind : Kind) (lines : List (List ℕ)) (n : ℕ) → 0 < n
+        → flat_map (λ i. items_in kind (block_of lines i n)) (range_with_len 0 n) ≡ items_in kind lines }
+{}
+
+/// Where each line is empty or an item, the items are those that a reader of these lines gives.
+pub fn items_of_good_lines()
+    ensures { (kind : Kind) (lines : List (List ℕ)) → All (IsGood kind) lines → items_in kind lines ≡ items_by kind lines }
+{}
+
+/// Items of lines are below the end of the items.
+pub fn items_of_lines_are_below()
+    ensures { (kind : Kind) (lines : List (List ℕ)) → AreItems (items_in kind lines) }
+{}
+
+/// One item more at the end, which is kept.
+pub fn keeps_one_more()
+    ensures { (keeps : ℕ → ℕ → Bool) (hint : List Entry → ℕ) (base : List Entry) (items kept : List ℕ) (item : ℕ)
+        → AreKept keeps hint base items kept → AreKept keeps hint base (items ++ item ∷ []) (kept ++ item ∷ []) }
+{}
+
+/// One item more at the end, which is idle.
+pub fn drops_one_more()
+    ensures { (keeps : ℕ → ℕ → Bool) (hint : List Entry → ℕ) (base : List Entry) (items kept : List ℕ) (item : ℕ)
+        → IsIdle keeps hint base item → AreKept keeps hint base items kept → AreKept keeps hint base (items ++ item ∷ []) kept }
+{}
+
+/// What was kept of items stays, whatever the list comes to begin.
+pub fn kept_stays()
+    ensures { (keeps : ℕ → ℕ → Bool) (hint : List Entry → ℕ) (base longer : List Entry) (items kept : List ℕ)
+        → Begins base longer → AreKept keeps hint base items kept → AreKept keeps hint longer items kept }
+{}
+
+/// What an updater takes after other items, it takes with them.
+pub fn takes_add_up()
+    ensures { (keeps : ℕ → ℕ → Bool) (hint_of : List ℕ → List Entry → ℕ) (u v w : UpdaterState) (items more : List ℕ)
+        → Takes keeps hint_of u items v → Takes keeps hint_of v more w → Takes keeps hint_of u (items ++ more) w }
+{}

@@ -1,0 +1,77 @@
+-- What is held of a source that is read in parts, each of whole records.
+use Rattle.std.specs.Prelude.{◌≡◌, ◌≢◌, ◌≤◌, ◌<◌, ◌⊎◌, ℕ, ◌+◌, ◌-◌, ◌^◌, Bool, true, false, ◌==◌, ◌&&◌, List, [], ◌∷◌, ◌++◌, length, slice_index, ⊤}
+use Rattle.csv.specs.Reading.{default_config, records}
+use Rattle.csv.specs.declared.parser.State.TheVariants as st
+use Rattle.sk_read.specs.Places.{state_of, IsCut}
+use Rattle.sk_read.specs.Records.{Row, records_of}
+use Rattle.sk_read.specs.declared.parts.Parts.{Parts}
+use Rattle.sk_read.specs.declared.items.Fault.{Fault}
+use Rattle.sk_read.specs.declared.items.Fault.TheVariants as fault
+use Rattle.sk_model.specs.Limits.{source_limit}
+
+-- a text begins with a byte that ends a record, LF or CR
+abbrev pub IsLed : List ℕ → Type 0
+IsLed text = (1 ≤ length text) × ((slice_index text 0 ≡ 10) ⊎ (slice_index text 0 ≡ 13))
+
+-- of the bytes taken of a source these records were given, and the bytes held go on from there
+pub record HasTaken (p : Parts) (rows : List Row) (taken : List ℕ) : Type 0 where
+  pub follows : (later : List ℕ) → (p.ended ≡ true → later ≡ []) →
+      records_of (taken ++ later) ≡ rows ++ records default_config (p.bytes.items ++ later)
+  pub led : IsLed p.bytes.items
+  pub cut : IsCut st.StartRecord p.bytes.items (state_of p.place) p.cut
+  pub some : 1 ≤ p.cut
+  pub count : length taken ≡ p.taken
+  pub bound : p.taken ≤ p.most
+  pub few : p.most ≤ source_limit
+
+-- some bytes more were taken, and no record was given
+abbrev pub Takes : Parts → Parts → List ℕ → Type 0
+Takes old new more = (rows : List Row) (taken : List ℕ) → HasTaken old rows taken → HasTaken new rows (taken ++ more)
+
+-- these bytes more are held, none only where the source has ended
+pub record Holds (old new : Parts) (more : List ℕ) : Type 0 where
+  pub bytes : new.bytes.items ≡ old.bytes.items ++ more
+  pub taken : new.taken ≡ old.taken + length more
+  pub bound : new.taken ≤ new.most
+  pub end : new.ended ≡ true → (more ≡ []) × (new.taken < new.most)
+  pub going : new.ended ≡ false → 1 ≤ length more
+  pub cut : new.cut ≡ old.cut
+  pub place : new.place ≡ old.place
+  pub most : new.most ≡ old.most
+
+-- how many bytes may still be given in parts
+abbrev pub remaining_of : Parts → ℕ
+remaining_of p = length p.bytes.items + (p.most - p.taken)
+
+-- a fault of the source or of memory
+abbrev pub IsOfSource : Fault → Type 0
+IsOfSource fault.OutOfMemory = ⊤
+IsOfSource fault.ReadFault = ⊤
+IsOfSource fault.TooMuch = ⊤
+IsOfSource (fault.LongLine n) = ⊥
+IsOfSource (fault.BadItem n) = ⊥
+IsOfSource (fault.BadCsv n) = ⊥
+
+-- the first bytes of a byte order mark, and not all of it
+abbrev pub is_mark_front : List ℕ → Bool
+is_mark_front [] = true
+is_mark_front (a ∷ []) = a == 0xEF
+is_mark_front (a ∷ b ∷ []) = (a == 0xEF) && (b == 0xBB)
+is_mark_front (a ∷ b ∷ c ∷ rest) = false
+
+-- the bytes of the byte order mark, U+FEFF in UTF-8
+abbrev pub mark : List ℕ
+mark = 0xEF ∷ 0xBB ∷ 0xBF ∷ []
+
+-- none of the bytes taken where they are a byte order mark, else all
+abbrev pub IsWithoutMark : List ℕ → List ℕ → Type 0
+IsWithoutMark taken held = ((taken ≡ mark) × (held ≡ [])) ⊎ ((taken ≢ mark) × (held ≡ taken))
+
+-- the first bytes of a source were taken, enough to tell whether they are a byte order mark
+pub record HasStarted (p : Parts) (taken : List ℕ) : Type 0 where
+  pub bytes : p.bytes.items ≡ 10 ∷ taken
+  pub small : length taken ≤ 3
+  pub told : p.ended ≡ false → is_mark_front taken ≡ false
+  pub count : length taken ≡ p.taken
+  pub bound : p.taken ≤ p.most
+  pub few : p.most ≤ source_limit

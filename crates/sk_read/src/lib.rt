@@ -1,0 +1,21 @@
+//! The way from a stream of bytes to items: its lines or a column of its records, what makes one of
+//! these an item, and who takes it.
+#![tactic(auto)]
+
+mod counted;
+mod items;
+mod kind;
+mod lines;
+mod parts;
+mod place;
+mod reader;
+mod records;
+mod table;
+
+pub use items::{Fault, Intake, Taker, read_items};
+pub use kind::Kind;
+pub use reader::{LineFault, LineReader};
+pub use sk_model::limits::LINE_LIMIT;
+
+#[cfg(test)]
+mod tests;

@@ -1,0 +1,205 @@
+// The lines of a source.
+ghost use Rattle.std.specs.Prelude.{◌≡◌, ◌≤◌, ◌<◌, ◌+◌, ◌-◌, ◌^◌, ℕ, List, [], ◌∷◌, ◌++◌, Ok, Err, OnOk, OnErr, IfOk, IsErrOf, ◌≢◌, length, true, false, vec_len};
+ghost use Rattle.std.specs.Io.KnownBytes.{Consumes, IsAtEnd, Keeps};
+ghost use Rattle.sk_model.specs.Causes.{Rose};
+ghost use Rattle.sk_model.specs.Lines.{lines_of};
+ghost use Rattle.sk_lines.specs.declared.cutter.Next.TheVariants as next;
+ghost use Rattle.sk_read.specs.Reading.{HasGiven, GivesLine, GivesNext, GivesNone, Stands, Stops, IsLongNext, IsLongLast, FindsLong, Feeds, remaining_of};
+ghost use Rattle.sk_model.specs.Limits.{source_limit};
+
+use sk_io::{Failed, Source};
+use sk_lines::{Lines, Next};
+use sk_model::OutOfMemory;
+use sk_model::limits::LINE_LIMIT;
+use std::alloc::Global;
+use std::marker::Model;
+
+// The most bytes that one read is asked for.
+const PIECE_LEN: usize = 65_536;
+
+/// Why the lines of a source end before it does.
+#[derive(Clone, Copy, Debug, PartialEq, Eq)]
+pub enum LineFault {
+    /// A read failed.
+    ReadFault,
+    /// The line of this number, counted from 1, has more than `LINE_LIMIT` bytes.
+    LongLine(u64),
+    /// As many bytes were taken as may be.
+    TooMuch,
+}
+
+impl From<Failed> for LineFault {
+    ghost use Rattle.sk_read.specs.declared.reader.LineFault.TheVariants as fault;
+
+    ghost from_gives = { λ _ e. e ≡ fault.ReadFault };
+
+    fn from(_: Failed) -> Self {
+        LineFault::ReadFault
+    }
+}
+
+/// The lines of a source, one after another, each as soon as the bytes read have it.
+#[derive(Drop)]
+pub struct LineReader {
+    lines: Lines,
+    piece: [u8; PIECE_LEN],
+    taken: u64,
+    most: u64,
+    ended: bool,
+}
+
+impl Model for LineReader {
+    ghost use Rattle.sk_read.specs.Reading.{Reading};
+
+    ghost Value = { Reading };
+
+    ghost use Rattle.sk_read.specs.Inside.{reading_of, IsKept};
+
+    ghost view = { reading_of };
+
+    ghost invariant = { IsKept };
+}
+
+impl LineReader {
+    /// A reader that takes fewer than `most` bytes, itself at most 2^40. It takes all its memory here.
+    pub fn new(alloc: Global, most: u64) -> Result<LineReader, OutOfMemory>
+        requires { most ≤ source_limit }
+        ensures given { IfOk result (λ reader. HasGiven reader [] []) }
+        ensures most { IfOk result (λ reader. reader.most ≡ most) }
+        ensures open { IfOk result (λ reader. reader.ended ≡ false) }
+        ensures limit { IfOk result (λ reader. reader.cutter.limit ≡ LINE_LIMIT) }
+    {
+        Ok(LineReader {
+            lines: Lines::new(alloc, LINE_LIMIT)?,
+            piece: [0; PIECE_LEN],
+            taken: 0,
+            most,
+            ended: false,
+        })
+    }
+
+    // Reads a piece and feeds it, or answers `false` at the end of the source.
+    fn refill<S: Source>(&mut self, source: &mut S) -> Result<bool, LineFault>
+        requires hungry { self.old.cutter.hungry ≡ true }
+        requires open { self.old.ended ≡ false }
+        ensures fed { IfOk result (λ fed. (more : List ℕ) × Consumes (S.left source.old) (S.left source.new) more × Feeds self.old self.new more) }
+        ensures some { result ≡ Ok true → (self.old.taken < self.new.taken) × (self.new.taken ≤ self.new.most) }
+        ensures end { result ≡ Ok false → IsAtEnd (S.left source.new) × (self.new ≡ self.old) × (self.new.taken < self.new.most) }
+        ensures read_fault { IsErrOf result LineFault.ReadFault → Rose (S.faults source.old) (S.faults source.new) × (self.old.taken < self.old.most) }
+        ensures too_much { IsErrOf result LineFault.TooMuch → self.old.taken ≡ self.old.most }
+        ensures err { OnErr result ((self.new ≡ self.old) × Keeps (S.left source.old) (S.left source.new)) }
+        ensures no_long { (n : ℕ) → result ≢ Err (LineFault.LongLine n) }
+        ensures later { S.faults source.old ≤ S.faults source.new }
+        ensures stays { S.stands_on source.new ≡ S.stands_on source.old }
+    {
+        let room = (self.most - self.taken).min(PIECE_LEN as u64) as usize;
+        if room == 0 {
+            return Err(LineFault::TooMuch);
+        }
+        let n = source.read(&mut self.piece[..room])?;
+        if n == 0 {
+            return Ok(false);
+        }
+        self.lines.feed(&self.piece[..n]);
+        self.taken += n as u64;
+        Ok(true)
+    }
+}
+
+impl LineReader {
+    // Cuts the next line out of the bytes read.
+    #[inline(always)]
+    fn cut(&mut self) -> Next
+        ensures line { result ≡ next.Line → GivesLine self.old self.new × (remaining_of self.new < remaining_of self.old) }
+        ensures more { result ≡ next.More → self.old.ended ≡ false → (given : List (List ℕ)) (taken : List ℕ) → HasGiven self.old given taken → Stands self.new given taken }
+        ensures after_end { result ≡ next.More → self.old.ended ≡ true → (given : List (List ℕ)) (taken : List ℕ) → HasGiven self.old given taken → HasGiven self.new given taken }
+        ensures hungry { result ≡ next.More → self.new.cutter.hungry ≡ true }
+        ensures long { (n : ℕ) → result ≡ next.Long n → IsLongNext self.old n }
+        ensures last { self.new.cutter.last ≡ result }
+        ensures limit { self.new.cutter.limit ≡ self.old.cutter.limit }
+        ensures ended { self.new.ended ≡ self.old.ended }
+        ensures most { (self.new.most ≡ self.old.most) × (self.new.taken ≡ self.old.taken) }
+        ensures remaining { remaining_of self.new ≤ remaining_of self.old }
+        ensures bound { self.new.taken ≤ self.new.most }
+    {
+        self.lines.next()
+    }
+
+    // Ends the source.
+    fn end(&mut self) -> Result<bool, LineFault>
+        requires hungry { self.old.cutter.hungry ≡ true }
+        requires open { self.old.ended ≡ false }
+        requires size { self.old.taken < self.old.most }
+        ensures line { result ≡ Ok true → GivesLine self.old self.new × (self.new.cutter.last ≡ next.Line) × (remaining_of self.new < remaining_of self.old) }
+        ensures none { result ≡ Ok false → (given : List (List ℕ)) (taken : List ℕ) → HasGiven self.old given taken → (lines_of taken ≡ given) × HasGiven self.new given taken }
+        ensures long { (n : ℕ) → result ≡ Err (LineFault.LongLine n) → IsLongLast self.old n }
+        ensures only_long { (result ≢ Err LineFault.ReadFault) × (result ≢ Err LineFault.TooMuch) }
+        ensures limit { self.new.cutter.limit ≡ self.old.cutter.limit }
+        ensures most { (self.new.most ≡ self.old.most) × (self.new.taken ≡ self.old.taken) }
+        ensures ended { self.new.ended ≡ true }
+        ensures bound { self.new.taken ≤ self.new.most }
+    {
+        self.ended = true;
+        match self.lines.end() {
+            Next::Line => Ok(true),
+            Next::More => Ok(false),
+            Next::Long(line) => Err(LineFault::LongLine(line)),
+        }
+    }
+}
+
+impl LineReader {
+    /// Moves on to the source's next line, and answers `false` where there is none. After an error
+    /// it is not used again.
+    #[inline]
+    pub fn next<S: Source>(&mut self, source: &mut S) -> Result<bool, LineFault>
+        ensures line { result ≡ Ok true → (more : List ℕ) × Consumes (S.left source.old) (S.left source.new) more × GivesNext self.old self.new more }
+        ensures none { result ≡ Ok false → (more : List ℕ) × Consumes (S.left source.old) (S.left source.new) more × GivesNone self.old self.new more }
+        ensures holds { result ≡ Ok true → self.new.cutter.last ≡ next.Line }
+        ensures end { (self.old.ended ≡ true → IsAtEnd (S.left source.old)) → self.new.ended ≡ true → IsAtEnd (S.left source.new) }
+        ensures ended { result ≡ Ok false → self.new.ended ≡ true }
+        ensures long_line { (n : ℕ) → result ≡ Err (LineFault.LongLine n) → (more : List ℕ) × Consumes (S.left source.old) (S.left source.new) more
+            × FindsLong self.old more (S.left source.new) n }
+        ensures read_fault { IsErrOf result LineFault.ReadFault → Rose (S.faults source.old) (S.faults source.new) }
+        ensures read_fault_at { IsErrOf result LineFault.ReadFault → (more : List ℕ) × Consumes (S.left source.old) (S.left source.new) more
+            × Stops self.old self.new more × (self.new.taken < self.new.most) }
+        ensures too_much { IsErrOf result LineFault.TooMuch → (more : List ℕ) × Consumes (S.left source.old) (S.left source.new) more
+            × Stops self.old self.new more × (self.new.taken ≡ self.new.most) }
+        ensures progress { result ≡ Ok true → remaining_of self.new < remaining_of self.old }
+        ensures bound { OnOk result (self.new.taken ≤ self.new.most) }
+        ensures limit { self.new.cutter.limit ≡ self.old.cutter.limit }
+        ensures most { self.new.most ≡ self.old.most }
+        ensures later { S.faults source.old ≤ S.faults source.new }
+        ensures stays { S.stands_on source.new ≡ S.stands_on source.old }
+    {
+        'piece: loop {
+            match self.cut() {
+                Next::Line => return Ok(true),
+                Next::Long(line) => return Err(LineFault::LongLine(line)),
+                Next::More => {}
+            }
+            if self.ended {
+                return Ok(false);
+            }
+            if !self.refill(source)? {
+                return self.end();
+            }
+        }
+    }
+
+    /// The line that the last call of `next` gave.
+    #[inline(always)]
+    pub fn line(&self) -> &[u8]
+        requires { self.now.cutter.last ≡ next.Line }
+        ensures { result.now ≡ self.now.cutter.line }
+    {
+        self.lines.line()
+    }
+
+    /// How many lines were given.
+    pub fn number(&self) -> u64
+        ensures { result ≡ self.now.cutter.number }
+    {
+        self.lines.number()
+    }
+}
