@@ -1,10 +1,7 @@
 //! The merge of a batch, by whoever propagates.
-ghost use Rattle.std.specs.Prelude.{◌≡◌, ◌≢◌, ◌+◌, ◌≤◌, length, true, false, IfOk, IfErr, IsTrue};
-ghost use Rattle.sk_machine.specs.Coarse.{most_entries};
-ghost use Rattle.sk_machine.specs.declared.views.Stage.TheVariants.{Idle, Busy};
-ghost use Rattle.sk_machine.specs.declared.views.Duty.TheVariants.{Leads};
-ghost use Rattle.sk_gate.specs.Slots.{contents, sketching, IsTrunkOf};
-ghost use Rattle.sk_gate.specs.Views.{size_of, batch_of, left_in};
+ghost use Rattle.std.specs.Prelude.{◌≡◌, ◌≢◌, ◌≤◌, length, IfOk, IfErr, IsTrue};
+ghost use Rattle.sk_gate.specs.Slots.{sketching};
+ghost use Rattle.sk_gate.specs.Views.{batch_of};
 ghost use Rattle.sk_gate.specs.Hands.{IsTrunk};
 ghost use Rattle.sk_gate.specs.Merge.{CarriesBatch, MergesAt};
 ghost use Rattle.sk_gate.specs.Moves.{IsSeen};

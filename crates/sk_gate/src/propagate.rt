@@ -7,10 +7,10 @@ ghost use Rattle.sk_machine.specs.declared.views.Duty.TheVariants.{Leads};
 ghost use Rattle.sk_gate.specs.Slots.{contents, sketching, telling, TellsList};
 ghost use Rattle.sk_gate.specs.Views.{size_of, batch_of, left_in, leads, IsAtRest};
 ghost use Rattle.sk_gate.specs.Hands.{IsTrunk};
-ghost use Rattle.sk_gate.specs.Moves.{IsSeen, AsksAt, TakesTurnAt, MissesTurnAt, YieldsAt, FindsAt, LeavesAt, PublishesAt, GivesBackAt};
+ghost use Rattle.sk_gate.specs.Moves.{IsSeen, TakesTurnAt, MissesTurnAt, YieldsAt, FindsAt, LeavesAt, PublishesAt, GivesBackAt};
 
 use crate::load::{Load, Trunk, parcel_in, trunk_in};
-use crate::plays::{Ask, Find, GiveBack, Leave, Publish, Turn, Yield};
+use crate::plays::{Find, GiveBack, Leave, Publish, Turn, Yield};
 use crate::seat::{Propagator, Role, exchange};
 use sk_compose::{Composable, Parcel};
 

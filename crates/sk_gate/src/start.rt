@@ -1,5 +1,5 @@
 //! The table, and its seats.
-ghost use Rattle.std.specs.Prelude.{◌≡◌, ℕ, ◌+◌, ◌<◌, ◌≤◌, List, [], ◌∷◌, ◌++◌, length, map, drop, All, None, IfOk};
+ghost use Rattle.std.specs.Prelude.{◌≡◌, ◌+◌, ◌<◌, ◌≤◌, [], ◌∷◌, ◌++◌, length, map, drop, All, None, IfOk};
 ghost use Rattle.std.specs.Arc.{arc_value};
 ghost use Rattle.sk_machine.specs.Coarse.{blank_mine};
 ghost use Rattle.sk_machine.specs.declared.views.Post.TheVariants.{Guest, Root, Updater};

@@ -2,7 +2,7 @@ ghost use Rattle.std.specs.Prelude.{◌≡◌, ◌<◌, ◌≤◌, [], ◌∷◌
 ghost use Rattle.sk_machine.specs.Coarse.{blank_mine, IsBatch};
 ghost use Rattle.sk_model.specs.Limits.{most_size};
 ghost use Rattle.sk_gate.specs.Slots.{contents};
-ghost use Rattle.sk_machine.specs.declared.views.Post.TheVariants.{Guest, Root, Updater};
+ghost use Rattle.sk_machine.specs.declared.views.Post.TheVariants.{Root, Updater};
 ghost use Rattle.sk_gate.specs.Views.{size_of, mine_of, leads};
 ghost use Rattle.sk_gate.specs.Hands.{no_own};
 ghost use Rattle.sk_gate.specs.Starts.{blank_view, empty_handed};
