@@ -11,8 +11,10 @@ pub mod Merged
 pub mod Rounds
 pub mod Seats
 pub mod Shows
-pub mod Standing
+pub mod SeatState
 pub mod Starts
 pub mod Taken
 pub mod Turns
 pub mod Updaters
+pub mod Beginnings
+pub mod Copies

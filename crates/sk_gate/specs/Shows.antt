@@ -1,5 +1,5 @@
 -- What the table shows at every moment between two steps: a state of the whole machine that meets its whole invariant.
-use Rattle.std.specs.Prelude.{◌≡◌, ◌≢◌, ◌⊎◌, ℕ, ◌+◌, ◌<◌, List, length, true, Contains, None, slice_index}
+use Rattle.std.specs.Prelude.{◌≡◌, ◌≢◌, ◌⊎◌, ℕ, ◌+◌, ◌<◌, ◌≤◌, List, [], length, true, Contains, None, slice_index}
 use mathlib.Core.Option.{some, none}
 use mathlib.Core.Option as maybe
 use lib.ListN.{get_elem?}
@@ -17,9 +17,9 @@ use Rattle.sk_machine.specs.declared.views.Duty.{Duty}
 use Rattle.sk_machine.specs.declared.views.Duty.TheVariants.{Free, Leads}
 use Rattle.sk_machine.specs.declared.views.View.{View}
 use Rattle.sk_gate.specs.declared.load.Trunk.{Trunk}
-use Rattle.sk_gate.specs.Slots.{Slot, full, trunk, word_of, turn_word, contents, room, Sketching, Telling, ToldOk, TrunkOk}
-use Rattle.sk_gate.specs.Views.{known_of, given_of, size_of, mine_of, seat_in, leads}
-use Rattle.sk_gate.specs.Rule.{Has, HasSeen, IsLed, HasGiven, Kept}
+use Rattle.sk_gate.specs.Slots.{Slot, full, trunk, word_of, turn_word, contents, room, Sketching, Telling, TellsGiven, IsTrunkOf}
+use Rattle.sk_gate.specs.Views.{known_of, given_of, size_of, mine_of, seat_in, leads, SpeaksFor}
+use Rattle.sk_gate.specs.Rule.{Has, HasSeen, IsLed, HasGiven}
 
 -- the words are the machine's
 pub record ShowsWords (words : List ℕ) (f : Fine) : Type 0 where
@@ -52,20 +52,22 @@ pub record ShowsSlot {C T : Type 0} (k : Telling T) (name : List ℕ) (views : L
   -- with the items that the machine has there
   pub items : (p : Parcel T) → HasParcel home p → (u.home ≡ true) × (p.buffer ≡ contents u.slot (room u.size))
   -- and, where it was given back, with a told value exactly if something was handed over, of the list given with it
-  pub told : (p : Parcel T) → HasParcel home p → u.word ≢ 0 → ¬ IsPicked views i → ToldOk k name p u.handed u.given
+  pub told : (p : Parcel T) → HasParcel home p → u.word ≢ 0 → ¬ IsPicked views i → TellsGiven k name p u.handed u.given
 
 -- the trunk's slot: whoever holds the turn has it, or else the trunk lies in it, with a sketch of the published list
 pub record ShowsTrunk {C T : Type 0} (g : Sketching C) (numbers name : List ℕ) (f : Fine) (home : maybe.Option (maybe.Option (Slot C T))) : Type 0 where
   pub taken : f.turn ≢ 0 → home ≡ some none
-  pub lies : f.turn ≡ 0 → (t : Trunk C T) × (home ≡ some (some (trunk t))) × TrunkOk g numbers name f.published (coarse_of f).stage (coarse_of f).sizes t
+  pub lies : f.turn ≡ 0 → (t : Trunk C T) × (home ≡ some (some (trunk t))) × IsTrunkOf g numbers name f.published (coarse_of f).stage (coarse_of f).sizes t
 
 -- ---- seats
 
--- an updater's seat knows its own lists
-abbrev pub KnowsOwn : Fine → List Entry → Post → Type 0
-KnowsOwn f seen Guest = Unit {0}
-KnowsOwn f seen (Root made) = Unit {0}
-KnowsOwn f seen (Updater i mine) = let u = f.updaters i in (i < f.n) × (mine.handed ≡ u.handed) × (mine.base ≡ u.base) × (mine.ready ≡ is_ready u.mark) × Begins mine.base seen
+-- what a seat knows of those that it speaks for: of updaters yet to be given out that they handed nothing over, of its
+-- own lists all; and how large their buffers are, 0 before they are admitted
+abbrev pub KnowsOwn : Fine → View → Post → Type 0
+KnowsOwn f v Guest = Unit {0}
+KnowsOwn f v (Root made) = (i : ℕ) → made ≤ i → i < f.n → ((f.updaters i).handed ≡ []) × (size_of v i ≡ (f.updaters i).size)
+KnowsOwn f v (Updater i mine) = let u = f.updaters i in
+    (i < f.n) × (mine.handed ≡ u.handed) × (mine.base ≡ u.base) × (mine.ready ≡ is_ready u.mark) × Begins mine.base v.seen × (size_of v i ≡ u.size)
 
 -- a seat leads where the turn has its number, knows where the machine is, and has seen all
 abbrev pub LeadsBy : Fine → View → Duty → Type 0
@@ -88,24 +90,25 @@ pub record ShowsView (numbers name : List ℕ) (f : Fine) (v : View) : Type 0 wh
   pub known : (i : ℕ) → i < f.n → Begins (known_of v i) (f.updaters i).handed
   pub given : (i : ℕ) → i < f.n → Begins (given_of v i) (f.updaters i).given
   pub sizes : (i : ℕ) → i < f.n → size_of v i ≢ 0 → size_of v i ≡ (f.updaters i).size
-  pub own : KnowsOwn f v.seen v.post
+  pub own : KnowsOwn f v v.post
   pub duty : LeadsBy f v v.duty
   pub drained : (i : ℕ) → Contains v.drained i → KnowsDrained f (known_of v i) i
 
 -- a seat that was not taken in by another
-abbrev pub IsLive : List View → ℕ → View → Type 0
-IsLive views j v = IsView views j v × (v.live ≡ true)
+abbrev pub IsLiveSeat : List View → ℕ → View → Type 0
+IsLiveSeat views j v = IsView views j v × (v.live ≡ true)
 
 pub record ShowsSeats (numbers name : List ℕ) (f : Fine) (views : List View) : Type 0 where
-  pub each : (j : ℕ) (v : View) → IsLive views j v → ShowsView numbers name f v
+  pub each : (j : ℕ) (v : View) → IsLiveSeat views j v → ShowsView numbers name f v
   -- they are the machine's tokens
   pub made : f.made ≡ length views
   pub tokens : (j : ℕ) (v : View) → IsView views j v → f.tokens j ≡ token_of v
   -- one leads where the turn is held, and no two
   pub leader : f.turn ≢ 0 → (j : ℕ) × Has views j IsLed
-  pub one_leads : (a b : ℕ) (v w : View) → IsLive views a v → IsLive views b w → leads v.duty ≡ true → leads w.duty ≡ true → a ≡ b
-  -- no two are of one updater
-  pub one_own : (i a b : ℕ) (v w : View) → IsLive views a v → IsLive views b w → v.post ≡ Updater i (mine_of v) → w.post ≡ Updater i (mine_of w) → a ≡ b
+  pub one_leads : (a b : ℕ) (v w : View) → IsLiveSeat views a v → IsLiveSeat views b w → leads v.duty ≡ true → leads w.duty ≡ true → a ≡ b
+  -- one speaks for each updater, and no two are of one updater
+  pub spoken : (i : ℕ) → i < f.n → (j : ℕ) × Has views j (SpeaksFor i)
+  pub one_own : (i a b : ℕ) (v w : View) → IsLiveSeat views a v → IsLiveSeat views b w → v.post ≡ Updater i (mine_of v) → w.post ≡ Updater i (mine_of w) → a ≡ b
   -- what is published was seen, and what was given back was recorded
   pub seen : (j : ℕ) × Has views j (HasSeen f.published)
   pub given : (i : ℕ) → i < f.n → (j : ℕ) × Has views j (HasGiven i (f.updaters i).given)
@@ -123,6 +126,6 @@ pub record Shown {C T : Type 0} (hint packed : List ℕ → List Entry → ℕ) 
   pub trunk_is : ShowsTrunk g numbers name machine (get_elem? s.homes machine.n)
   pub seats : ShowsSeats numbers name machine s.views
 
--- whenever the table keeps its rule
-abbrev pub AlwaysShown : {C T : Type 0} → (List ℕ → List Entry → ℕ) → (List ℕ → List Entry → ℕ) → Sketching C → Telling T → Type 0
-AlwaysShown {C} {T} hint packed g k = (s : State (Slot C T) View) → Kept hint packed g k s → Shown hint packed g k s
+-- whenever a table keeps a rule, of what it was told when it was made
+abbrev pub AlwaysShown : {C T A : Type 0} → (List ℕ → List Entry → ℕ) → (List ℕ → List Entry → ℕ) → Sketching C → Telling T → (A → State (Slot C T) View → Type 0) → Type 0
+AlwaysShown {C} {T} {A} hint packed g k holds = (about : A) (s : State (Slot C T) View) → holds about s → Shown hint packed g k s

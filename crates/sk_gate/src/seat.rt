@@ -1,8 +1,9 @@
 //! A seat that may propagate: an updater's or the heart's.
 ghost use Rattle.std.specs.Prelude.{◌≡◌, ◌≤◌};
-ghost use Rattle.sk_gate.specs.Hands.{rotated, IsAt, IsPut};
-ghost use Rattle.sk_model.specs.Limits.{most_updaters};
+ghost use Rattle.sk_gate.specs.Moves.{AsksAt};
+ghost use Rattle.sk_gate.specs.Hands.{rotated, LiesAt, IsPut};
 
+use crate::plays::Ask;
 use crate::rule::{Hub, Slot};
 use atomic_table::Seat;
 use sk_compose::Composable;
@@ -53,15 +54,15 @@ pub struct Propagator<C: Composable, R: Role> {
 }
 
 impl<C: Composable, R: Role> Model for Propagator<C, R> {
-    ghost use Rattle.sk_model.specs.Limits.{most_updaters};
     ghost use Rattle.std.specs.Prelude.{◌≡◌, ◌≤◌, ◌+◌};
     ghost use Rattle.std.specs.Arc.{arc_value};
     ghost use Rattle.sk_gate.specs.Slots.{sketching, telling};
-    ghost use Rattle.sk_gate.specs.Hands.{Standing, standing_of, Holds};
+    ghost use Rattle.sk_gate.specs.Hands.{SeatState, seat_state, Holds};
+    ghost use Rattle.sk_model.specs.Limits.{most_updaters};
 
-    ghost Value = { Standing };
+    ghost Value = { SeatState };
 
-    ghost view = { λ s. standing_of s.seat.me.0 s.seat.table_id s.number s.front s.seat.me.1 };
+    ghost view = { λ s. seat_state s.seat.me.0 s.seat.table_id s.number s.front s.seat.me.1 };
 
     ghost invariant = { λ s. (s.seat.table_id ≡ (arc_value s.hub).shared.table_id)
         × (s.seat.table_id.words ≡ s.updaters + 2)
@@ -74,6 +75,17 @@ impl<C: Composable, R: Role> Model for Propagator<C, R> {
 pub type UpdaterSeat<C> = Propagator<C, OfUpdater>;
 
 pub type HeartSeat<C> = Propagator<C, OfHeart>;
+
+impl<C: Composable, R: Role> Propagator<C, R> {
+    /// One load of the published word. It may come between any two other calls.
+    pub fn ask(&mut self) -> u64
+        ensures told { AsksAt C.packed_of self.old.view result self.new.view }
+        ensures seat { self.new ≡ record self.old { view = self.new.view } }
+    {
+        let hub = &self.hub;
+        hub.shared.load::<Ask<C>>(&mut self.seat, 0)
+    }
+}
 
 // The first slots go behind the others, one at a time.
 pub(crate) fn rotate<C: Composable>(seat: &mut Seat<Slot<C>, View>, times: u32)
@@ -96,7 +108,7 @@ pub(crate) fn exchange<C: Composable>(
     new: Slot<C>,
 ) -> Slot<C>
     requires table { seat.old.table_id ≡ hub.now.shared.table_id }
-    requires placed { IsAt slot before after seat.old.me.1 }
+    requires placed { LiesAt slot before after seat.old.me.1 }
     requires few { after ≤ 2 }
     ensures table { seat.new.table_id ≡ seat.old.table_id }
     ensures id { seat.new.id ≡ seat.old.id }

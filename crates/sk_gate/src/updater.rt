@@ -4,18 +4,18 @@ ghost use Rattle.sk_machine.specs.Coarse.{IsBatch};
 ghost use Rattle.atomic_table.specs.Table.{Allows, step};
 ghost use mathlib.Core.Option.{none};
 ghost use Rattle.sk_gate.specs.Slots.{contents, sketching, telling};
-ghost use Rattle.sk_gate.specs.Rule.{Kept};
+ghost use Rattle.sk_gate.specs.Rule.{KeepsRule};
 ghost use Rattle.sk_gate.specs.Plays.{admitted};
-ghost use Rattle.sk_gate.specs.Views.{size_of, mine_of};
-ghost use Rattle.sk_gate.specs.Hands.{no_own, own_with, own_empty, own_looked, TellsBase};
+ghost use Rattle.sk_gate.specs.Views.{size_of, mine_of, leads, after_split, copy_of};
+ghost use Rattle.sk_gate.specs.Hands.{no_own, own_with, own_empty, own_looked, TellsBase, MayLie};
 ghost use Rattle.sk_gate.specs.Moves.{LooksAt, AdmitsAt, HandsAt};
 ghost use Rattle.sk_model.specs.Limits.{most_size, most_kept};
 
-use crate::load::Load;
-use crate::plays::{Admit, Hand, Look, Rest, Size};
+use crate::load::{Load, parcel_in};
+use crate::plays::{Admit, Copying, Hand, Look, Size};
 use crate::rule::{Hub, Slot};
 use crate::seat::{OfUpdater, Propagator, exchange, rotate};
-use crate::slots::parcel_in;
+use crate::token::NoteSeat;
 use atomic_table::Seat;
 use sk_compose::{Composable, Parcel};
 use sk_machine::views::View;
@@ -31,7 +31,7 @@ fn admitted_look<C: Composable, K: Size>(
     requires size { K.size ≡ b }
     requires table { seat.old.table_id ≡ hub.now.shared.table_id }
     requires word { word < hub.now.shared.table_id.words }
-    requires may { Allows (Kept C.hint_of C.packed_of (sketching C.is_of C.numbers C.name)
+    requires may { Allows (KeepsRule C.hint_of C.packed_of (sketching C.is_of C.numbers C.name)
         (telling C.tells C.told_name C.told_of))
         hub.now.shared.table_id.slots seat.old.id seat.old.me word (λ n. n)
         (admitted C.hint_of b (step hub.now.shared.table_id.slots word 0 0 none) seat.old.me) }
@@ -64,6 +64,23 @@ impl<C: Composable> Propagator<C, OfUpdater> {
         found
     }
 
+    // Lays a parcel into the own slot, for the empty one that lies there.
+    fn exchange_own(&mut self, parcel: Parcel<C::Told>) -> Parcel<C::Told>
+        requires ready { (mine_of self.old.view).ready ≡ true }
+        requires unswapped { self.old.own.items ≡ [] }
+        requires fits { MayLie self.old.view
+            (telling C.tells C.told_name C.told_of) self.old.number parcel }
+        ensures empty { result.buffer ≡ contents [] self.old.own.capacity }
+        ensures told { is_some result.told ≡ self.old.own.told }
+        ensures tells { TellsBase self.old.view (telling C.tells C.told_name C.told_of) result }
+        ensures seat { self.new ≡ record self.old { own = own_with parcel } }
+    {
+        let slot = self.number as usize;
+        let parcel = Some(Load::Parcel(parcel));
+        let empty = exchange(&self.hub, &mut self.seat, slot, self.front, 0, parcel);
+        parcel_in(empty)
+    }
+
     /// Lays a full parcel into the slot, for the empty one.
     pub fn swap(&mut self, full: Parcel<C::Told>) -> Parcel<C::Told>
         requires ready { (mine_of self.old.view).ready ≡ true }
@@ -80,10 +97,7 @@ impl<C: Composable> Propagator<C, OfUpdater> {
     {
         // It tells the proof that they are items.
         let _count = full.buffer.len();
-        let slot = self.number as usize;
-        let full = Some(Load::Parcel(full));
-        let empty = exchange(&self.hub, &mut self.seat, slot, self.front, 0, full);
-        parcel_in(empty)
+        self.exchange_own(full)
     }
 
     /// One store of 0 in the own word. It hands over the items that lie in the slot.
@@ -111,10 +125,7 @@ impl<C: Composable> Propagator<C, OfUpdater> {
         ensures seat { self.new
             ≡ record self.old { own = own_empty (size_of self.old.view self.old.number) } }
     {
-        let slot = self.number as usize;
-        let empty = Some(Load::Parcel(empty));
-        let picked = exchange(&self.hub, &mut self.seat, slot, self.front, 0, empty);
-        parcel_in(picked)
+        self.exchange_own(empty)
     }
 
     /// One load of the own word, by which the updater is admitted, with buffers of b items. It gives the hint
@@ -131,5 +142,16 @@ impl<C: Composable> Propagator<C, OfUpdater> {
         self.seat.turn();
         self.own = true;
         hint
+    }
+
+    /// A note: what the updater has seen, and what it handed over.
+    pub fn split(&mut self) -> NoteSeat<C>
+        requires free { leads self.old.view.duty ≡ false }
+        ensures seat { self.new ≡ record self.old { view = after_split self.old.view } }
+        ensures note { result ≡ record { view = copy_of self.old.view; table = self.old.table } }
+    {
+        let hub = &self.hub;
+        let seat = hub.shared.split_seat::<Copying>(&mut self.seat);
+        NoteSeat { seat }
     }
 }

@@ -3,8 +3,9 @@ ghost use Rattle.std.specs.Prelude.{◌≡◌, ◌≢◌, ℕ, ◌<◌, ◌≤�
 ghost use Rattle.sk_gate.specs.Slots.{telling};
 ghost use Rattle.sk_gate.specs.Views.{known_of};
 ghost use Rattle.sk_hub.specs.Updaters.{TellsItems};
+ghost use Rattle.sk_hub.specs.Hearts.{IsWholeHeart};
 ghost use Rattle.sk_hub.specs.Replies.{IsRelaxedReply, HasDrained};
-ghost use Rattle.sk_hub.specs.Rounds.{Sweeps, ServesNothing, ServesBatch, Refuses, IsElsewhere};
+ghost use Rattle.sk_hub.specs.Rounds.{Sweeps, ServesNothing, ServesBatch, Refuses, IsElsewhere, KnowsAsMuch};
 
 use crate::answers::{Serve, Sweep};
 use crate::heart::Heart;
@@ -22,6 +23,7 @@ impl<C: Composable> Heart<C> {
         ensures elsewhere { (other : ℕ) → result ≡ Serve.Elsewhere other → IsElsewhere self.old.view other self.new.view }
         ensures refused { result ≡ Serve.OutOfMemory → Refuses self.old.view i 1 self.new.view }
         ensures cause { result ≡ Serve.OutOfMemory → IsTrue C.TAKES_MEMORY }
+        ensures knows { KnowsAsMuch self.old.view self.new.view }
         ensures stays { self.new ≡ record self.old { view = self.new.view } }
     {
         let done = match propagate(rt, &mut self.seat, i, 1) {
@@ -41,6 +43,7 @@ impl<C: Composable> Heart<C> {
         ensures elsewhere { (other : ℕ) → result ≡ Sweep.Elsewhere other → IsElsewhere self.old.view other self.new.view }
         ensures refused { result ≡ Sweep.OutOfMemory → Refuses self.old.view 0 self.old.updaters self.new.view }
         ensures cause { result ≡ Sweep.OutOfMemory → IsTrue C.TAKES_MEMORY }
+        ensures knows { KnowsAsMuch self.old.view self.new.view }
         ensures stays { self.new ≡ record self.old { view = self.new.view } }
     {
         match propagate(rt, &mut self.seat, 0, self.updaters) {
@@ -59,10 +62,10 @@ impl<C: Composable> Heart<C> {
         self.seat.ask()
     }
 
-    /// How many updaters were admitted.
+    /// How many updaters were admitted. This call also tells what is true of every heart.
     pub fn admitted(&self) -> u32
         ensures value { result ≡ self.now.admitted }
-        ensures most { result ≤ self.now.updaters }
+        ensures whole { IsWholeHeart self.now }
     {
         self.admitted
     }
