@@ -2,7 +2,7 @@
 use Rattle.std.proofs.Common.{◌≡◌, ◌≢◌, ℕ, ◌+◌, ◌<◌, List, ◌++◌, ◌∷◌, [], length, refl, ap, sym, ◌∙◌, subst, append_assoc, append-nil, add-one, inl, inr, set, length-set, get_or-set_same, get_or-set_other, arith}
 use mathlib.Core.Logic.{dite}
 use native.Mathlib.Decide.{ℕ_discrete}
-use Rattle.std.specs.Prelude.{slice_index, IfOk, Result, Ok, Err}
+use Rattle.std.specs.Prelude.{slice_index, IfOk, IfErr, Result, Ok, Err}
 use Rattle.sk_model.specs.Entries.{Entry, tagged}
 use Rattle.sk_model.specs.Missing.{Begins}
 use Rattle.sk_model.proofs.Missing.{begins_trans, begins_refl}
@@ -16,7 +16,7 @@ use Rattle.sk_machine.specs.declared.views.View.{View}
 use Rattle.sk_gate.specs.Views.{size_of, batch_of, stage_in}
 use Rattle.sk_gate.specs.Moves.{IsSeen, AsksAt, FindsBatchAt, LeavesAt, LearnsSize, TakesTurnAt, YieldsAt}
 use Rattle.sk_gate.specs.Merge.{MergesAt}
-use Rattle.sk_hub.specs.Rounds.{Advances, TakesTurn, KnowsAsMuch, PublishesBatch, FinishesHeld, FindsInVain, ServesOne, ServesEach, Serves, ServesNothing, ServesBatch, Refuses, RefusesFound}
+use Rattle.sk_hub.specs.Rounds.{Advances, TakesTurn, KnowsAsMuch, PublishesBatch, FinishesHeld, FindsInVain, ServesOne, ServesEach, Serves, ServesNothing, ServesBatch, Refuses, RefusesFound, IsElsewhere, TriesTheTurn}
 use Rattle.sk_hub.specs.Turns.{RefusesAfter}
 use Rattle.sk_hub.proofs.Views.{seen_again}
 
@@ -102,7 +102,7 @@ pub serves_found_if : {E : Type 0} (v w w' x : View) (i : ℕ) (r : Result ℕ E
 serves_found_if v w w' x i (Ok count) found same some served = serves_found v w w' x i count found same some served
 serves_found_if v w w' x i (Err e) found same some served = tt
 
-advances_none : (v : View) → Advances v [] v
+pub advances_none : (v : View) → Advances v [] v
 advances_none v = record {
   view = ap (λ l. record v { steps = l }) (sym (append-nil v.steps));
   grows = begins_refl v.seen;
@@ -204,6 +204,11 @@ pub ok_fact : {A E : Type 0} {P : Type 0} (r : Result A E) → IfOk r (λ _. P) 
 ok_fact (Ok x) fact none = fact
 ok_fact (Err e) fact none = absurd (none e refl)
 
+-- of a result that is no success
+pub err_fact : {A E : Type 0} {P : Type 0} (r : Result A E) → IfErr r (λ _. P) → ((a : A) → r ≡ Ok a → ⊥) → P
+err_fact (Ok x) fact none = absurd (none x refl)
+err_fact (Err e) fact none = fact
+
 -- ---- what a call that propagates leaves
 
 pub knows_by : (v w : View) (steps : List Move) → TakesTurn v steps w → KnowsAsMuch v w
@@ -240,3 +245,18 @@ serves_nothing v w i held found none s = (held, subst (λ z. Serves v i 1 held z
 
 pub serves_batch : (v w : View) (i held found : ℕ) → found ≢ 0 → Serves v i 1 held found w → ServesBatch v i (held + found) w
 serves_batch v w i held found some s = (held, found, omega arith, refl, s)
+
+-- ---- a turn, taken or found with another seat
+
+pub turns_taken : (v w : View) (steps : List Move) → TakesTurn v steps w → TriesTheTurn v w
+turns_taken v w steps t = inl (steps, t)
+
+pub turns_elsewhere : (v w : View) (other : ℕ) → IsElsewhere v other w → TriesTheTurn v w
+turns_elsewhere v w other e = inr (other, e)
+
+pub serves_turns : (v w : View) (from n held found : ℕ) → Serves v from n held found w → TriesTheTurn v w
+serves_turns v w from n held found s = inl (s.finishing ++ s.finding, s.turn)
+
+pub refuses_turns : (v w : View) (from n : ℕ) → Refuses v from n w → TriesTheTurn v w
+refuses_turns v w from n (inl t) = inl ([], t)
+refuses_turns v w from n (inr r) = inl ((r.finishing ++ r.finding) ++ FindsInVain (from + r.served), r.turn)

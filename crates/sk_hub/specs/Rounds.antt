@@ -65,6 +65,10 @@ pub record KnowsAsMuch (v w : View) : Type 0 where
 abbrev pub IsElsewhere : View → ℕ → View → Type 0
 IsElsewhere v other w = w ≡ record v { steps = v.steps ++ Turn (other + 1) ∷ [] }
 
+-- a turn was taken and yielded, or found with another seat
+abbrev pub TriesTheTurn : View → View → Type 0
+TriesTheTurn v w = ((steps : List Move) × TakesTurn v steps w) ⊎ ((other : ℕ) × IsElsewhere v other w)
+
 -- ---- calls
 
 -- n updaters from this one on were served, after a batch that was held; so many items of that one were published, and

@@ -2,17 +2,10 @@
 #![tactic(auto)]
 
 mod answers;
-mod ask;
 mod heart;
-mod help;
-mod late;
-mod leave;
 mod opened;
-mod reads;
 mod round;
-mod serve;
 mod token;
-mod update;
 mod updater;
 
 pub use answers::{Admit, Drain, Flush, Help, Serve, Settle, Sweep, Update};

@@ -7,7 +7,7 @@ ghost use Rattle.sk_gate.specs.Views.{batch_of};
 ghost use Rattle.sk_gate.specs.Hands.{IsTrunk};
 ghost use Rattle.sk_gate.specs.Merge.{CarriesBatch};
 ghost use Rattle.sk_hub.specs.Updaters.{IsFree};
-ghost use Rattle.sk_hub.specs.Rounds.{PublishesBatch, FinishesHeld, ServesOne, ServesEach, Advances, KnowsAsMuch, IsElsewhere, Serves, Refuses};
+ghost use Rattle.sk_hub.specs.Rounds.{PublishesBatch, FinishesHeld, ServesOne, ServesEach, Advances, KnowsAsMuch, IsElsewhere, TriesTheTurn, Serves, Refuses};
 ghost use Rattle.sk_hub.specs.Turns.{IsLifted, IsResumed, IsRefused, RefusesAfter};
 ghost use Rattle.sk_model.specs.Limits.{most_size, most_updaters};
 
@@ -126,6 +126,7 @@ fn serve_each<C: Composable, P: Role, R: Wait>(
 }
 
 // Takes the turn, finishes a batch that was held, serves so many updaters from this one on, and yields.
+#[tactic(auto, using(crate::proofs::Steps::turns_elsewhere, crate::proofs::Steps::turns_taken))]
 pub(crate) fn propagate<C: Composable, P: Role, R: Wait>(
     rt: &R,
     seat: &mut Propagator<C, P>,
@@ -140,6 +141,7 @@ pub(crate) fn propagate<C: Composable, P: Role, R: Wait>(
     ensures elsewhere { (other : ℕ) → result ≡ Err (Stopped.Elsewhere other) → IsElsewhere seat.old.view other seat.new.view }
     ensures refused { result ≡ Err Stopped.OutOfMemory → Refuses seat.old.view from updaters seat.new.view }
     ensures cause { result ≡ Err Stopped.OutOfMemory → IsTrue C.TAKES_MEMORY }
+    ensures turn { TriesTheTurn seat.old.view seat.new.view }
     ensures knows { KnowsAsMuch seat.old.view seat.new.view }
     ensures seat { seat.new ≡ record seat.old { view = seat.new.view } }
 {

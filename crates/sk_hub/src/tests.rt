@@ -1,9 +1,11 @@
-ghost use Rattle.std.specs.Prelude.{◌≡◌, ◌≤◌, [], IfOk};
+ghost use Rattle.std.specs.Prelude.{◌≡◌, ◌≤◌, ℕ, [], IfOk};
 ghost use Rattle.sk_model.specs.Entries.{items_of_entries};
 ghost use Rattle.sk_theta.specs.Kept.{StandsFor};
+ghost use Rattle.sk_gate.specs.Views.{known_of, size_of};
 ghost use Rattle.sk_hub.specs.Updaters.{kept_of};
 ghost use Rattle.sk_model.specs.Limits.{most_k, most_size};
 
+mod callers;
 mod refused;
 
 use super::*;
@@ -34,6 +36,8 @@ fn hub_of<C: Composable>(alloc: Global, n: u32, b: u32, global: C) -> Result<Hub
     ensures count { IfOk result (λ hub. hub.heart.updaters ≡ n) }
     ensures updater { IfOk result (λ hub. hub.updater.table ≡ hub.heart.table) }
     ensures token { IfOk result (λ hub. hub.token.table ≡ hub.heart.table) }
+    ensures known { IfOk result (λ hub. (i : ℕ) → known_of hub.token.view i ≡ []) }
+    ensures sizes { IfOk result (λ hub. (i : ℕ) → size_of hub.token.view i ≡ 0) }
 {
     // Its k is not asked for: the sketch has its own.
     let Ok(shape) = Shape::new(8, b, n, 0, false) else {
@@ -169,8 +173,8 @@ fn a_token_meets_a_note(rt: HostRuntime) -> Result<(), Fail> {
     give(&rt, &mut updater, &[(1, Update::Kept)]);
     expect(&rt, flush(&mut updater), Flush::Handed);
     expect(&rt, heart.sweep(&rt), Sweep::Swept(1));
-    token.meet(updater.note());
-    expect(&rt, unpack(token.ask()).count, 1);
+    let word = callers::meet_and_ask(&mut token, &mut updater);
+    expect(&rt, unpack(word).count, 1);
     let mut second = token.split()?;
     expect(&rt, unpack(second.ask()).count, 1);
     Ok(())
@@ -223,18 +227,33 @@ fn update_all_helping<R: Abort + Wait>(
     updater
 }
 
+// The heart admits an updater, whose items it then keeps, helping itself.
+fn admit_and_update<R: Abort + Wait>(
+    rt: &R,
+    alloc: Global,
+    heart: Heart<Theta>,
+    items: Range<u64>,
+) -> (Heart<Theta>, Updater<Theta>)
+    ensures heart { result.0.table ≡ heart.table }
+    ensures updater { result.1.table ≡ heart.table }
+{
+    let mut heart = heart;
+    let late = admit(rt, alloc, &mut heart, 4);
+    let late = update_all_helping(rt, late, items);
+    (heart, late)
+}
+
 #[test]
-fn two_updaters_help_themselves(rt: HostRuntime) -> Result<(), Fail> {
+fn an_updater_is_admitted_while_another_runs(rt: HostRuntime) -> Result<(), Fail> {
     let Hub {
-        mut heart,
+        heart,
         updater: first,
         token: _,
     } = hub_of(rt.alloc(), 2, 4, sketch(rt.alloc(), 128)?)?;
-    let second = admit(&rt, rt.alloc(), &mut heart, 4);
-    let (first, second) = thread::join(
+    let (first, (mut heart, second)) = thread::join(
         &rt,
         || update_all_helping(&rt, first, 0..30),
-        || update_all_helping(&rt, second, 30..60),
+        || admit_and_update(&rt, rt.alloc(), heart, 30..60),
     );
     drain(&rt, &mut heart, first)?;
     drain(&rt, &mut heart, second)?;

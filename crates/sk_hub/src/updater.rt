@@ -1,7 +1,21 @@
-//! An updater: it keeps items, and hands them over a buffer at a time.
-use sk_compose::{Buffer, Composable};
+//! An updater: it keeps items, hands them over a buffer at a time, asks, and may propagate itself.
+ghost use Rattle.sk_gate.specs.Slots.{telling};
+ghost use Rattle.sk_gate.specs.Views.{known_of, size_of, after_split, copy_of, is_open};
+ghost use Rattle.sk_hub.specs.Replies.{IsOwnReply};
+ghost use Rattle.sk_hub.specs.Rounds.{Sweeps, Refuses, IsElsewhere, KnowsAsMuch, TriesTheTurn};
+ghost use Rattle.sk_hub.specs.Updaters.{handed_of, base_of, kept_of, with_item, LooksInVain, Renews, HandsOver, Keeps, HandsWith, earlier_of, TellsItems, IsWholeUpdater};
+ghost use Rattle.sk_model.specs.Limits.{most_kept, most_size};
+ghost use Rattle.sk_model.specs.Width.{IsItem};
+ghost use Rattle.std.specs.Bool.{OnTrue, OnFalse};
+ghost use Rattle.std.specs.Prelude.{◌≡◌, ◌≢◌, ◌↔◌, ◌⊎◌, ◌<◌, ◌++◌, ◌∷◌, [], length, true, false, ◌≤◌, ◌&&◌, is_some, Some, ℕ, IsTrue};
+
+use crate::answers::{Flush, Help, Settle, Update};
+use crate::round::{Done, Stopped, propagate};
+use crate::token::Note;
+use sk_compose::{Buffer, Composable, Parcel};
 use sk_gate::UpdaterSeat;
 use std::marker::Model;
+use std::sync::Wait;
 
 /// An updater of a hub. Updaters are numbered from 0, and a number belongs to one updater for the hub's life.
 #[derive(Drop)]
@@ -31,4 +45,240 @@ impl<C: Composable> Model for Updater<C> {
     ghost view = { λ u. state_of u.seat u.number u.size u.fill u.told u.hint u.last u.eager };
 
     ghost invariant = { λ u. IsUpdater C.hint_of (telling C.tells C.told_name C.told_of) u.seat u.number u.updaters u.size u.fill u.told u.hint u.taken u.last };
+}
+
+impl<C: Composable> Updater<C> {
+    /// Keeps an item below 2^48, unless no later reply would change by it. At most 2^40 items are kept.
+    #[inline(always)]
+    pub fn update(&mut self, item: u64) -> Update
+        requires item { IsItem item }
+        requires room { length (kept_of self.old) < most_kept }
+        ensures filtered { (result ≡ Update.Filtered) ↔ (C.keeps_of self.old.hint item ≡ false) }
+        ensures idle { result ≡ Update.Filtered → C.keeps_of (C.hint_of self.old.view.numbers (base_of self.old)) item ≡ false }
+        ensures unchanged { result ≡ Update.Filtered → self.new ≡ self.old }
+        ensures full { result ≡ Update.Busy → length self.old.fill ≡ self.old.size }
+        ensures busy { result ≡ Update.Busy → LooksInVain self.old self.new }
+        ensures kept { result ≡ Update.Kept → Keeps C.early_of self.old item self.new }
+        ensures handed { result ≡ Update.Handed → HandsWith C.early_of C.hint_of self.old item self.new }
+
+        // An item that is kept is in one of the two buffers, and stays.
+        ensures grows { (result ≡ Update.Kept) ⊎ (result ≡ Update.Handed) → kept_of self.new ≡ kept_of self.old ++ item ∷ [] }
+    {
+        if !C::keeps(self.hint, item) {
+            return Update::Filtered;
+        }
+        self.keep(item)
+    }
+
+    // The rest of `update`, for an item that is kept unless the updater is busy.
+    #[inline(never)]
+    fn keep(&mut self, item: u64) -> Update
+        requires item { IsItem item }
+        requires room { length (kept_of self.old) < most_kept }
+        ensures offered { result ≢ Update.Filtered }
+        ensures full { result ≡ Update.Busy → length self.old.fill ≡ self.old.size }
+        ensures busy { result ≡ Update.Busy → LooksInVain self.old self.new }
+        ensures kept { result ≡ Update.Kept → Keeps C.early_of self.old item self.new }
+        ensures handed { result ≡ Update.Handed → HandsWith C.early_of C.hint_of self.old item self.new }
+        ensures grows { (result ≡ Update.Kept) ⊎ (result ≡ Update.Handed) → kept_of self.new ≡ kept_of self.old ++ item ∷ [] }
+    {
+        if self.len() == self.size() {
+            if !self.hand_over() {
+                return Update::Busy;
+            }
+            self.put(item);
+            return Update::Handed;
+        }
+        self.put(item);
+        if (self.len() == self.size() || self.is_eager()) && self.hand_over() {
+            return Update::Handed;
+        }
+        Update::Kept
+    }
+
+    /// Hands over what the fill buffer has.
+    pub fn flush(&mut self) -> Flush
+        ensures empty { (result ≡ Flush.Empty) ↔ (self.old.fill ≡ []) }
+        ensures unchanged { result ≡ Flush.Empty → self.new ≡ self.old }
+        ensures busy { result ≡ Flush.Busy → LooksInVain self.old self.new }
+        ensures handed { result ≡ Flush.Handed → HandsOver C.hint_of self.old [] self.new }
+        ensures all { result ≡ Flush.Handed → handed_of self.new ≡ kept_of self.old }
+    {
+        if self.len() == 0 {
+            return Flush::Empty;
+        }
+        if self.hand_over() {
+            Flush::Handed
+        } else {
+            Flush::Busy
+        }
+    }
+
+    /// One look, which tells whether all that was handed over is published.
+    pub fn settle(&mut self) -> Settle
+        ensures busy { result ≡ Settle.Busy → LooksInVain self.old self.new }
+        ensures settled { result ≡ Settle.Settled → Renews C.hint_of self.old self.new }
+    {
+        let _size = self.size();
+        let hint = self.seat.look();
+        if hint == 0 {
+            return Settle::Busy;
+        }
+        self.hint = hint;
+        Settle::Settled
+    }
+
+    // Puts an item into the fill buffer.
+    fn put(&mut self, item: u64)
+        requires item { IsItem item }
+        requires room { length self.old.fill < self.old.size }
+        requires few { length (kept_of self.old) < most_kept }
+        ensures { self.new ≡ with_item self.old item }
+    {
+        if let Some(fill) = &mut self.fill {
+            fill.push(item);
+        }
+        self.taken += 1;
+    }
+
+    // One look. Where it gives a number other than 0, the fill buffer is handed over.
+    fn hand_over(&mut self) -> bool
+        requires some { self.old.fill ≢ [] }
+        ensures handed { OnTrue result (HandsOver C.hint_of self.old [] self.new) }
+        ensures busy { OnFalse result (LooksInVain self.old self.new) }
+    {
+        let Some(fill) = self.fill.take() else {
+            unreachable!()
+        };
+        let count = fill.len();
+        let hint = self.seat.look();
+        if hint == 0 {
+            self.fill = Some(fill);
+            return false;
+        }
+        let full = Parcel {
+            buffer: fill,
+            told: None,
+        };
+        let Parcel { buffer, told } = self.seat.swap(full);
+        self.seat.hand();
+        self.fill = Some(buffer);
+        self.told = told;
+        self.hint = hint;
+        self.last = count;
+        true
+    }
+
+    /// Its number in the hub. This call also tells what is true of every updater.
+    pub fn number(&self) -> u32
+        ensures value { result ≡ self.now.number }
+        ensures whole { IsWholeUpdater C.hint_of self.now }
+    {
+        if let Some(fill) = &self.fill {
+            let _count = fill.len();
+        }
+        self.number
+    }
+
+    /// How many items its buffers hold at most.
+    pub fn size(&self) -> u32
+        ensures value { result ≡ self.now.size }
+        ensures least { 1 ≤ result }
+        ensures most { result ≤ most_size }
+    {
+        if let Some(fill) = &self.fill {
+            let _count = fill.len();
+        }
+        self.size
+    }
+
+    /// How many items are in the fill buffer.
+    pub fn len(&self) -> u32
+        ensures value { result ≡ length self.now.fill }
+        ensures within { result ≤ self.now.size }
+    {
+        match &self.fill {
+            Some(fill) => fill.len(),
+            None => 0,
+        }
+    }
+
+    /// By which items are filtered.
+    pub fn hint(&self) -> u64
+        ensures value { result ≡ self.now.hint }
+        ensures hint { result ≡ C.hint_of self.now.view.numbers (base_of self.now) }
+    {
+        self.hint
+    }
+
+    /// How many items were kept.
+    pub fn taken(&self) -> u64
+        ensures value { result ≡ length (kept_of self.now) }
+        ensures most { result ≤ most_kept }
+    {
+        self.taken
+    }
+
+    /// Whether each item that is kept is handed over at once.
+    pub fn is_eager(&self) -> bool
+        ensures { result ≡ (self.now.eager && C.early_of self.now.hint) }
+    {
+        self.eager && C::early(self.hint)
+    }
+
+    /// What the merge made known whose batch was handed over last but one. It is given out once.
+    pub fn told(&mut self) -> Option<C::Told>
+        ensures news { is_some result ≡ self.old.news }
+        ensures tells { (t : _) → result ≡ Some t → TellsItems (telling C.tells C.told_name C.told_of) self.old.view.name self.old.number (earlier_of self.old) t }
+        ensures stays { self.new ≡ record self.old { news = false } }
+    {
+        self.told.take()
+    }
+
+    /// One load of the published word.
+    pub fn ask(&mut self) -> u64
+        ensures { IsOwnReply C.packed_of self.old result self.new }
+    {
+        // It tells the proof that no more items lie in it than it has room for.
+        let _count = self.len();
+        self.seat.ask()
+    }
+
+    /// What this updater has seen, and has handed over.
+    pub fn note(&mut self) -> Note<C>
+        ensures stays { self.new ≡ record self.old { view = after_split self.old.view } }
+        ensures note { result ≡ record { view = copy_of self.old.view; table = self.old.table } }
+        ensures seen { result.view.seen ≡ self.old.view.seen }
+
+        // It knows what this updater handed over and how large its buffers are, and that of no other.
+        ensures known { known_of result.view self.old.number ≡ handed_of self.old }
+        ensures others { (i : ℕ) → i ≢ self.old.number → known_of result.view i ≡ [] }
+        ensures size { size_of result.view self.old.number ≡ self.old.size }
+        ensures sizes { (i : ℕ) → i ≢ self.old.number → size_of result.view i ≡ 0 }
+    {
+        Note {
+            seat: self.seat.split(),
+        }
+    }
+
+    /// Serves each updater once, unless another seat propagates. It waits in a merge only. A batch that is
+    /// refused is held, and whoever propagates next finishes it first.
+    pub fn help<R: Wait>(&mut self, rt: &R) -> Help
+        ensures served { (count : ℕ) → result ≡ Help.Served count → Sweeps self.old.view (length self.old.view.sizes) count self.new.view }
+        ensures opens { (count : ℕ) → result ≡ Help.Served count → is_open self.old.number self.new.view.steps ≡ true }
+        ensures elsewhere { (other : ℕ) → result ≡ Help.Elsewhere other → IsElsewhere self.old.view other self.new.view }
+        ensures refused { result ≡ Help.OutOfMemory → Refuses self.old.view 0 (length self.old.view.sizes) self.new.view }
+        ensures cause { result ≡ Help.OutOfMemory → IsTrue C.TAKES_MEMORY }
+        ensures turn { TriesTheTurn self.old.view self.new.view }
+        ensures knows { KnowsAsMuch self.old.view self.new.view }
+        ensures stays { self.new ≡ record self.old { view = self.new.view } }
+    {
+        // It tells the proof that the size is not 0.
+        let _size = self.size();
+        match propagate(rt, &mut self.seat, 0, self.updaters) {
+            Ok(Done { held, found }) => Help::Served(held + found),
+            Err(Stopped::Elsewhere(other)) => Help::Elsewhere(other),
+            Err(Stopped::OutOfMemory) => Help::OutOfMemory,
+        }
+    }
 }
