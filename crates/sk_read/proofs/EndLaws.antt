@@ -1,34 +1,33 @@
 -- How the reading of a source's records ends.
-use Rattle.std.proofs.Common.{◌≡◌, ◌≢◌, ◌⊎◌, ℕ, zero, suc, ◌+◌, ◌-◌, ◌<◌, ◌≤◌, min, Bool, true, false, List, [], ◌∷◌, ◌++◌, length, take, get_or, Option, Some, None, refl, sym, ap, ◌∙◌, subst, inl, inr, arith, append_assoc, append-nil, length-append}
-use Rattle.std.specs.Option.{IfSome}
-use Rattle.std.specs.Io.KnownBytes.{Consumes, IsAtEnd}
-use Rattle.std.proofs.lemmas.List.{map-append, take-append-le, take_all, take_min}
-use Rattle.std.proofs.lemmas.List.Elements.{All-nil, All-push}
+use Rattle.std.proofs.Common.{◌≡◌, ◌≢◌, ◌⊎◌, ℕ, ◌+◌, ◌<◌, ◌≤◌, Bool, true, false, List, [], ◌∷◌, ◌++◌, length, take, get_or, All, Option, Ok, refl, sym, ap, ◌∙◌, subst, inl, inr, arith, append_assoc, append-nil, length-append}
+use Rattle.std.specs.Io.KnownBytes.{Consumes}
+use Rattle.std.proofs.lemmas.Bool.{false≢true}
+use Rattle.std.proofs.lemmas.List.{map-append}
+use Rattle.std.proofs.lemmas.List.Elements.{All-take}
 use Rattle.std.proofs.Math.Seq.{take-append_seam, get_or-append_seam}
 use Rattle.csv.specs.Reading.{default_config, records, strip_bom, is_bom}
 use Rattle.csv.specs.declared.parser.State.TheVariants as st
+use Rattle.sk_model.specs.Lines.{AreWithin, IsFirstLong}
+use Rattle.sk_model.specs.Limits.{line_limit, most_kept}
 use Rattle.sk_model.specs.Missing.{Begins}
-use Rattle.sk_model.specs.Lines.{AreWithin}
-use Rattle.sk_read.specs.declared.kind.Kind.{Kind}
-use Rattle.sk_read.specs.declared.parts.Parts.{Parts}
+use Rattle.sk_model.proofs.Lines.{long_after_front}
+use Rattle.sk_model.proofs.Missing.{begins_append, begins_more, begins_trans}
 use Rattle.sk_read.specs.declared.items.Fault.{Fault}
 use Rattle.sk_read.specs.declared.items.Fault.TheVariants as fault
-use Rattle.sk_read.specs.Items.{items_by, IsGood, IsLongAt, IsBadAt}
-use Rattle.sk_read.specs.Reading.{ComesLong}
+use Rattle.sk_read.specs.declared.kind.Kind.{Kind}
+use Rattle.sk_read.specs.declared.parts.Parts.{Parts}
+use Rattle.sk_read.specs.declared.units.Units.TheVariants.{Column}
+use Rattle.sk_read.specs.Items.{Gave, Missed}
+use Rattle.sk_read.specs.Parts.{HasTaken, HasHeld, AreInTime, Lacks, Refills}
 use Rattle.sk_read.specs.Places.{state_after}
-use Rattle.sk_read.specs.Records.{Row, records_of, field_of, fields_in, width_of, AreEven, AreGoodRows, IsLongRow, IsBadRow, IsUnevenRow}
-use Rattle.sk_read.specs.Parts.{HasTaken}
-use Rattle.sk_read.specs.Table.{items_in, Ends}
-use Rattle.sk_read.proofs.ItemLaws.{told_by, long_one, bad_one}
+use Rattle.sk_read.specs.Reads.{IsSettled, IsInTime, BreaksOff, Ends}
+use Rattle.sk_read.specs.Records.{Row, records_of, complete_records_of, field_of, fields_in, width_of, AreEven, AreSoundRows, IsUneven}
+use Rattle.sk_read.specs.Table.{Breaks}
+use Rattle.sk_read.specs.Units.{IsSoundUpTo, IsLongBehind, IsUnevenBehind}
+use Rattle.sk_read.proofs.ItemLaws.{front_is}
+use Rattle.sk_read.proofs.ReadLaws.{settled_so}
+use Rattle.sk_read.proofs.RowLaws.{length_fields, fields_more, none_sound}
 use Rattle.sk_read.proofs.Runs.{records_append, records_few}
-use Rattle.sk_model.specs.Limits.{line_limit, most_kept}
-
--- no records are good
-pub none_good : (kind : Kind) (column : ℕ) → AreGoodRows kind column []
-none_good kind column = record {
-  even = All-nil (λ (row : Row). (length row ≡ 0) × (column ≤ length row));
-  fields = record { within = All-nil (λ (l : List ℕ). length l ≤ line_limit); items = All-nil (IsGood kind) };
-}
 
 -- the records that begin with these and then this one
 abbrev begun : List Row → Row → List Row → List Row
@@ -39,130 +38,9 @@ fields_begun column given row more =
     map-append (field_of column) (given ++ row ∷ []) more ∙ ap (λ (l : List (List ℕ)). l ++ fields_in column more) (map-append (field_of column) given (row ∷ []))
     ∙ append_assoc (fields_in column given) (field_of column row ∷ []) (fields_in column more)
 
-front_begun : (n : ℕ) (given : List Row) (row : Row) (more : List Row) → n ≡ length given + 1 → take n (begun given row more) ≡ given ++ row ∷ []
-front_begun n given row more is =
-    let place : n ≡ length (given ++ row ∷ []) = omega (arith, is, length-append given (row ∷ [])) in
-    ap (λ (m : ℕ). take m (begun given row more)) place ∙ take-append_seam (given ++ row ∷ []) more
-
-before_begun : (n : ℕ) (given : List Row) (row : Row) (more : List Row) → n ≡ length given + 1 → take (n - 1) (begun given row more) ≡ given
-before_begun n given row more is =
-    let place : n - 1 ≡ length given = omega arith in
-    ap (λ (m : ℕ). take m (begun given row more)) place ∙ ap (take (length given)) (append_assoc given (row ∷ []) more) ∙ take-append_seam given (row ∷ more)
-
-here_begun : (n : ℕ) (given : List Row) (row : Row) (more : List Row) → n ≡ length given + 1 → get_or (begun given row more) (n - 1) [] ≡ row
-here_begun n given row more is =
-    let place : n - 1 ≡ length given = omega arith in
-    ap (λ (m : ℕ). get_or (begun given row more) m []) place ∙ ap (λ (l : List Row). get_or l (length given) []) (append_assoc given (row ∷ []) more) ∙ get_or-append_seam given row more []
-
 width_begun : (given : List Row) (row : Row) (more : List Row) → width_of (begun given row more) ≡ width_of (given ++ row ∷ [])
 width_begun [] row more = refl
 width_begun (first ∷ given) row more = refl
-
-length_fields : (column : ℕ) (rows : List Row) → length (fields_in column rows) ≡ length rows
-length_fields column [] = refl
-length_fields column (row ∷ rows) = ap suc (length_fields column rows)
-
--- what a refused record says of all records, however they go on
-pub long_row : (kind : Kind) (column n : ℕ) (P : List ℕ → Type 0) (rows more : List Row) → Ends kind column P rows (fault.LongLine n) →
-    IsLongRow kind column n (rows ++ more) × P (items_by kind (take (n - 1) (fields_in column (rows ++ more))))
-long_row kind column n P rows more ends =
-    let all : rows ++ more ≡ begun ends.given ends.next (ends.begins.0 ++ more) = ap (λ (l : List Row). l ++ more) ends.begins.1 ∙ append_assoc (ends.given ++ ends.next ∷ []) ends.begins.0 more in
-    subst (λ (l : List Row). IsLongRow kind column n l × P (items_by kind (take (n - 1) (fields_in column l)))) (sym all) (go (ends.begins.0 ++ more))
-  where
-    go : (tail : List Row) → IsLongRow kind column n (begun ends.given ends.next tail) × P (items_by kind (take (n - 1) (fields_in column (begun ends.given ends.next tail))))
-    go tail =
-        let given = fields_in column ends.given in
-        let own = field_of column ends.next in
-        let fields = fields_begun column ends.given ends.next tail in
-        let place : n ≡ length given + 1 = omega (arith, ends.refused.0, length_fields column ends.given) in
-        let long : ComesLong line_limit given (given ++ own ∷ fields_in column tail) = record {
-          begins = (own ∷ fields_in column tail, refl);
-          first = (
-            omega (arith, length-append given (own ∷ fields_in column tail)),
-            subst (AreWithin line_limit) (sym (take-append_seam given (own ∷ fields_in column tail))) ends.good.fields.within,
-            subst (λ (l : List ℕ). line_limit < length l) (sym (get_or-append_seam given own (fields_in column tail) [])) ends.refused.2,
-          );
-        } in
-        let found = long_one kind n given (given ++ own ∷ fields_in column tail) P place ends.good.fields.items ends.good.fields.within ends.stands long in (
-          record {
-            even = subst (AreEven column) (sym (front_begun n ends.given ends.next tail ends.refused.0)) ends.refused.1;
-            long = subst (IsLongAt kind n) (sym fields) found.0;
-          },
-          subst (λ (l : List (List ℕ)). P (items_by kind (take (n - 1) l))) (sym fields) found.1,
-        )
-
-pub bad_row : (kind : Kind) (column n : ℕ) (P : List ℕ → Type 0) (rows more : List Row) → Ends kind column P rows (fault.BadItem n) →
-    IsBadRow kind column n (rows ++ more) × P (items_by kind (take (n - 1) (fields_in column (rows ++ more))))
-bad_row kind column n P rows more ends =
-    let all : rows ++ more ≡ begun ends.given ends.next (ends.begins.0 ++ more) = ap (λ (l : List Row). l ++ more) ends.begins.1 ∙ append_assoc (ends.given ++ ends.next ∷ []) ends.begins.0 more in
-    subst (λ (l : List Row). IsBadRow kind column n l × P (items_by kind (take (n - 1) (fields_in column l)))) (sym all) (go (ends.begins.0 ++ more))
-  where
-    go : (tail : List Row) → IsBadRow kind column n (begun ends.given ends.next tail) × P (items_by kind (take (n - 1) (fields_in column (begun ends.given ends.next tail))))
-    go tail =
-        let given = fields_in column ends.given in
-        let own = field_of column ends.next in
-        let fields = fields_begun column ends.given ends.next tail in
-        let place : n ≡ length given + 1 = omega (arith, ends.refused.0, length_fields column ends.given) in
-        let within : AreWithin line_limit (given ++ own ∷ []) = All-push (λ (l : List ℕ). length l ≤ line_limit) given own ends.good.fields.within ends.refused.3 in
-        let begins : Begins (given ++ own ∷ []) (given ++ own ∷ fields_in column tail) = (fields_in column tail, sym (append_assoc given (own ∷ []) (fields_in column tail))) in
-        let found = bad_one kind n given own (given ++ own ∷ fields_in column tail) P place ends.good.fields.items within ends.stands ends.refused.2 ends.refused.4 begins in (
-          record {
-            even = subst (AreEven column) (sym (front_begun n ends.given ends.next tail ends.refused.0)) ends.refused.1;
-            bad = subst (IsBadAt kind n) (sym fields) found.0;
-          },
-          subst (λ (l : List (List ℕ)). P (items_by kind (take (n - 1) l))) (sym fields) found.1,
-        )
-
-pub uneven_row : (kind : Kind) (column n : ℕ) (P : List ℕ → Type 0) (rows more : List Row) → Ends kind column P rows (fault.BadCsv n) →
-    IsUnevenRow kind column n (rows ++ more) × P (items_by kind (take (n - 1) (fields_in column (rows ++ more))))
-uneven_row kind column n P rows more ends =
-    let all : rows ++ more ≡ begun ends.given ends.next (ends.begins.0 ++ more) = ap (λ (l : List Row). l ++ more) ends.begins.1 ∙ append_assoc (ends.given ++ ends.next ∷ []) ends.begins.0 more in
-    subst (λ (l : List Row). IsUnevenRow kind column n l × P (items_by kind (take (n - 1) (fields_in column l)))) (sym all) (go (ends.begins.0 ++ more))
-  where
-    go : (tail : List Row) → IsUnevenRow kind column n (begun ends.given ends.next tail) × P (items_by kind (take (n - 1) (fields_in column (begun ends.given ends.next tail))))
-    go tail =
-        let fields = fields_begun column ends.given ends.next tail in
-        let given = fields_in column ends.given in
-        let before = before_begun n ends.given ends.next tail ends.refused.0 in
-        let here = here_begun n ends.given ends.next tail ends.refused.0 in
-        let place : n - 1 ≡ length given = omega (arith, ends.refused.0, length_fields column ends.given) in
-        let front : take (n - 1) (fields_in column (begun ends.given ends.next tail)) ≡ given =
-        ap (take (n - 1)) fields ∙ ap (λ (m : ℕ). take m (given ++ field_of column ends.next ∷ fields_in column tail)) place ∙ take-append_seam given (field_of column ends.next ∷ fields_in column tail) in (
-          record {
-            from = omega (arith, ends.refused.0);
-            to = omega (arith, ends.refused.0, length-append (ends.given ++ ends.next ∷ []) tail, length-append ends.given (ends.next ∷ []));
-            before = subst (AreGoodRows kind column) (sym before) ends.good;
-            uneven = uneven here (width_begun ends.given ends.next tail) ends.refused.1;
-          },
-          subst (λ (l : List (List ℕ)). P (items_by kind l)) (sym front) ends.stands,
-        )
-      where
-        uneven : get_or (begun ends.given ends.next tail) (n - 1) [] ≡ ends.next → width_of (begun ends.given ends.next tail) ≡ width_of (ends.given ++ ends.next ∷ []) →
-            (length ends.next ≢ width_of (ends.given ++ ends.next ∷ [])) ⊎ (length ends.next < column) →
-            (length (get_or (begun ends.given ends.next tail) (n - 1) []) ≢ width_of (begun ends.given ends.next tail)) ⊎ (length (get_or (begun ends.given ends.next tail) (n - 1) []) < column)
-        uneven here width (inl other) = inl (λ same. other (ap length (sym here) ∙ same ∙ width))
-        uneven here width (inr short) = inr (omega (arith, short, ap length here))
-
-take_fields : (column n : ℕ) (rows : List Row) → take n (fields_in column rows) ≡ fields_in column (take n rows)
-take_fields column zero rows = refl
-take_fields column (suc n) [] = refl
-take_fields column (suc n) (row ∷ rows) = ap (λ (l : List (List ℕ)). field_of column row ∷ l) (take_fields column n rows)
-
--- the items of some first records
-pub first_items : (kind : Kind) (column n : ℕ) (P : List ℕ → Type 0) (rows more : List Row) → P (items_in kind column (take n rows)) →
-    (m : ℕ) × P (items_by kind (take m (fields_in column (rows ++ more))))
-first_items kind column n P rows more stands =
-    let m = min n (length rows) in
-    let front : take m (fields_in column (rows ++ more)) ≡ fields_in column (take n rows) =
-    take_fields column m (rows ++ more) ∙ ap (fields_in column) (take-append-le m rows more (omega arith) ∙ take_min n rows) in
-    (m, subst (λ (l : List (List ℕ)). P (items_by kind l)) (sym front) stands)
-
--- what holds of all records that begin with those given
-pub told_rows : (p : Parts) (rows : List Row) (taken : List ℕ) (old left : Option (List ℕ)) (Q : List Row → Type 0) → HasTaken p rows taken → Consumes old left taken →
-    (p.ended ≡ true → IsAtEnd left) → ((more : List Row) → Q (rows ++ more)) → IfSome old (λ (text : List ℕ). Q (records_of text))
-told_rows p rows taken old None Q has consumed end holds = told_by old None taken (λ (text : List ℕ). Q (records_of text)) consumed tt
-told_rows p rows taken old (Some rest) Q has consumed end holds =
-    told_by old (Some rest) taken (λ (text : List ℕ). Q (records_of text)) consumed (subst Q (sym (has.follows rest end)) (holds (records default_config (p.bytes.items ++ rest))))
 
 -- the whole records held, in front of those that follow
 pub whole_rows : (p : Parts) (rows : List Row) (taken later : List ℕ) → HasTaken p rows taken → (p.ended ≡ true → later ≡ []) →
@@ -180,22 +58,6 @@ whole_rows p rows taken later has over =
           ∙ sym (append_assoc rows (records default_config is.front) more)
           ∙ ap (λ (l : List ℕ). (rows ++ records default_config l) ++ more) (sym given),
     )
-
-pub told_whole : (p : Parts) (rows : List Row) (taken : List ℕ) (old left : Option (List ℕ)) (Q : List Row → Type 0) → HasTaken p rows taken → Consumes old left taken →
-    (p.ended ≡ true → IsAtEnd left) → ((more : List Row) → Q ((rows ++ records default_config (take p.cut p.bytes.items)) ++ more)) → IfSome old (λ (text : List ℕ). Q (records_of text))
-told_whole p rows taken old None Q has consumed end holds = told_by old None taken (λ (text : List ℕ). Q (records_of text)) consumed tt
-told_whole p rows taken old (Some rest) Q has consumed end holds =
-    let whole = whole_rows p rows taken rest has end in
-    told_by old (Some rest) taken (λ (text : List ℕ). Q (records_of text)) consumed (subst Q (sym whole.1) (holds whole.0))
-
--- what holds of all records, where the source has ended
-pub told_end : (p : Parts) (rows : List Row) (taken : List ℕ) (old left : Option (List ℕ)) (Q : List Row → Type 0) → HasTaken p rows taken → Consumes old left taken →
-    IsAtEnd left → Q (rows ++ records default_config p.bytes.items) → IfSome old (λ (text : List ℕ). Q (records_of text))
-told_end p rows taken old None Q has consumed end holds = told_by old None taken (λ (text : List ℕ). Q (records_of text)) consumed tt
-told_end p rows taken old (Some rest) Q has consumed end holds =
-    let all : records_of (taken ++ rest) ≡ rows ++ records default_config p.bytes.items =
-    has.follows rest (λ _. end) ∙ ap (λ (l : List ℕ). rows ++ records default_config (p.bytes.items ++ l)) end ∙ ap (λ (l : List ℕ). rows ++ records default_config l) (append-nil p.bytes.items) in
-    told_by old (Some rest) taken (λ (text : List ℕ). Q (records_of text)) consumed (subst Q (sym all) holds)
 
 strip_shorter : (text : List ℕ) → length (strip_bom text) ≤ length text
 unfolding strip_bom
@@ -225,40 +87,218 @@ room_rest p rows taken has =
     has.follows [] (λ _. refl) ∙ ap (λ (l : List ℕ). rows ++ records default_config l) (append-nil p.bytes.items) in
     omega (arith, few_records (taken ++ []), ap length all, length-append rows (records default_config p.bytes.items), ap length (append-nil taken), has.count, has.bound, has.few)
 
--- what is said of a source where a record was refused, or for want of memory
-pub record GaveUp (kind : Kind) (column : ℕ) (P : List ℕ → Type 0) (old : Option (List ℕ)) (f : Fault) : Type 0 where
-  pub long : (n : ℕ) → f ≡ fault.LongLine n → IfSome old (λ (text : List ℕ). IsLongRow kind column n (records_of text) × P (items_by kind (take (n - 1) (fields_in column (records_of text)))))
-  pub bad : (n : ℕ) → f ≡ fault.BadItem n → IfSome old (λ (text : List ℕ). IsBadRow kind column n (records_of text) × P (items_by kind (take (n - 1) (fields_in column (records_of text)))))
-  pub uneven : (n : ℕ) → f ≡ fault.BadCsv n → IfSome old (λ (text : List ℕ). IsUnevenRow kind column n (records_of text) × P (items_by kind (take (n - 1) (fields_in column (records_of text)))))
-  pub memory : f ≡ fault.OutOfMemory → IfSome old (λ (text : List ℕ). (n : ℕ) × P (items_by kind (take n (fields_in column (records_of text)))))
-  pub no_read_fault : f ≡ fault.ReadFault → ⊥
-  pub no_too_much : f ≡ fault.TooMuch → ⊥
+-- ---- what comes first in every text that goes on from here
 
-pub gave_up : (kind : Kind) (column : ℕ) (P : List ℕ → Type 0) (old : Option (List ℕ)) (all : List Row) (f : Fault) →
-    ((Q : List Row → Type 0) → ((more : List Row) → Q (all ++ more)) → IfSome old (λ (text : List ℕ). Q (records_of text))) → Ends kind column P all f → GaveUp kind column P old f
-gave_up kind column P old all f told ends = record {
-  long = λ n is. told (λ (l : List Row). IsLongRow kind column n l × P (items_by kind (take (n - 1) (fields_in column l)))) (λ more. long_row kind column n P all more (subst (Ends kind column P all) is ends));
-  bad = λ n is. told (λ (l : List Row). IsBadRow kind column n l × P (items_by kind (take (n - 1) (fields_in column l)))) (λ more. bad_row kind column n P all more (subst (Ends kind column P all) is ends));
-  uneven = λ n is. told (λ (l : List Row). IsUnevenRow kind column n l × P (items_by kind (take (n - 1) (fields_in column l)))) (λ more. uneven_row kind column n P all more (subst (Ends kind column P all) is ends));
-  memory = λ is.
-      let some = subst (Ends kind column P all) is ends in
-      told (λ (l : List Row). (n : ℕ) × P (items_by kind (take n (fields_in column l)))) (λ more. first_items kind column some.0 P all more some.1);
-  no_read_fault = λ is. absurd (subst (Ends kind column P all) is ends);
-  no_too_much = λ is. absurd (subst (Ends kind column P all) is ends);
+pub whole_settled : (p : Parts) (left : Option (List ℕ)) (rows : List Row) (taken : List ℕ) → HasHeld p left rows taken →
+    IsSettled (λ (text : List ℕ). Begins (rows ++ records default_config (take p.cut p.bytes.items)) (records_of text)) left taken
+whole_settled p left rows taken held = go p.ended refl
+  where
+    First : List ℕ → Type 0
+    First text = Begins (rows ++ records default_config (take p.cut p.bytes.items)) (records_of text)
+
+    go : (b : Bool) → p.ended ≡ b → IsSettled (λ (text : List ℕ). Begins (rows ++ records default_config (take p.cut p.bytes.items)) (records_of text)) left taken
+    go true ended = inr (
+      (held.end ended).0,
+      subst (λ (l : List ℕ). Begins (rows ++ records default_config (take p.cut p.bytes.items)) (records_of l)) (append-nil taken) (whole_rows p rows taken [] held.has (λ _. refl)),
+    )
+    go false going = inl (λ later. whole_rows p rows taken later held.has (λ over. absurd (false≢true (sym going ∙ over))))
+
+pub rest_is : (p : Parts) (left : Option (List ℕ)) (rows : List Row) (taken : List ℕ) → HasHeld p left rows taken → records_of taken ≡ rows ++ records default_config p.bytes.items
+rest_is p left rows taken held =
+    sym (ap records_of (append-nil taken)) ∙ held.has.follows [] (λ _. refl) ∙ ap (λ (l : List ℕ). rows ++ records default_config l) (append-nil p.bytes.items)
+
+pub rest_settled : (p : Parts) (left : Option (List ℕ)) (rows : List Row) (taken : List ℕ) → HasHeld p left rows taken → p.ended ≡ true →
+    IsSettled (λ (text : List ℕ). Begins (rows ++ records default_config p.bytes.items) (records_of text)) left taken
+rest_settled p left rows taken held over = inr ((held.end over).0, ([], rest_is p left rows taken held ∙ sym (append-nil (rows ++ records default_config p.bytes.items))))
+
+-- ---- beginnings of records
+
+all_front : {X : Type 0} (P : X → Type 0) (xs ys : List X) → All P (xs ++ ys) → All P xs
+all_front {X} P xs ys all = subst (All P) (take-append_seam xs ys) (All-take P (length xs) (xs ++ ys) all)
+
+sound_front : (column : ℕ) (xs ys : List Row) → AreSoundRows column (xs ++ ys) → AreSoundRows column xs
+sound_front column [] ys sound = none_sound column
+sound_front column (x ∷ xs) ys sound = record {
+  even = all_front (λ (row : Row). (length row ≡ length x) × (column < length row)) (x ∷ xs) ys sound.even;
+  within = all_front (λ (l : List ℕ). length l ≤ line_limit) (fields_in column (x ∷ xs)) (fields_in column ys)
+      (subst (AreWithin line_limit) (map-append (field_of column) (x ∷ xs) ys) sound.within);
 }
 
-pub gave_up_whole : (kind : Kind) (column : ℕ) (P : List ℕ → Type 0) (p : Parts) (rows : List Row) (taken : List ℕ) (old left : Option (List ℕ)) (f : Fault) → HasTaken p rows taken → Consumes old left taken →
-    (p.ended ≡ true → IsAtEnd left) → Ends kind column P (rows ++ records default_config (take p.cut p.bytes.items)) f → GaveUp kind column P old f
-gave_up_whole kind column P p rows taken old left f has consumed end ends =
-    gave_up kind column P old (rows ++ records default_config (take p.cut p.bytes.items)) f (λ Q holds. told_whole p rows taken old left Q has consumed end holds) ends
+pub sound_begins : (column : ℕ) (xs ys : List Row) → Begins xs ys → AreSoundRows column ys → AreSoundRows column xs
+sound_begins column xs ys begins sound = sound_front column xs begins.0 (subst (AreSoundRows column) begins.1 sound)
 
-pub gave_up_rest : (kind : Kind) (column : ℕ) (P : List ℕ → Type 0) (p : Parts) (rows : List Row) (taken : List ℕ) (old left : Option (List ℕ)) (f : Fault) → HasTaken p rows taken → Consumes old left taken →
-    IsAtEnd left → Ends kind column P (rows ++ records default_config p.bytes.items) f → GaveUp kind column P old f
-gave_up_rest kind column P p rows taken old left f has consumed end ends =
-    let all = rows ++ records default_config p.bytes.items in
-    gave_up kind column P old all f (λ Q holds. told_end p rows taken old left Q has consumed end (subst Q (append-nil all) (holds []))) ends
+fields_begin : (column : ℕ) (xs ys : List Row) → Begins xs ys → Begins (fields_in column xs) (fields_in column ys)
+fields_begin column xs ys begins = (fields_in column begins.0, ap (fields_in column) begins.1 ∙ map-append (field_of column) xs begins.0)
 
--- the items of the records given, which are a front of all
-pub given_items : (kind : Kind) (column : ℕ) (P : List ℕ → Type 0) (rows more : List Row) → P (items_in kind column rows) → (n : ℕ) × P (items_by kind (take n (fields_in column (rows ++ more))))
-given_items kind column P rows more stands =
-    first_items kind column (length rows) P rows more (subst (λ (l : List Row). P (items_in kind column l)) (sym (take_all (length rows) rows (omega arith))) stands)
+begins_under : (zs xs ys : List Row) → Begins xs ys → Begins (zs ++ xs) (zs ++ ys)
+begins_under zs xs ys begins = (begins.0, ap (λ (l : List Row). zs ++ l) begins.1 ∙ sym (append_assoc zs xs begins.0))
+
+reaches : (rows some more all : List Row) (next : Row) → Begins (some ++ next ∷ []) more → Begins (rows ++ more) all → Begins ((rows ++ some) ++ next ∷ []) all
+reaches rows some more all next begins settled =
+    subst (λ (l : List Row). Begins l all) (sym (append_assoc rows some (next ∷ []))) (begins_trans (rows ++ (some ++ next ∷ [])) (rows ++ more) all (begins_under rows (some ++ next ∷ []) more begins) settled)
+
+fields_in_time : (column : ℕ) (rows given : List Row) (taken : List ℕ) → Begins rows given → AreSoundRows column rows → AreInTime rows taken → IsInTime (Column column) (fields_in column given) taken
+fields_in_time column rows given taken begins sound is = record {
+  front = is.front;
+  piece = is.piece;
+  joined = is.joined;
+  size = is.size;
+  sound = sound_begins column (complete_records_of is.front) rows is.earlier sound;
+  earlier = fields_begin column (complete_records_of is.front) given (begins_trans (complete_records_of is.front) rows given is.earlier begins);
+}
+
+-- so many of all records are these
+front_rows : (column n : ℕ) (given all : List Row) → n ≡ length given → Begins given all → take n all ≡ given
+front_rows column n given all is begins = ap (λ (m : ℕ). take m all) is ∙ front_is given all begins
+
+-- behind these records comes one whose field is too long
+long_behind : (column : ℕ) (given all : List Row) (next : Row) → Begins (given ++ next ∷ []) all → AreSoundRows column given → AreEven column (given ++ next ∷ []) → line_limit < length (field_of column next) →
+    AreEven column (take (length (fields_in column given) + 1) all) × IsFirstLong line_limit (length (fields_in column given)) (fields_in column all)
+long_behind column given all next begins sound even long =
+    let place : length (fields_in column given) + 1 ≡ length (given ++ next ∷ []) = omega (arith, length_fields column given, length-append given (next ∷ [])) in
+    let fields = ap (fields_in column) begins.1 ∙ fields_begun column given next begins.0 in (
+      subst (AreEven column) (sym (front_rows column (length (fields_in column given) + 1) (given ++ next ∷ []) all place begins)) even,
+      subst (IsFirstLong line_limit (length (fields_in column given))) (sym fields) (long_after_front line_limit (fields_in column given) (field_of column next) (fields_in column begins.0) sound.within long),
+    )
+
+-- behind these records comes one that has not as many fields or no such column
+uneven_behind : (column : ℕ) (given all : List Row) (next : Row) → Begins (given ++ next ∷ []) all → AreSoundRows column given →
+    (length next ≢ width_of (given ++ next ∷ [])) ⊎ (length next ≤ column) → IsUneven column (length (fields_in column given)) all
+uneven_behind column given all next begins sound why = record {
+  to = omega (arith, length_fields column given, ap length begins.1, length-append (given ++ next ∷ []) begins.0, length-append given (next ∷ []));
+  before = subst (AreSoundRows column) (sym (front_rows column (length (fields_in column given)) given all (length_fields column given) (begins_trans given (given ++ next ∷ []) all (begins_append given (next ∷ [])) begins))) sound;
+  uneven = by why;
+}
+  where
+    here : get_or all (length (fields_in column given)) [] ≡ next
+    here = ap (λ (m : ℕ). get_or all m []) (length_fields column given) ∙ ap (λ (l : List Row). get_or l (length given) []) (begins.1 ∙ append_assoc given (next ∷ []) begins.0) ∙ get_or-append_seam given next begins.0 []
+
+    width : width_of all ≡ width_of (given ++ next ∷ [])
+    width = ap width_of begins.1 ∙ width_begun given next begins.0
+
+    by : (length next ≢ width_of (given ++ next ∷ [])) ⊎ (length next ≤ column) →
+        (length (get_or all (length (fields_in column given)) []) ≢ width_of all) ⊎ (length (get_or all (length (fields_in column given)) []) ≤ column)
+    by (inl other) = inl (λ same. other (ap length (sym here) ∙ same ∙ width))
+    by (inr short) = inr (omega (arith, short, ap length here))
+
+-- ---- where the reading ended
+
+module _ (kind : Kind) (column : ℕ) (Stands : List ℕ → Type 0) (most : ℕ) (old left : Option (List ℕ)) (taken : List ℕ) (consumed : Consumes old left taken) where
+  abbrev E : Fault → Type 0
+  E f = Ends (Column column) most (Gave kind Stands) (Missed kind Stands) old left f
+
+  -- the reading broke off behind these records
+  off : (Known : List (List ℕ) → Type 0) (Comes : List (List ℕ) → List ℕ → Type 0) (rows given : List Row) → length taken ≤ most → AreInTime rows taken → AreSoundRows column rows → Begins rows given →
+      Known (fields_in column given) → IsSettled (λ (text : List ℕ). Begins (fields_in column given) (fields_in column (records_of text)) × Comes (fields_in column given) text) left taken →
+      BreaksOff (Column column) most Known Comes old left
+  off Known Comes rows given size in_time sound begins known comes = record {
+    given = fields_in column given;
+    taken = taken;
+    consumed = consumed;
+    size = size;
+    in_time = fields_in_time column rows given taken begins sound in_time;
+    known = known;
+    comes = comes;
+  }
+
+  -- no record came behind these
+  pub no_row : (rows : List Row) (f : Fault) → AreSoundRows column rows → Gave kind Stands (fields_in column rows) → Lacks most rows taken f → E f
+  no_row rows fault.ReadFault sound gave lacks = record {
+    taken = taken;
+    consumed = consumed;
+    size = lacks.1;
+    sound = subst (AreSoundRows column) (sym lacks.0) sound;
+    gave = subst (λ (l : List Row). Gave kind Stands (fields_in column l)) (sym lacks.0) gave;
+  }
+  no_row rows fault.TooMuch sound gave lacks = record {
+    taken = taken;
+    consumed = consumed;
+    size = lacks.1;
+    sound = subst (AreSoundRows column) (sym lacks.0) sound;
+    gave = subst (λ (l : List Row). Gave kind Stands (fields_in column l)) (sym lacks.0) gave;
+  }
+  no_row rows fault.OutOfMemory sound gave lacks =
+      off (Gave kind Stands) (λ given text. IsSoundUpTo (Column column) (length given) text) rows rows lacks.0 lacks.1 sound ([], sym (append-nil rows)) gave (inl (λ later. (
+        fields_begin column rows (records_of (taken ++ later)) (lacks.2 later),
+        subst (AreSoundRows column) (sym (front_rows column (length (fields_in column rows)) rows (records_of (taken ++ later)) (length_fields column rows) (lacks.2 later))) sound,
+      )))
+  no_row rows (fault.LongLine n) sound gave lacks = absurd lacks
+  no_row rows (fault.BadItem n) sound gave lacks = absurd lacks
+  no_row rows (fault.BadCsv n) sound gave lacks = absurd lacks
+
+  -- one of some more records was refused, or memory was wanting behind some of them
+  pub broke : (rows more : List Row) (f : Fault) → length taken ≤ most → AreInTime rows taken → AreSoundRows column rows → IsSettled (λ (text : List ℕ). Begins (rows ++ more) (records_of text)) left taken →
+      Breaks kind column Stands rows more f → E f
+  broke rows more fault.OutOfMemory size in_time sound settled breaks =
+      let given = rows ++ breaks.some in
+      off (Gave kind Stands) (λ given text. IsSoundUpTo (Column column) (length given) text) rows given size in_time sound (begins_append rows breaks.some) breaks.gave
+      (settled_so (λ (text : List ℕ). Begins (rows ++ more) (records_of text)) (λ (text : List ℕ). Begins (fields_in column given) (fields_in column (records_of text)) × AreSoundRows column (take (length (fields_in column given)) (records_of text))) left taken (λ text first.
+      let begins = begins_trans given (rows ++ more) (records_of text) (begins_under rows breaks.some more breaks.begins) first in (
+        fields_begin column given (records_of text) begins,
+        subst (AreSoundRows column) (sym (front_rows column (length (fields_in column given)) given (records_of text) (length_fields column given) begins)) breaks.sound,
+      )) settled)
+  broke rows more fault.ReadFault size in_time sound settled breaks = absurd breaks
+  broke rows more fault.TooMuch size in_time sound settled breaks = absurd breaks
+  broke rows more (fault.LongLine n) size in_time sound settled breaks =
+      let given = rows ++ breaks.some in
+      let place : n ≡ length (fields_in column given) + 1 = omega (arith, breaks.refused.0, length_fields column given) in
+      off (Gave kind Stands) (λ given text. (n ≡ length given + 1) × IsLongBehind (Column column) (length given) text) rows given size in_time sound (begins_append rows breaks.some) breaks.refused.3
+      (settled_so (λ (text : List ℕ). Begins (rows ++ more) (records_of text)) (λ (text : List ℕ). Begins (fields_in column given) (fields_in column (records_of text)) × ((n ≡ length (fields_in column given) + 1) × IsLongBehind (Column column) (length (fields_in column given)) text)) left taken (λ text first.
+      let begins = reaches rows breaks.some more (records_of text) breaks.next breaks.begins first in (
+        fields_begin column given (records_of text) (begins_trans given (given ++ breaks.next ∷ []) (records_of text) (begins_append given (breaks.next ∷ [])) begins),
+        (place, long_behind column given (records_of text) breaks.next begins breaks.sound breaks.refused.1 breaks.refused.2),
+      )) settled)
+  broke rows more (fault.BadCsv n) size in_time sound settled breaks =
+      let given = rows ++ breaks.some in
+      let place : n ≡ length (fields_in column given) + 1 = omega (arith, breaks.refused.0, length_fields column given) in
+      off (Gave kind Stands) (λ given text. (n ≡ length given + 1) × IsUnevenBehind (Column column) (length given) text) rows given size in_time sound (begins_append rows breaks.some) breaks.refused.2
+      (settled_so (λ (text : List ℕ). Begins (rows ++ more) (records_of text)) (λ (text : List ℕ). Begins (fields_in column given) (fields_in column (records_of text)) × ((n ≡ length (fields_in column given) + 1) × IsUnevenBehind (Column column) (length (fields_in column given)) text)) left taken (λ text first.
+      let begins = reaches rows breaks.some more (records_of text) breaks.next breaks.begins first in (
+        fields_begin column given (records_of text) (begins_trans given (given ++ breaks.next ∷ []) (records_of text) (begins_append given (breaks.next ∷ [])) begins),
+        (place, uneven_behind column given (records_of text) breaks.next begins breaks.sound breaks.refused.1),
+      )) settled)
+  broke rows more (fault.BadItem n) size in_time sound settled breaks =
+      let given = rows ++ breaks.some in
+      let unit = field_of column breaks.next in
+      let place : n ≡ length (fields_in column given) + 1 = omega (arith, breaks.refused.0, length_fields column given) in (
+        unit,
+        off (λ given. Missed kind Stands given unit) (λ given text. (n ≡ length given + 1) × Begins (given ++ unit ∷ []) (fields_in column (records_of text)) × IsSoundUpTo (Column column) n text) rows given size in_time sound (begins_append rows breaks.some) breaks.refused.2
+            (settled_so (λ (text : List ℕ). Begins (rows ++ more) (records_of text))
+            (λ (text : List ℕ). Begins (fields_in column given) (fields_in column (records_of text)) × ((n ≡ length (fields_in column given) + 1) × Begins (fields_in column given ++ unit ∷ []) (fields_in column (records_of text)) × IsSoundUpTo (Column column) n text)) left taken (λ text first.
+            let begins = reaches rows breaks.some more (records_of text) breaks.next breaks.begins first in (
+              fields_begin column given (records_of text) (begins_trans given (given ++ breaks.next ∷ []) (records_of text) (begins_append given (breaks.next ∷ [])) begins),
+              (
+                place,
+                subst (λ (l : List (List ℕ)). Begins l (fields_in column (records_of text))) (fields_more column given breaks.next) (fields_begin column (given ++ breaks.next ∷ []) (records_of text) begins),
+                subst (AreSoundRows column) (sym (front_rows column n (given ++ breaks.next ∷ []) (records_of text) (omega (arith, breaks.refused.0, length-append given (breaks.next ∷ []))) begins)) breaks.refused.1,
+              ),
+            )) settled),
+      )
+
+-- what a refill leaves
+pub held_by : (p : Parts) (left : Option (List ℕ)) (rows : List Row) (taken : List ℕ) (b : Bool) → Refills p left rows taken (Ok b) → HasHeld p left rows taken
+held_by p left rows taken true filled = filled.0
+held_by p left rows taken false filled = filled.0
+
+pub over_by : (p : Parts) (left : Option (List ℕ)) (rows : List Row) (taken : List ℕ) (b : Bool) → b ≡ false → Refills p left rows taken (Ok b) → HasHeld p left rows taken × (p.ended ≡ true)
+over_by p left rows taken true is filled = absurd (false≢true (sym is))
+over_by p left rows taken false is filled = filled
+
+pub cut_by : (p : Parts) (left : Option (List ℕ)) (rows : List Row) (taken : List ℕ) (b : Bool) → b ≡ true → Refills p left rows taken (Ok b) → 1 < p.cut
+cut_by p left rows taken true is filled = filled.1
+cut_by p left rows taken false is filled = absurd (false≢true is)
+
+-- the whole records held were given
+pub held_on : (p new : Parts) (left : Option (List ℕ)) (rows more : List Row) (taken : List ℕ) → HasHeld p left rows taken → HasTaken new (rows ++ more) taken → new.most ≡ p.most → new.taken ≡ p.taken →
+    new.ended ≡ p.ended → HasHeld new left (rows ++ more) taken
+held_on p new left rows more taken held has most count ended = record {
+  has = has;
+  end = λ over. let at = held.end (sym ended ∙ over) in (at.0, omega (arith, at.1, most, count));
+  in_time = record {
+    front = held.in_time.front;
+    piece = held.in_time.piece;
+    joined = held.in_time.joined;
+    size = held.in_time.size;
+    earlier = begins_more (complete_records_of held.in_time.front) rows more held.in_time.earlier;
+  };
+}

@@ -5,8 +5,8 @@ pub mod FaultLaws
 pub mod ItemLaws
 pub mod PartLaws
 pub mod Plain
+pub mod ReadLaws
 pub mod Readings
 pub mod RowLaws
 pub mod Runs
 pub mod Steps
-pub mod UnitLaws

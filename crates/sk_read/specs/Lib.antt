@@ -6,6 +6,7 @@ pub mod Items
 pub mod Parts
 pub mod Places
 pub mod Reading
+pub mod Reads
 pub mod Records
 pub mod Rows
 pub mod Table

@@ -1,16 +1,17 @@
 // The items of a source.
-ghost use Rattle.std.specs.Prelude.{◌≡◌, ◌≢◌, ◌≤◌, ◌<◌, ◌+◌, ◌-◌, ◌^◌, ℕ, List, [], ◌∷◌, ◌++◌, Ok, Err, OnOk, OnErr, IfOk, IfErr, IfSome, IsErrOf, IsNone, length, take};
-ghost use Rattle.std.specs.Io.KnownBytes.{Consumes, IsAtEnd};
+ghost use Rattle.std.specs.Prelude.{◌≡◌, ◌≤◌, ◌<◌, ℕ, List, [], ◌∷◌, ◌++◌, OnOk, OnErr, IfErr, length};
 ghost use Rattle.sk_model.specs.Causes.{HasCauseIn};
-ghost use Rattle.sk_read.specs.Items.{items_by, item_of, IsGood};
-ghost use Rattle.sk_read.specs.Units.{units_of, complete_units_of, IsReadable, IsReadableSoFar, IsLongUnit, IsBadUnit, IsUnevenUnit};
-ghost use Rattle.sk_model.specs.Width.{IsItem};
 ghost use Rattle.sk_model.specs.Limits.{source_limit, most_kept};
+ghost use Rattle.sk_model.specs.Width.{IsItem};
+ghost use Rattle.sk_read.specs.Items.{Gave, Missed};
+ghost use Rattle.sk_read.specs.Reads.{Reads};
+ghost use Rattle.sk_read.specs.Units.{units_by};
 
 use crate::kind::Kind;
 use crate::lines::read_lines;
 use crate::reader::LineFault;
 use crate::records::read_records;
+use crate::units::Units;
 use sk_io::{Failed, Source};
 use sk_model::OutOfMemory;
 use std::alloc::{AllocError, Global};
@@ -114,42 +115,15 @@ pub fn read_items<S: Source, T: Taker>(
 ) -> Result<u64, Fault>
     requires bound { plan.now.most ≤ source_limit }
     requires empty { T.stands_for taker.old [] }
-
-    // At `Ok` the whole source was read, and none of its units is refused.
-    ensures end { OnOk result (IsAtEnd (S.left source.new)) }
-    ensures units { IfOk result (λ n. IfSome (S.left source.old) (λ text. n ≡ length (units_of plan.now.column text))) }
-    ensures good { OnOk result (IfSome (S.left source.old) (λ text. IsReadable plan.now.kind plan.now.column text)) }
-    ensures size { OnOk result (IfSome (S.left source.old) (λ text. length text < plan.now.most)) }
-    ensures items { OnOk result (IfSome (S.left source.old) (λ text. T.stands_for taker.new (items_by plan.now.kind (units_of plan.now.column text)))) }
-
-    // A refused unit comes before every other fault that stands behind it.
-    ensures long_line { (n : ℕ) → result ≡ Err (Fault.LongLine n) → IfSome (S.left source.old) (λ text.
-        IsLongUnit plan.now.kind plan.now.column n text × T.stands_for taker.new (items_by plan.now.kind (take (n - 1) (units_of plan.now.column text)))) }
-    ensures bad_item { (n : ℕ) → result ≡ Err (Fault.BadItem n) → IfSome (S.left source.old) (λ text.
-        IsBadUnit plan.now.kind plan.now.column n text × T.stands_for taker.new (items_by plan.now.kind (take (n - 1) (units_of plan.now.column text)))) }
-    ensures bad_csv { (n : ℕ) → result ≡ Err (Fault.BadCsv n) → IfSome (S.left source.old) (λ text.
-        IsUnevenUnit plan.now.kind plan.now.column n text × T.stands_for taker.new (items_by plan.now.kind (take (n - 1) (units_of plan.now.column text)))) }
-
-    ensures only_records { (n : ℕ) → result ≡ Err (Fault.BadCsv n) → 1 ≤ plan.now.column }
-
-    // The other faults come where no unit of the bytes taken is refused.
-    ensures read_fault_at { IsErrOf result Fault.ReadFault → (taken : List ℕ) × Consumes (S.left source.old) (S.left source.new) taken
-        × (length taken < plan.now.most) × IsReadableSoFar plan.now.kind plan.now.column taken
-        × T.stands_for taker.new (items_by plan.now.kind (complete_units_of plan.now.column taken)) }
-    ensures too_much { IsErrOf result Fault.TooMuch → (taken : List ℕ) × Consumes (S.left source.old) (S.left source.new) taken
-        × (length taken ≡ plan.now.most) × IsReadableSoFar plan.now.kind plan.now.column taken
-        × T.stands_for taker.new (items_by plan.now.kind (complete_units_of plan.now.column taken)) }
-    ensures memory { IsErrOf result Fault.OutOfMemory → IfSome (S.left source.old) (λ text.
-        (n : ℕ) × T.stands_for taker.new (items_by plan.now.kind (take n (units_of plan.now.column text)))) }
-
+    ensures read { Reads (units_by plan.now.column) plan.now.most (Gave plan.now.kind (T.stands_for taker.new)) (Missed plan.now.kind (T.stands_for taker.new))
+        (S.left source.old) (S.left source.new) result }
     ensures cause { HasCauseIn Fault.ReadFault (S.faults source.old) (S.faults source.new) result }
     ensures stays { S.stands_on source.new ≡ S.stands_on source.old }
     ensures numbers { T.numbers taker.new ≡ T.numbers taker.old }
 {
-    if plan.column == 0 {
-        read_lines(alloc, plan.kind, plan.most, source, taker)
-    } else {
-        read_records(alloc, plan, source, taker)
+    match Units::of(plan.column) {
+        Units::Lines => read_lines(alloc, plan.kind, plan.most, source, taker),
+        Units::Column(column) => read_records(alloc, plan.kind, column, plan.most, source, taker),
     }
 }
 
@@ -161,11 +135,10 @@ pub(crate) fn take_unit<T: Taker>(
     number: u64,
     taker: &mut T,
 ) -> Result<(), Fault>
-    requires room { (units : List (List ℕ)) × (length units < most_kept) × T.stands_for taker.old (items_by kind units) }
-    ensures good { OnOk result (IsGood kind unit.now) }
-    ensures stands { OnOk result ((units : List (List ℕ)) → length units < most_kept → T.stands_for taker.old (items_by kind units)
-        → T.stands_for taker.new (items_by kind (units ++ unit.now ∷ []))) }
-    ensures bad { OnErr result ((0 < length unit.now) × IsNone (item_of kind unit.now) × (taker.new ≡ taker.old)) }
+    requires room { (units : List (List ℕ)) × (length units < most_kept) × Gave kind (T.stands_for taker.old) units }
+    ensures gave { OnOk result ((units : List (List ℕ)) → length units < most_kept → Gave kind (T.stands_for taker.old) units
+        → Gave kind (T.stands_for taker.new) (units ++ unit.now ∷ [])) }
+    ensures missed { OnErr result ((units : List (List ℕ)) → Gave kind (T.stands_for taker.old) units → Missed kind (T.stands_for taker.new) units unit.now) }
     ensures err { IfErr result (λ fault. fault ≡ Fault.BadItem number) }
     ensures numbers { T.numbers taker.new ≡ T.numbers taker.old }
 {

@@ -11,11 +11,13 @@ mod place;
 mod reader;
 mod records;
 mod table;
+mod units;
 
 pub use items::{Fault, Intake, Taker, read_items};
 pub use kind::Kind;
 pub use reader::{LineFault, LineReader};
 pub use sk_model::limits::LINE_LIMIT;
+pub use units::Units;
 
 #[cfg(test)]
 mod tests;

@@ -1,10 +1,10 @@
 // The bytes of a source, in parts of whole records.
-ghost use Rattle.std.specs.Prelude.{◌≡◌, ◌≢◌, ◌≤◌, ◌<◌, ◌+◌, ◌-◌, ◌^◌, ℕ, ◌↔◌, List, [], ◌∷◌, ◌++◌, Ok, Err, OnOk, OnErr, IfOk, IfErr, IsErrOf, length, take, drop, true, false};
-ghost use Rattle.std.specs.Io.KnownBytes.{Consumes, IsAtEnd, Keeps};
+ghost use Rattle.std.specs.Prelude.{◌≡◌, ◌≢◌, ◌≤◌, ◌<◌, ◌+◌, ◌-◌, ◌^◌, ℕ, ◌↔◌, List, [], ◌∷◌, ◌++◌, Ok, Err, OnOk, OnErr, IfOk, IfErr, MatchResult, length, take, drop, true, false};
+ghost use Rattle.std.specs.Io.KnownBytes.{Consumes, IsAtEnd};
 ghost use Rattle.csv.specs.Reading.{default_config, records, strip_bom};
 ghost use Rattle.sk_model.specs.Causes.{HasCauseIn};
-ghost use Rattle.sk_read.specs.Records.{Row, complete_records_of};
-ghost use Rattle.sk_read.specs.Parts.{HasStarted, HasTaken, Takes, Holds, IsOfSource, IsWithoutMark, mark, remaining_of, is_mark_front};
+ghost use Rattle.sk_read.specs.Records.{Row};
+ghost use Rattle.sk_read.specs.Parts.{HasStarted, HasTaken, HasHeld, Holds, Lacks, LacksBytes, Refills, IsWithoutMark, mark, remaining_of, is_mark_front};
 ghost use Rattle.sk_model.specs.Limits.{source_limit};
 
 use crate::items::Fault;
@@ -38,14 +38,9 @@ impl Parts {
     // The start of a source of fewer than `most` bytes, without a byte order mark.
     pub(crate) fn start<S: Source>(alloc: Global, most: u64, source: &mut S) -> Result<Parts, Fault>
         requires { most ≤ source_limit }
-        ensures taken { IfOk result (λ parts. (taken : List ℕ) × Consumes (S.left source.old) (S.left source.new) taken × HasTaken parts [] taken) }
-        ensures most { IfOk result (λ parts. parts.most ≡ most) }
-        ensures end { IfOk result (λ parts. parts.ended ≡ true → IsAtEnd (S.left source.new) × (parts.taken < most)) }
-        ensures read_fault_at { IsErrOf result Fault.ReadFault → (taken : List ℕ) × Consumes (S.left source.old) (S.left source.new) taken
-            × (length taken < most) × (complete_records_of taken ≡ []) }
-        ensures too_much { IsErrOf result Fault.TooMuch → (taken : List ℕ) × Consumes (S.left source.old) (S.left source.new) taken
-            × (length taken ≡ most) × (complete_records_of taken ≡ []) }
-        ensures err { IfErr result IsOfSource }
+        ensures starts { MatchResult result
+            (λ parts. (taken : List ℕ) × Consumes (S.left source.old) (S.left source.new) taken × HasHeld parts (S.left source.new) [] taken × (parts.most ≡ most))
+            (λ fault. (taken : List ℕ) × Consumes (S.left source.old) (S.left source.new) taken × Lacks most [] taken fault) }
         ensures cause { HasCauseIn Fault.ReadFault (S.faults source.old) (S.faults source.new) result }
         ensures stays { S.stands_on source.new ≡ S.stands_on source.old }
     {
@@ -88,9 +83,8 @@ impl Parts {
         requires open { self.old.ended ≡ false }
         ensures holds { OnOk result ((more : List ℕ) × Consumes (S.left source.old) (S.left source.new) more × Holds self.old self.new more × (length more ≤ room)) }
         ensures end { OnOk result (self.new.ended ≡ true → IsAtEnd (S.left source.new)) }
-        ensures read_fault { IsErrOf result Fault.ReadFault → (self.old.taken < self.old.most) × Keeps (S.left source.old) (S.left source.new) }
-        ensures too_much { IsErrOf result Fault.TooMuch → (self.old.taken ≡ self.old.most) × Keeps (S.left source.old) (S.left source.new) }
-        ensures err { IfErr result IsOfSource }
+        ensures lacks { IfErr result (λ fault. (more : List ℕ) × Consumes (S.left source.old) (S.left source.new) more × (length more ≤ room) × LacksBytes self.old more fault) }
+        ensures most { self.new.most ≡ self.old.most }
         ensures cause { HasCauseIn Fault.ReadFault (S.faults source.old) (S.faults source.new) result }
         ensures stays { S.stands_on source.new ≡ S.stands_on source.old }
     {
@@ -107,21 +101,11 @@ impl Parts {
 
     // Reads until a record has ended, or answers `false` at the end of the source.
     pub(crate) fn refill<S: Source>(&mut self, source: &mut S) -> Result<bool, Fault>
-        requires { (rows : List Row) × (taken : List ℕ) × HasTaken self.old rows taken }
-        ensures takes { OnOk result ((more : List ℕ) × Consumes (S.left source.old) (S.left source.new) more × Takes self.old self.new more) }
-        ensures whole { result ≡ Ok true → 1 < self.new.cut }
-        ensures ended { result ≡ Ok false → (self.new.ended ≡ true) × (self.new.cut ≡ 1) }
-        ensures end { OnOk result ((self.old.ended ≡ true → IsAtEnd (S.left source.old) × (self.old.taken < self.old.most))
-            → self.new.ended ≡ true → IsAtEnd (S.left source.new) × (self.new.taken < self.new.most)) }
-        ensures most { OnOk result (self.new.most ≡ self.old.most) }
+        requires { (rows : List Row) × (taken : List ℕ) × HasHeld self.old (S.left source.old) rows taken }
+        ensures goes { (rows : List Row) (taken : List ℕ) → HasHeld self.old (S.left source.old) rows taken
+            → (more : List ℕ) × Consumes (S.left source.old) (S.left source.new) more × Refills self.new (S.left source.new) rows (taken ++ more) result }
         ensures remaining { OnOk result (remaining_of self.new ≡ remaining_of self.old) }
-        ensures read_fault_at { IsErrOf result Fault.ReadFault → (more : List ℕ) × Consumes (S.left source.old) (S.left source.new) more
-            × ((rows : List Row) (taken : List ℕ) → HasTaken self.old rows taken
-            → (complete_records_of (taken ++ more) ≡ rows) × (length (taken ++ more) < self.old.most)) }
-        ensures too_much { IsErrOf result Fault.TooMuch → (more : List ℕ) × Consumes (S.left source.old) (S.left source.new) more
-            × ((rows : List Row) (taken : List ℕ) → HasTaken self.old rows taken
-            → (complete_records_of (taken ++ more) ≡ rows) × (length (taken ++ more) ≡ self.old.most)) }
-        ensures err { IfErr result IsOfSource }
+        ensures most { self.new.most ≡ self.old.most }
         ensures cause { HasCauseIn Fault.ReadFault (S.faults source.old) (S.faults source.new) result }
         ensures stays { S.stands_on source.new ≡ S.stands_on source.old }
     {

@@ -1,46 +1,48 @@
-use Rattle.std.proofs.Common.{◌≡◌, ◌+◌, ℕ, List, ◌++◌, length, Err, refl, ap, ◌∙◌, subst, arith, length-append, append_assoc}
-use Rattle.std.proofs.KnownBytes.{Consumes-trans}
-use Rattle.sk_read.specs.declared.items.Fault.{Fault}
+use Rattle.std.proofs.Common.{◌≡◌, ◌+◌, ℕ, List, [], ◌++◌, length, refl, ap, ◌∙◌, subst, arith, length-append, append_assoc}
+use Rattle.std.proofs.KnownBytes.{Consumes-nil, Consumes-trans}
 use Rattle.sk_read.specs.Places.{state_of, IsCut}
-use Rattle.sk_read.specs.Parts.{HasTaken}
+use Rattle.sk_read.specs.Parts.{HasHeld, Lacks}
 use Rattle.sk_read.specs.declared.parts.Parts.{Parts}
 use Rattle.sk_read.specs.declared.place.Place.{Place}
 use Rattle.sk_read.proofs.CauseLaws.{steady_ok}
-use Rattle.sk_read.proofs.FaultLaws.{given_fault}
-use Rattle.sk_read.proofs.PartLaws.{consumes_still, complete_is, takes_more, behind_is}
+use Rattle.sk_read.proofs.PartLaws.{held_more, lacks_row, refilled_err, held_still, behind_is}
 use Rattle.sk_read.proofs.parts.Parts.refill.Goals as goal
 
+pub piece-init : goal.piece-init
+piece-init g c = record {
+  goes = λ rows taken held. ([], Consumes-nil (g.S.Source.left c.args.source.now), held_still c.args.self.now (g.S.Source.left c.args.source.now) rows taken held);
+  most = refl;
+  remaining = refl;
+  steady = refl;
+  stays = refl;
+}
+
 pub take-requires-clause-bound : goal.take-requires-clause-bound
-take-requires-clause-bound g c = (c.piece.invariant.takes c.requires.0 c.requires.1 c.requires.2).bound
+take-requires-clause-bound g c = (c.piece.invariant.goes c.requires.0 c.requires.1 c.requires.2).2.has.bound
 
-pub returns-in_err-take-clause-read_fault_at : goal.returns-in_err-take-clause-read_fault_at
-returns-in_err-take-clause-read_fault_at g c = λ is.
-    let inv = c.piece.invariant in
-    let which = given_fault _ _ _ c.from_residual.ensures.1 is in
-    let at = c.take.ensures.read_fault (c.in_err-take.was ∙ ap (λ (e : Fault). Err e) which) in (
-      inv.more,
-      consumes_still _ _ _ inv.more inv.consumed at.1,
-      λ rows taken has.
-          let now = inv.takes rows taken has in
-          (complete_is c.piece.self rows (taken ++ inv.more) now c.piece-test.true c.if-self.false, omega (arith, now.count, at.0, inv.most)),
+pub take-requires-clause-few : goal.take-requires-clause-few
+take-requires-clause-few g c = (c.piece.invariant.goes c.requires.0 c.requires.1 c.requires.2).2.has.few
+
+pub returns-in_err-take-clause-goes : goal.returns-in_err-take-clause-goes
+returns-in_err-take-clause-goes g c = λ rows taken held.
+    let before = c.piece.invariant.goes rows taken held in
+    let lacks = c.in_err-take.ensures.lacks in (
+      before.0 ++ lacks.0,
+      Consumes-trans _ _ _ _ _ before.1 lacks.1,
+      refilled_err c.take.new.self _ rows (taken ++ (before.0 ++ lacks.0)) c.in_err-take.field-0.0 c.from_residual.result c.from_residual.ensures.1
+          (subst (λ (l : List ℕ). Lacks c.take.new.self.most rows l c.in_err-take.field-0.0) (append_assoc taken before.0 lacks.0)
+          (lacks_row c.piece.self _ rows (taken ++ before.0) lacks.0 c.take.new.self.most c.in_err-take.field-0.0 before.2 c.piece-test.true c.if-self.false c.in_err-take.ensures.most lacks.2 lacks.3)),
     )
 
-pub returns-in_err-take-clause-too_much : goal.returns-in_err-take-clause-too_much
-returns-in_err-take-clause-too_much g c = λ is.
-    let inv = c.piece.invariant in
-    let which = given_fault _ _ _ c.from_residual.ensures.1 is in
-    let at = c.take.ensures.too_much (c.in_err-take.was ∙ ap (λ (e : Fault). Err e) which) in (
-      inv.more,
-      consumes_still _ _ _ inv.more inv.consumed at.1,
-      λ rows taken has.
-          let now = inv.takes rows taken has in
-          (complete_is c.piece.self rows (taken ++ inv.more) now c.piece-test.true c.if-self.false, now.count ∙ at.0 ∙ inv.most),
-    )
+pub returns-then-self-clause-goes : goal.returns-then-self-clause-goes
+returns-then-self-clause-goes g c = λ rows taken held.
+    let before = c.piece.invariant.goes rows taken held in
+    (before.0, before.1, (before.2, c.if-self.true))
 
-pub returns-clause-whole : goal.returns-clause-whole
-returns-clause-whole g c = λ is.
-    let now = c.piece.invariant.takes c.requires.0 c.requires.1 c.requires.2 in
-    omega (arith, now.some, c.piece-test.false)
+pub returns-clause-goes : goal.returns-clause-goes
+returns-clause-goes g c = λ rows taken held.
+    let before = c.piece.invariant.goes rows taken held in
+    (before.0, before.1, (before.2, omega (arith, before.2.has.some, c.piece-test.false)))
 
 pub piece-preserved-then-cut-gt0 : goal.piece-preserved-then-cut-gt0
 piece-preserved-then-cut-gt0 g c =
@@ -63,12 +65,14 @@ piece-preserved-then-cut-gt0 g c =
       ended = c.take.new.self.ended;
     } in
     record {
-      more = inv.more ++ more;
-      consumed = Consumes-trans _ _ _ _ _ inv.consumed fed.1;
-      takes = λ rows taken has. subst (λ (l : List ℕ). HasTaken new rows l) (append_assoc taken inv.more more)
-          (takes_more c.piece.self c.take.new.self new rows (taken ++ inv.more) more c.scan-place.result.1 (inv.takes rows taken has) c.if-self.false holds cut refl refl refl
-          (λ none. absurd (omega (arith, none, c.if-cut-gt0.true))) (λ some. ap (λ (n : ℕ). n + c.scan-place.result.1) place));
-      end = λ start over. (c.in_ok-take.ensures.end over, (holds.end over).1);
+      goes = λ rows taken held.
+          let before = inv.goes rows taken held in (
+            before.0 ++ more,
+            Consumes-trans _ _ _ _ _ before.1 fed.1,
+            subst (HasHeld new (g.S.Source.left c.take.new.source) rows) (append_assoc taken before.0 more)
+                (held_more c.piece.self c.take.new.self new _ _ rows (taken ++ before.0) more c.scan-place.result.1 before.2 c.piece-test.true c.if-self.false holds fed.3 c.in_ok-take.ensures.end cut refl refl refl refl
+                (λ none. absurd (omega (arith, none, c.if-cut-gt0.true))) (λ some. ap (λ (n : ℕ). n + c.scan-place.result.1) place)),
+          );
       most = holds.most ∙ inv.most;
       remaining = omega (arith, ap length holds.bytes, length-append c.piece.self.bytes.items more, holds.taken, holds.bound, holds.most, inv.remaining);
       steady = steady_ok _ _ _ _ _ c.take.ensures.cause c.in_ok-take.was ∙ inv.steady;
@@ -96,12 +100,14 @@ piece-preserved g c =
       ended = c.take.new.self.ended;
     } in
     record {
-      more = inv.more ++ more;
-      consumed = Consumes-trans _ _ _ _ _ inv.consumed fed.1;
-      takes = λ rows taken has. subst (λ (l : List ℕ). HasTaken new rows l) (append_assoc taken inv.more more)
-          (takes_more c.piece.self c.take.new.self new rows (taken ++ inv.more) more c.scan-place.result.1 (inv.takes rows taken has) c.if-self.false holds cut refl refl refl
-          (λ none. holds.cut) (λ some. absurd (omega (arith, some, c.if-cut-gt0.false))));
-      end = λ start over. (c.in_ok-take.ensures.end over, (holds.end over).1);
+      goes = λ rows taken held.
+          let before = inv.goes rows taken held in (
+            before.0 ++ more,
+            Consumes-trans _ _ _ _ _ before.1 fed.1,
+            subst (HasHeld new (g.S.Source.left c.take.new.source) rows) (append_assoc taken before.0 more)
+                (held_more c.piece.self c.take.new.self new _ _ rows (taken ++ before.0) more c.scan-place.result.1 before.2 c.piece-test.true c.if-self.false holds fed.3 c.in_ok-take.ensures.end cut refl refl refl refl
+                (λ none. holds.cut) (λ some. absurd (omega (arith, some, c.if-cut-gt0.false)))),
+          );
       most = holds.most ∙ inv.most;
       remaining = omega (arith, ap length holds.bytes, length-append c.piece.self.bytes.items more, holds.taken, holds.bound, holds.most, inv.remaining);
       steady = steady_ok _ _ _ _ _ c.take.ensures.cause c.in_ok-take.was ∙ inv.steady;

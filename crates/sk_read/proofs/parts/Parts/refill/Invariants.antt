@@ -1,16 +1,14 @@
-use Rattle.std.proofs.Common.{◌≡◌, ◌<◌, ◌-◌, ◌+◌, ℕ, List, true}
-use Rattle.std.specs.Io.KnownBytes.{Consumes, IsAtEnd}
-use Rattle.sk_read.specs.Parts.{Takes, remaining_of}
+use Rattle.std.proofs.Common.{◌≡◌, ◌-◌, ◌+◌, ◌++◌, ℕ, List}
+use Rattle.std.specs.Io.KnownBytes.{Consumes}
+use Rattle.sk_read.specs.Records.{Row}
+use Rattle.sk_read.specs.Parts.{HasHeld, remaining_of}
 use Rattle.sk_read.proofs.PartLaws.{may_end}
 use Rattle.sk_read.proofs.parts.Parts.refill.Given as goal
 
 abbrev pub invariant-piece : goal.invariant-piece
 invariant-piece g l = record {
-  more : List ℕ;
-  consumed : Consumes (g.S.Source.left l.initial.source) (g.S.Source.left l.source) more;
-  takes : Takes l.initial.self l.self more;
-  end : (l.initial.self.ended ≡ true → IsAtEnd (g.S.Source.left l.initial.source) × (l.initial.self.taken < l.initial.self.most)) →
-      l.self.ended ≡ true → IsAtEnd (g.S.Source.left l.source) × (l.self.taken < l.self.most);
+  goes : (rows : List Row) (taken : List ℕ) → HasHeld l.initial.self (g.S.Source.left l.initial.source) rows taken →
+      (more : List ℕ) × Consumes (g.S.Source.left l.initial.source) (g.S.Source.left l.source) more × HasHeld l.self (g.S.Source.left l.source) rows (taken ++ more);
   most : l.self.most ≡ l.initial.self.most;
   remaining : remaining_of l.self ≡ remaining_of l.initial.self;
   steady : g.S.Source.faults l.source ≡ g.S.Source.faults l.initial.source;
