@@ -12,12 +12,10 @@ use Rattle.sk_model.specs.Limits.{line_limit, most_kept}
 use Rattle.sk_model.specs.Missing.{Begins}
 use Rattle.sk_model.proofs.Lines.{long_after_front}
 use Rattle.sk_model.proofs.Missing.{begins_append, begins_more, begins_trans}
-use Rattle.sk_read.specs.declared.items.Fault.{Fault}
-use Rattle.sk_read.specs.declared.items.Fault.TheVariants as fault
-use Rattle.sk_read.specs.declared.kind.Kind.{Kind}
+use Rattle.sk_read.specs.declared.fault.Fault.{Fault}
+use Rattle.sk_read.specs.declared.fault.Fault.TheVariants as fault
 use Rattle.sk_read.specs.declared.parts.Parts.{Parts}
 use Rattle.sk_read.specs.declared.units.Units.TheVariants.{Column}
-use Rattle.sk_read.specs.Items.{Gave, Missed}
 use Rattle.sk_read.specs.Parts.{HasTaken, HasHeld, AreInTime, Lacks, Refills}
 use Rattle.sk_read.specs.Places.{state_after}
 use Rattle.sk_read.specs.Reads.{IsSettled, IsInTime, BreaksOff, Ends}
@@ -183,9 +181,9 @@ uneven_behind column given all next begins sound why = record {
 
 -- ---- where the reading ended
 
-module _ (kind : Kind) (column : ℕ) (Stands : List ℕ → Type 0) (most : ℕ) (old left : Option (List ℕ)) (taken : List ℕ) (consumed : Consumes old left taken) where
+module _ (Gave : List (List ℕ) → Type 0) (Missed : List (List ℕ) → List ℕ → Type 0) (column most : ℕ) (old left : Option (List ℕ)) (taken : List ℕ) (consumed : Consumes old left taken) where
   abbrev E : Fault → Type 0
-  E f = Ends (Column column) most (Gave kind Stands) (Missed kind Stands) old left f
+  E f = Ends (Column column) most Gave Missed old left f
 
   -- the reading broke off behind these records
   off : (Known : List (List ℕ) → Type 0) (Comes : List (List ℕ) → List ℕ → Type 0) (rows given : List Row) → length taken ≤ most → AreInTime rows taken → AreSoundRows column rows → Begins rows given →
@@ -202,23 +200,23 @@ module _ (kind : Kind) (column : ℕ) (Stands : List ℕ → Type 0) (most : ℕ
   }
 
   -- no record came behind these
-  pub no_row : (rows : List Row) (f : Fault) → AreSoundRows column rows → Gave kind Stands (fields_in column rows) → Lacks most rows taken f → E f
+  pub no_row : (rows : List Row) (f : Fault) → AreSoundRows column rows → Gave (fields_in column rows) → Lacks most rows taken f → E f
   no_row rows fault.ReadFault sound gave lacks = record {
     taken = taken;
     consumed = consumed;
     size = lacks.1;
     sound = subst (AreSoundRows column) (sym lacks.0) sound;
-    gave = subst (λ (l : List Row). Gave kind Stands (fields_in column l)) (sym lacks.0) gave;
+    gave = subst (λ (l : List Row). Gave (fields_in column l)) (sym lacks.0) gave;
   }
   no_row rows fault.TooMuch sound gave lacks = record {
     taken = taken;
     consumed = consumed;
     size = lacks.1;
     sound = subst (AreSoundRows column) (sym lacks.0) sound;
-    gave = subst (λ (l : List Row). Gave kind Stands (fields_in column l)) (sym lacks.0) gave;
+    gave = subst (λ (l : List Row). Gave (fields_in column l)) (sym lacks.0) gave;
   }
   no_row rows fault.OutOfMemory sound gave lacks =
-      off (Gave kind Stands) (λ given text. IsSoundUpTo (Column column) (length given) text) rows rows lacks.0 lacks.1 sound ([], sym (append-nil rows)) gave (inl (λ later. (
+      off Gave (λ given text. IsSoundUpTo (Column column) (length given) text) rows rows lacks.0 lacks.1 sound ([], sym (append-nil rows)) gave (inl (λ later. (
         fields_begin column rows (records_of (taken ++ later)) (lacks.2 later),
         subst (AreSoundRows column) (sym (front_rows column (length (fields_in column rows)) rows (records_of (taken ++ later)) (length_fields column rows) (lacks.2 later))) sound,
       )))
@@ -228,10 +226,10 @@ module _ (kind : Kind) (column : ℕ) (Stands : List ℕ → Type 0) (most : ℕ
 
   -- one of some more records was refused, or memory was wanting behind some of them
   pub broke : (rows more : List Row) (f : Fault) → length taken ≤ most → AreInTime rows taken → AreSoundRows column rows → IsSettled (λ (text : List ℕ). Begins (rows ++ more) (records_of text)) left taken →
-      Breaks kind column Stands rows more f → E f
+      Breaks column Gave Missed rows more f → E f
   broke rows more fault.OutOfMemory size in_time sound settled breaks =
       let given = rows ++ breaks.some in
-      off (Gave kind Stands) (λ given text. IsSoundUpTo (Column column) (length given) text) rows given size in_time sound (begins_append rows breaks.some) breaks.gave
+      off Gave (λ given text. IsSoundUpTo (Column column) (length given) text) rows given size in_time sound (begins_append rows breaks.some) breaks.gave
       (settled_so (λ (text : List ℕ). Begins (rows ++ more) (records_of text)) (λ (text : List ℕ). Begins (fields_in column given) (fields_in column (records_of text)) × AreSoundRows column (take (length (fields_in column given)) (records_of text))) left taken (λ text first.
       let begins = begins_trans given (rows ++ more) (records_of text) (begins_under rows breaks.some more breaks.begins) first in (
         fields_begin column given (records_of text) begins,
@@ -242,7 +240,7 @@ module _ (kind : Kind) (column : ℕ) (Stands : List ℕ → Type 0) (most : ℕ
   broke rows more (fault.LongLine n) size in_time sound settled breaks =
       let given = rows ++ breaks.some in
       let place : n ≡ length (fields_in column given) + 1 = omega (arith, breaks.refused.0, length_fields column given) in
-      off (Gave kind Stands) (λ given text. (n ≡ length given + 1) × IsLongBehind (Column column) (length given) text) rows given size in_time sound (begins_append rows breaks.some) breaks.refused.3
+      off Gave (λ given text. (n ≡ length given + 1) × IsLongBehind (Column column) (length given) text) rows given size in_time sound (begins_append rows breaks.some) breaks.refused.3
       (settled_so (λ (text : List ℕ). Begins (rows ++ more) (records_of text)) (λ (text : List ℕ). Begins (fields_in column given) (fields_in column (records_of text)) × ((n ≡ length (fields_in column given) + 1) × IsLongBehind (Column column) (length (fields_in column given)) text)) left taken (λ text first.
       let begins = reaches rows breaks.some more (records_of text) breaks.next breaks.begins first in (
         fields_begin column given (records_of text) (begins_trans given (given ++ breaks.next ∷ []) (records_of text) (begins_append given (breaks.next ∷ [])) begins),
@@ -251,7 +249,7 @@ module _ (kind : Kind) (column : ℕ) (Stands : List ℕ → Type 0) (most : ℕ
   broke rows more (fault.BadCsv n) size in_time sound settled breaks =
       let given = rows ++ breaks.some in
       let place : n ≡ length (fields_in column given) + 1 = omega (arith, breaks.refused.0, length_fields column given) in
-      off (Gave kind Stands) (λ given text. (n ≡ length given + 1) × IsUnevenBehind (Column column) (length given) text) rows given size in_time sound (begins_append rows breaks.some) breaks.refused.2
+      off Gave (λ given text. (n ≡ length given + 1) × IsUnevenBehind (Column column) (length given) text) rows given size in_time sound (begins_append rows breaks.some) breaks.refused.2
       (settled_so (λ (text : List ℕ). Begins (rows ++ more) (records_of text)) (λ (text : List ℕ). Begins (fields_in column given) (fields_in column (records_of text)) × ((n ≡ length (fields_in column given) + 1) × IsUnevenBehind (Column column) (length (fields_in column given)) text)) left taken (λ text first.
       let begins = reaches rows breaks.some more (records_of text) breaks.next breaks.begins first in (
         fields_begin column given (records_of text) (begins_trans given (given ++ breaks.next ∷ []) (records_of text) (begins_append given (breaks.next ∷ [])) begins),
@@ -262,7 +260,7 @@ module _ (kind : Kind) (column : ℕ) (Stands : List ℕ → Type 0) (most : ℕ
       let unit = field_of column breaks.next in
       let place : n ≡ length (fields_in column given) + 1 = omega (arith, breaks.refused.0, length_fields column given) in (
         unit,
-        off (λ given. Missed kind Stands given unit) (λ given text. (n ≡ length given + 1) × Begins (given ++ unit ∷ []) (fields_in column (records_of text)) × IsSoundUpTo (Column column) n text) rows given size in_time sound (begins_append rows breaks.some) breaks.refused.2
+        off (λ given. Missed given unit) (λ given text. (n ≡ length given + 1) × Begins (given ++ unit ∷ []) (fields_in column (records_of text)) × IsSoundUpTo (Column column) n text) rows given size in_time sound (begins_append rows breaks.some) breaks.refused.2
             (settled_so (λ (text : List ℕ). Begins (rows ++ more) (records_of text))
             (λ (text : List ℕ). Begins (fields_in column given) (fields_in column (records_of text)) × ((n ≡ length (fields_in column given) + 1) × Begins (fields_in column given ++ unit ∷ []) (fields_in column (records_of text)) × IsSoundUpTo (Column column) n text)) left taken (λ text first.
             let begins = reaches rows breaks.some more (records_of text) breaks.next breaks.begins first in (

@@ -2,8 +2,8 @@
 use Rattle.std.proofs.Common.{◌≡◌, ℕ, Result, Ok, Err, IsErrAnd, refl, sym, ◌∙◌}
 use Rattle.sk_read.specs.declared.reader.LineFault.{LineFault}
 use Rattle.sk_read.specs.declared.reader.LineFault.TheVariants as stop
-use Rattle.sk_read.specs.declared.items.Fault.{Fault}
-use Rattle.sk_read.specs.declared.items.Fault.TheVariants as fault
+use Rattle.sk_read.specs.declared.fault.Fault.{Fault}
+use Rattle.sk_read.specs.declared.fault.Fault.TheVariants as fault
 use Rattle.sk_read.specs.Faults.{fault_by}
 
 one_fault : {A : Type 0} (e f : Fault) (r : Result A Fault) → r ≡ Err e → r ≡ Err f → e ≡ f

@@ -7,9 +7,8 @@ use Rattle.std.proofs.lemmas.List.{map-append, length-map}
 use Rattle.std.proofs.lemmas.List.Elements.{All-cons, All-nil, All-push}
 use Rattle.csv.specs.Records.{field_at}
 use Rattle.sk_model.specs.Missing.{Begins}
-use Rattle.sk_read.specs.declared.kind.Kind.{Kind}
-use Rattle.sk_read.specs.declared.items.Fault.{Fault}
-use Rattle.sk_read.specs.declared.items.Fault.TheVariants as fault
+use Rattle.sk_read.specs.declared.fault.Fault.{Fault}
+use Rattle.sk_read.specs.declared.fault.Fault.TheVariants as fault
 use Rattle.sk_model.specs.Lines.{AreWithin}
 use Rattle.sk_read.specs.Records.{Row, field_of, fields_in, width_of, AreEven, AreSoundRows}
 use Rattle.sk_read.specs.Table.{Refuses, Breaks}
@@ -52,14 +51,14 @@ none_sound column = record {
 }
 
 -- a record that is refused ends the taking there
-pub ends_at : (kind : Kind) (column : ℕ) (Stands : List ℕ → Type 0) (rows more some : List Row) (row : Row) (f : Fault) → Begins (some ++ row ∷ []) more → AreSoundRows column (rows ++ some) →
-    Refuses kind column Stands (rows ++ some) row f → Breaks kind column Stands rows more f
-ends_at kind column Stands rows more some row (fault.LongLine n) begins sound refused = record { some = some; next = row; begins = begins; sound = sound; refused = refused }
-ends_at kind column Stands rows more some row (fault.BadItem n) begins sound refused = record { some = some; next = row; begins = begins; sound = sound; refused = refused }
-ends_at kind column Stands rows more some row (fault.BadCsv n) begins sound refused = record { some = some; next = row; begins = begins; sound = sound; refused = refused }
-ends_at kind column Stands rows more some row fault.OutOfMemory begins sound refused = absurd refused
-ends_at kind column Stands rows more some row fault.ReadFault begins sound refused = absurd refused
-ends_at kind column Stands rows more some row fault.TooMuch begins sound refused = absurd refused
+pub ends_at : (Gave : List (List ℕ) → Type 0) (Missed : List (List ℕ) → List ℕ → Type 0) (column : ℕ) (rows more some : List Row) (row : Row) (f : Fault) → Begins (some ++ row ∷ []) more → AreSoundRows column (rows ++ some) →
+    Refuses column Gave Missed (rows ++ some) row f → Breaks column Gave Missed rows more f
+ends_at Gave Missed column rows more some row (fault.LongLine n) begins sound refused = record { some = some; next = row; begins = begins; sound = sound; refused = refused }
+ends_at Gave Missed column rows more some row (fault.BadItem n) begins sound refused = record { some = some; next = row; begins = begins; sound = sound; refused = refused }
+ends_at Gave Missed column rows more some row (fault.BadCsv n) begins sound refused = record { some = some; next = row; begins = begins; sound = sound; refused = refused }
+ends_at Gave Missed column rows more some row fault.OutOfMemory begins sound refused = absurd refused
+ends_at Gave Missed column rows more some row fault.ReadFault begins sound refused = absurd refused
+ends_at Gave Missed column rows more some row fault.TooMuch begins sound refused = absurd refused
 
 -- a field, or an empty one where there is none
 pub field_or_empty : (o : Option (Bor (List ℕ))) (d : Bor (List ℕ)) (fields : Row) (i : ℕ) → option_map (λ (s : Bor (List ℕ)). s.now) o ≡ field_at fields i → d.now ≡ [] →
@@ -71,10 +70,6 @@ field_or_empty (Some s) d fields i is empty = ap (λ (f : Option (List ℕ)). un
 abbrev pub length_told : Option (List ℕ) → ℕ
 length_told None = 0
 length_told (Some bytes) = length bytes
-
--- what holds under one kind and column holds under the same ones
-pub under_same : (k other : Kind) (n m : ℕ) (P : Kind → ℕ → Type 0) → k ≡ other → n ≡ m → P k n → P other m
-under_same k other n m P kind column holds = subst (λ (x : ℕ). P other x) column (subst (λ (x : Kind). P x n) kind holds)
 
 pub one_more_row : (all given : List Row) (row : Row) (run more : List Row) → all ≡ given ++ run → run ≡ row ∷ more → all ≡ (given ++ row ∷ []) ++ more
 one_more_row all given row run more split next =

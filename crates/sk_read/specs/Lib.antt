@@ -9,5 +9,6 @@ pub mod Reading
 pub mod Reads
 pub mod Records
 pub mod Rows
+pub mod Standing
 pub mod Table
 pub mod Units

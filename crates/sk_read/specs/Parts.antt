@@ -8,8 +8,8 @@ use Rattle.csv.specs.declared.parser.State.TheVariants as st
 use Rattle.sk_read.specs.Places.{state_of, IsCut}
 use Rattle.sk_read.specs.Records.{Row, records_of, complete_records_of}
 use Rattle.sk_read.specs.declared.parts.Parts.{Parts}
-use Rattle.sk_read.specs.declared.items.Fault.{Fault}
-use Rattle.sk_read.specs.declared.items.Fault.TheVariants as fault
+use Rattle.sk_read.specs.declared.fault.Fault.{Fault}
+use Rattle.sk_read.specs.declared.fault.Fault.TheVariants as fault
 use Rattle.sk_model.specs.Limits.{source_limit}
 
 -- a text begins with a byte that ends a record, LF or CR

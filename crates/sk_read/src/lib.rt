@@ -2,7 +2,7 @@
 //! these an item, and who takes it.
 #![tactic(auto)]
 
-mod counted;
+mod fault;
 mod items;
 mod kind;
 mod lines;
@@ -11,13 +11,15 @@ mod place;
 mod reader;
 mod records;
 mod table;
+mod takers;
 mod units;
 
-pub use items::{Fault, Intake, Taker, read_items};
+pub use fault::Fault;
+pub use items::{Intake, Taker, read_items};
 pub use kind::Kind;
 pub use reader::{LineFault, LineReader};
 pub use sk_model::limits::LINE_LIMIT;
-pub use units::Units;
+pub use units::{UnitTaker, Units, read_units};
 
 #[cfg(test)]
 mod tests;

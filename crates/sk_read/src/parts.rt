@@ -7,7 +7,7 @@ ghost use Rattle.sk_read.specs.Records.{Row};
 ghost use Rattle.sk_read.specs.Parts.{HasStarted, HasTaken, HasHeld, Holds, Lacks, LacksBytes, Refills, IsWithoutMark, mark, remaining_of, is_mark_front};
 ghost use Rattle.sk_model.specs.Limits.{source_limit};
 
-use crate::items::Fault;
+use crate::fault::Fault;
 use crate::place::{Place, scan};
 use sk_io::Source;
 use std::alloc::Global;

@@ -1,4 +1,4 @@
-// The records of a text, their lengths, and the items in a column of them.
+// The records of a text, their lengths, and the fields in a column of them.
 ghost use Rattle.std.specs.Prelude.{◌≡◌, ◌↔◌, ◌≤◌, ◌<◌, ◌+◌, ℕ, List, [], ◌∷◌, ◌++◌, Ok, Some, None, IfErr, MatchResult, length, true, false};
 ghost use Rattle.csv.specs.Machine.{Read, next_record};
 ghost use Rattle.csv.specs.Reading.{default_config, records, strip_bom};
@@ -10,17 +10,15 @@ ghost use Rattle.sk_read.specs.Records.{Row, field_of, width_of};
 ghost use Rattle.sk_read.specs.Rows.{StandsAt};
 ghost use Rattle.sk_read.specs.Table.{first_width, HasRows, Refuses, Breaks};
 
-use crate::items::{Fault, Taker, take_unit};
-use crate::kind::Kind;
+use crate::fault::Fault;
+use crate::units::UnitTaker;
 use csv::{ByteRecord, Reader, ReaderBuilder};
 use sk_model::limits::LINE_LIMIT;
 use std::alloc::Global;
 
-// A column of records: how its fields become items, how many fields each record has, and how many
-// records there were.
+// A column of records, how many fields each record has, and how many records there were.
 #[derive(Drop)]
 pub(crate) struct Table {
-    kind: Kind,
     column: usize,
     width: Option<usize>,
     number: u64,
@@ -28,13 +26,11 @@ pub(crate) struct Table {
 
 impl Table {
     // A column, counted from 0, with no record yet.
-    pub(crate) fn new(kind: Kind, column: u32) -> Table
-        ensures kind { result.kind ≡ kind }
+    pub(crate) fn new(column: u32) -> Table
         ensures column { result.column ≡ column }
         ensures none { (result.number ≡ 0) × (result.width ≡ None) }
     {
         Table {
-            kind,
             column: column as usize,
             width: None,
             number: 0,
@@ -48,20 +44,20 @@ impl Table {
         self.number
     }
 
-    // Gives the items of a text's records to the taker, in order.
-    pub(crate) fn give<T: Taker>(
+    // Gives the fields of a text's records to the taker, in order.
+    pub(crate) fn give<T: UnitTaker>(
         &mut self,
         alloc: Global,
         text: &[u8],
         taker: &mut T,
     ) -> Result<(), Fault>
         requires plain { strip_bom text.now ≡ text.now }
-        requires room { (rows : List Row) × (length rows + length (records default_config text.now) ≤ most_kept) × HasRows self.old (T.stands_for taker.old) rows }
-        ensures goes { (rows : List Row) → length rows + length (records default_config text.now) ≤ most_kept → HasRows self.old (T.stands_for taker.old) rows
-            → MatchResult result (λ _. HasRows self.new (T.stands_for taker.new) (rows ++ records default_config text.now))
-            (λ fault. Breaks self.old.kind self.old.column (T.stands_for taker.new) rows (records default_config text.now) fault) }
-        ensures same { (self.new.kind ≡ self.old.kind) × (self.new.column ≡ self.old.column) }
-        ensures numbers { T.numbers taker.new ≡ T.numbers taker.old }
+        requires room { (rows : List Row) × (length rows + length (records default_config text.now) ≤ most_kept) × HasRows self.old (T.gave taker.old) rows }
+        ensures goes { (rows : List Row) → length rows + length (records default_config text.now) ≤ most_kept → HasRows self.old (T.gave taker.old) rows
+            → MatchResult result (λ _. HasRows self.new (T.gave taker.new) (rows ++ records default_config text.now))
+            (λ fault. Breaks self.old.column (T.gave taker.new) (T.missed taker.new) rows (records default_config text.now) fault) }
+        ensures column { self.new.column ≡ self.old.column }
+        ensures taker { T.stands_on taker.new ≡ T.stands_on taker.old }
     {
         let mut reader = reader_of(alloc, text);
         let mut row = ByteRecord::new(alloc);
@@ -71,14 +67,14 @@ impl Table {
         Ok(())
     }
 
-    // Gives the item of one record, if it has one, to the taker.
-    fn take<T: Taker>(&mut self, row: &ByteRecord, taker: &mut T) -> Result<(), Fault>
-        requires room { (rows : List Row) × (length rows < most_kept) × HasRows self.old (T.stands_for taker.old) rows }
-        ensures goes { (rows : List Row) → length rows < most_kept → HasRows self.old (T.stands_for taker.old) rows
-            → MatchResult result (λ _. HasRows self.new (T.stands_for taker.new) (rows ++ fields_of row.now ∷ []))
-            (λ fault. Refuses self.old.kind self.old.column (T.stands_for taker.new) rows (fields_of row.now) fault) }
-        ensures same { (self.new.kind ≡ self.old.kind) × (self.new.column ≡ self.old.column) }
-        ensures numbers { T.numbers taker.new ≡ T.numbers taker.old }
+    // Gives the field of one record to the taker.
+    fn take<T: UnitTaker>(&mut self, row: &ByteRecord, taker: &mut T) -> Result<(), Fault>
+        requires room { (rows : List Row) × (length rows < most_kept) × HasRows self.old (T.gave taker.old) rows }
+        ensures goes { (rows : List Row) → length rows < most_kept → HasRows self.old (T.gave taker.old) rows
+            → MatchResult result (λ _. HasRows self.new (T.gave taker.new) (rows ++ fields_of row.now ∷ []))
+            (λ fault. Refuses self.old.column (T.gave taker.new) (T.missed taker.new) rows (fields_of row.now) fault) }
+        ensures column { self.new.column ≡ self.old.column }
+        ensures taker { T.stands_on taker.new ≡ T.stands_on taker.old }
     {
         self.number += 1;
         if !fits(&mut self.width, self.column, row.len()) {
@@ -88,7 +84,7 @@ impl Table {
         if field.len() > LINE_LIMIT {
             return Err(Fault::LongLine(self.number));
         }
-        take_unit(self.kind, field, self.number, taker)
+        taker.take(field, self.number)
     }
 }
 

@@ -2,15 +2,14 @@ use Rattle.std.proofs.Common.{◌≡◌, ◌<◌, ◌+◌, ℕ, List, ◌++◌, 
 use Rattle.std.specs.Io.KnownBytes.{Consumes}
 use Rattle.std.proofs.KnownBytes.{Consumes-nil, Consumes-trans}
 use Rattle.sk_model.specs.Limits.{source_limit}
-use Rattle.sk_read.specs.declared.items.Fault.{Fault}
-use Rattle.sk_read.specs.declared.items.Fault.TheVariants as fault
+use Rattle.sk_read.specs.declared.fault.Fault.{Fault}
+use Rattle.sk_read.specs.declared.fault.Fault.TheVariants as fault
 use Rattle.sk_read.specs.Faults.{fault_by}
-use Rattle.sk_read.specs.Items.{Gave, Missed}
 use Rattle.sk_read.specs.Reading.{Goes, HasRead}
 use Rattle.sk_read.specs.Reads.{IsInTime}
 use Rattle.sk_read.specs.declared.units.Units.TheVariants.{Lines}
 use Rattle.sk_read.proofs.CauseLaws.{steady_ok}
-use Rattle.sk_read.proofs.ItemLaws.{gave_none, has_few}
+use Rattle.sk_read.proofs.ItemLaws.{has_few}
 use Rattle.sk_read.proofs.ReadLaws.{ends_read, nothing_came, no_line, line_missed, all_lines}
 use Rattle.sk_read.proofs.lines.read_lines.Given.{Over}
 use Rattle.sk_read.proofs.lines.read_lines.Goals.{In_ok-next}
@@ -35,9 +34,10 @@ room g c is =
 pub returns-in_err-reader-clause-read : goal.returns-in_err-reader-clause-read
 returns-in_err-reader-clause-read g c =
     let left = g.S.Source.left c.args.source.now in
-    let Stands = g.T.Taker.stands_for c.args.taker.now in
-    ends_read (Gave c.args.kind Stands) (Missed c.args.kind Stands) c.args.most Lines left left fault.OutOfMemory c.from_residual.result c.from_residual.ensures.1
-    (nothing_came (Gave c.args.kind Stands) (Missed c.args.kind Stands) c.args.most left (gave_none c.args.kind Stands c.requires.empty))
+    let Gave = g.T.UnitTaker.gave c.args.taker.now in
+    let Missed = g.T.UnitTaker.missed c.args.taker.now in
+    ends_read Gave Missed c.args.most Lines left left fault.OutOfMemory c.from_residual.result c.from_residual.ensures.1
+    (nothing_came Gave Missed c.args.most left c.requires.empty)
 
 pub line-init : goal.line-init
 line-init g c = record {
@@ -45,11 +45,11 @@ line-init g c = record {
   taken = [];
   read = c.in_ok-reader.ensures.read (g.S.Source.left c.args.source.now);
   consumed = Consumes-nil (g.S.Source.left c.args.source.now);
-  gave = gave_none c.args.kind (g.T.Taker.stands_for c.args.taker.now) c.requires.empty;
+  gave = c.requires.empty;
   most = c.in_ok-reader.ensures.most;
   steady = refl;
   stays = refl;
-  numbers = refl;
+  standing = refl;
 }
 
 pub returns-in_err-next-clause-read : goal.returns-in_err-next-clause-read
@@ -57,62 +57,65 @@ returns-in_err-next-clause-read g c =
     let inv = c.line.invariant in
     let old = g.S.Source.left c.args.source.now in
     let left = g.S.Source.left c.next.new.source in
-    let Stands = g.T.Taker.stands_for c.line.taker in
+    let Gave = g.T.UnitTaker.gave c.line.taker in
+    let Missed = g.T.UnitTaker.missed c.line.taker in
     let s = c.in_err-next.field-0.0 in
     let next = c.next.ensures.goes inv.given inv.taken inv.read in
     let goes : Goes c.next.new.self left inv.given (inv.taken ++ next.0) (Err s) = subst (Goes c.next.new.self left inv.given (inv.taken ++ next.0)) c.in_err-next.was next.2 in
-    ends_read (Gave c.args.kind Stands) (Missed c.args.kind Stands) c.args.most Lines old left (fault_by s) c.from_residual-in_err-next.result c.from_residual-in_err-next.ensures.1
-    (no_line (Gave c.args.kind Stands) (Missed c.args.kind Stands) c.args.most c.next.new.self old left inv.given (inv.taken ++ next.0) s (c.next.ensures.most ∙ inv.most)
+    ends_read Gave Missed c.args.most Lines old left (fault_by s) c.from_residual-in_err-next.result c.from_residual-in_err-next.ensures.1
+    (no_line Gave Missed c.args.most c.next.new.self old left inv.given (inv.taken ++ next.0) s (c.next.ensures.most ∙ inv.most)
     (Consumes-trans _ _ _ _ _ inv.consumed next.1) inv.gave goes)
 
-pub take_unit-requires : goal.take_unit-requires
-take_unit-requires g c =
+pub take-requires : goal.take-requires
+take-requires g c =
     let inv = c.line.invariant in
-    record { room = (inv.given, room g (goal.at.take_unit-requires g c).In_ok-next c.if-branch.true, inv.gave) }
+    record { room = (inv.given, room g (goal.at.take-requires g c).In_ok-next c.if-branch.true, inv.gave) }
 
 pub line-preserved : goal.line-preserved
 line-preserved g c =
     let inv = c.line.invariant in
     let at = (goal.at.line-preserved g c).In_ok-next in
     let next = next_line g at c.if-branch.true in
-    let gave = c.in_ok-take_unit.ensures.gave inv.given (room g at c.if-branch.true) inv.gave in
+    let gave = c.in_ok-take.ensures.gave inv.given (room g at c.if-branch.true) inv.gave in
     record {
       given = inv.given ++ c.next.new.self.cutter.line ∷ [];
       taken = inv.taken ++ next.0;
       read = next.2.0;
       consumed = Consumes-trans _ _ _ _ _ inv.consumed next.1;
-      gave = subst (λ (l : List ℕ). Gave c.args.kind (g.T.Taker.stands_for c.take_unit.new.taker) (inv.given ++ l ∷ [])) c.line-in-line.ensures gave;
+      gave = subst (λ (l : List ℕ). g.T.UnitTaker.gave c.take.new.self (inv.given ++ l ∷ [])) c.line-in-line.ensures gave;
       most = c.next.ensures.most ∙ inv.most;
       steady = steady_ok _ _ _ _ _ c.next.ensures.cause c.in_ok-next.was ∙ inv.steady;
       stays = c.next.ensures.stays ∙ inv.stays;
-      numbers = c.take_unit.ensures.numbers ∙ inv.numbers;
+      standing = c.take.ensures.stays ∙ inv.standing;
     }
 
-pub returns-in_err-take_unit-clause-read : goal.returns-in_err-take_unit-clause-read
-returns-in_err-take_unit-clause-read g c =
+pub returns-in_err-take-clause-read : goal.returns-in_err-take-clause-read
+returns-in_err-take-clause-read g c =
     let inv = c.line.invariant in
     let old = g.S.Source.left c.args.source.now in
     let left = g.S.Source.left c.next.new.source in
-    let Stands = g.T.Taker.stands_for c.take_unit.new.taker in
+    let Gave = g.T.UnitTaker.gave c.take.new.self in
+    let Missed = g.T.UnitTaker.missed c.take.new.self in
     let own = c.next.new.self.cutter.line in
-    let at = (goal.at.returns-in_err-take_unit-clause-read g c).In_ok-next in
+    let at = (goal.at.returns-in_err-take-clause-read g c).In_ok-next in
     let next = next_line g at c.if-branch.true in
     let few = room g at c.if-branch.true in
     let n = c.number.result in
     let place : n ≡ length inv.given + 1 = omega (arith, c.number.ensures, next.2.0.has.number, few, length-append inv.given (own ∷ [])) in
-    let missed : Missed c.args.kind Stands inv.given own = subst (Missed c.args.kind Stands inv.given) c.line-in-line.ensures (c.in_err-take_unit.ensures.missed inv.given inv.gave) in
-    ends_read (Gave c.args.kind Stands) (Missed c.args.kind Stands) c.args.most Lines old left (fault.BadItem n) c.from_residual-in_err-take_unit.result
-    (subst (λ (f : Fault). IsErrAnd c.from_residual-in_err-take_unit.result (λ (x : Fault). x ≡ f)) c.in_err-take_unit.ensures.err c.from_residual-in_err-take_unit.ensures.1)
-    (line_missed (Gave c.args.kind Stands) (Missed c.args.kind Stands) c.args.most c.next.new.self old left inv.given own (inv.taken ++ next.0) n (c.next.ensures.most ∙ inv.most)
+    let missed : Missed inv.given own = subst (Missed inv.given) c.line-in-line.ensures (c.in_err-take.ensures.missed inv.given inv.gave) in
+    ends_read Gave Missed c.args.most Lines old left (fault.BadItem n) c.from_residual-in_err-take.result
+    (subst (λ (f : Fault). IsErrAnd c.from_residual-in_err-take.result (λ (x : Fault). x ≡ f)) c.in_err-take.ensures.err c.from_residual-in_err-take.ensures.1)
+    (line_missed Gave Missed c.args.most c.next.new.self old left inv.given own (inv.taken ++ next.0) n (c.next.ensures.most ∙ inv.most)
     (Consumes-trans _ _ _ _ _ inv.consumed next.1) place missed next.2.0 next.2.1)
 
 pub returns-clause-read : goal.returns-clause-read
 returns-clause-read g c =
     let inv = c.line.invariant in
-    let Stands = g.T.Taker.stands_for c.line.taker in
+    let Gave = g.T.UnitTaker.gave c.line.taker in
+    let Missed = g.T.UnitTaker.missed c.line.taker in
     let left = g.S.Source.left c.next.new.source in
     let none : c.next.result ≡ Ok false = c.in_ok-next.was ∙ ap (λ (b : Bool). Ok b) c.if-branch.false in
     let next = c.next.ensures.goes inv.given inv.taken inv.read in
     let goes : Goes c.next.new.self left inv.given (inv.taken ++ next.0) (Ok false) = subst (Goes c.next.new.self left inv.given (inv.taken ++ next.0)) none next.2 in
-    all_lines (Gave c.args.kind Stands) (Missed c.args.kind Stands) c.args.most c.next.new.self (g.S.Source.left c.args.source.now) left inv.given (inv.taken ++ next.0) c.number-2.result
+    all_lines Gave Missed c.args.most c.next.new.self (g.S.Source.left c.args.source.now) left inv.given (inv.taken ++ next.0) c.number-2.result
     (c.next.ensures.most ∙ inv.most) (Consumes-trans _ _ _ _ _ inv.consumed next.1) inv.gave goes c.number-2.ensures

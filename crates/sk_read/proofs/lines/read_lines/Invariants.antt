@@ -1,6 +1,5 @@
 use Rattle.std.proofs.Common.{◌≡◌, List, ℕ}
 use Rattle.std.specs.Io.KnownBytes.{Consumes}
-use Rattle.sk_read.specs.Items.{Gave}
 use Rattle.sk_read.specs.Reading.{HasRead, remaining_of}
 use Rattle.sk_read.proofs.lines.read_lines.Given as goal
 
@@ -10,11 +9,11 @@ invariant-line g l = record {
   taken : List ℕ;
   read : HasRead l.reader (g.S.Source.left l.source) given taken;
   consumed : Consumes (g.S.Source.left l.initial.source) (g.S.Source.left l.source) taken;
-  gave : Gave l.kind (g.T.Taker.stands_for l.taker) given;
+  gave : g.T.UnitTaker.gave l.taker given;
   most : l.reader.most ≡ l.most;
   steady : g.S.Source.faults l.source ≡ g.S.Source.faults l.initial.source;
   stays : g.S.Source.stands_on l.source ≡ g.S.Source.stands_on l.initial.source;
-  numbers : g.T.Taker.numbers l.taker ≡ g.T.Taker.numbers l.initial.taker;
+  standing : g.T.UnitTaker.stands_on l.taker ≡ g.T.UnitTaker.stands_on l.initial.taker;
 }
 
 abbrev pub decreases-line : goal.decreases-line

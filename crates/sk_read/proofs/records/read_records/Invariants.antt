@@ -11,13 +11,12 @@ invariant-part g l = record {
   taken : List ℕ;
   held : HasHeld l.parts (g.S.Source.left l.source) rows taken;
   consumed : Consumes (g.S.Source.left l.fn.source) (g.S.Source.left l.source) taken;
-  table : HasRows l.table (g.T.Taker.stands_for l.taker) rows;
-  kind : l.table.kind ≡ l.fn.kind;
+  table : HasRows l.table (g.T.UnitTaker.gave l.taker) rows;
   column : l.table.column ≡ l.column;
   most : l.parts.most ≡ l.most;
   steady : g.S.Source.faults l.source ≡ g.S.Source.faults l.fn.source;
   stays : g.S.Source.stands_on l.source ≡ g.S.Source.stands_on l.fn.source;
-  numbers : g.T.Taker.numbers l.taker ≡ g.T.Taker.numbers l.fn.taker;
+  standing : g.T.UnitTaker.stands_on l.taker ≡ g.T.UnitTaker.stands_on l.fn.taker;
 }
 
 abbrev pub decreases-part : goal.decreases-part

@@ -1,6 +1,6 @@
 use Rattle.std.proofs.Common.{◌≡◌, [], ◌∷◌, ◌++◌, true, refl, sym, ap, ◌∙◌, arith, rules}
 use Rattle.std.proofs.KnownBytes.{Consumes-nil, Consumes-trans}
-use Rattle.sk_read.specs.declared.items.Fault.TheVariants as fault
+use Rattle.sk_read.specs.declared.fault.Fault.TheVariants as fault
 use Rattle.sk_read.specs.Parts.{is_mark_front, HasStarted}
 use Rattle.sk_read.specs.Records.{records_of}
 use Rattle.sk_read.proofs.PartLaws.{at_err, lacks_mark, first_in_time, behind_is}

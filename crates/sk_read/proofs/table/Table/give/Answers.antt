@@ -3,15 +3,13 @@ use Rattle.csv.specs.Reading.{default_config, records}
 use Rattle.csv.specs.Records.{fields_of}
 use Rattle.csv.specs.declared.parser.State.TheVariants as st
 use Rattle.sk_model.specs.Limits.{most_kept}
-use Rattle.sk_read.specs.declared.kind.Kind.{Kind}
-use Rattle.sk_read.specs.declared.items.Fault.{Fault}
-use Rattle.sk_read.specs.declared.items.Fault.TheVariants as fault
-use Rattle.sk_read.specs.Items.{Gave}
+use Rattle.sk_read.specs.declared.fault.Fault.{Fault}
+use Rattle.sk_read.specs.declared.fault.Fault.TheVariants as fault
 use Rattle.sk_read.specs.Records.{Row, fields_in, AreSoundRows}
 use Rattle.sk_read.specs.Table.{HasRows, Refuses, Breaks}
 use Rattle.sk_read.proofs.PartLaws.{at_err}
 use Rattle.sk_read.proofs.Runs.{run, records_are, read_is, none_is, read_between, takes_some}
-use Rattle.sk_read.proofs.RowLaws.{length_told, under_same, ends_at, one_more_row}
+use Rattle.sk_read.proofs.RowLaws.{length_told, ends_at, one_more_row}
 use Rattle.sk_read.proofs.table.Table.give.Given.{Over}
 use Rattle.sk_read.proofs.table.Table.give.Goals.{In_ok-next_row}
 use Rattle.sk_read.proofs.table.Table.give.Goals as goal
@@ -24,14 +22,13 @@ row-init g c = record {
   stands = c.reader_of-reader.ensures;
   between = refl;
   split = records_are c.args.text.now;
-  has = λ rows few has. subst (HasRows c.args.self.now (g.T.Taker.stands_for c.args.taker.now)) (sym (append-nil rows)) has;
-  kind = refl;
+  has = λ rows few has. subst (HasRows c.args.self.now (g.T.UnitTaker.gave c.args.taker.now)) (sym (append-nil rows)) has;
   column = refl;
-  numbers = refl;
+  standing = refl;
 }
 
 -- the records given so far are sound
-sound_given : (g : Over) (c : In_ok-next_row g) (rows : List Row) → HasRows c.row.self (g.T.Taker.stands_for c.row.taker) (rows ++ c.row.invariant.given) → AreSoundRows c.args.self.now.column (rows ++ c.row.invariant.given)
+sound_given : (g : Over) (c : In_ok-next_row g) (rows : List Row) → HasRows c.row.self (g.T.UnitTaker.gave c.row.taker) (rows ++ c.row.invariant.given) → AreSoundRows c.args.self.now.column (rows ++ c.row.invariant.given)
 sound_given g c rows has = subst (λ (n : ℕ). AreSoundRows n (rows ++ c.row.invariant.given)) c.row.invariant.column has.sound
 
 -- the next record, and those behind it
@@ -54,16 +51,17 @@ pub returns-in_err-next_row-clause-goes : goal.returns-in_err-next_row-clause-go
 returns-in_err-next_row-clause-goes g c = λ rows few has.
     let inv = c.row.invariant in
     let all = records default_config c.args.text.now in
-    let P = g.T.Taker.stands_for c.row.taker in
+    let P = g.T.UnitTaker.gave c.row.taker in
+    let Q = g.T.UnitTaker.missed c.row.taker in
     let now = inv.has rows few has in
-    let breaks : Breaks c.args.self.now.kind c.args.self.now.column P rows all fault.OutOfMemory = record {
+    let breaks : Breaks c.args.self.now.column P Q rows all fault.OutOfMemory = record {
       some = inv.given;
       begins = (run inv.state [] [] inv.rest, inv.split);
       sound = subst (λ (n : ℕ). AreSoundRows n (rows ++ inv.given)) inv.column now.sound;
-      gave = under_same _ _ _ _ (λ (k : Kind) (n : ℕ). Gave k P (fields_in n (rows ++ inv.given))) inv.kind inv.column now.gave;
+      gave = subst (λ (n : ℕ). P (fields_in n (rows ++ inv.given))) inv.column now.gave;
     } in
-    at_err c.from_residual.result c.in_err-next_row.field-0.0 _ (λ (f : Fault). Breaks c.args.self.now.kind c.args.self.now.column P rows all f) c.from_residual.ensures.1
-    (subst (λ (f : Fault). Breaks c.args.self.now.kind c.args.self.now.column P rows all f) (sym c.in_err-next_row.ensures.err) breaks)
+    at_err c.from_residual.result c.in_err-next_row.field-0.0 _ (λ (f : Fault). Breaks c.args.self.now.column P Q rows all f) c.from_residual.ensures.1
+    (subst (λ (f : Fault). Breaks c.args.self.now.column P Q rows all f) (sym c.in_err-next_row.ensures.err) breaks)
 
 pub take-requires : goal.take-requires
 take-requires g c =
@@ -92,28 +90,27 @@ row-preserved g c =
       stands = next.3;
       between = read_between inv.state [] [] inv.rest next.0 next.1;
       split = (next_row g at c.if-branch.true).1;
-      has = λ rows few has. subst (HasRows c.take.new.self (g.T.Taker.stands_for c.take.new.taker)) (append_assoc rows inv.given (row ∷ []))
+      has = λ rows few has. subst (HasRows c.take.new.self (g.T.UnitTaker.gave c.take.new.taker)) (append_assoc rows inv.given (row ∷ []))
           (c.in_ok-take.ensures.goes (rows ++ inv.given) (room g at c.if-branch.true rows few) (inv.has rows few has));
-      kind = c.take.ensures.same.0 ∙ inv.kind;
-      column = c.take.ensures.same.1 ∙ inv.column;
-      numbers = c.take.ensures.numbers ∙ inv.numbers;
+      column = c.take.ensures.column ∙ inv.column;
+      standing = c.take.ensures.taker ∙ inv.standing;
     }
 
 pub returns-in_err-take-clause-goes : goal.returns-in_err-take-clause-goes
 returns-in_err-take-clause-goes g c = λ rows few has.
     let inv = c.row.invariant in
     let at = (goal.at.returns-in_err-take-clause-goes g c).In_ok-next_row in
-    let kind = c.args.self.now.kind in
     let column = c.args.self.now.column in
     let row = fields_of c.next_row.new.row in
     let all = records default_config c.args.text.now in
-    let P = g.T.Taker.stands_for c.take.new.taker in
+    let P = g.T.UnitTaker.gave c.take.new.taker in
+    let Q = g.T.UnitTaker.missed c.take.new.taker in
     let f = c.in_err-take.field-0.0 in
     let now = inv.has rows few has in
-    let refused : Refuses kind column P (rows ++ inv.given) row f =
-    under_same _ _ _ _ (λ (k : Kind) (n : ℕ). Refuses k n P (rows ++ inv.given) row f) inv.kind inv.column (c.in_err-take.ensures.goes (rows ++ inv.given) (room g at c.if-branch.true rows few) now) in
-    at_err c.from_residual-in_err-take.result f _ (λ (x : Fault). Breaks kind column P rows all x) c.from_residual-in_err-take.ensures.1
-    (ends_at kind column P rows all inv.given row f (next_row g at c.if-branch.true) (sound_given g at rows now) refused)
+    let refused : Refuses column P Q (rows ++ inv.given) row f =
+    subst (λ (n : ℕ). Refuses n P Q (rows ++ inv.given) row f) inv.column (c.in_err-take.ensures.goes (rows ++ inv.given) (room g at c.if-branch.true rows few) now) in
+    at_err c.from_residual-in_err-take.result f _ (λ (x : Fault). Breaks column P Q rows all x) c.from_residual-in_err-take.ensures.1
+    (ends_at P Q column rows all inv.given row f (next_row g at c.if-branch.true) (sound_given g at rows now) refused)
 
 pub returns-clause-goes : goal.returns-clause-goes
 returns-clause-goes g c = λ rows few has.
@@ -121,4 +118,4 @@ returns-clause-goes g c = λ rows few has.
     let over : c.next_row.result ≡ Ok false = c.in_ok-next_row.was ∙ ap (λ (b : Bool). Ok b) c.if-branch.false in
     let none = none_is inv.state [] [] inv.rest (c.next_row.ensures.none over inv.state inv.rest inv.stands) in
     let whole : inv.given ≡ records default_config c.args.text.now = sym (inv.split ∙ ap (λ (l : List Row). inv.given ++ l) none ∙ append-nil inv.given) in
-    subst (λ (l : List Row). HasRows c.row.self (g.T.Taker.stands_for c.row.taker) (rows ++ l)) whole (inv.has rows few has)
+    subst (λ (l : List Row). HasRows c.row.self (g.T.UnitTaker.gave c.row.taker) (rows ++ l)) whole (inv.has rows few has)

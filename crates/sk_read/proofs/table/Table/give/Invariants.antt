@@ -19,11 +19,10 @@ invariant-row g l = record {
   stands : StandsAt l.reader state rest;
   between : settled state ≡ st.StartRecord;
   split : records default_config l.fn.text ≡ given ++ run state [] [] rest;
-  has : (rows : List Row) → length rows + length (records default_config l.fn.text) ≤ most_kept → HasRows l.initial.self (g.T.Taker.stands_for l.initial.taker) rows →
-      HasRows l.self (g.T.Taker.stands_for l.taker) (rows ++ given);
-  kind : l.self.kind ≡ l.initial.self.kind;
+  has : (rows : List Row) → length rows + length (records default_config l.fn.text) ≤ most_kept → HasRows l.initial.self (g.T.UnitTaker.gave l.initial.taker) rows →
+      HasRows l.self (g.T.UnitTaker.gave l.taker) (rows ++ given);
   column : l.self.column ≡ l.initial.self.column;
-  numbers : g.T.Taker.numbers l.taker ≡ g.T.Taker.numbers l.initial.taker;
+  standing : g.T.UnitTaker.stands_on l.taker ≡ g.T.UnitTaker.stands_on l.initial.taker;
 }
 
 abbrev pub decreases-row : goal.decreases-row
