@@ -12,8 +12,8 @@ use Rattle.csv.specs.Reading.{default_config, records, records_from, strip_bom, 
 use Rattle.csv.specs.Machine.{next_record}
 use Rattle.csv.specs.declared.parser.State.{State}
 use Rattle.csv.specs.declared.parser.State.TheVariants as st
-use Rattle.sk_read.specs.declared.parts.Parts.{Parts}
-use Rattle.sk_read.specs.Places.{IsEnd, state_of, settled, state_after, StaysInside, IsCut}
+use Rattle.sk_read.specs.declared.records.parts.Parts.{Parts}
+use Rattle.sk_read.specs.Scan.{IsEnd, state_of, settled, state_after, StaysInside, IsCut}
 use Rattle.sk_read.specs.Records.{Row, records_of, open_records_of, complete_records_of}
 use Rattle.sk_read.specs.Parts.{IsLed, HasStarted, HasTaken, HasHeld, AreInTime, Holds, LacksBytes, Lacks, Refills, is_mark_front, mark, IsWithoutMark}
 use Rattle.sk_read.proofs.Steps.{end_is_skipped}

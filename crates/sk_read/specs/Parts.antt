@@ -5,9 +5,9 @@ use Rattle.sk_model.specs.Missing.{Begins}
 use Rattle.sk_read.specs.Reads.{piece_limit}
 use Rattle.csv.specs.Reading.{default_config, records}
 use Rattle.csv.specs.declared.parser.State.TheVariants as st
-use Rattle.sk_read.specs.Places.{state_of, IsCut}
+use Rattle.sk_read.specs.Scan.{state_of, IsCut}
 use Rattle.sk_read.specs.Records.{Row, records_of, complete_records_of}
-use Rattle.sk_read.specs.declared.parts.Parts.{Parts}
+use Rattle.sk_read.specs.declared.records.parts.Parts.{Parts}
 use Rattle.sk_read.specs.declared.fault.Fault.{Fault}
 use Rattle.sk_read.specs.declared.fault.Fault.TheVariants as fault
 use Rattle.sk_model.specs.Limits.{source_limit}

@@ -6,11 +6,8 @@ mod fault;
 mod items;
 mod kind;
 mod lines;
-mod parts;
-mod place;
 mod reader;
 mod records;
-mod table;
 mod takers;
 mod units;
 

@@ -5,9 +5,13 @@ ghost use Rattle.sk_model.specs.Limits.{source_limit};
 ghost use Rattle.sk_read.specs.Reads.{Reads};
 ghost use Rattle.sk_read.specs.declared.units.Units.TheVariants as units;
 
+mod column;
+mod parts;
+mod scan;
+
 use crate::fault::Fault;
-use crate::parts::Parts;
-use crate::table::Table;
+use crate::records::column::ColumnReader;
+use crate::records::parts::Parts;
 use crate::units::UnitTaker;
 use sk_io::Source;
 use std::alloc::Global;
@@ -29,7 +33,7 @@ pub(crate) fn read_records<S: Source, T: UnitTaker>(
     ensures taker { T.stands_on taker.new ≡ T.stands_on taker.old }
 {
     let mut parts = Parts::start(alloc, most, source)?;
-    let mut table = Table::new(column);
+    let mut table = ColumnReader::new(column);
     'part: while parts.refill(source)? {
         table.give(alloc, parts.whole(), taker)?;
         parts.drop_whole();

@@ -10,7 +10,7 @@ use Rattle.sk_read.specs.Reads.{IsInTime}
 use Rattle.sk_read.specs.declared.units.Units.TheVariants.{Lines}
 use Rattle.sk_read.proofs.CauseLaws.{steady_ok}
 use Rattle.sk_read.proofs.ItemLaws.{has_few}
-use Rattle.sk_read.proofs.ReadLaws.{ends_read, nothing_came, no_line, line_missed, all_lines}
+use Rattle.sk_read.proofs.LineEnds.{ends_read, nothing_came, no_line, line_missed, all_lines}
 use Rattle.sk_read.proofs.lines.read_lines.Given.{Over}
 use Rattle.sk_read.proofs.lines.read_lines.Goals.{In_ok-next}
 use Rattle.sk_read.proofs.lines.read_lines.Goals as goal

@@ -7,12 +7,12 @@ use Rattle.sk_read.specs.declared.fault.Fault.{Fault}
 use Rattle.sk_read.specs.declared.units.Units.TheVariants.{Column}
 use Rattle.sk_read.specs.Parts.{Lacks, Refills}
 use Rattle.sk_read.specs.Records.{records_of, fields_in, AreSoundRows}
-use Rattle.sk_read.specs.Table.{HasRows, Breaks}
+use Rattle.sk_read.specs.Columns.{HasRows, Breaks}
 use Rattle.sk_read.proofs.CauseLaws.{steady_ok}
 use Rattle.sk_read.proofs.FaultLaws.{given_fault}
-use Rattle.sk_read.proofs.ReadLaws.{ends_read}
-use Rattle.sk_read.proofs.RowLaws.{none_sound, length_fields}
-use Rattle.sk_read.proofs.EndLaws.{held_by, over_by, cut_by, held_on, no_row, broke, whole_settled, rest_settled, room_whole, room_rest, rest_is}
+use Rattle.sk_read.proofs.LineEnds.{ends_read}
+use Rattle.sk_read.proofs.ColumnLaws.{none_sound, length_fields}
+use Rattle.sk_read.proofs.RecordEnds.{held_by, over_by, cut_by, held_on, no_row, broke, whole_settled, rest_settled, room_whole, room_rest, rest_is}
 use Rattle.sk_read.proofs.records.read_records.Given.{Over}
 use Rattle.sk_read.proofs.records.read_records.Goals.{In_ok-refill}
 use Rattle.sk_read.proofs.records.read_records.Goals as goal

@@ -2,7 +2,7 @@ use Rattle.std.proofs.Common.{◌≡◌, List, ℕ}
 use Rattle.std.specs.Io.KnownBytes.{Consumes}
 use Rattle.sk_read.specs.Records.{Row}
 use Rattle.sk_read.specs.Parts.{HasHeld, remaining_of}
-use Rattle.sk_read.specs.Table.{HasRows}
+use Rattle.sk_read.specs.Columns.{HasRows}
 use Rattle.sk_read.proofs.records.read_records.Given as goal
 
 abbrev pub invariant-part : goal.invariant-part
