@@ -1,7 +1,5 @@
 -- Items of lines, and where a text is refused.
-use Rattle.std.proofs.Common.{◌≡◌, ℕ, ◌<◌, ◌≤◌, List, [], ◌∷◌, ◌++◌, length, take, Option, Some, None, Bool, true, false, unwrap_or, refl, sym, ap, ◌∙◌, subst, arith, length-append, append-nil}
-use Rattle.std.specs.Option.{IfSome}
-use Rattle.std.specs.Io.KnownBytes.{Consumes, IsAtEnd}
+use Rattle.std.proofs.Common.{◌≡◌, ℕ, ◌<◌, ◌≤◌, List, [], ◌∷◌, ◌++◌, length, take, Option, Some, Bool, true, false, unwrap_or, refl, sym, ap, ◌∙◌, subst, arith, length-append, append-nil}
 use Rattle.sk_model.specs.Missing.{Begins}
 use Rattle.sk_model.specs.Lines.{items_of, filled}
 use Rattle.sk_model.proofs.Lines.{items_append, item_of_one, item_of_empty, items_are_few, lines_are_few}
@@ -17,11 +15,6 @@ no_items kind = refl
 -- nothing was given
 pub gave_none : (kind : Kind) (Stands : List ℕ → Type 0) → Stands [] → Gave kind Stands []
 gave_none kind Stands empty = (All-nil (IsGood kind), subst Stands (sym (no_items kind)) empty)
-
--- what holds of every text holds of one that is told
-pub by_told : {A : Type 0} (told : Option A) (P : A → Type 0) → ((x : A) → P x) → IfSome told P
-by_told None P all = tt
-by_told (Some x) P all = all x
 
 pub items_are_fewer : (kind : Kind) (lines : List (List ℕ)) → length (items_by kind lines) ≤ length lines
 unfolding items_by
@@ -48,17 +41,6 @@ front_is {A} given lines begins = ap (take (length given)) begins.1 ∙ front gi
     front [] rest = refl
     front (x ∷ xs) rest = ap (λ (l : List A). x ∷ l) (front xs rest)
 
--- the bytes consumed up to where the source stands
-pub told_by : (old new : Option (List ℕ)) (taken : List ℕ) (P : List ℕ → Type 0) → Consumes old new taken → IfSome new (λ (rest : List ℕ). P (taken ++ rest)) → IfSome old P
-told_by None new taken P consumed holds = tt
-told_by (Some text) None taken P consumed holds = absurd consumed
-told_by (Some text) (Some rest) taken P consumed holds = subst P (sym consumed) holds
-
--- the same fact of each text that may be left
-pub with_rest : (left : Option (List ℕ)) (P Q : List ℕ → Type 0) → ((rest : List ℕ) → P rest → Q rest) → IfSome left P → IfSome left Q
-with_rest None P Q follows holds = tt
-with_rest (Some rest) P Q follows holds = follows rest holds
-
 pub has_few : (r : Reading) (given : List (List ℕ)) (taken : List ℕ) → HasGiven r given taken → length given ≤ length taken
 has_few r given taken has = go r.ended refl
   where
@@ -67,11 +49,3 @@ has_few r given taken has = go r.ended refl
     go false not_ended =
         let f = has.follows not_ended in
         omega (arith, ap length f.lines, lines_are_few f.front, ap length f.joined, length-append f.front r.cutter.rest)
-
--- a whole text that was read
-pub read_whole : (old left : Option (List ℕ)) (taken : List ℕ) (P : List ℕ → Type 0) → Consumes old left taken → IsAtEnd left → P taken → IfSome old P
-read_whole old left taken P consumed end holds = told_by old left taken P consumed (at_end left end)
-  where
-    at_end : (left : Option (List ℕ)) → IsAtEnd left → IfSome left (λ (rest : List ℕ). P (taken ++ rest))
-    at_end None end = tt
-    at_end (Some rest) end = subst P (sym (ap (λ (l : List ℕ). taken ++ l) end ∙ append-nil taken)) holds

@@ -15,7 +15,7 @@ use std::alloc::Global;
 use std::marker::Model;
 
 // The most bytes that one read is asked for.
-const PIECE_LEN: usize = 65_536;
+pub(crate) const PIECE_LEN: usize = 65_536;
 
 /// Why the lines of a source end before it does.
 #[derive(Clone, Copy, Debug, PartialEq, Eq)]
