@@ -4,25 +4,25 @@ use Rattle.csv.specs.Machine.{step}
 use Rattle.csv.specs.Reading.{default_config}
 use Rattle.csv.specs.declared.parser.State.{State}
 use Rattle.csv.specs.declared.parser.State.TheVariants as st
-use Rattle.sk_read.specs.declared.place.Place.{Place}
-use Rattle.sk_read.specs.declared.place.Place.TheVariants as place
-use Rattle.sk_read.specs.Places.{IsEnd, state_of, settled, is_inside, state_after, StaysInside, IsCut}
+use Rattle.sk_read.specs.declared.records.scan.ScanState.{ScanState}
+use Rattle.sk_read.specs.declared.records.scan.ScanState.TheVariants as scan
+use Rattle.sk_read.specs.Scan.{IsEnd, state_of, settled, is_inside, state_after, StaysInside, IsCut}
 use Rattle.sk_read.proofs.Steps.{settled_goes_on, settled_twice, inside_settled, between_is_end}
 
-pub place_settled : (p : Place) → settled (state_of p) ≡ state_of p
-place_settled place.Between = refl
-place_settled place.FieldStart = refl
-place_settled place.InField = refl
-place_settled place.InQuotes = refl
-place_settled place.AfterQuote = refl
+pub place_settled : (p : ScanState) → settled (state_of p) ≡ state_of p
+place_settled scan.Between = refl
+place_settled scan.FieldStart = refl
+place_settled scan.InField = refl
+place_settled scan.InQuotes = refl
+place_settled scan.AfterQuote = refl
 
 -- a place lies between two records or inside one
-pub between_or_inside : (p : Place) → (state_of p ≡ st.StartRecord) ⊎ (is_inside (state_of p) ≡ true)
-between_or_inside place.Between = inl refl
-between_or_inside place.FieldStart = inr refl
-between_or_inside place.InField = inr refl
-between_or_inside place.InQuotes = inr refl
-between_or_inside place.AfterQuote = inr refl
+pub between_or_inside : (p : ScanState) → (state_of p ≡ st.StartRecord) ⊎ (is_inside (state_of p) ≡ true)
+between_or_inside scan.Between = inl refl
+between_or_inside scan.FieldStart = inr refl
+between_or_inside scan.InField = inr refl
+between_or_inside scan.InQuotes = inr refl
+between_or_inside scan.AfterQuote = inr refl
 
 -- what is settled goes on alike
 pub after_settled : (s : State) (xs : List ℕ) → state_after (settled s) xs ≡ state_after s xs
@@ -59,7 +59,7 @@ last_is_end s xs c between =
     between_is_end (state_after s xs) c (sym (after_byte (state_after s xs) c) ∙ sym (after_append s xs (c ∷ [])) ∙ between)
 
 -- nothing is read yet
-pub cut_none : (p : Place) → IsCut (state_of p) [] (state_of p) 0
+pub cut_none : (p : ScanState) → IsCut (state_of p) [] (state_of p) 0
 unfolding StaysInside
 cut_none p = record {
   front = [];

@@ -1,11 +1,12 @@
+mod CauseLaws
+pub mod ColumnLaws
 pub mod Cuts
-pub mod EndLaws
 pub mod FaultLaws
 pub mod ItemLaws
+pub mod LineEnds
 pub mod PartLaws
 pub mod Plain
 pub mod Readings
-pub mod RowLaws
+pub mod RecordEnds
 pub mod Runs
 pub mod Steps
-pub mod UnitLaws

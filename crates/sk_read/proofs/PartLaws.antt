@@ -1,17 +1,21 @@
 -- Parts of a source's bytes, and what they hold.
-use Rattle.std.proofs.Common.{◌≡◌, ◌≢◌, ◌==◌, ◌⊎◌, ℕ, zero, suc, ◌+◌, ◌-◌, ◌<◌, ◌≤◌, Bool, true, false, List, [], ◌∷◌, ◌++◌, length, take, drop, codes, Option, Some, None, refl, sym, ap, ◌∙◌, subst, inl, inr, arith, append_assoc, length-append}
+use Rattle.std.proofs.Common.{◌≡◌, ◌≢◌, ◌==◌, ◌⊎◌, ℕ, zero, suc, ◌+◌, ◌-◌, ◌<◌, ◌≤◌, Bool, true, false, List, [], ◌∷◌, ◌++◌, length, take, drop, codes, Option, Result, Ok, Err, IsErrAnd, refl, sym, ap, ◌∙◌, subst, inl, inr, arith, append_assoc, append-nil, length-append}
 use Rattle.std.proofs.lemmas.Bool.{cases_Bool, eqb-true, false≢true}
 use Rattle.std.proofs.Math.Seq.{take-append_seam}
 use Rattle.std.proofs.lemmas.List.{take_all}
-use Rattle.std.specs.Io.KnownBytes.{Consumes, Keeps}
+use Rattle.std.specs.Io.KnownBytes.{IsAtEnd}
+use Rattle.std.specs.Prelude.{MatchResult}
+use Rattle.sk_read.specs.Reads.{piece_limit}
+use Rattle.sk_read.specs.declared.fault.Fault.{Fault}
+use Rattle.sk_read.specs.declared.fault.Fault.TheVariants as fault
 use Rattle.csv.specs.Reading.{default_config, records, records_from, strip_bom, is_bom}
 use Rattle.csv.specs.Machine.{next_record}
 use Rattle.csv.specs.declared.parser.State.{State}
 use Rattle.csv.specs.declared.parser.State.TheVariants as st
-use Rattle.sk_read.specs.declared.parts.Parts.{Parts}
-use Rattle.sk_read.specs.Places.{IsEnd, state_of, settled, state_after, StaysInside, IsCut}
+use Rattle.sk_read.specs.declared.records.parts.Parts.{Parts}
+use Rattle.sk_read.specs.Scan.{IsEnd, state_of, settled, state_after, StaysInside, IsCut}
 use Rattle.sk_read.specs.Records.{Row, records_of, open_records_of, complete_records_of}
-use Rattle.sk_read.specs.Parts.{IsLed, HasStarted, HasTaken, Holds, is_mark_front, mark, IsWithoutMark}
+use Rattle.sk_read.specs.Parts.{IsLed, HasStarted, HasTaken, HasHeld, AreInTime, Holds, LacksBytes, Lacks, Refills, is_mark_front, mark, IsWithoutMark}
 use Rattle.sk_read.proofs.Steps.{end_is_skipped}
 use Rattle.sk_read.proofs.Runs.{records_append, records_led, open_is_one, records_few}
 use Rattle.sk_read.proofs.Cuts.{after_append, after_byte, last_is_end, cut_later, cut_stays}
@@ -161,13 +165,6 @@ complete_is p rows taken has one going =
         no_rows (r ∷ l) none = absurd (omega arith)
     no_record (c ∷ d ∷ rest) size between = absurd (omega (arith, size))
 
--- bytes consumed, and then none
-pub consumes_still : (old mid new : Option (List ℕ)) (more : List ℕ) → Consumes old mid more → Keeps mid new → Consumes old new more
-consumes_still None mid new more consumed keeps = tt
-consumes_still (Some xs) None new more consumed keeps = absurd consumed
-consumes_still (Some xs) (Some ys) None more consumed keeps = keeps
-consumes_still (Some xs) (Some ys) (Some zs) more consumed keeps = consumed ∙ ap (λ (l : List ℕ). more ++ l) (sym keeps)
-
 -- what was put behind some bytes
 pub behind_is : (n : ℕ) (all old more : List ℕ) → n ≡ length old → all ≡ old ++ more → take (length all - n) (drop n all) ≡ more
 behind_is n all old more place joined =
@@ -264,3 +261,77 @@ started p new taken held found has which bytes cut place count most ended = reco
     go : (n : ℕ) → IsCut st.StartRecord held (state_of new.place) n → IsCut st.StartRecord (10 ∷ held) (state_of new.place) (1 + n)
     go zero cut = cut_stays st.StartRecord (10 ∷ []) held st.StartRecord (state_of new.place) 1 base cut
     go (suc n) cut = cut_later st.StartRecord (10 ∷ []) held st.StartRecord (state_of new.place) 1 (suc n) base cut (omega arith)
+
+-- one piece more behind records of which all that ended were given
+pub rows_in_time : (rows : List Row) (taken more : List ℕ) → complete_records_of taken ≡ rows → length more ≤ piece_limit → AreInTime rows (taken ++ more)
+rows_in_time rows taken more complete size = record {
+  front = taken;
+  piece = more;
+  joined = refl;
+  size = size;
+  earlier = ([], sym (ap (λ (l : List Row). l ++ []) complete ∙ append-nil rows));
+}
+
+pub held_more : (p mid new : Parts) (left now : Option (List ℕ)) (rows : List Row) (taken more : List ℕ) (found : ℕ) → HasHeld p left rows taken → p.cut ≡ 1 → p.ended ≡ false → Holds p mid more →
+    length more ≤ piece_limit → (mid.ended ≡ true → IsAtEnd now) → IsCut (state_of p.place) more (state_of new.place) found → new.bytes.items ≡ mid.bytes.items → new.taken ≡ mid.taken → new.most ≡ mid.most →
+    new.ended ≡ mid.ended → (found ≡ 0 → new.cut ≡ p.cut) → (0 < found → new.cut ≡ length p.bytes.items + found) → HasHeld new now rows (taken ++ more)
+held_more p mid new left now rows taken more found held one going holds size end cut bytes count most ended stays later = record {
+  has = takes_more p mid new rows taken more found held.has going holds cut bytes count most stays later;
+  end = λ over. (end (sym ended ∙ over), omega (arith, (holds.end (sym ended ∙ over)).1, count, most));
+  in_time = rows_in_time rows taken more (complete_is p rows taken held.has one going) size;
+}
+
+-- no byte came behind records of which all that ended were given
+pub lacks_row : (p : Parts) (left : Option (List ℕ)) (rows : List Row) (taken more : List ℕ) (most : ℕ) (f : Fault) → HasHeld p left rows taken → p.cut ≡ 1 → p.ended ≡ false → most ≡ p.most →
+    length more ≤ piece_limit → LacksBytes p more f → Lacks most rows (taken ++ more) f
+lacks_row p left rows taken more most fault.ReadFault held one going is size lacks =
+    let same : taken ≡ taken ++ more = sym (ap (λ (l : List ℕ). taken ++ l) lacks.0 ∙ append-nil taken) in
+    subst (λ (l : List ℕ). (complete_records_of l ≡ rows) × (length l < most)) same (complete_is p rows taken held.has one going, omega (arith, held.has.count, lacks.1, is))
+lacks_row p left rows taken more most fault.TooMuch held one going is size lacks =
+    let same : taken ≡ taken ++ more = sym (ap (λ (l : List ℕ). taken ++ l) lacks.0 ∙ append-nil taken) in
+    subst (λ (l : List ℕ). (complete_records_of l ≡ rows) × (length l ≡ most)) same (complete_is p rows taken held.has one going, omega (arith, held.has.count, lacks.1, is))
+lacks_row p left rows taken more most fault.OutOfMemory held one going is size lacks = (
+  omega (arith, length-append taken more, held.has.count, lacks, is),
+  rows_in_time rows taken more (complete_is p rows taken held.has one going) size,
+  λ later. (
+    records default_config (p.bytes.items ++ (more ++ later)),
+    ap records_of (append_assoc taken more later) ∙ held.has.follows (more ++ later) (λ over. absurd (false≢true (sym going ∙ over))),
+  ),
+)
+lacks_row p left rows taken more most (fault.LongLine n) held one going is size lacks = absurd lacks
+lacks_row p left rows taken more most (fault.BadItem n) held one going is size lacks = absurd lacks
+lacks_row p left rows taken more most (fault.BadCsv n) held one going is size lacks = absurd lacks
+
+-- no byte came behind the first of a byte order mark
+pub lacks_mark : (p : Parts) (taken more : List ℕ) (most : ℕ) (f : Fault) → is_mark_front taken ≡ true → length taken ≤ 3 → length taken ≡ p.taken → most ≡ p.most → length more ≤ 1 → LacksBytes p more f →
+    Lacks most [] (taken ++ more) f
+lacks_mark p taken more most fault.ReadFault front small count is size lacks =
+    let same : taken ≡ taken ++ more = sym (ap (λ (l : List ℕ). taken ++ l) lacks.0 ∙ append-nil taken) in
+    subst (λ (l : List ℕ). (complete_records_of l ≡ []) × (length l < most)) same (none_complete taken front, omega (arith, count, lacks.1, is))
+lacks_mark p taken more most fault.TooMuch front small count is size lacks =
+    let same : taken ≡ taken ++ more = sym (ap (λ (l : List ℕ). taken ++ l) lacks.0 ∙ append-nil taken) in
+    subst (λ (l : List ℕ). (complete_records_of l ≡ []) × (length l ≡ most)) same (none_complete taken front, omega (arith, count, lacks.1, is))
+lacks_mark p taken more most fault.OutOfMemory front small count is size lacks = (
+  omega (arith, length-append taken more, count, lacks, is),
+  rows_in_time [] taken more (none_complete taken front) (omega (arith, size)),
+  λ later. (records_of ((taken ++ more) ++ later), refl),
+)
+lacks_mark p taken more most (fault.LongLine n) front small count is size lacks = absurd lacks
+lacks_mark p taken more most (fault.BadItem n) front small count is size lacks = absurd lacks
+lacks_mark p taken more most (fault.BadCsv n) front small count is size lacks = absurd lacks
+
+-- the first bytes
+pub first_in_time : (taken : List ℕ) → length taken ≤ 3 → AreInTime [] taken
+first_in_time taken small = rows_in_time [] [] taken (none_complete [] refl) (omega (arith, small))
+
+-- what is known of a call that failed
+pub at_err : {A : Type 0} (r : Result A Fault) (f : Fault) (P : A → Type 0) (Q : Fault → Type 0) → IsErrAnd r (λ (x : Fault). x ≡ f) → Q f → MatchResult r P Q
+at_err (Ok a) f P Q is holds = absurd is
+at_err (Err e) f P Q is holds = subst Q (sym is) holds
+
+pub refilled_err : (p : Parts) (left : Option (List ℕ)) (rows : List Row) (taken : List ℕ) (f : Fault) (r : Result Bool Fault) → IsErrAnd r (λ (x : Fault). x ≡ f) → Lacks p.most rows taken f → Refills p left rows taken r
+refilled_err p left rows taken f (Ok b) is lacks = absurd is
+refilled_err p left rows taken f (Err e) is lacks = subst (Lacks p.most rows taken) (sym is) lacks
+
+pub held_still : (p : Parts) (left : Option (List ℕ)) (rows : List Row) (taken : List ℕ) → HasHeld p left rows taken → HasHeld p left rows (taken ++ [])
+held_still p left rows taken held = subst (HasHeld p left rows) (sym (append-nil taken)) held

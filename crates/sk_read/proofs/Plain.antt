@@ -7,9 +7,9 @@ use Rattle.csv.specs.Machine.{step}
 use Rattle.csv.specs.Reading.{default_config}
 use Rattle.csv.specs.declared.parser.State.{State}
 use Rattle.csv.specs.declared.parser.State.TheVariants as st
-use Rattle.sk_read.specs.declared.place.Place.{Place}
-use Rattle.sk_read.specs.declared.place.Place.TheVariants as place
-use Rattle.sk_read.specs.Places.{IsEnd, state_of, settled, is_inside, state_after, StaysInside, IsCut}
+use Rattle.sk_read.specs.declared.records.scan.ScanState.{ScanState}
+use Rattle.sk_read.specs.declared.records.scan.ScanState.TheVariants as scan
+use Rattle.sk_read.specs.Scan.{IsEnd, state_of, settled, is_inside, state_after, StaysInside, IsCut}
 use Rattle.sk_read.proofs.Steps.{after_cr, inside_settled}
 use Rattle.sk_read.proofs.Cuts.{after_append, after_byte, after_none, cut_none}
 
@@ -170,23 +170,23 @@ cut_plain s xs init last n plain none whole fits end after =
     }
 
 -- a place outside quotes
-pub place_unquoted : (p : Place) → p ≢ place.InQuotes → is_unquoted (state_of p) ≡ true
-place_unquoted place.Between other = refl
-place_unquoted place.FieldStart other = refl
-place_unquoted place.InField other = refl
-place_unquoted place.InQuotes other = absurd (other refl)
-place_unquoted place.AfterQuote other = refl
+pub place_unquoted : (p : ScanState) → p ≢ scan.InQuotes → is_unquoted (state_of p) ≡ true
+place_unquoted scan.Between other = refl
+place_unquoted scan.FieldStart other = refl
+place_unquoted scan.InField other = refl
+place_unquoted scan.InQuotes other = absurd (other refl)
+place_unquoted scan.AfterQuote other = refl
 
 -- behind a quote it stands inside a record
-pub quote_inside : (p : Place) → is_inside (settled (step default_config (state_of p) 34).0) ≡ true
-quote_inside place.Between = refl
-quote_inside place.FieldStart = refl
-quote_inside place.InField = refl
-quote_inside place.InQuotes = refl
-quote_inside place.AfterQuote = refl
+pub quote_inside : (p : ScanState) → is_inside (settled (step default_config (state_of p) 34).0) ≡ true
+quote_inside scan.Between = refl
+quote_inside scan.FieldStart = refl
+quote_inside scan.InField = refl
+quote_inside scan.InQuotes = refl
+quote_inside scan.AfterQuote = refl
 
 -- the same by the place of the last byte
-pub cut_by_last : (p : Place) (xs : List ℕ) (next : State) (n : ℕ) → p ≢ place.InQuotes → All IsNoQuote xs → 0 < length xs → next ≡ settled (step default_config st.InField (get_or xs (length xs - 1) 0)).0 → n ≤ length xs →
+pub cut_by_last : (p : ScanState) (xs : List ℕ) (next : State) (n : ℕ) → p ≢ scan.InQuotes → All IsNoQuote xs → 0 < length xs → next ≡ settled (step default_config st.InField (get_or xs (length xs - 1) 0)).0 → n ≤ length xs →
     (0 < n → IsEnd (get_or xs (n - 1) 0)) → All (λ (c : ℕ). ¬ IsEnd c) (drop n xs) → IsCut (state_of p) xs next n
 cut_by_last p xs next n other none some goes fits end after =
     let size : length xs - 1 + 1 ≡ length xs = omega (arith, some) in
@@ -195,6 +195,6 @@ cut_by_last p xs next n other none some goes fits end after =
     subst (λ (s : State). IsCut (state_of p) xs s n) (sym goes)
     (cut_plain (state_of p) xs (take (length xs - 1) xs) (get_or xs (length xs - 1) 0) n (place_unquoted p other) none whole fits end after)
 
-pub cut_empty : (p : Place) (xs : List ℕ) → length xs ≡ 0 → IsCut (state_of p) xs (state_of p) 0
+pub cut_empty : (p : ScanState) (xs : List ℕ) → length xs ≡ 0 → IsCut (state_of p) xs (state_of p) 0
 cut_empty p [] none = cut_none p
 cut_empty p (x ∷ xs) none = absurd (omega (arith, none))

@@ -1,19 +1,25 @@
 -- What a reader of a source's lines finds.
-use Rattle.std.proofs.Common.{◌≡◌, ℕ, ◌+◌, ◌≤◌, ◌^◌, Bool, true, false, List, [], ◌∷◌, ◌++◌, length, Option, Some, None, Result, Err, refl, arith, append-nil, append_assoc, length-append, sym, ap, ◌∙◌, subst}
-use Rattle.sk_model.specs.Lines.{lines_of, open_lines_of}
+use Rattle.std.proofs.Common.{◌≡◌, ◌≢◌, ℕ, ◌+◌, ◌-◌, ◌<◌, ◌≤◌, Bool, true, false, List, [], ◌∷◌, ◌++◌, length, take, Option, Result, Ok, Err, IsErrAnd, refl, inl, inr, arith, append-nil, length-append, sym, ap, ◌∙◌, subst}
+use Rattle.std.specs.Str.Lines.{strip_carriage_return}
+use Rattle.sk_model.specs.Lines.{lines_of, open_lines_of, AreWithin, IsFirstLong}
+use Rattle.sk_model.proofs.Missing.{begins_more}
 use Rattle.sk_model.proofs.Lines.{long_stays_long, lines_are_few}
 use Rattle.sk_lines.specs.Cutter.{Cutter, Follows, IsLongAfter, is_long}
 use Rattle.sk_lines.specs.declared.cutter.Next.{Next}
 use Rattle.sk_lines.specs.declared.cutter.Next.TheVariants as next
-use Rattle.sk_read.specs.Reading.{Reading, HasGiven, ComesLong, GivesLine, GivesNext, GivesNone, FindsLong, IsLongNext, IsLongLast, Feeds, remaining_of}
+use Rattle.sk_read.specs.Reading.{Reading, HasGiven, HasRead, HaveEnded, Goes, Stands, ComesLong, GivesLine, IsLongNext, IsLongLast}
+use Rattle.sk_read.specs.Reads.{piece_limit, IsSettled, IsInTime}
+use Rattle.sk_read.specs.Units.{complete_units_of}
+use Rattle.sk_read.specs.declared.units.Units.{Units}
+use Rattle.sk_read.specs.declared.units.Units.TheVariants.{Lines}
 use Rattle.sk_read.specs.declared.reader.LineFault.{LineFault}
 use Rattle.sk_read.specs.declared.reader.LineFault.TheVariants as fault
 use Rattle.sk_model.specs.Missing.{Begins}
 use Rattle.sk_lines.proofs.Steps.{given_lines_stay}
-use Rattle.sk_read.proofs.ItemLaws.{by_told}
-use Rattle.std.specs.Option.{IfSome}
+use Rattle.std.proofs.lemmas.List.Elements.{All-cons, All-nil}
+use Rattle.sk_read.proofs.ItemLaws.{front_is}
 use Rattle.std.specs.Io.KnownBytes.{IsAtEnd}
-use Rattle.sk_model.specs.Limits.{source_limit}
+use Rattle.sk_model.specs.Limits.{line_limit, source_limit}
 
 -- a line that is too long has its own number, since few bytes make few lines
 pub long_next : (limit n most : ℕ) (c : Cutter) (given : List (List ℕ)) (taken : List ℕ) → length taken ≤ most → most ≤ source_limit → Follows c given taken →
@@ -51,68 +57,108 @@ pub long_end : (r : Reading) (n : ℕ) → r.ended ≡ false → r.taken ≤ sou
     ((given : List (List ℕ)) (text : List ℕ) → Follows r.cutter given text → IsLongAfter r.cutter.limit n given (lines_of text)) → IsLongLast r n
 long_end r n not_ended few long given taken has = long_last r.cutter.limit n (source_limit) r.cutter given taken (omega (arith, has.count)) (omega arith) (has.follows not_ended) (long given taken (has.follows not_ended))
 
--- some bytes were taken, and no line was given
-pub record Moves (old new : Reading) (more : List ℕ) : Type 0 where
-  pub follows : (given : List (List ℕ)) (taken : List ℕ) → HasGiven old given taken → HasGiven new given (taken ++ more)
-  pub remaining : remaining_of new ≤ remaining_of old
-  pub limit : new.cutter.limit ≡ old.cutter.limit
-  pub most : new.most ≡ old.most
+-- what comes first in every text that goes on from here
+pub given_settled : (r : Reading) (left : Option (List ℕ)) (given : List (List ℕ)) (taken : List ℕ) → HasRead r left given taken → IsSettled (λ (text : List ℕ). Begins given (lines_of text)) left taken
+given_settled r left given taken read = go r.ended refl
+  where
+    go : (b : Bool) → r.ended ≡ b → IsSettled (λ (text : List ℕ). Begins given (lines_of text)) left taken
+    go true ended = inr (read.end ended, ([], read.has.whole ended ∙ sym (append-nil given)))
+    go false going = inl (λ later. given_lines_stay r.cutter given taken later (read.has.follows going))
 
-pub moves_none : (r : Reading) → Moves r r []
-moves_none r = record {
-  follows = λ given taken has. subst (HasGiven r given) (sym (append-nil taken)) has;
-  remaining = omega arith;
-  limit = refl;
-  most = refl;
+-- a step of the reader
+pub read_on : (old new : Reading) (left now : Option (List ℕ)) (given more : List (List ℕ)) (taken fed : List ℕ) → HasRead old left given taken → HasGiven new more fed → (new.ended ≡ true → IsAtEnd now) →
+    new.cutter.limit ≡ old.cutter.limit → new.most ≡ old.most → new.taken ≤ new.most → IsInTime Lines more fed → HasRead new now more fed
+read_on old new left now given more taken fed read has end limit most bound in_time = record {
+  has = has;
+  end = end;
+  limit = limit ∙ read.limit;
+  bound = bound;
+  few = omega (arith, most, read.few);
+  in_time = in_time;
 }
 
--- a call in between that took nothing
-pub moves_on : (old mid new : Reading) (more : List ℕ) → Moves old mid more →
-    ((given : List (List ℕ)) (taken : List ℕ) → HasGiven mid given taken → HasGiven new given taken) →
-    remaining_of new ≤ remaining_of mid → new.cutter.limit ≡ mid.cutter.limit → new.most ≡ mid.most → Moves old new more
-moves_on old mid new more moves follows remaining limit most = record {
-  follows = λ given taken has. follows given (taken ++ more) (moves.follows given taken has);
-  remaining = omega (arith, remaining, moves.remaining);
-  limit = limit ∙ moves.limit;
-  most = most ∙ moves.most;
+-- one line more was given
+pub in_time_more : (units : Units) (given : List (List ℕ)) (line taken : List ℕ) → IsInTime units given taken → IsInTime units (given ++ line ∷ []) taken
+in_time_more units given line taken is = record {
+  front = is.front;
+  piece = is.piece;
+  joined = is.joined;
+  size = is.size;
+  sound = is.sound;
+  earlier = begins_more (complete_units_of units is.front) given (line ∷ []) is.earlier;
 }
 
-pub moves_fed : (old mid new : Reading) (more fed : List ℕ) → Moves old mid more → Feeds mid new fed → Moves old new (more ++ fed)
-moves_fed old mid new more fed moves feeds = record {
-  follows = λ given taken has. subst (HasGiven new given) (append_assoc taken more fed) (feeds.follows given (taken ++ more) (moves.follows given taken has));
-  remaining = omega (arith, feeds.remaining, moves.remaining);
-  limit = feeds.limit ∙ moves.limit;
-  most = feeds.most ∙ moves.most;
+pub have_ended : (r : Reading) (given : List (List ℕ)) (taken : List ℕ) → r.cutter.limit ≡ line_limit → Stands r given taken → HaveEnded given taken
+have_ended r given taken limit stands = (
+  ap (λ (l : List (List ℕ)). take (length l - 1) l) stands.lines ∙ less_one given (strip_carriage_return r.cutter.rest),
+  subst (λ (m : ℕ). AreWithin m (open_lines_of taken)) limit stands.within,
+)
+  where
+    less_one : (xs : List (List ℕ)) (y : List ℕ) → take (length (xs ++ y ∷ []) - 1) (xs ++ y ∷ []) ≡ xs
+    less_one xs y = ap (λ (m : ℕ). take m (xs ++ y ∷ [])) (omega (arith, length-append xs (y ∷ []))) ∙ front_is xs (xs ++ y ∷ []) (y ∷ [], refl)
+
+-- a piece more behind lines of which all that ended were given
+pub fed_in_time : (given : List (List ℕ)) (taken more : List ℕ) → HaveEnded given taken → length more ≤ piece_limit → IsInTime Lines given (taken ++ more)
+fed_in_time given taken more ended size = record {
+  front = taken;
+  piece = more;
+  joined = refl;
+  size = size;
+  sound = ended.1;
+  earlier = ([], sym (ap (λ (l : List (List ℕ)). l ++ []) ended.0 ∙ append-nil given) ∙ refl);
 }
 
-pub gives_next : (old mid new : Reading) (more : List ℕ) → Moves old mid more → GivesLine mid new → GivesNext old new more
-gives_next old mid new more moves line given taken has = line given (taken ++ more) (moves.follows given taken has)
-
-pub gives_none : (old mid new : Reading) (more : List ℕ) → Moves old mid more →
-    ((given : List (List ℕ)) (taken : List ℕ) → HasGiven mid given taken → (lines_of taken ≡ given) × HasGiven new given taken) → GivesNone old new more
-gives_none old mid new more moves none given taken has = none given (taken ++ more) (moves.follows given taken has)
-
-pub finds_long : (old mid : Reading) (more : List ℕ) (left : Option (List ℕ)) (n : ℕ) → Moves old mid more → IsLongNext mid n → FindsLong old more left n
-finds_long old mid more left n moves long given taken has =
-    let found = long given (taken ++ more) (moves.follows given taken has) in (
+-- the next line is too long
+pub goes_long : (old r : Reading) (left : Option (List ℕ)) (given : List (List ℕ)) (taken : List ℕ) (n : ℕ) → HasRead old left given taken → r.most ≡ old.most → IsLongNext old n → Goes r left given taken (Err (fault.LongLine n))
+goes_long old r left given taken n read most long =
+    let found = long given taken read.has in (
       found.0,
-      by_told left (λ (rest : List ℕ). ComesLong old.cutter.limit given (lines_of ((taken ++ more) ++ rest)))
-          (λ rest. subst (λ (limit : ℕ). ComesLong limit given (lines_of ((taken ++ more) ++ rest))) moves.limit (found.1 rest)),
+      omega (arith, read.has.count, read.bound, most),
+      read.in_time,
+      inl (λ later. (
+        (found.1 later).begins,
+        subst (λ (m : ℕ). IsFirstLong m (length given) (lines_of (taken ++ later))) read.limit (found.1 later).first,
+      )),
     )
 
-pub finds_long_last : (old mid : Reading) (more : List ℕ) (left : Option (List ℕ)) (n : ℕ) → Moves old mid more → IsLongLast mid n → IsAtEnd left → FindsLong old more left n
-finds_long_last old mid more left n moves long end given taken has =
-    let found = long given (taken ++ more) (moves.follows given taken has) in
-    (found.0, at_end left end (subst (λ (limit : ℕ). ComesLong limit given (lines_of (taken ++ more))) moves.limit found.1))
-  where
-    at_end : (left : Option (List ℕ)) → IsAtEnd left → ComesLong old.cutter.limit given (lines_of (taken ++ more)) →
-        IfSome left (λ (rest : List ℕ). ComesLong old.cutter.limit given (lines_of ((taken ++ more) ++ rest)))
-    at_end None end long = tt
-    at_end (Some rest) end long =
-        subst (λ (l : List ℕ). ComesLong old.cutter.limit given (lines_of l)) (sym (ap (λ (l : List ℕ). (taken ++ more) ++ l) end ∙ append-nil (taken ++ more))) long
+-- no line came, for the source or for the bound
+pub goes_err : (r : Reading) (left : Option (List ℕ)) (given : List (List ℕ)) (taken : List ℕ) (s : LineFault) (result : Result Bool LineFault) → IsErrAnd result (λ (x : LineFault). x ≡ s) → HaveEnded given taken →
+    (s ≡ fault.ReadFault → length taken < r.most) → (s ≡ fault.TooMuch → length taken ≡ r.most) → ((n : ℕ) → s ≡ fault.LongLine n → ⊥) → Goes r left given taken result
+goes_err r left given taken s (Ok b) is ended less full no_long = absurd is
+goes_err r left given taken s (Err fault.ReadFault) is ended less full no_long = (ended, less (sym is))
+goes_err r left given taken s (Err fault.TooMuch) is ended less full no_long = (ended, full (sym is))
+goes_err r left given taken s (Err (fault.LongLine n)) is ended less full no_long = absurd (no_long n (sym is))
 
-abbrev stopped : ℕ → Result Bool LineFault
-stopped n = Err (fault.LongLine n)
+-- how the end of a source was found
+pub goes_end : (old r : Reading) (left : Option (List ℕ)) (given : List (List ℕ)) (taken : List ℕ) (result : Result Bool LineFault) → HasRead old left given taken → IsAtEnd left →
+    r.cutter.limit ≡ old.cutter.limit → r.most ≡ old.most → r.taken ≡ old.taken → r.ended ≡ true → (result ≡ Ok true → GivesLine old r) →
+    (result ≡ Ok false → (given : List (List ℕ)) (taken : List ℕ) → HasGiven old given taken → (lines_of taken ≡ given) × HasGiven r given taken) →
+    ((n : ℕ) → result ≡ Err (fault.LongLine n) → IsLongLast old n) → result ≢ Err fault.ReadFault → result ≢ Err fault.TooMuch → Goes r left given taken result
+goes_end old r left given taken (Ok true) read end limit most same ended line none long no_read no_much = (
+  read_on old r left left given (given ++ r.cutter.line ∷ []) taken taken read (line refl given taken read.has) (λ _. end) limit most (omega (arith, same, most, read.bound))
+      (in_time_more Lines given r.cutter.line taken read.in_time),
+  read.in_time,
+)
+goes_end old r left given taken (Ok false) read end limit most same ended line none long no_read no_much =
+    (read_on old r left left given given taken taken read (none refl given taken read.has).1 (λ _. end) limit most (omega (arith, same, most, read.bound)) read.in_time, ended)
+goes_end old r left given taken (Err fault.ReadFault) read end limit most same ended line none long no_read no_much = absurd (no_read refl)
+goes_end old r left given taken (Err fault.TooMuch) read end limit most same ended line none long no_read no_much = absurd (no_much refl)
+goes_end old r left given taken (Err (fault.LongLine n)) read end limit most same ended line none long no_read no_much =
+    let found = long n refl given taken read.has in (
+      found.0,
+      omega (arith, read.has.count, read.bound, most),
+      read.in_time,
+      inr (end, (found.1.begins, subst (λ (m : ℕ). IsFirstLong m (length given) (lines_of taken)) read.limit found.1.first)),
+    )
 
-pub same_line : (m n : ℕ) → stopped m ≡ stopped n → m ≡ n
-same_line m n same = cc
+-- before the first read
+pub nothing_read : IsInTime Lines [] []
+unfolding lines_of
+nothing_read = record {
+  front = [];
+  piece = [];
+  joined = refl;
+  size = omega arith;
+  sound = All-cons (λ (l : List ℕ). length l ≤ line_limit) [] [] (omega arith) (All-nil (λ (l : List ℕ). length l ≤ line_limit));
+  earlier = ([], refl);
+}

@@ -7,7 +7,7 @@ use Rattle.csv.specs.Reading.{default_config, records, records_from, records_nex
 use Rattle.csv.specs.declared.parser.State.{State}
 use Rattle.csv.specs.declared.parser.State.TheVariants as st
 use Rattle.csv.specs.declared.parser.Action.{Action}
-use Rattle.sk_read.specs.Places.{IsEnd, settled, is_inside, state_after, StaysInside}
+use Rattle.sk_read.specs.Scan.{IsEnd, settled, is_inside, state_after, StaysInside}
 use Rattle.sk_read.specs.Records.{Row}
 use Rattle.sk_read.proofs.Steps.{after_cr, not_both, ends_between, stays_inside, between_goes_on, end_is_skipped, between_ends_none}
 

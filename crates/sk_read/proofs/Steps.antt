@@ -7,7 +7,7 @@ use Rattle.csv.specs.declared.parser.State.{State}
 use Rattle.csv.specs.declared.parser.State.TheVariants as st
 use Rattle.csv.specs.declared.parser.Action.{Action}
 use Rattle.csv.specs.declared.parser.Action.TheVariants as act
-use Rattle.sk_read.specs.Places.{settled, is_inside, IsEnd}
+use Rattle.sk_read.specs.Scan.{settled, is_inside, IsEnd}
 
 -- the state behind a CR that ended a record goes on as that between two records
 pub after_cr : (c : ℕ) → step default_config st.AfterCr c ≡ step default_config st.StartRecord c

@@ -1,12 +1,14 @@
 pub use Rattle.sk_model.specs.Causes
 pub use Rattle.sk_model.specs.Lines
+pub mod Columns
 pub mod Faults
 pub mod Inside
 pub mod Items
 pub mod Parts
-pub mod Places
 pub mod Reading
+pub mod Reads
 pub mod Records
 pub mod Rows
-pub mod Table
+pub mod Scan
+pub mod Standing
 pub mod Units

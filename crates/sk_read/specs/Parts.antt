@@ -1,12 +1,15 @@
 -- What is held of a source that is read in parts, each of whole records.
-use Rattle.std.specs.Prelude.{◌≡◌, ◌≢◌, ◌≤◌, ◌<◌, ◌⊎◌, ℕ, ◌+◌, ◌-◌, ◌^◌, Bool, true, false, ◌==◌, ◌&&◌, List, [], ◌∷◌, ◌++◌, length, slice_index, ⊤}
+use Rattle.std.specs.Prelude.{◌≡◌, ◌≢◌, ◌≤◌, ◌<◌, ◌⊎◌, ℕ, ◌+◌, ◌-◌, Bool, true, false, ◌==◌, ◌&&◌, List, [], ◌∷◌, ◌++◌, length, slice_index, Option, Result, Ok, Err}
+use Rattle.std.specs.Io.KnownBytes.{IsAtEnd}
+use Rattle.sk_model.specs.Missing.{Begins}
+use Rattle.sk_read.specs.Reads.{piece_limit}
 use Rattle.csv.specs.Reading.{default_config, records}
 use Rattle.csv.specs.declared.parser.State.TheVariants as st
-use Rattle.sk_read.specs.Places.{state_of, IsCut}
-use Rattle.sk_read.specs.Records.{Row, records_of}
-use Rattle.sk_read.specs.declared.parts.Parts.{Parts}
-use Rattle.sk_read.specs.declared.items.Fault.{Fault}
-use Rattle.sk_read.specs.declared.items.Fault.TheVariants as fault
+use Rattle.sk_read.specs.Scan.{state_of, IsCut}
+use Rattle.sk_read.specs.Records.{Row, records_of, complete_records_of}
+use Rattle.sk_read.specs.declared.records.parts.Parts.{Parts}
+use Rattle.sk_read.specs.declared.fault.Fault.{Fault}
+use Rattle.sk_read.specs.declared.fault.Fault.TheVariants as fault
 use Rattle.sk_model.specs.Limits.{source_limit}
 
 -- a text begins with a byte that ends a record, LF or CR
@@ -24,10 +27,6 @@ pub record HasTaken (p : Parts) (rows : List Row) (taken : List ℕ) : Type 0 wh
   pub bound : p.taken ≤ p.most
   pub few : p.most ≤ source_limit
 
--- some bytes more were taken, and no record was given
-abbrev pub Takes : Parts → Parts → List ℕ → Type 0
-Takes old new more = (rows : List Row) (taken : List ℕ) → HasTaken old rows taken → HasTaken new rows (taken ++ more)
-
 -- these bytes more are held, none only where the source has ended
 pub record Holds (old new : Parts) (more : List ℕ) : Type 0 where
   pub bytes : new.bytes.items ≡ old.bytes.items ++ more
@@ -42,15 +41,6 @@ pub record Holds (old new : Parts) (more : List ℕ) : Type 0 where
 -- how many bytes may still be given in parts
 abbrev pub remaining_of : Parts → ℕ
 remaining_of p = length p.bytes.items + (p.most - p.taken)
-
--- a fault of the source or of memory
-abbrev pub IsOfSource : Fault → Type 0
-IsOfSource fault.OutOfMemory = ⊤
-IsOfSource fault.ReadFault = ⊤
-IsOfSource fault.TooMuch = ⊤
-IsOfSource (fault.LongLine n) = ⊥
-IsOfSource (fault.BadItem n) = ⊥
-IsOfSource (fault.BadCsv n) = ⊥
 
 -- the first bytes of a byte order mark, and not all of it
 abbrev pub is_mark_front : List ℕ → Bool
@@ -75,3 +65,42 @@ pub record HasStarted (p : Parts) (taken : List ℕ) : Type 0 where
   pub count : length taken ≡ p.taken
   pub bound : p.taken ≤ p.most
   pub few : p.most ≤ source_limit
+
+-- of the bytes taken, all but those of the last read were examined: the records that have ended in them are
+-- among these
+pub record AreInTime (rows : List Row) (taken : List ℕ) : Type 0 where
+  pub front : List ℕ
+  pub piece : List ℕ
+  pub joined : taken ≡ front ++ piece
+  pub size : length piece ≤ piece_limit
+  pub earlier : Begins (complete_records_of front) rows
+
+-- of a source that has this left these bytes were taken, and exactly these records of them given
+pub record HasHeld (p : Parts) (left : Option (List ℕ)) (rows : List Row) (taken : List ℕ) : Type 0 where
+  pub has : HasTaken p rows taken
+  pub end : p.ended ≡ true → IsAtEnd left × (p.taken < p.most)
+  pub in_time : AreInTime rows taken
+
+-- why no byte came behind those held, where these bytes were taken more
+abbrev pub LacksBytes : Parts → List ℕ → Fault → Type 0
+LacksBytes old more fault.ReadFault = (more ≡ []) × (old.taken < old.most)
+LacksBytes old more fault.TooMuch = (more ≡ []) × (old.taken ≡ old.most)
+LacksBytes old more fault.OutOfMemory = old.taken + length more ≤ old.most
+LacksBytes old more (fault.LongLine n) = ⊥
+LacksBytes old more (fault.BadItem n) = ⊥
+LacksBytes old more (fault.BadCsv n) = ⊥
+
+-- why no record came behind these, where these bytes were taken
+abbrev pub Lacks : ℕ → List Row → List ℕ → Fault → Type 0
+Lacks most rows taken fault.ReadFault = (complete_records_of taken ≡ rows) × (length taken < most)
+Lacks most rows taken fault.TooMuch = (complete_records_of taken ≡ rows) × (length taken ≡ most)
+Lacks most rows taken fault.OutOfMemory = (length taken ≤ most) × AreInTime rows taken × ((later : List ℕ) → Begins rows (records_of (taken ++ later)))
+Lacks most rows taken (fault.LongLine n) = ⊥
+Lacks most rows taken (fault.BadItem n) = ⊥
+Lacks most rows taken (fault.BadCsv n) = ⊥
+
+-- how a call of `refill` went behind these records: a whole record is held, or the source has ended
+abbrev pub Refills : Parts → Option (List ℕ) → List Row → List ℕ → Result Bool Fault → Type 0
+Refills p left rows taken (Ok true) = HasHeld p left rows taken × (1 < p.cut)
+Refills p left rows taken (Ok false) = HasHeld p left rows taken × (p.ended ≡ true)
+Refills p left rows taken (Err f) = Lacks p.most rows taken f

@@ -1,9 +1,16 @@
 -- What contracts see of a reader of a source's lines.
-use Rattle.std.specs.Prelude.{◌≡◌, ℕ, ◌+◌, ◌-◌, ◌<◌, Bool, true, false, List, [], ◌∷◌, ◌++◌, length, Option, IfSome}
+use Rattle.std.specs.Prelude.{◌≡◌, ℕ, ◌+◌, ◌-◌, ◌<◌, ◌≤◌, Bool, true, false, List, [], ◌∷◌, ◌++◌, length, Option, Result, Ok, Err}
 use Rattle.std.specs.Str.Lines.{strip_carriage_return}
 use Rattle.sk_model.specs.Lines.{lines_of, open_lines_of, AreWithin, IsFirstLong}
 use Rattle.sk_lines.specs.Cutter.{Cutter, Follows, is_long, counted}
+use Rattle.std.specs.Io.KnownBytes.{IsAtEnd}
 use Rattle.sk_model.specs.Missing.{Begins}
+use Rattle.sk_model.specs.Limits.{line_limit, source_limit}
+use Rattle.sk_read.specs.declared.reader.LineFault.{LineFault}
+use Rattle.sk_read.specs.declared.reader.LineFault.TheVariants as stop
+use Rattle.sk_read.specs.declared.units.Units.TheVariants.{Lines}
+use Rattle.sk_read.specs.Items.{complete_lines_of}
+use Rattle.sk_read.specs.Reads.{piece_limit, IsSettled, IsInTime}
 
 -- the lines that were cut, how many bytes were taken of the source and how many may be, and whether
 -- the source was read to its end
@@ -34,6 +41,8 @@ pub record Feeds (old new : Reading) (more : List ℕ) : Type 0 where
   pub limit : new.cutter.limit ≡ old.cutter.limit
   pub most : new.most ≡ old.most
   pub ended : new.ended ≡ old.ended
+  pub size : length more ≤ piece_limit
+  pub bound : new.taken ≤ new.most
 
 -- one more line was given, of the bytes taken
 abbrev pub GivesLine : Reading → Reading → Type 0
@@ -60,20 +69,24 @@ abbrev pub IsLongLast : Reading → ℕ → Type 0
 IsLongLast r n = (given : List (List ℕ)) (taken : List ℕ) → HasGiven r given taken →
     (n ≡ length given + 1) × ComesLong r.cutter.limit given (lines_of taken)
 
--- a call took these bytes more, and gave one more line
-abbrev pub GivesNext : Reading → Reading → List ℕ → Type 0
-GivesNext old new more = (given : List (List ℕ)) (taken : List ℕ) → HasGiven old given taken → HasGiven new (given ++ new.cutter.line ∷ []) (taken ++ more)
+-- of a source that has this left these bytes were taken, and exactly these lines of them given
+pub record HasRead (r : Reading) (left : Option (List ℕ)) (given : List (List ℕ)) (taken : List ℕ) : Type 0 where
+  pub has : HasGiven r given taken
+  pub end : r.ended ≡ true → IsAtEnd left
+  pub limit : r.cutter.limit ≡ line_limit
+  pub bound : r.taken ≤ r.most
+  pub few : r.most ≤ source_limit
+  pub in_time : IsInTime Lines given taken
 
--- it found the source's end behind all its lines
-abbrev pub GivesNone : Reading → Reading → List ℕ → Type 0
-GivesNone old new more = (given : List (List ℕ)) (taken : List ℕ) → HasGiven old given taken →
-    (lines_of (taken ++ more) ≡ given) × HasGiven new given (taken ++ more)
+-- no line is too long so far in these bytes, and the lines that LF ended in them are these
+abbrev pub HaveEnded : List (List ℕ) → List ℕ → Type 0
+HaveEnded given taken = (complete_lines_of taken ≡ given) × AreWithin line_limit (open_lines_of taken)
 
--- it stopped behind all complete lines
-abbrev pub Stops : Reading → Reading → List ℕ → Type 0
-Stops old new more = (given : List (List ℕ)) (taken : List ℕ) → HasGiven old given taken → Stands new given (taken ++ more)
-
--- it found line n, counted from 1, too long, whatever the source has left
-abbrev pub FindsLong : Reading → List ℕ → Option (List ℕ) → ℕ → Type 0
-FindsLong old more left n = (given : List (List ℕ)) (taken : List ℕ) → HasGiven old given taken →
-    (n ≡ length given + 1) × IfSome left (λ rest. ComesLong old.cutter.limit given (lines_of ((taken ++ more) ++ rest)))
+-- how a call of `next` went, where these lines were given before it, and these bytes taken after it
+abbrev pub Goes : Reading → Option (List ℕ) → List (List ℕ) → List ℕ → Result Bool LineFault → Type 0
+Goes r left given taken (Ok true) = HasRead r left (given ++ r.cutter.line ∷ []) taken × IsInTime Lines given taken
+Goes r left given taken (Ok false) = HasRead r left given taken × (r.ended ≡ true)
+Goes r left given taken (Err stop.ReadFault) = HaveEnded given taken × (length taken < r.most)
+Goes r left given taken (Err stop.TooMuch) = HaveEnded given taken × (length taken ≡ r.most)
+Goes r left given taken (Err (stop.LongLine n)) = (n ≡ length given + 1) × (length taken ≤ r.most) × IsInTime Lines given taken
+    × IsSettled (λ text. Begins given (lines_of text) × IsFirstLong line_limit (length given) (lines_of text)) left taken

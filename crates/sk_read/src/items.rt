@@ -1,19 +1,17 @@
 // The items of a source.
-ghost use Rattle.std.specs.Prelude.{◌≡◌, ◌≢◌, ◌≤◌, ◌<◌, ◌+◌, ◌-◌, ◌^◌, ℕ, List, [], ◌∷◌, ◌++◌, Ok, Err, OnOk, OnErr, IfOk, IfErr, IfSome, IsErrOf, IsNone, length, take};
-ghost use Rattle.std.specs.Io.KnownBytes.{Consumes, IsAtEnd};
-ghost use Rattle.sk_model.specs.Causes.{Rose};
-ghost use Rattle.sk_read.specs.Items.{items_by, item_of, IsGood};
-ghost use Rattle.sk_read.specs.Units.{units_of, complete_units_of, IsReadable, IsReadableSoFar, IsLongUnit, IsBadUnit, IsUnevenUnit};
-ghost use Rattle.sk_model.specs.Width.{IsItem};
+ghost use Rattle.std.specs.Prelude.{◌≡◌, ◌≤◌, ◌<◌, ℕ, List, [], ◌∷◌, ◌++◌, Some, OnOk, OnErr, IfErr, length};
+ghost use Rattle.sk_model.specs.Causes.{HasCauseIn};
 ghost use Rattle.sk_model.specs.Limits.{source_limit, most_kept};
+ghost use Rattle.sk_model.specs.Width.{IsItem};
+ghost use Rattle.sk_read.specs.Items.{Gave, Missed};
+ghost use Rattle.sk_read.specs.Reads.{Reads};
+ghost use Rattle.sk_read.specs.Units.{units_by};
 
+use crate::fault::Fault;
 use crate::kind::Kind;
-use crate::lines::read_lines;
-use crate::reader::LineFault;
-use crate::records::read_records;
-use sk_io::{Failed, Source};
-use sk_model::OutOfMemory;
-use std::alloc::{AllocError, Global};
+use crate::units::{UnitTaker, Units, read_units};
+use sk_io::Source;
+use std::alloc::Global;
 
 /// What is read, and how much at most.
 #[derive(Clone, Copy, Debug, PartialEq, Eq)]
@@ -24,68 +22,6 @@ pub struct Intake {
     pub column: u32,
     /// As many bytes as this are too much.
     pub most: u64,
-}
-
-/// Why a source was not read to its end.
-#[derive(Clone, Copy, Debug, PartialEq, Eq)]
-pub enum Fault {
-    /// No memory was left.
-    OutOfMemory,
-    /// A read failed.
-    ReadFault,
-    /// The unit of this number, counted from 1, has more than 65,536 bytes.
-    LongLine(u64),
-    /// The unit of this number, counted from 1, is not empty and no item.
-    BadItem(u64),
-    /// The record of this number, counted from 1, has not as many fields as the first, or has no
-    /// such column.
-    BadCsv(u64),
-    /// As many bytes were taken as are too much.
-    TooMuch,
-}
-
-impl From<OutOfMemory> for Fault {
-    ghost use Rattle.sk_read.specs.declared.items.Fault.TheVariants as fault;
-
-    ghost from_gives = { λ _ e. e ≡ fault.OutOfMemory };
-
-    fn from(_: OutOfMemory) -> Self {
-        Fault::OutOfMemory
-    }
-}
-
-impl From<AllocError> for Fault {
-    ghost use Rattle.sk_read.specs.declared.items.Fault.TheVariants as fault;
-
-    ghost from_gives = { λ _ e. e ≡ fault.OutOfMemory };
-
-    fn from(_: AllocError) -> Self {
-        Fault::OutOfMemory
-    }
-}
-
-impl From<Failed> for Fault {
-    ghost use Rattle.sk_read.specs.declared.items.Fault.TheVariants as fault;
-
-    ghost from_gives = { λ _ e. e ≡ fault.ReadFault };
-
-    fn from(_: Failed) -> Self {
-        Fault::ReadFault
-    }
-}
-
-impl From<LineFault> for Fault {
-    ghost use Rattle.sk_read.specs.Faults.{fault_by};
-
-    ghost from_gives = { λ stop e. e ≡ fault_by stop };
-
-    fn from(fault: LineFault) -> Self {
-        match fault {
-            LineFault::ReadFault => Fault::ReadFault,
-            LineFault::LongLine(line) => Fault::LongLine(line),
-            LineFault::TooMuch => Fault::TooMuch,
-        }
-    }
 }
 
 /// Who takes items, one after another.
@@ -104,69 +40,55 @@ pub trait Taker {
         ensures numbers { numbers self.new ≡ numbers self.old };
 }
 
+// A taker of items as one of units.
+#[derive(Drop)]
+struct Items<'a, T: Taker> {
+    kind: Kind,
+    taker: &'a mut T,
+}
+
+impl<T: Taker> UnitTaker for Items<'_, T> {
+    ghost gave = { λ s units. Gave s.kind (T.stands_for s.taker.now) units };
+
+    ghost missed = { λ s given unit. Missed s.kind (T.stands_for s.taker.now) given unit };
+
+    ghost stands_on = { λ s. record { kind = Some s.kind; borrows = s.taker.ghost_name ∷ []; numbers = T.numbers s.taker.now } };
+
+    #[inline(always)]
+    fn take(&mut self, unit: &[u8], number: u64) -> Result<(), Fault> {
+        take_unit(self.kind, unit, number, self.taker)
+    }
+}
+
 /// Gives the items of a source to the taker, in order, and answers how many units there were: lines
 /// at column 0, else records. Records have commas and double quotes, and the first is like any other.
 pub fn read_items<S: Source, T: Taker>(
     alloc: Global,
-    plan: &Intake,
+    intake: &Intake,
     source: &mut S,
     taker: &mut T,
 ) -> Result<u64, Fault>
-    requires bound { plan.now.most ≤ source_limit }
+    requires bound { intake.now.most ≤ source_limit }
     requires empty { T.stands_for taker.old [] }
-
-    // At `Ok` the whole source was read, and none of its units is refused.
-    ensures end { OnOk result (IsAtEnd (S.left source.new)) }
-    ensures units { IfOk result (λ n. IfSome (S.left source.old) (λ text. n ≡ length (units_of plan.now.column text))) }
-    ensures good { OnOk result (IfSome (S.left source.old) (λ text. IsReadable plan.now.kind plan.now.column text)) }
-    ensures size { OnOk result (IfSome (S.left source.old) (λ text. length text < plan.now.most)) }
-    ensures items { OnOk result (IfSome (S.left source.old) (λ text. T.stands_for taker.new (items_by plan.now.kind (units_of plan.now.column text)))) }
-
-    // A refused unit comes before every other fault that stands behind it.
-    ensures long_line { (n : ℕ) → result ≡ Err (Fault.LongLine n) → IfSome (S.left source.old) (λ text.
-        IsLongUnit plan.now.kind plan.now.column n text × T.stands_for taker.new (items_by plan.now.kind (take (n - 1) (units_of plan.now.column text)))) }
-    ensures bad_item { (n : ℕ) → result ≡ Err (Fault.BadItem n) → IfSome (S.left source.old) (λ text.
-        IsBadUnit plan.now.kind plan.now.column n text × T.stands_for taker.new (items_by plan.now.kind (take (n - 1) (units_of plan.now.column text)))) }
-    ensures bad_csv { (n : ℕ) → result ≡ Err (Fault.BadCsv n) → IfSome (S.left source.old) (λ text.
-        IsUnevenUnit plan.now.kind plan.now.column n text × T.stands_for taker.new (items_by plan.now.kind (take (n - 1) (units_of plan.now.column text)))) }
-
-    ensures only_records { (n : ℕ) → result ≡ Err (Fault.BadCsv n) → 1 ≤ plan.now.column }
-
-    // The other faults come where no unit of the bytes taken is refused.
-    ensures read_fault { IsErrOf result Fault.ReadFault → Rose (S.faults source.old) (S.faults source.new) }
-    ensures read_fault_at { IsErrOf result Fault.ReadFault → (taken : List ℕ) × Consumes (S.left source.old) (S.left source.new) taken
-        × (length taken < plan.now.most) × IsReadableSoFar plan.now.kind plan.now.column taken
-        × T.stands_for taker.new (items_by plan.now.kind (complete_units_of plan.now.column taken)) }
-    ensures too_much { IsErrOf result Fault.TooMuch → (taken : List ℕ) × Consumes (S.left source.old) (S.left source.new) taken
-        × (length taken ≡ plan.now.most) × IsReadableSoFar plan.now.kind plan.now.column taken
-        × T.stands_for taker.new (items_by plan.now.kind (complete_units_of plan.now.column taken)) }
-    ensures memory { IsErrOf result Fault.OutOfMemory → IfSome (S.left source.old) (λ text.
-        (n : ℕ) × T.stands_for taker.new (items_by plan.now.kind (take n (units_of plan.now.column text)))) }
-
-    ensures later { S.faults source.old ≤ S.faults source.new }
+    ensures read { Reads (units_by intake.now.column) intake.now.most (Gave intake.now.kind (T.stands_for taker.new)) (Missed intake.now.kind (T.stands_for taker.new))
+        (S.left source.old) (S.left source.new) result }
+    ensures cause { HasCauseIn Fault.ReadFault (S.faults source.old) (S.faults source.new) result }
     ensures stays { S.stands_on source.new ≡ S.stands_on source.old }
     ensures numbers { T.numbers taker.new ≡ T.numbers taker.old }
 {
-    if plan.column == 0 {
-        read_lines(alloc, plan.kind, plan.most, source, taker)
-    } else {
-        read_records(alloc, plan, source, taker)
-    }
+    let units = Units::of(intake.column);
+    let kind = intake.kind;
+    let mut items = Items { kind, taker };
+    read_units(alloc, units, intake.most, source, &mut items)
 }
 
 // Gives the item of a unit, if it has one, to the taker.
 #[inline(always)]
-pub(crate) fn take_unit<T: Taker>(
-    kind: Kind,
-    unit: &[u8],
-    number: u64,
-    taker: &mut T,
-) -> Result<(), Fault>
-    requires room { (units : List (List ℕ)) × (length units < most_kept) × T.stands_for taker.old (items_by kind units) }
-    ensures good { OnOk result (IsGood kind unit.now) }
-    ensures stands { OnOk result ((units : List (List ℕ)) → length units < most_kept → T.stands_for taker.old (items_by kind units)
-        → T.stands_for taker.new (items_by kind (units ++ unit.now ∷ []))) }
-    ensures bad { OnErr result ((0 < length unit.now) × IsNone (item_of kind unit.now) × (taker.new ≡ taker.old)) }
+fn take_unit<T: Taker>(kind: Kind, unit: &[u8], number: u64, taker: &mut T) -> Result<(), Fault>
+    requires room { (units : List (List ℕ)) × (length units < most_kept) × Gave kind (T.stands_for taker.old) units }
+    ensures gave { OnOk result ((units : List (List ℕ)) → length units < most_kept → Gave kind (T.stands_for taker.old) units
+        → Gave kind (T.stands_for taker.new) (units ++ unit.now ∷ [])) }
+    ensures missed { OnErr result ((units : List (List ℕ)) → Gave kind (T.stands_for taker.old) units → Missed kind (T.stands_for taker.new) units unit.now) }
     ensures err { IfErr result (λ fault. fault ≡ Fault.BadItem number) }
     ensures numbers { T.numbers taker.new ≡ T.numbers taker.old }
 {

@@ -2,20 +2,21 @@
 //! these an item, and who takes it.
 #![tactic(auto)]
 
-mod counted;
+mod fault;
 mod items;
 mod kind;
 mod lines;
-mod parts;
-mod place;
 mod reader;
 mod records;
-mod table;
+mod takers;
+mod units;
 
-pub use items::{Fault, Intake, Taker, read_items};
+pub use fault::Fault;
+pub use items::{Intake, Taker, read_items};
 pub use kind::Kind;
 pub use reader::{LineFault, LineReader};
 pub use sk_model::limits::LINE_LIMIT;
+pub use units::{UnitTaker, Units, read_units};
 
 #[cfg(test)]
 mod tests;

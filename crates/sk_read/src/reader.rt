@@ -1,10 +1,10 @@
 // The lines of a source.
-ghost use Rattle.std.specs.Prelude.{◌≡◌, ◌≤◌, ◌<◌, ◌+◌, ◌-◌, ◌^◌, ℕ, List, [], ◌∷◌, ◌++◌, Ok, Err, OnOk, OnErr, IfOk, IsErrOf, ◌≢◌, length, true, false, vec_len};
+ghost use Rattle.std.specs.Prelude.{◌≡◌, ◌≤◌, ◌<◌, ◌+◌, ◌-◌, ◌^◌, ℕ, List, [], ◌∷◌, ◌++◌, Option, Ok, Err, OnOk, OnErr, IfOk, IsErrOf, ◌≢◌, length, true, false, vec_len};
 ghost use Rattle.std.specs.Io.KnownBytes.{Consumes, IsAtEnd, Keeps};
-ghost use Rattle.sk_model.specs.Causes.{Rose};
+ghost use Rattle.sk_model.specs.Causes.{HasCauseIn};
 ghost use Rattle.sk_model.specs.Lines.{lines_of};
 ghost use Rattle.sk_lines.specs.declared.cutter.Next.TheVariants as next;
-ghost use Rattle.sk_read.specs.Reading.{HasGiven, GivesLine, GivesNext, GivesNone, Stands, Stops, IsLongNext, IsLongLast, FindsLong, Feeds, remaining_of};
+ghost use Rattle.sk_read.specs.Reading.{HasGiven, GivesLine, HasRead, Goes, Stands, IsLongNext, IsLongLast, Feeds, remaining_of};
 ghost use Rattle.sk_model.specs.Limits.{source_limit};
 
 use sk_io::{Failed, Source};
@@ -15,7 +15,7 @@ use std::alloc::Global;
 use std::marker::Model;
 
 // The most bytes that one read is asked for.
-const PIECE_LEN: usize = 65_536;
+pub(crate) const PIECE_LEN: usize = 65_536;
 
 /// Why the lines of a source end before it does.
 #[derive(Clone, Copy, Debug, PartialEq, Eq)]
@@ -64,10 +64,8 @@ impl LineReader {
     /// A reader that takes fewer than `most` bytes, itself at most 2^40. It takes all its memory here.
     pub fn new(alloc: Global, most: u64) -> Result<LineReader, OutOfMemory>
         requires { most ≤ source_limit }
-        ensures given { IfOk result (λ reader. HasGiven reader [] []) }
+        ensures read { IfOk result (λ reader. (left : Option (List ℕ)) → HasRead reader left [] []) }
         ensures most { IfOk result (λ reader. reader.most ≡ most) }
-        ensures open { IfOk result (λ reader. reader.ended ≡ false) }
-        ensures limit { IfOk result (λ reader. reader.cutter.limit ≡ LINE_LIMIT) }
     {
         Ok(LineReader {
             lines: Lines::new(alloc, LINE_LIMIT)?,
@@ -85,11 +83,11 @@ impl LineReader {
         ensures fed { IfOk result (λ fed. (more : List ℕ) × Consumes (S.left source.old) (S.left source.new) more × Feeds self.old self.new more) }
         ensures some { result ≡ Ok true → (self.old.taken < self.new.taken) × (self.new.taken ≤ self.new.most) }
         ensures end { result ≡ Ok false → IsAtEnd (S.left source.new) × (self.new ≡ self.old) × (self.new.taken < self.new.most) }
-        ensures read_fault { IsErrOf result LineFault.ReadFault → Rose (S.faults source.old) (S.faults source.new) × (self.old.taken < self.old.most) }
+        ensures read_fault { IsErrOf result LineFault.ReadFault → (self.old.taken < self.old.most) }
         ensures too_much { IsErrOf result LineFault.TooMuch → self.old.taken ≡ self.old.most }
         ensures err { OnErr result ((self.new ≡ self.old) × Keeps (S.left source.old) (S.left source.new)) }
         ensures no_long { (n : ℕ) → result ≢ Err (LineFault.LongLine n) }
-        ensures later { S.faults source.old ≤ S.faults source.new }
+        ensures cause { HasCauseIn LineFault.ReadFault (S.faults source.old) (S.faults source.new) result }
         ensures stays { S.stands_on source.new ≡ S.stands_on source.old }
     {
         let room = (self.most - self.taken).min(PIECE_LEN as u64) as usize;
@@ -153,23 +151,12 @@ impl LineReader {
     /// it is not used again.
     #[inline]
     pub fn next<S: Source>(&mut self, source: &mut S) -> Result<bool, LineFault>
-        ensures line { result ≡ Ok true → (more : List ℕ) × Consumes (S.left source.old) (S.left source.new) more × GivesNext self.old self.new more }
-        ensures none { result ≡ Ok false → (more : List ℕ) × Consumes (S.left source.old) (S.left source.new) more × GivesNone self.old self.new more }
+        ensures goes { (given : List (List ℕ)) (taken : List ℕ) → HasRead self.old (S.left source.old) given taken
+            → (more : List ℕ) × Consumes (S.left source.old) (S.left source.new) more × Goes self.new (S.left source.new) given (taken ++ more) result }
         ensures holds { result ≡ Ok true → self.new.cutter.last ≡ next.Line }
-        ensures end { (self.old.ended ≡ true → IsAtEnd (S.left source.old)) → self.new.ended ≡ true → IsAtEnd (S.left source.new) }
-        ensures ended { result ≡ Ok false → self.new.ended ≡ true }
-        ensures long_line { (n : ℕ) → result ≡ Err (LineFault.LongLine n) → (more : List ℕ) × Consumes (S.left source.old) (S.left source.new) more
-            × FindsLong self.old more (S.left source.new) n }
-        ensures read_fault { IsErrOf result LineFault.ReadFault → Rose (S.faults source.old) (S.faults source.new) }
-        ensures read_fault_at { IsErrOf result LineFault.ReadFault → (more : List ℕ) × Consumes (S.left source.old) (S.left source.new) more
-            × Stops self.old self.new more × (self.new.taken < self.new.most) }
-        ensures too_much { IsErrOf result LineFault.TooMuch → (more : List ℕ) × Consumes (S.left source.old) (S.left source.new) more
-            × Stops self.old self.new more × (self.new.taken ≡ self.new.most) }
         ensures progress { result ≡ Ok true → remaining_of self.new < remaining_of self.old }
-        ensures bound { OnOk result (self.new.taken ≤ self.new.most) }
-        ensures limit { self.new.cutter.limit ≡ self.old.cutter.limit }
         ensures most { self.new.most ≡ self.old.most }
-        ensures later { S.faults source.old ≤ S.faults source.new }
+        ensures cause { HasCauseIn LineFault.ReadFault (S.faults source.old) (S.faults source.new) result }
         ensures stays { S.stands_on source.new ≡ S.stands_on source.old }
     {
         'piece: loop {

@@ -25,19 +25,19 @@ impl Taker for Items {
 
 fn read(
     alloc: Global,
-    plan: Intake,
+    intake: Intake,
     text: &[u8],
     piece: usize,
 ) -> Result<(Result<u64, Fault>, Items), Fail>
-    requires { plan.most ≤ source_limit }
+    requires { intake.most ≤ source_limit }
 {
     let mut source = MemSource::new(text.to_vec(alloc)?, piece.max(1), Vec::new(alloc));
     let mut items = Items(Vec::new(alloc));
-    let result = read_items(alloc, &plan, &mut source, &mut items);
+    let result = read_items(alloc, &intake, &mut source, &mut items);
     Ok((result, items))
 }
 
-fn plan(kind: Kind, column: u32) -> Intake
+fn intake(kind: Kind, column: u32) -> Intake
     ensures { result.most ≤ source_limit }
 {
     Intake {
@@ -57,7 +57,7 @@ fn expect_fields(
     fields: &[&[u8]],
 ) -> Result<(), Fail> {
     for piece in [1, 2, 3, 7, 1000] {
-        let (result, items) = read(alloc, plan(Kind::Hash(9), column), text, piece)?;
+        let (result, items) = read(alloc, intake(Kind::Hash(9), column), text, piece)?;
         assert_eq!(rt; result, Ok(records));
         assert_eq!(rt; items.0.len(), fields.len());
         for (item, field) in items.0.iter().zip(fields) {
@@ -137,7 +137,7 @@ fn refused_records(rt: HostRuntime) -> Result<(), Fail> {
     ];
     for (text, column, fault, items) in cases {
         for piece in [1, 2, 3, 7, 1000] {
-            let (result, taken) = read(alloc, plan(Kind::Raw, column), text, piece)?;
+            let (result, taken) = read(alloc, intake(Kind::Raw, column), text, piece)?;
             assert_eq!(rt; result, Err(fault));
             assert_eq!(rt; taken.0.as_slice(), items);
         }
@@ -170,7 +170,7 @@ fn long_fields(rt: HostRuntime) -> Result<(), Fail> {
     for (len, kind, column, want, items) in cases {
         let text = long_text(alloc, len)?;
         for piece in [4096, 1_000_000] {
-            let (result, taken) = read(alloc, plan(kind, column), &text, piece)?;
+            let (result, taken) = read(alloc, intake(kind, column), &text, piece)?;
             assert_eq!(rt; result, want);
             assert_eq!(rt; taken.0.len(), items);
         }
@@ -185,11 +185,11 @@ fn faults_of_the_source(rt: HostRuntime) -> Result<(), Fail> {
     for (call, items) in [(0, 0), (1, 0), (4, 1), (8, 2)] {
         let mut source = MemSource::new(b"1,2\n3,4\n".to_vec(alloc)?, 1, [call].to_vec(alloc)?);
         let mut taken = Items(Vec::new(alloc));
-        let result = read_items(alloc, &plan(Kind::Raw, 1), &mut source, &mut taken);
+        let result = read_items(alloc, &intake(Kind::Raw, 1), &mut source, &mut taken);
         assert_eq!(rt; result, Err(Fault::ReadFault));
         assert_eq!(rt; taken.0.len(), items);
     }
-    let mut limited = plan(Kind::Raw, 1);
+    let mut limited = intake(Kind::Raw, 1);
     limited.most = 8;
     let (result, taken) = read(alloc, limited, b"1,2\n3,4\n", 1000)?;
     assert_eq!(rt; result, Err(Fault::TooMuch));
@@ -241,7 +241,7 @@ fn distinct_fields(rt: HostRuntime) -> Result<(), Fail> {
             let mut sketch = Theta::new(alloc, 4096)?;
             let result = read_items(
                 alloc,
-                &plan(Kind::Hash(9), column),
+                &intake(Kind::Hash(9), column),
                 &mut source,
                 &mut sketch,
             );
@@ -259,8 +259,22 @@ fn lines_at_column_0(rt: HostRuntime) -> Result<(), Fail> {
     let text = b"\xEF\xBB\xBFa\n\n\"b,\nc\r\nd\rd";
     let fields: [&[u8]; 4] = [b"\xEF\xBB\xBFa", b"\"b,", b"c", b"d\rd"];
     expect_fields(&rt, alloc, text, 0, 5, &fields)?;
-    let (result, taken) = read(alloc, plan(Kind::Raw, 0), b"1\nx\n2\n", 2)?;
+    let (result, taken) = read(alloc, intake(Kind::Raw, 0), b"1\nx\n2\n", 2)?;
     assert_eq!(rt; result, Err(Fault::BadItem(2)));
     assert_eq!(rt; taken.0.as_slice(), [1].as_slice());
+    Ok(())
+}
+
+// A refused unit is told before the next read, which would fail.
+#[test]
+fn refusals_before_the_next_read(rt: HostRuntime) -> Result<(), Fail> {
+    let alloc = rt.alloc();
+    for column in [0, 1] {
+        let mut source = MemSource::new(b"1\nx\n2\n".to_vec(alloc)?, 1, [4].to_vec(alloc)?);
+        let mut taken = Items(Vec::new(alloc));
+        let result = read_items(alloc, &intake(Kind::Raw, column), &mut source, &mut taken);
+        assert_eq!(rt; result, Err(Fault::BadItem(2)));
+        assert_eq!(rt; taken.0.as_slice(), [1].as_slice());
+    }
     Ok(())
 }

@@ -1,17 +1,27 @@
-use Rattle.sk_read.proofs.UnitLaws.{long_line, bad_line, long_record, bad_record, uneven_record}
+use Rattle.std.proofs.Common.{◌≡◌, ℕ, List, Option, Some, Result, ap, subst, rules}
+use Rattle.sk_read.specs.declared.fault.Fault.{Fault}
+use Rattle.sk_read.specs.declared.kind.Kind.{Kind}
+use Rattle.sk_read.specs.declared.units.Units.{Units}
+use Rattle.sk_read.specs.Items.{Gave, Missed}
+use Rattle.sk_read.specs.Reads.{Reads}
+use Rattle.sk_read.specs.Standing.{Standing}
+use Rattle.sk_read.proofs.ItemLaws.{gave_none}
 use Rattle.sk_read.proofs.items.read_items.Goals as goal
 
-pub returns-then-plan-eq0-clause-long_line : goal.returns-then-plan-eq0-clause-long_line
-returns-then-plan-eq0-clause-long_line g c = λ n is. long_line c.args.plan.now.kind c.args.plan.now.column n (g.T.Taker.stands_for c.read_lines.new.taker) _ c.if-plan-eq0.true (c.read_lines.ensures.long_line n is)
+pub read_units-requires-clause-empty : goal.read_units-requires-clause-empty
+read_units-requires-clause-empty g c = gave_none c.args.intake.now.kind (g.T.Taker.stands_for c.args.taker.now) c.requires.empty
 
-pub returns-then-plan-eq0-clause-bad_item : goal.returns-then-plan-eq0-clause-bad_item
-returns-then-plan-eq0-clause-bad_item g c = λ n is. bad_line c.args.plan.now.kind c.args.plan.now.column n (g.T.Taker.stands_for c.read_lines.new.taker) _ c.if-plan-eq0.true (c.read_lines.ensures.bad_item n is)
+same_kind : (k l : Kind) → Some k ≡ Some l → k ≡ l
+same_kind k l same = cc
 
-pub returns-else-plan-eq0-clause-long_line : goal.returns-else-plan-eq0-clause-long_line
-returns-else-plan-eq0-clause-long_line g c = λ n is. long_record c.args.plan.now.kind c.args.plan.now.column n (g.T.Taker.stands_for c.read_records.new.taker) _ c.if-plan-eq0.false (c.read_records.ensures.long_line n is)
+-- the same reading, where the units, the kind and the taker are these
+under : {A : Type 0} (u units : Units) (k kind : Kind) (x y : A) (P : A → List ℕ → Type 0) (most : ℕ) (old new : Option (List ℕ)) (r : Result ℕ Fault) → u ≡ units → k ≡ kind → x ≡ y →
+    Reads u most (Gave k (P x)) (Missed k (P x)) old new r → Reads units most (Gave kind (P y)) (Missed kind (P y)) old new r
+under {A} u units k kind x y P most old new r unit_is kind_is taker_is read =
+    subst (λ (z : A). Reads units most (Gave kind (P z)) (Missed kind (P z)) old new r) taker_is
+    (subst (λ (l : Kind). Reads units most (Gave l (P x)) (Missed l (P x)) old new r) kind_is (subst (λ (v : Units). Reads v most (Gave k (P x)) (Missed k (P x)) old new r) unit_is read))
 
-pub returns-else-plan-eq0-clause-bad_item : goal.returns-else-plan-eq0-clause-bad_item
-returns-else-plan-eq0-clause-bad_item g c = λ n is. bad_record c.args.plan.now.kind c.args.plan.now.column n (g.T.Taker.stands_for c.read_records.new.taker) _ c.if-plan-eq0.false (c.read_records.ensures.bad_item n is)
-
-pub returns-else-plan-eq0-clause-bad_csv : goal.returns-else-plan-eq0-clause-bad_csv
-returns-else-plan-eq0-clause-bad_csv g c = λ n is. uneven_record c.args.plan.now.kind c.args.plan.now.column n (g.T.Taker.stands_for c.read_records.new.taker) _ c.if-plan-eq0.false (c.read_records.ensures.bad_csv n is)
+pub returns-clause-read : goal.returns-clause-read
+returns-clause-read g c =
+    let kind : c.read_units.new.taker.kind ≡ c.args.intake.now.kind = same_kind _ _ (ap (λ (s : Standing). s.kind) c.read_units.ensures.taker) in
+    under _ _ _ _ _ _ g.T.Taker.stands_for _ _ _ _ c.of-units.ensures kind (search rules) c.read_units.ensures.read

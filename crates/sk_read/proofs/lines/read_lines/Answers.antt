@@ -1,150 +1,121 @@
-use Rattle.std.proofs.Common.{◌≡◌, ◌<◌, ◌+◌, ◌^◌, ℕ, List, ◌++◌, ◌∷◌, [], length, take, Ok, Err, Bool, IsNone, true, false, refl, sym, ap, ◌∙◌, subst, arith, length-append}
-use Rattle.std.proofs.lemmas.Bool.{false≢true}
-use Rattle.std.proofs.lemmas.List.Elements.{All-append, All-cons, All-nil}
-use Rattle.std.specs.Option.{IfSome}
+use Rattle.std.proofs.Common.{◌≡◌, ◌<◌, ◌+◌, ℕ, List, ◌++◌, ◌∷◌, [], length, Ok, Err, IsErrAnd, Bool, true, false, refl, ap, ◌∙◌, subst, arith, length-append}
+use Rattle.std.specs.Io.KnownBytes.{Consumes}
 use Rattle.std.proofs.KnownBytes.{Consumes-nil, Consumes-trans}
-use Rattle.sk_model.specs.Lines.{lines_of, AreWithin}
-use Rattle.sk_read.specs.declared.reader.LineFault.{LineFault}
-use Rattle.sk_read.specs.declared.items.Fault.TheVariants as fault
-use Rattle.sk_read.specs.Items.{items_by, item_of, IsGood}
-use Rattle.sk_read.specs.Reading.{ComesLong}
-use Rattle.sk_read.proofs.FaultLaws.{given_fault, long_is, read_fault_is, too_much_is, bad_is}
-use Rattle.sk_read.proofs.ItemLaws.{no_items, by_told, long_at, bad_at, stood, has_few, has_begun, read_whole}
-use Rattle.sk_read.proofs.lines.read_lines.Goals as goal
 use Rattle.sk_model.specs.Limits.{source_limit}
-use Rattle.sk_model.specs.Missing.{longer}
+use Rattle.sk_read.specs.declared.fault.Fault.{Fault}
+use Rattle.sk_read.specs.declared.fault.Fault.TheVariants as fault
+use Rattle.sk_read.specs.Faults.{fault_by}
+use Rattle.sk_read.specs.Reading.{Goes, HasRead}
+use Rattle.sk_read.specs.Reads.{IsInTime}
+use Rattle.sk_read.specs.declared.units.Units.TheVariants.{Lines}
+use Rattle.sk_read.proofs.CauseLaws.{steady_ok}
+use Rattle.sk_read.proofs.ItemLaws.{has_few}
+use Rattle.sk_read.proofs.LineEnds.{ends_read, nothing_came, no_line, line_missed, all_lines}
+use Rattle.sk_read.proofs.lines.read_lines.Given.{Over}
+use Rattle.sk_read.proofs.lines.read_lines.Goals.{In_ok-next}
+use Rattle.sk_read.proofs.lines.read_lines.Goals as goal
 
-pub returns-in_err-reader-clause-memory : goal.returns-in_err-reader-clause-memory
-returns-in_err-reader-clause-memory g c = λ err.
-    let kind = c.args.kind in
-    let start = subst (λ (items : List ℕ). g.T.Taker.stands_for c.args.taker.now items) (sym (no_items kind)) c.requires.empty in
-    by_told _ (λ (text : List ℕ). (n : ℕ) × g.T.Taker.stands_for c.args.taker.now (items_by kind (take n (lines_of text)))) (λ text. (0, start))
+-- the reader behind a line
+next_line : (g : Over) (c : In_ok-next g) → c.in_ok-next.field-0 ≡ true → (more : List ℕ) × Consumes (g.S.Source.left c.line.source) (g.S.Source.left c.next.new.source) more
+    × (HasRead c.next.new.self (g.S.Source.left c.next.new.source) (c.line.invariant.given ++ c.next.new.self.cutter.line ∷ []) (c.line.invariant.taken ++ more) × IsInTime Lines c.line.invariant.given (c.line.invariant.taken ++ more))
+next_line g c is =
+    let inv = c.line.invariant in
+    let gave : c.next.result ≡ Ok true = c.in_ok-next.was ∙ ap (λ (b : Bool). Ok b) is in
+    let next = c.next.ensures.goes inv.given inv.taken inv.read in
+    (next.0, next.1, subst (Goes c.next.new.self (g.S.Source.left c.next.new.source) inv.given (inv.taken ++ next.0)) gave next.2)
+
+room : (g : Over) (c : In_ok-next g) → c.in_ok-next.field-0 ≡ true → length c.line.invariant.given < source_limit
+room g c is =
+    let inv = c.line.invariant in
+    let read = (next_line g c is).2.0 in
+    let few = has_few c.next.new.self _ _ read.has in
+    omega (arith, few, read.has.count, read.bound, read.few, length-append inv.given (c.next.new.self.cutter.line ∷ []))
+
+pub returns-in_err-reader-clause-read : goal.returns-in_err-reader-clause-read
+returns-in_err-reader-clause-read g c =
+    let left = g.S.Source.left c.args.source.now in
+    let Gave = g.T.UnitTaker.gave c.args.taker.now in
+    let Missed = g.T.UnitTaker.missed c.args.taker.now in
+    ends_read Gave Missed c.args.most Lines left left fault.OutOfMemory c.from_residual.result c.from_residual.ensures.1
+    (nothing_came Gave Missed c.args.most left c.requires.empty)
 
 pub line-init : goal.line-init
 line-init g c = record {
   given = [];
   taken = [];
-  has = c.in_ok-reader.ensures.given;
+  read = c.in_ok-reader.ensures.read (g.S.Source.left c.args.source.now);
   consumed = Consumes-nil (g.S.Source.left c.args.source.now);
-  items = λ k d below. absurd (omega arith);
-  stands = subst (λ (items : List ℕ). g.T.Taker.stands_for c.args.taker.now items) (sym (no_items c.args.kind)) c.requires.empty;
-  limit = c.in_ok-reader.ensures.limit;
+  gave = c.requires.empty;
   most = c.in_ok-reader.ensures.most;
-  end = λ ended. absurd (false≢true (sym c.in_ok-reader.ensures.open ∙ ended));
-  later = omega arith;
+  steady = refl;
   stays = refl;
-  numbers = refl;
+  standing = refl;
 }
 
-pub returns-in_err-next-clause-long_line : goal.returns-in_err-next-clause-long_line
-returns-in_err-next-clause-long_line g c = λ n is.
+pub returns-in_err-next-clause-read : goal.returns-in_err-next-clause-read
+returns-in_err-next-clause-read g c =
     let inv = c.line.invariant in
-    let which = long_is c.in_err-next.field-0.0 n (given_fault _ _ _ c.from_residual-in_err-next.ensures.1 is) in
-    let found = c.next.ensures.long_line n (c.in_err-next.was ∙ ap (λ (s : LineFault). Err s) which) in
-    let long = found.2 inv.given inv.taken inv.has in
-    long_at c.args.kind n inv.given (inv.taken ++ found.0) (g.S.Source.left c.args.source.now) (g.S.Source.left c.next.new.source)
-    (λ (items : List ℕ). g.T.Taker.stands_for c.line.taker items)
-    (Consumes-trans _ _ _ _ _ inv.consumed found.1) long.0 inv.items
-    (subst (λ (m : ℕ). AreWithin m inv.given) inv.limit inv.has.within) inv.stands
-    (subst (λ (m : ℕ). IfSome (g.S.Source.left c.next.new.source) (λ (rest : List ℕ). ComesLong m inv.given (lines_of ((inv.taken ++ found.0) ++ rest)))) inv.limit long.1)
+    let old = g.S.Source.left c.args.source.now in
+    let left = g.S.Source.left c.next.new.source in
+    let Gave = g.T.UnitTaker.gave c.line.taker in
+    let Missed = g.T.UnitTaker.missed c.line.taker in
+    let s = c.in_err-next.field-0.0 in
+    let next = c.next.ensures.goes inv.given inv.taken inv.read in
+    let goes : Goes c.next.new.self left inv.given (inv.taken ++ next.0) (Err s) = subst (Goes c.next.new.self left inv.given (inv.taken ++ next.0)) c.in_err-next.was next.2 in
+    ends_read Gave Missed c.args.most Lines old left (fault_by s) c.from_residual-in_err-next.result c.from_residual-in_err-next.ensures.1
+    (no_line Gave Missed c.args.most c.next.new.self old left inv.given (inv.taken ++ next.0) s (c.next.ensures.most ∙ inv.most)
+    (Consumes-trans _ _ _ _ _ inv.consumed next.1) inv.gave goes)
 
-pub returns-in_err-next-clause-read_fault_at : goal.returns-in_err-next-clause-read_fault_at
-returns-in_err-next-clause-read_fault_at g c = λ is.
+pub take-requires : goal.take-requires
+take-requires g c =
     let inv = c.line.invariant in
-    let which = read_fault_is c.in_err-next.field-0.0 (given_fault _ _ _ c.from_residual-in_err-next.ensures.1 is) in
-    let found = c.next.ensures.read_fault_at (c.in_err-next.was ∙ ap (λ (s : LineFault). Err s) which) in
-    let stands = found.2 inv.given inv.taken inv.has in
-    let good = stood c.args.kind c.next.new.self inv.given (inv.taken ++ found.0) (c.next.ensures.limit ∙ inv.limit) inv.items stands in (
-      inv.taken ++ found.0,
-      Consumes-trans _ _ _ _ _ inv.consumed found.1,
-      omega (arith, stands.follows.count, found.3, c.next.ensures.most, inv.most),
-      good.0,
-      subst (λ (lines : List (List ℕ)). g.T.Taker.stands_for c.line.taker (items_by c.args.kind lines)) (sym good.1) inv.stands,
-    )
-
-pub returns-in_err-next-clause-too_much : goal.returns-in_err-next-clause-too_much
-returns-in_err-next-clause-too_much g c = λ is.
-    let inv = c.line.invariant in
-    let which = too_much_is c.in_err-next.field-0.0 (given_fault _ _ _ c.from_residual-in_err-next.ensures.1 is) in
-    let found = c.next.ensures.too_much (c.in_err-next.was ∙ ap (λ (s : LineFault). Err s) which) in
-    let stands = found.2 inv.given inv.taken inv.has in
-    let good = stood c.args.kind c.next.new.self inv.given (inv.taken ++ found.0) (c.next.ensures.limit ∙ inv.limit) inv.items stands in (
-      inv.taken ++ found.0,
-      Consumes-trans _ _ _ _ _ inv.consumed found.1,
-      stands.follows.count ∙ found.3 ∙ c.next.ensures.most ∙ inv.most,
-      good.0,
-      subst (λ (lines : List (List ℕ)). g.T.Taker.stands_for c.line.taker (items_by c.args.kind lines)) (sym good.1) inv.stands,
-    )
-
-pub take_unit-requires : goal.take_unit-requires
-take_unit-requires g c =
-    let inv = c.line.invariant in
-    let gave : c.next.result ≡ Ok true = c.in_ok-next.was ∙ ap (λ (b : Bool). Ok b) c.if-branch.true in
-    let next = c.next.ensures.line gave in
-    let has = next.2 inv.given inv.taken inv.has in
-    let bound = c.in_ok-next.ensures.bound in
-    let few = has_few c.next.new.self _ _ has in
-    record { room = (inv.given, omega (arith, few, has.count, bound, c.next.ensures.most, inv.most, c.requires.bound, length-append inv.given (c.next.new.self.cutter.line ∷ [])), inv.stands) }
+    record { room = (inv.given, room g (goal.at.take-requires g c).In_ok-next c.if-branch.true, inv.gave) }
 
 pub line-preserved : goal.line-preserved
 line-preserved g c =
     let inv = c.line.invariant in
-    let gave : c.next.result ≡ Ok true = c.in_ok-next.was ∙ ap (λ (b : Bool). Ok b) c.if-branch.true in
-    let next = c.next.ensures.line gave in
-    let has = next.2 inv.given inv.taken inv.has in
-    let bound = c.in_ok-next.ensures.bound in
-    let few = has_few c.next.new.self _ _ has in
-    let room : length inv.given < source_limit = omega (arith, few, has.count, bound, c.next.ensures.most, inv.most, c.requires.bound, length-append inv.given (c.next.new.self.cutter.line ∷ [])) in
-    let line = c.line-in-line.ensures in
-    let good : IsGood c.args.kind c.next.new.self.cutter.line = subst (IsGood c.args.kind) line c.in_ok-take_unit.ensures.good in
+    let at = (goal.at.line-preserved g c).In_ok-next in
+    let next = next_line g at c.if-branch.true in
+    let gave = c.in_ok-take.ensures.gave inv.given (room g at c.if-branch.true) inv.gave in
     record {
       given = inv.given ++ c.next.new.self.cutter.line ∷ [];
       taken = inv.taken ++ next.0;
-      has = has;
+      read = next.2.0;
       consumed = Consumes-trans _ _ _ _ _ inv.consumed next.1;
-      items = All-append (IsGood c.args.kind) inv.given _ inv.items (All-cons (IsGood c.args.kind) _ [] good (All-nil (IsGood c.args.kind)));
-      stands = subst (λ (l : List ℕ). g.T.Taker.stands_for c.take_unit.new.taker (items_by c.args.kind (inv.given ++ l ∷ []))) line (c.in_ok-take_unit.ensures.stands inv.given room inv.stands);
-      limit = c.next.ensures.limit ∙ inv.limit;
+      gave = subst (λ (l : List ℕ). g.T.UnitTaker.gave c.take.new.self (inv.given ++ l ∷ [])) c.line-in-line.ensures gave;
       most = c.next.ensures.most ∙ inv.most;
-      end = c.next.ensures.end inv.end;
-      later = omega (arith, c.next.ensures.later, inv.later);
+      steady = steady_ok _ _ _ _ _ c.next.ensures.cause c.in_ok-next.was ∙ inv.steady;
       stays = c.next.ensures.stays ∙ inv.stays;
-      numbers = c.take_unit.ensures.numbers ∙ inv.numbers;
+      standing = c.take.ensures.stays ∙ inv.standing;
     }
 
-pub returns-in_err-take_unit-clause-bad_item : goal.returns-in_err-take_unit-clause-bad_item
-returns-in_err-take_unit-clause-bad_item g c = λ n is.
+pub returns-in_err-take-clause-read : goal.returns-in_err-take-clause-read
+returns-in_err-take-clause-read g c =
     let inv = c.line.invariant in
-    let kind = c.args.kind in
+    let old = g.S.Source.left c.args.source.now in
+    let left = g.S.Source.left c.next.new.source in
+    let Gave = g.T.UnitTaker.gave c.take.new.self in
+    let Missed = g.T.UnitTaker.missed c.take.new.self in
     let own = c.next.new.self.cutter.line in
-    let gave : c.next.result ≡ Ok true = c.in_ok-next.was ∙ ap (λ (b : Bool). Ok b) c.if-branch.true in
-    let next = c.next.ensures.line gave in
-    let has = next.2 inv.given inv.taken inv.has in
-    let few = has_few c.next.new.self _ _ has in
-    let longer = length-append inv.given (own ∷ []) in
-    let which : fault.BadItem c.number.result ≡ fault.BadItem n =
-    sym c.in_err-take_unit.ensures.err ∙ given_fault _ _ _ c.from_residual-in_err-take_unit.ensures.1 is in
-    let place : n ≡ length inv.given + 1 =
-    omega (arith, bad_is c.number.result n which, c.number.ensures, has.number, few, has.count, c.in_ok-next.ensures.bound, c.next.ensures.most, inv.most, c.requires.bound, longer) in
-    let bad = c.in_err-take_unit.ensures.bad in
-    let line = c.line-in-line.ensures in
-    bad_at kind n inv.given own (inv.taken ++ next.0) (g.S.Source.left c.args.source.now) (g.S.Source.left c.next.new.source)
-    (λ (items : List ℕ). g.T.Taker.stands_for c.take_unit.new.taker items)
-    (Consumes-trans _ _ _ _ _ inv.consumed next.1) place inv.items
-    (subst (λ (m : ℕ). AreWithin m (inv.given ++ own ∷ [])) (c.next.ensures.limit ∙ inv.limit) has.within)
-    (subst (λ (t : _). g.T.Taker.stands_for t (items_by kind inv.given)) (sym bad.2) inv.stands)
-    (subst (λ (l : List ℕ). 0 < length l) line bad.0)
-    (subst (λ (l : List ℕ). IsNone (item_of kind l)) line bad.1)
-    (has_begun c.next.new.self (inv.given ++ own ∷ []) (inv.taken ++ next.0) (g.S.Source.left c.next.new.source) has (c.next.ensures.end inv.end))
+    let at = (goal.at.returns-in_err-take-clause-read g c).In_ok-next in
+    let next = next_line g at c.if-branch.true in
+    let few = room g at c.if-branch.true in
+    let n = c.number.result in
+    let place : n ≡ length inv.given + 1 = omega (arith, c.number.ensures, next.2.0.has.number, few, length-append inv.given (own ∷ [])) in
+    let missed : Missed inv.given own = subst (Missed inv.given) c.line-in-line.ensures (c.in_err-take.ensures.missed inv.given inv.gave) in
+    ends_read Gave Missed c.args.most Lines old left (fault.BadItem n) c.from_residual-in_err-take.result
+    (subst (λ (f : Fault). IsErrAnd c.from_residual-in_err-take.result (λ (x : Fault). x ≡ f)) c.in_err-take.ensures.err c.from_residual-in_err-take.ensures.1)
+    (line_missed Gave Missed c.args.most c.next.new.self old left inv.given own (inv.taken ++ next.0) n (c.next.ensures.most ∙ inv.most)
+    (Consumes-trans _ _ _ _ _ inv.consumed next.1) place missed next.2.0 next.2.1)
 
-pub returns-clause-lines : goal.returns-clause-lines
-returns-clause-lines g c =
+pub returns-clause-read : goal.returns-clause-read
+returns-clause-read g c =
     let inv = c.line.invariant in
+    let Gave = g.T.UnitTaker.gave c.line.taker in
+    let Missed = g.T.UnitTaker.missed c.line.taker in
+    let left = g.S.Source.left c.next.new.source in
     let none : c.next.result ≡ Ok false = c.in_ok-next.was ∙ ap (λ (b : Bool). Ok b) c.if-branch.false in
-    let next = c.next.ensures.none none in
-    let all = next.2 inv.given inv.taken inv.has in
-    let few = has_few c.next.new.self _ _ all.1 in
-    let number : c.number-2.result ≡ length (lines_of (inv.taken ++ next.0)) =
-    omega (arith, c.number-2.ensures, all.1.number, ap length all.0, few, all.1.count, c.in_ok-next.ensures.bound, c.next.ensures.most, inv.most, c.requires.bound) in
-    read_whole _ _ (inv.taken ++ next.0) (λ (text : List ℕ). c.number-2.result ≡ length (lines_of text)) (Consumes-trans _ _ _ _ _ inv.consumed next.1)
-    (c.next.ensures.end inv.end (c.next.ensures.ended none)) number
+    let next = c.next.ensures.goes inv.given inv.taken inv.read in
+    let goes : Goes c.next.new.self left inv.given (inv.taken ++ next.0) (Ok false) = subst (Goes c.next.new.self left inv.given (inv.taken ++ next.0)) none next.2 in
+    all_lines Gave Missed c.args.most c.next.new.self (g.S.Source.left c.args.source.now) left inv.given (inv.taken ++ next.0) c.number-2.result
+    (c.next.ensures.most ∙ inv.most) (Consumes-trans _ _ _ _ _ inv.consumed next.1) inv.gave goes c.number-2.ensures

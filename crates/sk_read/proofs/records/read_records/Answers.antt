@@ -1,349 +1,229 @@
-use Rattle.std.proofs.Common.{◌≡◌, ◌<◌, ◌≤◌, ◌+◌, ◌^◌, ℕ, List, [], ◌++◌, length, take, Ok, Err, Bool, false, refl, sym, ap, ◌∙◌, subst, arith}
+use Rattle.std.proofs.Common.{◌≡◌, ◌+◌, ◌≤◌, ℕ, List, [], ◌++◌, length, take, Ok, refl, sym, ap, ◌∙◌, subst, arith}
+use Rattle.std.specs.Io.KnownBytes.{Consumes}
 use Rattle.std.proofs.KnownBytes.{Consumes-trans}
 use Rattle.csv.specs.Reading.{default_config, records}
-use Rattle.sk_read.specs.declared.kind.Kind.{Kind}
-use Rattle.sk_read.specs.declared.items.Fault.{Fault}
-use Rattle.sk_read.specs.Items.{items_by}
-use Rattle.sk_read.specs.Records.{Row, records_of, fields_in, AreGoodRows}
-use Rattle.sk_read.specs.Table.{items_in, HasRows, Ends}
+use Rattle.sk_model.specs.Limits.{most_kept}
+use Rattle.sk_read.specs.declared.fault.Fault.{Fault}
+use Rattle.sk_read.specs.declared.units.Units.TheVariants.{Column}
+use Rattle.sk_read.specs.Parts.{Lacks, Refills}
+use Rattle.sk_read.specs.Records.{records_of, fields_in, AreSoundRows}
+use Rattle.sk_read.specs.Columns.{HasRows, Breaks}
+use Rattle.sk_read.proofs.CauseLaws.{steady_ok}
 use Rattle.sk_read.proofs.FaultLaws.{given_fault}
-use Rattle.sk_read.proofs.ItemLaws.{no_items, by_told, read_whole}
-use Rattle.sk_read.proofs.RowLaws.{under_same}
-use Rattle.sk_read.proofs.EndLaws.{none_good, GaveUp, gave_up_whole, gave_up_rest, given_items, told_rows, told_end, room_whole, room_rest}
+use Rattle.sk_read.proofs.LineEnds.{ends_read}
+use Rattle.sk_read.proofs.ColumnLaws.{none_sound, length_fields}
+use Rattle.sk_read.proofs.RecordEnds.{held_by, over_by, cut_by, held_on, no_row, broke, whole_settled, rest_settled, room_whole, room_rest, rest_is}
 use Rattle.sk_read.proofs.records.read_records.Given.{Over}
+use Rattle.sk_read.proofs.records.read_records.Goals.{In_ok-refill}
 use Rattle.sk_read.proofs.records.read_records.Goals as goal
-use Rattle.sk_model.specs.Limits.{source_limit}
 
-pub returns-in_err-parts-clause-read_fault_at : goal.returns-in_err-parts-clause-read_fault_at
-returns-in_err-parts-clause-read_fault_at g c = λ is.
-    let kind = c.args.plan.now.kind in
-    let column = c.args.plan.now.column in
-    let P = g.T.Taker.stands_for c.args.taker.now in
-    let which = given_fault _ _ _ c.from_residual.ensures.1 is in
-    let at = c.start.ensures.read_fault_at (c.in_err-parts.was ∙ ap (λ (e : Fault). Err e) which) in (
-      at.0,
-      at.1,
-      at.2,
-      subst (AreGoodRows kind column) (sym at.3) (none_good kind column),
-      subst (λ (rows : List Row). P (items_in kind column rows)) (sym at.3) (subst P (sym (no_items kind)) c.requires.empty),
-    )
-
-pub returns-in_err-parts-clause-too_much : goal.returns-in_err-parts-clause-too_much
-returns-in_err-parts-clause-too_much g c = λ is.
-    let kind = c.args.plan.now.kind in
-    let column = c.args.plan.now.column in
-    let P = g.T.Taker.stands_for c.args.taker.now in
-    let which = given_fault _ _ _ c.from_residual.ensures.1 is in
-    let at = c.start.ensures.too_much (c.in_err-parts.was ∙ ap (λ (e : Fault). Err e) which) in (
-      at.0,
-      at.1,
-      at.2,
-      subst (AreGoodRows kind column) (sym at.3) (none_good kind column),
-      subst (λ (rows : List Row). P (items_in kind column rows)) (sym at.3) (subst P (sym (no_items kind)) c.requires.empty),
-    )
-
-pub returns-in_err-parts-clause-memory : goal.returns-in_err-parts-clause-memory
-returns-in_err-parts-clause-memory g c = λ is.
-    let kind = c.args.plan.now.kind in
-    let column = c.args.plan.now.column in
-    let P = g.T.Taker.stands_for c.args.taker.now in
-    by_told _ (λ (text : List ℕ). (n : ℕ) × P (items_by kind (take n (fields_in column (records_of text))))) (λ text. (0, subst P (sym (no_items kind)) c.requires.empty))
+pub returns-in_err-parts-clause-read : goal.returns-in_err-parts-clause-read
+returns-in_err-parts-clause-read g c =
+    let Gave = g.T.UnitTaker.gave c.args.taker.now in
+    let Missed = g.T.UnitTaker.missed c.args.taker.now in
+    let starts = c.in_err-parts.ensures.starts in
+    ends_read Gave Missed c.args.most (Column c.args.column) _ _ c.in_err-parts.field-0.0 c.from_residual.result c.from_residual.ensures.1
+    (no_row Gave Missed c.args.column c.args.most _ _ starts.0 starts.1 [] c.in_err-parts.field-0.0 (none_sound c.args.column) c.requires.empty starts.2)
 
 pub part-init : goal.part-init
 part-init g c =
-    let start = c.in_ok-parts.ensures in
-    let P = g.T.Taker.stands_for c.args.taker.now in
+    let start = c.in_ok-parts.ensures.starts in
     record {
       rows = [];
-      taken = start.taken.0;
-      has = start.taken.2;
-      consumed = start.taken.1;
-      table = c.new-table.ensures.rows;
-      stands = subst P (sym (no_items c.args.plan.now.kind)) c.requires.empty;
-      kind = c.new-table.ensures.kind;
+      taken = start.0;
+      held = start.2;
+      consumed = start.1;
+      table = record {
+        number = c.new-table.ensures.none.0;
+        width = c.new-table.ensures.none.1;
+        sound = none_sound c.new-table.result.column;
+        gave = c.requires.empty;
+      };
       column = c.new-table.ensures.column;
-      most = start.most;
-      end = λ over. let at = start.end over in (at.0, omega (arith, at.1, start.most));
-      later = start.later;
-      stays = start.stays;
-      numbers = refl;
+      most = start.3;
+      steady = steady_ok _ _ _ _ _ c.start.ensures.cause c.in_ok-parts.was;
+      stays = c.start.ensures.stays;
+      standing = refl;
     }
 
-pub returns-in_err-refill-clause-read_fault_at : goal.returns-in_err-refill-clause-read_fault_at
-returns-in_err-refill-clause-read_fault_at g c = λ is.
-    let inv = c.part.invariant in
-    let kind = c.args.plan.now.kind in
-    let column = c.args.plan.now.column in
-    let P = g.T.Taker.stands_for c.part.taker in
-    let which = given_fault _ _ _ c.from_residual-in_err-refill.ensures.1 is in
-    let at = c.refill.ensures.read_fault_at (c.in_err-refill.was ∙ ap (λ (e : Fault). Err e) which) in
-    let found = at.2 inv.rows inv.taken inv.has in
-    let good : AreGoodRows kind column inv.rows = under_same _ _ _ _ (λ (k : Kind) (n : ℕ). AreGoodRows k n inv.rows) inv.kind inv.column inv.table.good in (
-      inv.taken ++ at.0,
-      Consumes-trans _ _ _ _ _ inv.consumed at.1,
-      omega (arith, found.1, inv.most),
-      subst (AreGoodRows kind column) (sym found.0) good,
-      subst (λ (rows : List Row). P (items_in kind column rows)) (sym found.0) inv.stands,
-    )
+pub refill-requires : goal.refill-requires
+refill-requires g c = (c.part.invariant.rows, c.part.invariant.taken, c.part.invariant.held)
 
-pub returns-in_err-refill-clause-too_much : goal.returns-in_err-refill-clause-too_much
-returns-in_err-refill-clause-too_much g c = λ is.
+-- the records and the bytes behind a refill
+filled : (g : Over) (c : In_ok-refill g) → (more : List ℕ) × Consumes (g.S.Source.left c.part.source) (g.S.Source.left c.refill.new.source) more
+    × Refills c.refill.new.self (g.S.Source.left c.refill.new.source) c.part.invariant.rows (c.part.invariant.taken ++ more) (Ok c.in_ok-refill.field-0)
+filled g c =
     let inv = c.part.invariant in
-    let kind = c.args.plan.now.kind in
-    let column = c.args.plan.now.column in
-    let P = g.T.Taker.stands_for c.part.taker in
-    let which = given_fault _ _ _ c.from_residual-in_err-refill.ensures.1 is in
-    let at = c.refill.ensures.too_much (c.in_err-refill.was ∙ ap (λ (e : Fault). Err e) which) in
-    let found = at.2 inv.rows inv.taken inv.has in
-    let good : AreGoodRows kind column inv.rows = under_same _ _ _ _ (λ (k : Kind) (n : ℕ). AreGoodRows k n inv.rows) inv.kind inv.column inv.table.good in (
-      inv.taken ++ at.0,
-      Consumes-trans _ _ _ _ _ inv.consumed at.1,
-      found.1 ∙ inv.most,
-      subst (AreGoodRows kind column) (sym found.0) good,
-      subst (λ (rows : List Row). P (items_in kind column rows)) (sym found.0) inv.stands,
-    )
+    let at = c.refill.ensures.goes inv.rows inv.taken inv.held in
+    (at.0, at.1, subst (Refills c.refill.new.self (g.S.Source.left c.refill.new.source) inv.rows (inv.taken ++ at.0)) c.in_ok-refill.was at.2)
 
-pub returns-in_err-refill-clause-memory : goal.returns-in_err-refill-clause-memory
-returns-in_err-refill-clause-memory g c = λ is.
+pub returns-in_err-refill-clause-read : goal.returns-in_err-refill-clause-read
+returns-in_err-refill-clause-read g c =
     let inv = c.part.invariant in
-    let kind = c.args.plan.now.kind in
-    let column = c.args.plan.now.column in
-    let P = g.T.Taker.stands_for c.part.taker in
-    told_rows c.part.parts inv.rows inv.taken (g.S.Source.left c.args.source.now) (g.S.Source.left c.part.source) (λ (l : List Row). (n : ℕ) × P (items_by kind (take n (fields_in column l)))) inv.has inv.consumed
-    (λ over. (inv.end over).0) (λ more. given_items kind column P inv.rows more inv.stands)
+    let Gave = g.T.UnitTaker.gave c.part.taker in
+    let Missed = g.T.UnitTaker.missed c.part.taker in
+    let at = c.refill.ensures.goes inv.rows inv.taken inv.held in
+    let f = c.in_err-refill.field-0.0 in
+    let lacks : Lacks c.refill.new.self.most inv.rows (inv.taken ++ at.0) f = subst (Refills c.refill.new.self (g.S.Source.left c.refill.new.source) inv.rows (inv.taken ++ at.0)) c.in_err-refill.was at.2 in
+    ends_read Gave Missed c.args.most (Column c.args.column) _ _ f c.from_residual-in_err-refill.result c.from_residual-in_err-refill.ensures.1
+    (no_row Gave Missed c.args.column c.args.most _ _ (inv.taken ++ at.0) (Consumes-trans _ _ _ _ _ inv.consumed at.1) inv.rows f
+    (subst (λ (n : ℕ). AreSoundRows n inv.rows) inv.column inv.table.sound)
+    (subst (λ (n : ℕ). Gave (fields_in n inv.rows)) inv.column inv.table.gave)
+    (subst (λ (m : ℕ). Lacks m inv.rows (inv.taken ++ at.0) f) (c.refill.ensures.most ∙ inv.most) lacks))
 
 pub whole-requires : goal.whole-requires
 whole-requires g c =
-    let inv = c.part.invariant in
-    let takes = c.in_ok-refill.ensures.takes in
-    (inv.rows, inv.taken ++ takes.0, takes.2 inv.rows inv.taken inv.has)
+    let at = filled g (goal.at.whole-requires g c).In_ok-refill in
+    (c.part.invariant.rows, c.part.invariant.taken ++ at.0, (held_by c.refill.new.self _ c.part.invariant.rows (c.part.invariant.taken ++ at.0) c.in_ok-refill.field-0 at.2).has)
 
 pub drop_whole-requires : goal.drop_whole-requires
 drop_whole-requires g c =
-    let inv = c.part.invariant in
-    let takes = c.in_ok-refill.ensures.takes in
-    (inv.rows, inv.taken ++ takes.0, takes.2 inv.rows inv.taken inv.has)
+    let at = filled g (goal.at.drop_whole-requires g c).In_ok-refill in
+    (c.part.invariant.rows, c.part.invariant.taken ++ at.0, (held_by c.refill.new.self _ c.part.invariant.rows (c.part.invariant.taken ++ at.0) c.in_ok-refill.field-0 at.2).has)
 
 pub rest-requires : goal.rest-requires
 rest-requires g c =
-    let inv = c.part.invariant in
-    let takes = c.in_ok-refill.ensures.takes in
-    (inv.rows, inv.taken ++ takes.0, takes.2 inv.rows inv.taken inv.has)
+    let at = filled g (goal.at.rest-requires g c).In_ok-refill in
+    (c.part.invariant.rows, c.part.invariant.taken ++ at.0, (held_by c.refill.new.self _ c.part.invariant.rows (c.part.invariant.taken ++ at.0) c.in_ok-refill.field-0 at.2).has)
 
 pub give-requires-clause-room : goal.give-requires-clause-room
 give-requires-clause-room g c =
     let inv = c.part.invariant in
-    let takes = c.in_ok-refill.ensures.takes in
-    let has = takes.2 inv.rows inv.taken inv.has in (
-      inv.rows,
-      subst (λ (l : List ℕ). length inv.rows + length (records default_config l) ≤ source_limit) (sym c.whole.ensures.bytes) (room_whole c.refill.new.self inv.rows (inv.taken ++ takes.0) has),
-      inv.table,
-      under_same _ _ _ _ (λ (k : Kind) (n : ℕ). g.T.Taker.stands_for c.part.taker (items_in k n inv.rows)) (sym inv.kind) (sym inv.column) inv.stands,
-    )
+    let at = filled g (goal.at.give-requires-clause-room g c).In_ok-refill in
+    let held = held_by c.refill.new.self _ inv.rows (inv.taken ++ at.0) c.in_ok-refill.field-0 at.2 in
+    (inv.rows, subst (λ (l : List ℕ). length inv.rows + length (records default_config l) ≤ most_kept) (sym c.whole.ensures.bytes) (room_whole c.refill.new.self inv.rows (inv.taken ++ at.0) held.has), inv.table)
 
 pub give-requires-2-clause-room : goal.give-requires-2-clause-room
 give-requires-2-clause-room g c =
     let inv = c.part.invariant in
-    let takes = c.in_ok-refill.ensures.takes in
-    let has = takes.2 inv.rows inv.taken inv.has in (
-      inv.rows,
-      subst (λ (l : List ℕ). length inv.rows + length (records default_config l) ≤ source_limit) (sym c.rest.ensures.bytes) (room_rest c.refill.new.self inv.rows (inv.taken ++ takes.0) has),
-      inv.table,
-      under_same _ _ _ _ (λ (k : Kind) (n : ℕ). g.T.Taker.stands_for c.part.taker (items_in k n inv.rows)) (sym inv.kind) (sym inv.column) inv.stands,
-    )
+    let at = filled g (goal.at.give-requires-2-clause-room g c).In_ok-refill in
+    let held = held_by c.refill.new.self _ inv.rows (inv.taken ++ at.0) c.in_ok-refill.field-0 at.2 in
+    (inv.rows, subst (λ (l : List ℕ). length inv.rows + length (records default_config l) ≤ most_kept) (sym c.rest.ensures.bytes) (room_rest c.refill.new.self inv.rows (inv.taken ++ at.0) held.has), inv.table)
 
-at_whole : (g : Over) (c : goal.After-drop-parts-in_err-give g) →
-    GaveUp c.args.plan.now.kind c.args.plan.now.column (g.T.Taker.stands_for c.give.new.taker) (g.S.Source.left c.args.source.now) c.in_err-give.field-0.0
-at_whole g c =
+pub returns-in_err-give-clause-read : goal.returns-in_err-give-clause-read
+returns-in_err-give-clause-read g c =
     let inv = c.part.invariant in
-    let kind = c.args.plan.now.kind in
-    let column = c.args.plan.now.column in
-    let takes = c.in_ok-refill.ensures.takes in
-    let has = takes.2 inv.rows inv.taken inv.has in
-    let consumed = Consumes-trans _ _ _ _ _ inv.consumed takes.1 in
-    let room : length inv.rows + length (records default_config c.whole.result.now) ≤ source_limit =
-    subst (λ (l : List ℕ). length inv.rows + length (records default_config l) ≤ source_limit) (sym c.whole.ensures.bytes) (room_whole c.refill.new.self inv.rows (inv.taken ++ takes.0) has) in
-    let before = under_same _ _ _ _ (λ (k : Kind) (n : ℕ). g.T.Taker.stands_for c.part.taker (items_in k n inv.rows)) (sym inv.kind) (sym inv.column) inv.stands in
+    let column = c.args.column in
+    let Gave = g.T.UnitTaker.gave c.give.new.taker in
+    let Missed = g.T.UnitTaker.missed c.give.new.taker in
+    let at = filled g (goal.at.returns-in_err-give-clause-read g c).In_ok-refill in
+    let now = inv.taken ++ at.0 in
+    let parts = c.refill.new.self in
+    let held = held_by parts _ inv.rows now c.in_ok-refill.field-0 at.2 in
     let f = c.in_err-give.field-0.0 in
-    let P = g.T.Taker.stands_for c.give.new.taker in
-    let ends = c.in_err-give.ensures.ends inv.rows room inv.table before in
-    let named : Ends kind column P (inv.rows ++ records default_config (take c.refill.new.self.cut c.refill.new.self.bytes.items)) f =
-    subst (λ (l : List ℕ). Ends kind column P (inv.rows ++ records default_config l) f) c.whole.ensures.bytes
-    (under_same _ _ _ _ (λ (k : Kind) (n : ℕ). Ends k n P (inv.rows ++ records default_config c.whole.result.now) f) inv.kind inv.column ends) in
-    gave_up_whole kind column P c.refill.new.self inv.rows (inv.taken ++ takes.0) _ _ f has consumed (λ over. (c.in_ok-refill.ensures.end inv.end over).0) named
+    let room : length inv.rows + length (records default_config c.whole.result.now) ≤ most_kept =
+    subst (λ (l : List ℕ). length inv.rows + length (records default_config l) ≤ most_kept) (sym c.whole.ensures.bytes) (room_whole parts inv.rows now held.has) in
+    let breaks : Breaks column Gave Missed inv.rows (records default_config (take parts.cut parts.bytes.items)) f =
+    subst (λ (l : List ℕ). Breaks column Gave Missed inv.rows (records default_config l) f) c.whole.ensures.bytes
+    (subst (λ (n : ℕ). Breaks n Gave Missed inv.rows (records default_config c.whole.result.now) f) inv.column (c.in_err-give.ensures.goes inv.rows room inv.table)) in
+    ends_read Gave Missed c.args.most (Column column) _ _ f c.from_residual-in_err-give.result c.from_residual-in_err-give.ensures.1
+    (broke Gave Missed column c.args.most _ _ now (Consumes-trans _ _ _ _ _ inv.consumed at.1) inv.rows _ f (omega (arith, held.has.count, held.has.bound, c.refill.ensures.most, inv.most)) held.in_time
+    (subst (λ (n : ℕ). AreSoundRows n inv.rows) inv.column inv.table.sound) (whole_settled parts _ inv.rows now held) breaks)
 
-pub returns-in_err-give-clause-long_line : goal.returns-in_err-give-clause-long_line
-returns-in_err-give-clause-long_line g c = λ n is. (at_whole g c).long n (given_fault _ _ _ c.from_residual-in_err-give.ensures.1 is)
-
-pub returns-in_err-give-clause-bad_item : goal.returns-in_err-give-clause-bad_item
-returns-in_err-give-clause-bad_item g c = λ n is. (at_whole g c).bad n (given_fault _ _ _ c.from_residual-in_err-give.ensures.1 is)
-
-pub returns-in_err-give-clause-bad_csv : goal.returns-in_err-give-clause-bad_csv
-returns-in_err-give-clause-bad_csv g c = λ n is. (at_whole g c).uneven n (given_fault _ _ _ c.from_residual-in_err-give.ensures.1 is)
-
-pub returns-in_err-give-clause-read_fault : goal.returns-in_err-give-clause-read_fault
-returns-in_err-give-clause-read_fault g c = λ is. absurd ((at_whole g c).no_read_fault (given_fault _ _ _ c.from_residual-in_err-give.ensures.1 is))
-
-pub returns-in_err-give-clause-read_fault_at : goal.returns-in_err-give-clause-read_fault_at
-returns-in_err-give-clause-read_fault_at g c = λ is. absurd ((at_whole g c).no_read_fault (given_fault _ _ _ c.from_residual-in_err-give.ensures.1 is))
-
-pub returns-in_err-give-clause-too_much : goal.returns-in_err-give-clause-too_much
-returns-in_err-give-clause-too_much g c = λ is. absurd ((at_whole g c).no_too_much (given_fault _ _ _ c.from_residual-in_err-give.ensures.1 is))
-
-pub returns-in_err-give-clause-memory : goal.returns-in_err-give-clause-memory
-returns-in_err-give-clause-memory g c = λ is. (at_whole g c).memory (given_fault _ _ _ c.from_residual-in_err-give.ensures.1 is)
-
-at_rest : (g : Over) (c : goal.After-drop-parts-in_err-give-2 g) →
-    GaveUp c.args.plan.now.kind c.args.plan.now.column (g.T.Taker.stands_for c.give-2.new.taker) (g.S.Source.left c.args.source.now) c.in_err-give-2.field-0.0
-at_rest g c =
+pub returns-in_err-give-2-clause-read : goal.returns-in_err-give-2-clause-read
+returns-in_err-give-2-clause-read g c =
     let inv = c.part.invariant in
-    let kind = c.args.plan.now.kind in
-    let column = c.args.plan.now.column in
-    let takes = c.in_ok-refill.ensures.takes in
-    let has = takes.2 inv.rows inv.taken inv.has in
-    let consumed = Consumes-trans _ _ _ _ _ inv.consumed takes.1 in
-    let room : length inv.rows + length (records default_config c.rest.result.now) ≤ source_limit =
-    subst (λ (l : List ℕ). length inv.rows + length (records default_config l) ≤ source_limit) (sym c.rest.ensures.bytes) (room_rest c.refill.new.self inv.rows (inv.taken ++ takes.0) has) in
-    let before = under_same _ _ _ _ (λ (k : Kind) (n : ℕ). g.T.Taker.stands_for c.part.taker (items_in k n inv.rows)) (sym inv.kind) (sym inv.column) inv.stands in
-    let over : c.refill.result ≡ Ok false = c.in_ok-refill.was ∙ ap (λ (b : Bool). Ok b) c.if-branch.false in
+    let column = c.args.column in
+    let Gave = g.T.UnitTaker.gave c.give-2.new.taker in
+    let Missed = g.T.UnitTaker.missed c.give-2.new.taker in
+    let at = filled g (goal.at.returns-in_err-give-2-clause-read g c).In_ok-refill in
+    let now = inv.taken ++ at.0 in
+    let parts = c.refill.new.self in
+    let over = over_by parts _ inv.rows now c.in_ok-refill.field-0 c.if-branch.false at.2 in
+    let held = over.0 in
     let f = c.in_err-give-2.field-0.0 in
-    let P = g.T.Taker.stands_for c.give-2.new.taker in
-    let ends = c.in_err-give-2.ensures.ends inv.rows room inv.table before in
-    let named : Ends kind column P (inv.rows ++ records default_config (c.refill.new.self.bytes.items)) f =
-    subst (λ (l : List ℕ). Ends kind column P (inv.rows ++ records default_config l) f) c.rest.ensures.bytes
-    (under_same _ _ _ _ (λ (k : Kind) (n : ℕ). Ends k n P (inv.rows ++ records default_config c.rest.result.now) f) inv.kind inv.column ends) in
-    gave_up_rest kind column P c.refill.new.self inv.rows (inv.taken ++ takes.0) _ _ f has consumed (c.in_ok-refill.ensures.end inv.end (c.refill.ensures.ended over).0).0 named
+    let room : length inv.rows + length (records default_config c.rest.result.now) ≤ most_kept =
+    subst (λ (l : List ℕ). length inv.rows + length (records default_config l) ≤ most_kept) (sym c.rest.ensures.bytes) (room_rest parts inv.rows now held.has) in
+    let breaks : Breaks column Gave Missed inv.rows (records default_config (parts.bytes.items)) f =
+    subst (λ (l : List ℕ). Breaks column Gave Missed inv.rows (records default_config l) f) c.rest.ensures.bytes
+    (subst (λ (n : ℕ). Breaks n Gave Missed inv.rows (records default_config c.rest.result.now) f) inv.column (c.in_err-give-2.ensures.goes inv.rows room inv.table)) in
+    ends_read Gave Missed c.args.most (Column column) _ _ f c.from_residual-in_err-give-2.result c.from_residual-in_err-give-2.ensures.1
+    (broke Gave Missed column c.args.most _ _ now (Consumes-trans _ _ _ _ _ inv.consumed at.1) inv.rows _ f (omega (arith, held.has.count, held.has.bound, c.refill.ensures.most, inv.most)) held.in_time
+    (subst (λ (n : ℕ). AreSoundRows n inv.rows) inv.column inv.table.sound) (rest_settled parts _ inv.rows now held over.1) breaks)
 
-pub returns-in_err-give-2-clause-long_line : goal.returns-in_err-give-2-clause-long_line
-returns-in_err-give-2-clause-long_line g c = λ n is. (at_rest g c).long n (given_fault _ _ _ c.from_residual-in_err-give-2.ensures.1 is)
+pub returns-in_err-give-clause-cause : goal.returns-in_err-give-clause-cause
+returns-in_err-give-clause-cause g c =
+    let inv = c.part.invariant in
+    let at = filled g (goal.at.returns-in_err-give-clause-cause g c).In_ok-refill in
+    let held = held_by c.refill.new.self _ inv.rows (inv.taken ++ at.0) c.in_ok-refill.field-0 at.2 in
+    let room : length inv.rows + length (records default_config c.whole.result.now) ≤ most_kept =
+    subst (λ (l : List ℕ). length inv.rows + length (records default_config l) ≤ most_kept) (sym c.whole.ensures.bytes) (room_whole c.refill.new.self inv.rows (inv.taken ++ at.0) held.has) in
+    record {
+      steady = λ _. steady_ok _ _ _ _ _ c.refill.ensures.cause c.in_ok-refill.was ∙ inv.steady;
+      failed = λ is. absurd (subst (λ (f : Fault). Breaks c.part.table.column (g.T.UnitTaker.gave c.give.new.taker) (g.T.UnitTaker.missed c.give.new.taker) inv.rows (records default_config c.whole.result.now) f)
+          (given_fault _ c.in_err-give.field-0.0 _ c.from_residual-in_err-give.ensures.1 is) (c.in_err-give.ensures.goes inv.rows room inv.table));
+    }
 
-pub returns-in_err-give-2-clause-bad_item : goal.returns-in_err-give-2-clause-bad_item
-returns-in_err-give-2-clause-bad_item g c = λ n is. (at_rest g c).bad n (given_fault _ _ _ c.from_residual-in_err-give-2.ensures.1 is)
+pub returns-in_err-give-2-clause-cause : goal.returns-in_err-give-2-clause-cause
+returns-in_err-give-2-clause-cause g c =
+    let inv = c.part.invariant in
+    let at = filled g (goal.at.returns-in_err-give-2-clause-cause g c).In_ok-refill in
+    let held = held_by c.refill.new.self _ inv.rows (inv.taken ++ at.0) c.in_ok-refill.field-0 at.2 in
+    let room : length inv.rows + length (records default_config c.rest.result.now) ≤ most_kept =
+    subst (λ (l : List ℕ). length inv.rows + length (records default_config l) ≤ most_kept) (sym c.rest.ensures.bytes) (room_rest c.refill.new.self inv.rows (inv.taken ++ at.0) held.has) in
+    record {
+      steady = λ _. steady_ok _ _ _ _ _ c.refill.ensures.cause c.in_ok-refill.was ∙ inv.steady;
+      failed = λ is. absurd (subst (λ (f : Fault). Breaks c.part.table.column (g.T.UnitTaker.gave c.give-2.new.taker) (g.T.UnitTaker.missed c.give-2.new.taker) inv.rows (records default_config c.rest.result.now) f)
+          (given_fault _ c.in_err-give-2.field-0.0 _ c.from_residual-in_err-give-2.ensures.1 is) (c.in_err-give-2.ensures.goes inv.rows room inv.table));
+    }
 
-pub returns-in_err-give-2-clause-bad_csv : goal.returns-in_err-give-2-clause-bad_csv
-returns-in_err-give-2-clause-bad_csv g c = λ n is. (at_rest g c).uneven n (given_fault _ _ _ c.from_residual-in_err-give-2.ensures.1 is)
-
-pub returns-in_err-give-2-clause-read_fault : goal.returns-in_err-give-2-clause-read_fault
-returns-in_err-give-2-clause-read_fault g c = λ is. absurd ((at_rest g c).no_read_fault (given_fault _ _ _ c.from_residual-in_err-give-2.ensures.1 is))
-
-pub returns-in_err-give-2-clause-read_fault_at : goal.returns-in_err-give-2-clause-read_fault_at
-returns-in_err-give-2-clause-read_fault_at g c = λ is. absurd ((at_rest g c).no_read_fault (given_fault _ _ _ c.from_residual-in_err-give-2.ensures.1 is))
-
-pub returns-in_err-give-2-clause-too_much : goal.returns-in_err-give-2-clause-too_much
-returns-in_err-give-2-clause-too_much g c = λ is. absurd ((at_rest g c).no_too_much (given_fault _ _ _ c.from_residual-in_err-give-2.ensures.1 is))
-
-pub returns-in_err-give-2-clause-memory : goal.returns-in_err-give-2-clause-memory
-returns-in_err-give-2-clause-memory g c = λ is. (at_rest g c).memory (given_fault _ _ _ c.from_residual-in_err-give-2.ensures.1 is)
+pub part-smaller : goal.part-smaller
+part-smaller g c =
+    let inv = c.part.invariant in
+    let at = filled g (goal.at.part-smaller g c).In_ok-refill in
+    let less = c.drop_whole.ensures.less (cut_by c.refill.new.self _ inv.rows (inv.taken ++ at.0) c.in_ok-refill.field-0 c.if-branch.true at.2) in
+    omega (arith, less, c.in_ok-refill.ensures.remaining)
 
 pub part-preserved : goal.part-preserved
 part-preserved g c =
     let inv = c.part.invariant in
-    let kind = c.args.plan.now.kind in
-    let column = c.args.plan.now.column in
-    let takes = c.in_ok-refill.ensures.takes in
-    let has = takes.2 inv.rows inv.taken inv.has in
-    let consumed = Consumes-trans _ _ _ _ _ inv.consumed takes.1 in
-    let room : length inv.rows + length (records default_config c.whole.result.now) ≤ source_limit =
-    subst (λ (l : List ℕ). length inv.rows + length (records default_config l) ≤ source_limit) (sym c.whole.ensures.bytes) (room_whole c.refill.new.self inv.rows (inv.taken ++ takes.0) has) in
-    let before = under_same _ _ _ _ (λ (k : Kind) (n : ℕ). g.T.Taker.stands_for c.part.taker (items_in k n inv.rows)) (sym inv.kind) (sym inv.column) inv.stands in
-    let part = take c.refill.new.self.cut c.refill.new.self.bytes.items in
+    let at = filled g (goal.at.part-preserved g c).In_ok-refill in
+    let now = inv.taken ++ at.0 in
+    let parts = c.refill.new.self in
+    let left = g.S.Source.left c.refill.new.source in
+    let held = held_by parts left inv.rows now c.in_ok-refill.field-0 at.2 in
+    let part = take parts.cut parts.bytes.items in
     let rows = inv.rows ++ records default_config part in
-    let P = g.T.Taker.stands_for c.give.new.taker in
-    let table : HasRows c.give.new.self rows = subst (λ (l : List ℕ). HasRows c.give.new.self (inv.rows ++ records default_config l)) c.whole.ensures.bytes (c.in_ok-give.ensures.rows inv.rows room inv.table) in
-    let after = c.in_ok-give.ensures.stands inv.rows room inv.table before in
-    let named = under_same _ _ _ _ (λ (k : Kind) (n : ℕ). P (items_in k n (inv.rows ++ records default_config c.whole.result.now))) inv.kind inv.column after in
+    let room : length inv.rows + length (records default_config c.whole.result.now) ≤ most_kept =
+    subst (λ (l : List ℕ). length inv.rows + length (records default_config l) ≤ most_kept) (sym c.whole.ensures.bytes) (room_whole parts inv.rows now held.has) in
     record {
       rows = rows;
-      taken = inv.taken ++ takes.0;
-      has = c.drop_whole.ensures.given inv.rows (inv.taken ++ takes.0) has;
-      consumed = consumed;
-      table = table;
-      stands = subst (λ (l : List ℕ). P (items_in kind column (inv.rows ++ records default_config l))) c.whole.ensures.bytes named;
-      kind = c.give.ensures.same.0 ∙ inv.kind;
-      column = c.give.ensures.same.1 ∙ inv.column;
-      most = c.drop_whole.ensures.same.0 ∙ c.in_ok-refill.ensures.most ∙ inv.most;
-      end = λ over.
-          let at = c.in_ok-refill.ensures.end inv.end (sym c.drop_whole.ensures.same.2 ∙ over) in
-          (at.0, omega (arith, at.1, c.drop_whole.ensures.same.0, c.drop_whole.ensures.same.1));
-      later = omega (arith, c.in_ok-refill.ensures.later, inv.later);
+      taken = now;
+      held = held_on parts c.drop_whole.new.self left inv.rows (records default_config part) now held (c.drop_whole.ensures.given inv.rows now held.has)
+          c.drop_whole.ensures.same.0 c.drop_whole.ensures.same.1 c.drop_whole.ensures.same.2;
+      consumed = Consumes-trans _ _ _ _ _ inv.consumed at.1;
+      table = subst (λ (l : List ℕ). HasRows c.give.new.self (g.T.UnitTaker.gave c.give.new.taker) (inv.rows ++ records default_config l)) c.whole.ensures.bytes (c.in_ok-give.ensures.goes inv.rows room inv.table);
+      column = c.give.ensures.column ∙ inv.column;
+      most = c.drop_whole.ensures.same.0 ∙ c.refill.ensures.most ∙ inv.most;
+      steady = steady_ok _ _ _ _ _ c.refill.ensures.cause c.in_ok-refill.was ∙ inv.steady;
       stays = c.in_ok-refill.ensures.stays ∙ inv.stays;
-      numbers = c.give.ensures.numbers ∙ inv.numbers;
+      standing = c.give.ensures.taker ∙ inv.standing;
     }
 
-pub returns-clause-records : goal.returns-clause-records
-returns-clause-records g c =
+pub returns-clause-read : goal.returns-clause-read
+returns-clause-read g c =
     let inv = c.part.invariant in
-    let kind = c.args.plan.now.kind in
-    let column = c.args.plan.now.column in
-    let takes = c.in_ok-refill.ensures.takes in
-    let has = takes.2 inv.rows inv.taken inv.has in
-    let consumed = Consumes-trans _ _ _ _ _ inv.consumed takes.1 in
-    let room : length inv.rows + length (records default_config c.rest.result.now) ≤ source_limit =
-    subst (λ (l : List ℕ). length inv.rows + length (records default_config l) ≤ source_limit) (sym c.rest.ensures.bytes) (room_rest c.refill.new.self inv.rows (inv.taken ++ takes.0) has) in
-    let before = under_same _ _ _ _ (λ (k : Kind) (n : ℕ). g.T.Taker.stands_for c.part.taker (items_in k n inv.rows)) (sym inv.kind) (sym inv.column) inv.stands in
-    let over : c.refill.result ≡ Ok false = c.in_ok-refill.was ∙ ap (λ (b : Bool). Ok b) c.if-branch.false in
-    let at = c.in_ok-refill.ensures.end inv.end (c.refill.ensures.ended over).0 in
-    let rest = c.refill.new.self.bytes.items in
-    let rows = inv.rows ++ records default_config rest in
-    let table : HasRows c.give-2.new.self rows = subst (λ (l : List ℕ). HasRows c.give-2.new.self (inv.rows ++ records default_config l)) c.rest.ensures.bytes (c.in_ok-give-2.ensures.rows inv.rows room inv.table) in
-    told_end c.refill.new.self inv.rows (inv.taken ++ takes.0) _ _ (λ (l : List Row). c.number.result ≡ length l) has consumed at.0 (c.number.ensures ∙ table.number)
-
-pub returns-clause-good : goal.returns-clause-good
-returns-clause-good g c =
-    let inv = c.part.invariant in
-    let kind = c.args.plan.now.kind in
-    let column = c.args.plan.now.column in
-    let takes = c.in_ok-refill.ensures.takes in
-    let has = takes.2 inv.rows inv.taken inv.has in
-    let consumed = Consumes-trans _ _ _ _ _ inv.consumed takes.1 in
-    let room : length inv.rows + length (records default_config c.rest.result.now) ≤ source_limit =
-    subst (λ (l : List ℕ). length inv.rows + length (records default_config l) ≤ source_limit) (sym c.rest.ensures.bytes) (room_rest c.refill.new.self inv.rows (inv.taken ++ takes.0) has) in
-    let before = under_same _ _ _ _ (λ (k : Kind) (n : ℕ). g.T.Taker.stands_for c.part.taker (items_in k n inv.rows)) (sym inv.kind) (sym inv.column) inv.stands in
-    let over : c.refill.result ≡ Ok false = c.in_ok-refill.was ∙ ap (λ (b : Bool). Ok b) c.if-branch.false in
-    let at = c.in_ok-refill.ensures.end inv.end (c.refill.ensures.ended over).0 in
-    let rest = c.refill.new.self.bytes.items in
-    let rows = inv.rows ++ records default_config rest in
-    let table : HasRows c.give-2.new.self rows = subst (λ (l : List ℕ). HasRows c.give-2.new.self (inv.rows ++ records default_config l)) c.rest.ensures.bytes (c.in_ok-give-2.ensures.rows inv.rows room inv.table) in
-    let good = under_same _ _ _ _ (λ (k : Kind) (n : ℕ). AreGoodRows k n rows) (c.give-2.ensures.same.0 ∙ inv.kind) (c.give-2.ensures.same.1 ∙ inv.column) table.good in
-    told_end c.refill.new.self inv.rows (inv.taken ++ takes.0) _ _ (AreGoodRows kind column) has consumed at.0 good
-
-pub returns-clause-size : goal.returns-clause-size
-returns-clause-size g c =
-    let inv = c.part.invariant in
-    let kind = c.args.plan.now.kind in
-    let column = c.args.plan.now.column in
-    let takes = c.in_ok-refill.ensures.takes in
-    let has = takes.2 inv.rows inv.taken inv.has in
-    let consumed = Consumes-trans _ _ _ _ _ inv.consumed takes.1 in
-    let room : length inv.rows + length (records default_config c.rest.result.now) ≤ source_limit =
-    subst (λ (l : List ℕ). length inv.rows + length (records default_config l) ≤ source_limit) (sym c.rest.ensures.bytes) (room_rest c.refill.new.self inv.rows (inv.taken ++ takes.0) has) in
-    let before = under_same _ _ _ _ (λ (k : Kind) (n : ℕ). g.T.Taker.stands_for c.part.taker (items_in k n inv.rows)) (sym inv.kind) (sym inv.column) inv.stands in
-    let over : c.refill.result ≡ Ok false = c.in_ok-refill.was ∙ ap (λ (b : Bool). Ok b) c.if-branch.false in
-    let at = c.in_ok-refill.ensures.end inv.end (c.refill.ensures.ended over).0 in
-    let rest = c.refill.new.self.bytes.items in
-    let rows = inv.rows ++ records default_config rest in
-    let table : HasRows c.give-2.new.self rows = subst (λ (l : List ℕ). HasRows c.give-2.new.self (inv.rows ++ records default_config l)) c.rest.ensures.bytes (c.in_ok-give-2.ensures.rows inv.rows room inv.table) in
-    let size : length (inv.taken ++ takes.0) < c.args.plan.now.most = omega (arith, has.count, at.1, c.in_ok-refill.ensures.most, inv.most) in
-    read_whole _ _ (inv.taken ++ takes.0) (λ (text : List ℕ). length text < c.args.plan.now.most) consumed at.0 size
-
-pub returns-clause-items : goal.returns-clause-items
-returns-clause-items g c =
-    let inv = c.part.invariant in
-    let kind = c.args.plan.now.kind in
-    let column = c.args.plan.now.column in
-    let takes = c.in_ok-refill.ensures.takes in
-    let has = takes.2 inv.rows inv.taken inv.has in
-    let consumed = Consumes-trans _ _ _ _ _ inv.consumed takes.1 in
-    let room : length inv.rows + length (records default_config c.rest.result.now) ≤ source_limit =
-    subst (λ (l : List ℕ). length inv.rows + length (records default_config l) ≤ source_limit) (sym c.rest.ensures.bytes) (room_rest c.refill.new.self inv.rows (inv.taken ++ takes.0) has) in
-    let before = under_same _ _ _ _ (λ (k : Kind) (n : ℕ). g.T.Taker.stands_for c.part.taker (items_in k n inv.rows)) (sym inv.kind) (sym inv.column) inv.stands in
-    let over : c.refill.result ≡ Ok false = c.in_ok-refill.was ∙ ap (λ (b : Bool). Ok b) c.if-branch.false in
-    let at = c.in_ok-refill.ensures.end inv.end (c.refill.ensures.ended over).0 in
-    let rest = c.refill.new.self.bytes.items in
-    let rows = inv.rows ++ records default_config rest in
-    let table : HasRows c.give-2.new.self rows = subst (λ (l : List ℕ). HasRows c.give-2.new.self (inv.rows ++ records default_config l)) c.rest.ensures.bytes (c.in_ok-give-2.ensures.rows inv.rows room inv.table) in
-    let P = g.T.Taker.stands_for c.give-2.new.taker in
-    let after = c.in_ok-give-2.ensures.stands inv.rows room inv.table before in
-    let named = under_same _ _ _ _ (λ (k : Kind) (n : ℕ). P (items_in k n (inv.rows ++ records default_config c.rest.result.now))) inv.kind inv.column after in
-    told_end c.refill.new.self inv.rows (inv.taken ++ takes.0) _ _ (λ (l : List Row). P (items_in kind column l)) has consumed at.0
-    (subst (λ (l : List ℕ). P (items_in kind column (inv.rows ++ records default_config l))) c.rest.ensures.bytes named)
+    let column = c.args.column in
+    let Gave = g.T.UnitTaker.gave c.give-2.new.taker in
+    let Missed = g.T.UnitTaker.missed c.give-2.new.taker in
+    let at = filled g (goal.at.returns-clause-read g c).In_ok-refill in
+    let now = inv.taken ++ at.0 in
+    let parts = c.refill.new.self in
+    let left = g.S.Source.left c.refill.new.source in
+    let over = over_by parts left inv.rows now c.in_ok-refill.field-0 c.if-branch.false at.2 in
+    let held = over.0 in
+    let end = held.end over.1 in
+    let room : length inv.rows + length (records default_config c.rest.result.now) ≤ most_kept =
+    subst (λ (l : List ℕ). length inv.rows + length (records default_config l) ≤ most_kept) (sym c.rest.ensures.bytes) (room_rest parts inv.rows now held.has) in
+    let whole : inv.rows ++ records default_config c.rest.result.now ≡ records_of now =
+    ap (λ (l : List ℕ). inv.rows ++ records default_config l) c.rest.ensures.bytes ∙ sym (rest_is parts left inv.rows now held) in
+    let table : HasRows c.give-2.new.self Gave (records_of now) = subst (HasRows c.give-2.new.self Gave) whole (c.in_ok-give-2.ensures.goes inv.rows room inv.table) in
+    record {
+      taken = now;
+      consumed = Consumes-trans _ _ _ _ _ inv.consumed at.1;
+      end = end.0;
+      size = omega (arith, end.1, held.has.count, c.refill.ensures.most, inv.most);
+      sound = subst (λ (n : ℕ). AreSoundRows n (records_of now)) (c.give-2.ensures.column ∙ inv.column) table.sound;
+      number = omega (arith, c.number.ensures, table.number, length_fields column (records_of now));
+      gave = subst (λ (n : ℕ). Gave (fields_in n (records_of now))) (c.give-2.ensures.column ∙ inv.column) table.gave;
+    }

@@ -1,13 +1,15 @@
-use Rattle.std.proofs.Common.{◌≡◌, ◌≤◌, ◌-◌, ℕ, List, true}
-use Rattle.std.specs.Io.KnownBytes.{Consumes, IsAtEnd}
-use Rattle.sk_read.proofs.Readings.{Moves}
+use Rattle.std.proofs.Common.{◌≡◌, ◌≤◌, ◌-◌, ◌++◌, ℕ, List}
+use Rattle.std.specs.Io.KnownBytes.{Consumes}
+use Rattle.sk_read.specs.Reading.{HasRead, remaining_of}
 use Rattle.sk_read.proofs.reader.LineReader.next.Given as goal
 
 abbrev pub invariant-piece : goal.invariant-piece
 invariant-piece g l = record {
-  moves : (more : List ℕ) × Consumes (g.S.Source.left l.initial.source) (g.S.Source.left l.source) more × Moves l.initial.self l.self more;
-  end : (l.initial.self.ended ≡ true → IsAtEnd (g.S.Source.left l.initial.source)) → l.self.ended ≡ true → IsAtEnd (g.S.Source.left l.source);
-  later : g.S.Source.faults l.initial.source ≤ g.S.Source.faults l.source;
+  goes : (given : List (List ℕ)) (taken : List ℕ) → HasRead l.initial.self (g.S.Source.left l.initial.source) given taken →
+      (more : List ℕ) × Consumes (g.S.Source.left l.initial.source) (g.S.Source.left l.source) more × HasRead l.self (g.S.Source.left l.source) given (taken ++ more);
+  remaining : remaining_of l.self ≤ remaining_of l.initial.self;
+  most : l.self.most ≡ l.initial.self.most;
+  steady : g.S.Source.faults l.source ≡ g.S.Source.faults l.initial.source;
   stays : g.S.Source.stands_on l.source ≡ g.S.Source.stands_on l.initial.source;
 }
 

@@ -1,0 +1,76 @@
+-- Records that a table takes, one after another.
+use Rattle.std.proofs.Common.{Bor, ◌≡◌, ℕ, zero, suc, ◌<◌, ◌≤◌, List, [], ◌∷◌, ◌++◌, length, get_or, Option, Some, None, Result, Ok, Err, OnOk, OnErr, unwrap_or, refl, sym, ap, ◌∙◌, subst, append_assoc}
+use Rattle.std.specs.Result.{IfErr}
+use Rattle.std.specs.Prelude.{MatchResult}
+use Rattle.std.specs.Option.{option_map}
+use Rattle.std.proofs.lemmas.List.{map-append, length-map}
+use Rattle.std.proofs.lemmas.List.Elements.{All-cons, All-nil, All-push}
+use Rattle.csv.specs.Records.{field_at}
+use Rattle.sk_model.specs.Missing.{Begins}
+use Rattle.sk_read.specs.declared.fault.Fault.{Fault}
+use Rattle.sk_read.specs.declared.fault.Fault.TheVariants as fault
+use Rattle.sk_model.specs.Lines.{AreWithin}
+use Rattle.sk_read.specs.Records.{Row, field_of, fields_in, width_of, AreEven, AreSoundRows}
+use Rattle.sk_read.specs.Columns.{Refuses, Breaks}
+use Rattle.sk_model.specs.Limits.{line_limit}
+
+pub field_at_is : (fields : Row) (i : ℕ) → unwrap_or (field_at fields i) [] ≡ get_or fields i []
+unfolding field_at
+field_at_is [] i = refl
+field_at_is (field ∷ fields) zero = refl
+field_at_is (field ∷ fields) (suc i) = field_at_is fields i
+
+-- what is known of a call, of its value or its one fault
+pub took : {A : Type 0} (r : Result A Fault) (f : Fault) (P R S : Type 0) (Q : Fault → Type 0) → IfErr r (λ (e : Fault). e ≡ f) → OnOk r R → (R → P) → OnErr r S → (S → Q f) → MatchResult r (λ _. P) Q
+took (Ok a) f P R S Q is good so bad then = so good
+took (Err e) f P R S Q is good so bad then = subst Q (sym is) (then bad)
+
+pub fields_more : (column : ℕ) (rows : List Row) (row : Row) → fields_in column (rows ++ row ∷ []) ≡ fields_in column rows ++ field_of column row ∷ []
+fields_more column rows row = map-append (field_of column) rows (row ∷ [])
+
+pub length_fields : (column : ℕ) (rows : List Row) → length (fields_in column rows) ≡ length rows
+length_fields column rows = length-map rows (field_of column)
+
+pub even_more : (column : ℕ) (rows : List Row) (row : Row) → AreEven column rows → length row ≡ width_of (rows ++ row ∷ []) → column < length row →
+    AreEven column (rows ++ row ∷ [])
+even_more column [] row even same has = All-cons (λ (r : Row). (length r ≡ length row) × (column < length r)) row [] (refl, has) (All-nil (λ (r : Row). (length r ≡ length row) × (column < length r)))
+even_more column (first ∷ rows) row even same has =
+    All-push (λ (r : Row). (length r ≡ length first) × (column < length r)) (first ∷ rows) row even (same, has)
+
+pub sound_more : (column : ℕ) (rows : List Row) (row : Row) → AreSoundRows column rows → AreEven column (rows ++ row ∷ []) →
+    length (field_of column row) ≤ line_limit → AreSoundRows column (rows ++ row ∷ [])
+sound_more column rows row sound even short = record {
+  even = even;
+  within = subst (λ (l : List (List ℕ)). AreWithin line_limit l) (sym (fields_more column rows row)) (All-push (λ (l : List ℕ). length l ≤ line_limit) (fields_in column rows) (field_of column row) sound.within short);
+}
+
+pub none_sound : (column : ℕ) → AreSoundRows column []
+none_sound column = record {
+  even = All-nil (λ (row : Row). (length row ≡ 0) × (column < length row));
+  within = All-nil (λ (l : List ℕ). length l ≤ line_limit);
+}
+
+-- a record that is refused ends the taking there
+pub ends_at : (Gave : List (List ℕ) → Type 0) (Missed : List (List ℕ) → List ℕ → Type 0) (column : ℕ) (rows more some : List Row) (row : Row) (f : Fault) → Begins (some ++ row ∷ []) more → AreSoundRows column (rows ++ some) →
+    Refuses column Gave Missed (rows ++ some) row f → Breaks column Gave Missed rows more f
+ends_at Gave Missed column rows more some row (fault.LongLine n) begins sound refused = record { some = some; next = row; begins = begins; sound = sound; refused = refused }
+ends_at Gave Missed column rows more some row (fault.BadItem n) begins sound refused = record { some = some; next = row; begins = begins; sound = sound; refused = refused }
+ends_at Gave Missed column rows more some row (fault.BadCsv n) begins sound refused = record { some = some; next = row; begins = begins; sound = sound; refused = refused }
+ends_at Gave Missed column rows more some row fault.OutOfMemory begins sound refused = absurd refused
+ends_at Gave Missed column rows more some row fault.ReadFault begins sound refused = absurd refused
+ends_at Gave Missed column rows more some row fault.TooMuch begins sound refused = absurd refused
+
+-- a field, or an empty one where there is none
+pub field_or_empty : (o : Option (Bor (List ℕ))) (d : Bor (List ℕ)) (fields : Row) (i : ℕ) → option_map (λ (s : Bor (List ℕ)). s.now) o ≡ field_at fields i → d.now ≡ [] →
+    (unwrap_or o d).now ≡ get_or fields i []
+field_or_empty None d fields i is empty = empty ∙ ap (λ (f : Option (List ℕ)). unwrap_or f []) is ∙ field_at_is fields i
+field_or_empty (Some s) d fields i is empty = ap (λ (f : Option (List ℕ)). unwrap_or f []) is ∙ field_at_is fields i
+
+-- how many bytes there are, where they are told
+abbrev pub length_told : Option (List ℕ) → ℕ
+length_told None = 0
+length_told (Some bytes) = length bytes
+
+pub one_more_row : (all given : List Row) (row : Row) (run more : List Row) → all ≡ given ++ run → run ≡ row ∷ more → all ≡ (given ++ row ∷ []) ++ more
+one_more_row all given row run more split next =
+    split ∙ ap (λ (l : List Row). given ++ l) next ∙ sym (append_assoc given (row ∷ []) more)

@@ -1,0 +1,113 @@
+-- How the reading of a source ends.
+use Rattle.std.proofs.Common.{◌≡◌, ℕ, ◌+◌, ◌≤◌, List, [], ◌∷◌, ◌++◌, length, take, false, Option, Result, Ok, Err, IsErrAnd, inl, inr, refl, sym, ap, ◌∙◌, subst, arith, length-append}
+use Rattle.std.specs.Io.KnownBytes.{Consumes}
+use Rattle.std.proofs.KnownBytes.{Consumes-nil}
+use Rattle.std.proofs.lemmas.List.Elements.{All-nil}
+use Rattle.sk_model.specs.Limits.{line_limit}
+use Rattle.sk_model.specs.Lines.{lines_of, AreWithin, IsFirstLong}
+use Rattle.sk_model.specs.Missing.{Begins}
+use Rattle.sk_model.proofs.Missing.{begins_append, begins_trans}
+use Rattle.sk_read.specs.declared.reader.LineFault.{LineFault}
+use Rattle.sk_read.specs.declared.reader.LineFault.TheVariants as stop
+use Rattle.sk_read.specs.declared.fault.Fault.{Fault}
+use Rattle.sk_read.specs.declared.fault.Fault.TheVariants as fault
+use Rattle.sk_read.specs.declared.units.Units.{Units}
+use Rattle.sk_read.specs.declared.units.Units.TheVariants.{Lines}
+use Rattle.sk_read.specs.Faults.{fault_by}
+use Rattle.sk_read.specs.Reading.{Reading, HasRead, Goes}
+use Rattle.sk_read.specs.Reads.{IsSettled, IsInTime, ReadsAll, Ends, Reads}
+use Rattle.sk_read.specs.Units.{IsSoundUpTo}
+use Rattle.sk_read.proofs.ItemLaws.{front_is, has_few}
+use Rattle.sk_read.proofs.Readings.{given_settled, nothing_read}
+
+pub settled_so : (P Q : List ℕ → Type 0) (left : Option (List ℕ)) (taken : List ℕ) → ((text : List ℕ) → P text → Q text) → IsSettled P left taken → IsSettled Q left taken
+settled_so P Q left taken so (inl always) = inl (λ later. so (taken ++ later) (always later))
+settled_so P Q left taken so (inr here) = inr (here.0, so taken here.1)
+
+module _ (Gave : List (List ℕ) → Type 0) (Missed : List (List ℕ) → List ℕ → Type 0) (most : ℕ) where
+  -- the fault of the whole
+  pub ends_read : (units : Units) (old new : Option (List ℕ)) (f : Fault) (r : Result ℕ Fault) → IsErrAnd r (λ (x : Fault). x ≡ f) → Ends units most Gave Missed old new f → Reads units most Gave Missed old new r
+  ends_read units old new f (Ok n) is ends = absurd is
+  ends_read units old new f (Err e) is ends = subst (λ (x : Fault). Ends units most Gave Missed old new x) (sym is) ends
+
+  -- no memory before the first read
+  pub nothing_came : (left : Option (List ℕ)) → Gave [] → Ends Lines most Gave Missed left left fault.OutOfMemory
+  nothing_came left gave = record {
+    given = [];
+    taken = [];
+    consumed = Consumes-nil left;
+    size = omega arith;
+    in_time = nothing_read;
+    known = gave;
+    comes = inl (λ later. ((lines_of later, refl), All-nil (λ (l : List ℕ). length l ≤ line_limit)));
+  }
+
+  -- no line came
+  pub no_line : (r : Reading) (old left : Option (List ℕ)) (given : List (List ℕ)) (taken : List ℕ) (s : LineFault) → r.most ≡ most → Consumes old left taken → Gave given → Goes r left given taken (Err s) →
+      Ends Lines most Gave Missed old left (fault_by s)
+  no_line r old left given taken stop.ReadFault is consumed gave goes = record {
+    taken = taken;
+    consumed = consumed;
+    size = omega (arith, goes.1, is);
+    sound = goes.0.1;
+    gave = subst Gave (sym goes.0.0) gave;
+  }
+  no_line r old left given taken stop.TooMuch is consumed gave goes = record {
+    taken = taken;
+    consumed = consumed;
+    size = goes.1 ∙ is;
+    sound = goes.0.1;
+    gave = subst Gave (sym goes.0.0) gave;
+  }
+  no_line r old left given taken (stop.LongLine n) is consumed gave goes = record {
+    given = given;
+    taken = taken;
+    consumed = consumed;
+    size = omega (arith, goes.1, is);
+    in_time = goes.2;
+    known = gave;
+    comes = settled_so (λ (text : List ℕ). Begins given (lines_of text) × IsFirstLong line_limit (length given) (lines_of text))
+        (λ (text : List ℕ). Begins given (lines_of text) × ((n ≡ length given + 1) × IsFirstLong line_limit (length given) (lines_of text))) left taken (λ text first. (first.0, (goes.0, first.1))) goes.3;
+  }
+
+  -- a line was no item
+  pub line_missed : (r : Reading) (old left : Option (List ℕ)) (given : List (List ℕ)) (line taken : List ℕ) (n : ℕ) → r.most ≡ most → Consumes old left taken → n ≡ length given + 1 → Missed given line →
+      HasRead r left (given ++ line ∷ []) taken → IsInTime Lines given taken → Ends Lines most Gave Missed old left (fault.BadItem n)
+  line_missed r old left given line taken n is consumed place missed read in_time = (
+    line,
+    record {
+      given = given;
+      taken = taken;
+      consumed = consumed;
+      size = omega (arith, read.has.count, read.bound, is);
+      in_time = in_time;
+      known = missed;
+      comes = settled_so (λ (text : List ℕ). Begins (given ++ line ∷ []) (lines_of text))
+          (λ (text : List ℕ). Begins given (lines_of text) × ((n ≡ length given + 1) × Begins (given ++ line ∷ []) (lines_of text) × IsSoundUpTo Lines n text)) left taken (λ text begins. (
+            begins_trans given (given ++ line ∷ []) (lines_of text) (begins_append given (line ∷ [])) begins,
+            (place, begins, within text begins),
+          )) (given_settled r left (given ++ line ∷ []) taken read);
+    },
+  )
+    where
+      within : (text : List ℕ) → Begins (given ++ line ∷ []) (lines_of text) → IsSoundUpTo Lines n text
+      within text begins =
+          let front : take n (lines_of text) ≡ given ++ line ∷ [] =
+          ap (λ (m : ℕ). take m (lines_of text)) (omega (arith, place, length-append given (line ∷ []))) ∙ front_is (given ++ line ∷ []) (lines_of text) begins in
+          subst (AreWithin line_limit) (sym front) (subst (λ (m : ℕ). AreWithin m (given ++ line ∷ [])) read.limit read.has.within)
+
+  -- the last line was given
+  pub all_lines : (r : Reading) (old left : Option (List ℕ)) (given : List (List ℕ)) (taken : List ℕ) (n : ℕ) → r.most ≡ most → Consumes old left taken → Gave given → Goes r left given taken (Ok false) →
+      n ≡ r.cutter.number → ReadsAll Lines most n Gave old left
+  all_lines r old left given taken n is consumed gave goes number =
+      let read = goes.0 in
+      let whole : lines_of taken ≡ given = read.has.whole goes.1 in
+      record {
+        taken = taken;
+        consumed = consumed;
+        end = read.end goes.1;
+        size = omega (arith, read.has.size goes.1, read.has.count, is);
+        sound = subst (AreWithin line_limit) (sym whole) (subst (λ (m : ℕ). AreWithin m given) read.limit read.has.within);
+        number = omega (arith, number, read.has.number, ap length whole, has_few r given taken read.has, read.has.count, read.bound, read.few);
+        gave = subst Gave (sym whole) gave;
+      }

@@ -1,0 +1,56 @@
+-- What is known of the records that a table has taken, and why it takes no further one.
+use Rattle.std.specs.Prelude.{◌≡◌, ◌≢◌, ◌⊎◌, ℕ, ◌+◌, ◌<◌, ◌≤◌, List, [], ◌∷◌, ◌++◌, length, Option, Some, None}
+use Rattle.sk_model.specs.Limits.{line_limit}
+use Rattle.sk_model.specs.Missing.{Begins}
+use Rattle.sk_read.specs.declared.fault.Fault.{Fault}
+use Rattle.sk_read.specs.declared.fault.Fault.TheVariants as fault
+use Rattle.sk_read.specs.declared.records.column.ColumnReader.{ColumnReader}
+use Rattle.sk_read.specs.Records.{Row, field_of, fields_in, width_of, AreEven, AreSoundRows}
+
+-- how many fields the first record has, if there is one
+abbrev pub first_width : List Row → Option ℕ
+first_width [] = None
+first_width (row ∷ rows) = Some (length row)
+
+-- the table has taken these records, and no other, and a taker was given their fields
+pub record HasRows (t : ColumnReader) (Gave : List (List ℕ) → Type 0) (rows : List Row) : Type 0 where
+  pub number : t.number ≡ length rows
+  pub width : t.width ≡ first_width rows
+  pub sound : AreSoundRows t.column rows
+  pub gave : Gave (fields_in t.column rows)
+
+-- why the next record behind these is refused
+abbrev pub Refuses : ℕ → (List (List ℕ) → Type 0) → (List (List ℕ) → List ℕ → Type 0) → List Row → Row → Fault → Type 0
+Refuses column Gave Missed rows row (fault.BadCsv n) =
+    (n ≡ length rows + 1) × ((length row ≢ width_of (rows ++ row ∷ [])) ⊎ (length row ≤ column)) × Gave (fields_in column rows)
+Refuses column Gave Missed rows row (fault.LongLine n) =
+    (n ≡ length rows + 1) × AreEven column (rows ++ row ∷ []) × (line_limit < length (field_of column row)) × Gave (fields_in column rows)
+Refuses column Gave Missed rows row (fault.BadItem n) =
+    (n ≡ length rows + 1) × AreSoundRows column (rows ++ row ∷ []) × Missed (fields_in column rows) (field_of column row)
+Refuses column Gave Missed rows row fault.OutOfMemory = ⊥
+Refuses column Gave Missed rows row fault.ReadFault = ⊥
+Refuses column Gave Missed rows row fault.TooMuch = ⊥
+
+-- behind these records, the first of some more that is refused, by this fault
+pub record EndsAt (column : ℕ) (Gave : List (List ℕ) → Type 0) (Missed : List (List ℕ) → List ℕ → Type 0) (rows more : List Row) (fault : Fault) : Type 0 where
+  pub some : List Row
+  pub next : Row
+  pub begins : Begins (some ++ next ∷ []) more
+  pub sound : AreSoundRows column (rows ++ some)
+  pub refused : Refuses column Gave Missed (rows ++ some) next fault
+
+-- behind these records some of these were given
+pub record GivesSome (column : ℕ) (Gave : List (List ℕ) → Type 0) (rows more : List Row) : Type 0 where
+  pub some : List Row
+  pub begins : Begins some more
+  pub sound : AreSoundRows column (rows ++ some)
+  pub gave : Gave (fields_in column (rows ++ some))
+
+-- how the taking of some more records ended: at one that is refused, or for want of memory
+abbrev pub Breaks : ℕ → (List (List ℕ) → Type 0) → (List (List ℕ) → List ℕ → Type 0) → List Row → List Row → Fault → Type 0
+Breaks column Gave Missed rows more fault.OutOfMemory = GivesSome column Gave rows more
+Breaks column Gave Missed rows more fault.ReadFault = ⊥
+Breaks column Gave Missed rows more fault.TooMuch = ⊥
+Breaks column Gave Missed rows more (fault.LongLine n) = EndsAt column Gave Missed rows more (fault.LongLine n)
+Breaks column Gave Missed rows more (fault.BadItem n) = EndsAt column Gave Missed rows more (fault.BadItem n)
+Breaks column Gave Missed rows more (fault.BadCsv n) = EndsAt column Gave Missed rows more (fault.BadCsv n)

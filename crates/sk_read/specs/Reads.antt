@@ -1,0 +1,68 @@
+-- How a source was read into units, and where the reading ended.
+use Rattle.std.specs.Prelude.{◌≡◌, ◌⊎◌, ℕ, ◌+◌, ◌<◌, ◌≤◌, List, [], ◌∷◌, ◌++◌, length, Option, Result, MatchResult}
+use Rattle.std.specs.Io.KnownBytes.{Consumes, IsAtEnd}
+use Rattle.sk_model.specs.Missing.{Begins}
+use Rattle.sk_read.specs.declared.units.Units.{Units}
+use Rattle.sk_read.specs.declared.fault.Fault.{Fault}
+use Rattle.sk_read.specs.declared.fault.Fault.TheVariants.{OutOfMemory, ReadFault, LongLine, BadItem, BadCsv, TooMuch}
+use Rattle.sk_read.specs.Units.{units_of, complete_units_of, IsSound, IsSoundUpTo, IsSoundSoFar, IsLongBehind, IsUnevenBehind}
+
+-- one read takes at most so many bytes
+abbrev pub piece_limit : ℕ
+piece_limit = 65536
+
+-- a fact of each text that begins with the bytes taken, or, where the source was found at its end, of these
+abbrev pub IsSettled : (List ℕ → Type 0) → Option (List ℕ) → List ℕ → Type 0
+IsSettled P left taken = ((later : List ℕ) → P (taken ++ later)) ⊎ (IsAtEnd left × P taken)
+
+-- of the bytes taken, all but those of the last read were examined: no unit is refused in them, and those
+-- that have ended in them were given
+pub record IsInTime (units : Units) (given : List (List ℕ)) (taken : List ℕ) : Type 0 where
+  pub front : List ℕ
+  pub piece : List ℕ
+  pub joined : taken ≡ front ++ piece
+  pub size : length piece ≤ piece_limit
+  pub sound : IsSoundSoFar units front
+  pub earlier : Begins (complete_units_of units front) given
+
+-- the source was read to its end, and all its units were given, so many
+pub record ReadsAll (units : Units) (most n : ℕ) (Gave : List (List ℕ) → Type 0) (old new : Option (List ℕ)) : Type 0 where
+  pub taken : List ℕ
+  pub consumed : Consumes old new taken
+  pub end : IsAtEnd new
+  pub size : length taken < most
+  pub sound : IsSound units taken
+  pub number : n ≡ length (units_of units taken)
+  pub gave : Gave (units_of units taken)
+
+-- so many bytes were taken, no unit in them is refused, and those that have ended were given
+pub record ReadsSome (units : Units) (IsSize : ℕ → Type 0) (Gave : List (List ℕ) → Type 0) (old new : Option (List ℕ)) : Type 0 where
+  pub taken : List ℕ
+  pub consumed : Consumes old new taken
+  pub size : IsSize (length taken)
+  pub sound : IsSoundSoFar units taken
+  pub gave : Gave (complete_units_of units taken)
+
+-- the reading broke off behind these units, at most one read after them
+pub record BreaksOff (units : Units) (most : ℕ) (Known : List (List ℕ) → Type 0) (Comes : List (List ℕ) → List ℕ → Type 0) (old new : Option (List ℕ)) : Type 0 where
+  pub given : List (List ℕ)
+  pub taken : List ℕ
+  pub consumed : Consumes old new taken
+  pub size : length taken ≤ most
+  pub in_time : IsInTime units given taken
+  pub known : Known given
+  pub comes : IsSettled (λ text. Begins given (units_of units text) × Comes given text) new taken
+
+-- why it ended before the source
+abbrev pub Ends : Units → ℕ → (List (List ℕ) → Type 0) → (List (List ℕ) → List ℕ → Type 0) → Option (List ℕ) → Option (List ℕ) → Fault → Type 0
+Ends units most Gave Missed old new OutOfMemory = BreaksOff units most Gave (λ given text. IsSoundUpTo units (length given) text) old new
+Ends units most Gave Missed old new ReadFault = ReadsSome units (λ size. size < most) Gave old new
+Ends units most Gave Missed old new TooMuch = ReadsSome units (λ size. size ≡ most) Gave old new
+Ends units most Gave Missed old new (LongLine n) = BreaksOff units most Gave (λ given text. (n ≡ length given + 1) × IsLongBehind units (length given) text) old new
+Ends units most Gave Missed old new (BadCsv n) = BreaksOff units most Gave (λ given text. (n ≡ length given + 1) × IsUnevenBehind units (length given) text) old new
+Ends units most Gave Missed old new (BadItem n) = (unit : List ℕ) × BreaksOff units most (λ given. Missed given unit)
+    (λ given text. (n ≡ length given + 1) × Begins (given ++ unit ∷ []) (units_of units text) × IsSoundUpTo units n text) old new
+
+-- how the reading went, where a taker was given these units, or missed one behind those given
+abbrev pub Reads : Units → ℕ → (List (List ℕ) → Type 0) → (List (List ℕ) → List ℕ → Type 0) → Option (List ℕ) → Option (List ℕ) → Result ℕ Fault → Type 0
+Reads units most Gave Missed old new result = MatchResult result (λ n. ReadsAll units most n Gave old new) (λ fault. Ends units most Gave Missed old new fault)
