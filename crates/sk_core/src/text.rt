@@ -31,9 +31,9 @@ pub fn read_machine(line: &[u8]) -> Option<(u32, u32, u32)>
         return None;
     }
     Some((
-        number(k, u64::from(LEAST_K), u64::from(MOST_K))?,
-        number(b, 1, u64::from(MOST_SIZE))?,
-        number(n, 1, u64::from(MOST_UPDATERS))?,
+        number(k, LEAST_K, MOST_K)?,
+        number(b, 1, MOST_SIZE)?,
+        number(n, 1, MOST_UPDATERS)?,
     ))
 }
 
@@ -47,7 +47,7 @@ pub fn read_vacant(line: &[u8]) -> Option<(u32, u32)>
     if word != b"vacant".as_slice() {
         return None;
     }
-    Some((number(k, u64::from(LEAST_K), u64::from(MOST_K))?, number(n, 1, u64::from(MOST_UPDATERS))?))
+    Some((number(k, LEAST_K, MOST_K)?, number(n, 1, MOST_UPDATERS)?))
 }
 
 // What stands before the first space of a text, and what stands behind it.

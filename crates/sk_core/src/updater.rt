@@ -30,6 +30,7 @@ pub struct Updater {
 }
 
 impl Model for Updater {
+    ghost use Rattle.sk_model.specs.Limits.{most_size};
     ghost use Rattle.std.specs.Prelude.{◌≤◌, vec_capacity};
     ghost use Rattle.sk_core.specs.Stored.{StoredUpdater};
 
