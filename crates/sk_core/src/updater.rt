@@ -6,8 +6,7 @@ ghost use Rattle.sk_model.specs.Width.{item_end};
 ghost use Rattle.sk_model.specs.Limits.{most_size};
 
 use sk_machine::Mark;
-use sk_model::OutOfMemory;
-use sk_model::limits;
+use sk_model::{OutOfMemory, limits};
 use sk_theta::ITEM_END;
 use std::alloc::Global;
 use std::marker::Model;

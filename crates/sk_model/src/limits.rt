@@ -6,8 +6,10 @@ pub const ITEM_END: u64 = 1 << 48;
 /// How many digits base 16 takes for an item.
 pub const ITEM_DIGITS: usize = 12;
 
-/// The fewest and the most hashes that a sketch keeps.
+/// The fewest hashes that a sketch is made to keep.
 pub const LEAST_K: u32 = 2;
+
+/// The most hashes that a sketch keeps.
 pub const MOST_K: u32 = 32_768;
 
 /// The most items that an updater's buffers have room for.
