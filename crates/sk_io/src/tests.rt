@@ -1,6 +1,5 @@
-ghost use Rattle.std.specs.Prelude.{◌≡◌, ◌<◌, ◌≤◌, ◌⊎◌, length, take, IfOk, IfSome, IsErr, OnErr};
-ghost use Rattle.std.specs.Io.{StartsWith};
-ghost use Rattle.std.specs.Io.KnownBytes.{ReadConsumes};
+ghost use Rattle.std.specs.Prelude.{◌≡◌, ◌<◌, ◌⊎◌, length, take, IfOk, IsErr, OnOk, OnErr};
+ghost use Rattle.std.specs.Io.KnownBytes.{Consumes, ReadConsumes};
 ghost use Rattle.sk_model.specs.Causes.{HasCause, Rose};
 ghost use Rattle.sk_io.specs.Files.{told_file, IsMissing};
 
@@ -88,9 +87,11 @@ fn piece_of<S: Source>(source: &mut S, piece: &mut [u8]) -> Result<usize, Failed
 }
 
 fn piece_on<F: Shelf>(shelf: &mut F, file: &mut F::File, piece: &mut [u8]) -> Result<usize, Failed>
-    requires { 0 < length piece.old }
+    requires room { 0 < length piece.old }
+    requires last { F.rest shelf.old ≡ F.left shelf.old file.old }
     ensures bytes { ReadConsumes (F.left shelf.old file.old) (F.left shelf.new file.new) result piece.new }
     ensures cause { HasCause (F.read_faults shelf.old) (F.read_faults shelf.new) result }
+    ensures last { F.rest shelf.new ≡ F.left shelf.new file.new }
     ensures opens { F.open_faults shelf.new ≡ F.open_faults shelf.old }
     ensures files { F.files shelf.new ≡ F.files shelf.old }
 {
@@ -101,10 +102,10 @@ fn piece_on<F: Shelf>(shelf: &mut F, file: &mut F::File, piece: &mut [u8]) -> Re
 fn front_of<F: Shelf>(shelf: &mut F, name: &str, piece: &mut [u8]) -> Result<usize, Failed>
     requires { 0 < length piece.old }
     ensures content { IfOk result (λ n.
-        IfSome (told_file (F.files shelf.old) name.now) (λ bytes. StartsWith bytes (take n piece.new))) }
+        Consumes (told_file (F.files shelf.old) name.now) (F.rest shelf.new) (take n piece.new)) }
     ensures missing { IsMissing (F.files shelf.old) name.now → IsErr result }
-    ensures opens { F.open_faults shelf.old ≤ F.open_faults shelf.new }
-    ensures reads { F.read_faults shelf.old ≤ F.read_faults shelf.new }
+    ensures steady { OnOk result ((F.open_faults shelf.new ≡ F.open_faults shelf.old)
+        × (F.read_faults shelf.new ≡ F.read_faults shelf.old)) }
     ensures cause { OnErr result (
         Rose (F.open_faults shelf.old) (F.open_faults shelf.new)
         ⊎ Rose (F.read_faults shelf.old) (F.read_faults shelf.new)) }
