@@ -14,50 +14,6 @@ use Rattle.sk_image.proofs.Splits.{heads, tails, conses, no_cons, no_cons_behind
 use Rattle.sk_model.specs.Width.{IsItem, AreItems}
 use Rattle.sk_model.specs.Limits.{most_k, line_limit}
 
--- between the least digit and the greatest, so neither LF nor a blank nor `n`
-pub digit_from : (d : ℕ) → 48 ≤ hex_digit d
-digit_from d = cond_both (nat_lt d 10) (48 + d) (87 + d) (λ x. 48 ≤ x) (λ _. omega arith) (λ _. omega arith)
-
-pub digit_to : (d : ℕ) → d < 16 → hex_digit d ≤ 102
-digit_to d small = cond_both (nat_lt d 10) (48 + d) (87 + d) (λ x. x ≤ 102) (λ e. omega (arith, ltb-true d 10 e)) (λ _. omega (arith, small))
-
-pub low_digit : (d : ℕ) → d < 10 → hex_digit d ≡ 48 + d
-low_digit d low = ap (λ b. cond b (48 + d) (87 + d)) (lt-ltb d 10 low)
-
-pub high_digit : (d : ℕ) → 10 ≤ d → hex_digit d ≡ 87 + d
-high_digit d high = ap (λ b. cond b (48 + d) (87 + d)) (le-ltb d 10 high)
-
-pub digit_injective : (a b : ℕ) → a < 16 → b < 16 → hex_digit a ≡ hex_digit b → a ≡ b
-digit_injective a b sa sb e = elim (cases_lt a 10) [
-  | inl la ↦ elim (cases_lt b 10) [
-    | inl lb ↦ omega (arith, low_digit a la, low_digit b lb, e)
-    | inr hb ↦ absurd (omega (arith, low_digit a la, high_digit b hb, e))
-  ]
-  | inr ha ↦ elim (cases_lt b 10) [
-    | inl lb ↦ absurd (omega (arith, high_digit a ha, low_digit b lb, e))
-    | inr hb ↦ omega (arith, high_digit a ha, high_digit b hb, e)
-  ]
-]
-
-pub hex_digits : (width n : ℕ) → All (λ byte. (48 ≤ byte) × (byte ≤ 102)) (hex width n)
-unfolding hex
-hex_digits zero n = All-nil (λ byte. (48 ≤ byte) × (byte ≤ 102))
-hex_digits (suc width) n =
-    All-push (λ byte. (48 ≤ byte) × (byte ≤ 102)) (hex width (n / 16)) (hex_digit (n % 16)) (hex_digits width (n / 16)) (digit_from (n % 16), digit_to (n % 16) (omega arith))
-
-pub hex_injective : (width a b : ℕ) → a < 16 ^ width → b < 16 ^ width → hex width a ≡ hex width b → a ≡ b
-unfolding hex
-hex_injective zero a b sa sb e = omega (arith, sa, sb)
-hex_injective (suc width) a b sa sb e =
-    let parts = ends (hex width (a / 16)) (hex width (b / 16)) (hex_digit (a % 16)) (hex_digit (b % 16)) e in
-    let up : 16 ^ suc width ≡ 16 * 16 ^ width = omega (arith, pow-suc 16 width) in
-    let high : a / 16 ≡ b / 16 = hex_injective width (a / 16) (b / 16) (omega (arith, sa, up)) (omega (arith, sb, up)) parts.0 in
-    let low : a % 16 ≡ b % 16 = digit_injective (a % 16) (b % 16) (omega arith) (omega arith) parts.1 in
-    omega (arith, high, low)
-
-pub hash_injective : (a b : ℕ) → IsItem a → IsItem b → hash_line a ≡ hash_line b → a ≡ b
-hash_injective a b sa sb e = hex_injective 12 a b (omega (arith, sa)) (omega (arith, sb)) e
-
 pub hash_is_not_last : (hash count : ℕ) → hash_line hash ≡ last_line count → ⊥
 unfolding last_line
 hash_is_not_last hash count e =

@@ -4,6 +4,13 @@ use Rattle.sk_lines.specs.declared.cutter.Lines.TheInside.{Inside}
 use Rattle.sk_lines.specs.Cutter.{Cutter, IsSound}
 use Rattle.sk_lines.specs.Marks.{KnowsLfs}
 
+-- the most bytes of a limit, and of a piece
+abbrev pub most_limit : ℕ
+most_limit = 1048576
+
+abbrev pub most_piece : ℕ
+most_piece = 65536
+
 abbrev pub cutter_of : Inside → Cutter
 cutter_of a = record {
   limit = a.limit;
@@ -19,9 +26,9 @@ cutter_of a = record {
 -- what the fields keep
 pub record IsKept (a : Inside) : Type 0 where
   pub low : 1 ≤ a.limit
-  pub high : a.limit ≤ 1048576
+  pub high : a.limit ≤ most_limit
   -- there is room for a piece and a block behind the longest rest
-  pub room : a.limit + 1 + 65536 + 64 ≤ vec_capacity a.buffer
+  pub room : a.limit + 1 + most_piece + 64 ≤ vec_capacity a.buffer
   -- a block of zeros lies behind the text
   pub at : a.at + 64 ≤ vec_len a.buffer
   pub zeros : (i : ℕ) → vec_len a.buffer ≤ i + 64 → slice_index a.buffer.items i ≡ 0

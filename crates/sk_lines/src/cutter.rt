@@ -111,6 +111,7 @@ impl Lines {
             → Follows self.old given text → Follows self.new given (text ++ piece.now) }
         ensures rest { self.new.rest ≡ self.old.rest ++ piece.now }
         ensures number { self.new.number ≡ self.old.number }
+        ensures ending { self.new.ending ≡ self.old.ending }
         ensures last { self.new.last ≡ Next.More }
         ensures limit { self.new.limit ≡ self.old.limit }
         ensures fed { self.new.hungry ≡ false }
@@ -141,6 +142,7 @@ impl Lines {
         ensures again { is_long self.old.last ≡ true → result ≡ self.old.last }
         ensures rest { result ≢ Next.Line → self.new.rest ≡ self.old.rest }
         ensures number { result ≢ Next.Line → self.new.number ≡ self.old.number }
+        ensures ending { result ≢ Next.Line → self.new.ending ≡ self.old.ending }
         ensures after_end { self.old.ended ≡ true → is_long self.old.last ≡ false → result ≡ Next.More }
 
         ensures last { self.new.last ≡ result }
@@ -193,6 +195,7 @@ impl Lines {
         ensures ended { self.new.ended ≡ self.old.ended }
         ensures rest { self.new.rest ≡ self.old.rest }
         ensures number { self.new.number ≡ self.old.number }
+        ensures ending { self.new.ending ≡ self.old.ending }
     {
         let text_end = self.buffer.len() - BLOCK;
         if line_len(&self.buffer, self.at, text_end) > self.limit {
@@ -217,6 +220,7 @@ impl Lines {
         ensures ended { self.new.ended ≡ self.old.ended }
         ensures rest { self.new.rest ≡ self.old.rest }
         ensures number { self.new.number ≡ self.old.number }
+        ensures ending { self.new.ending ≡ self.old.ending }
     {
         self.last = Next::Long(self.number.saturating_add(1));
         self.last
@@ -236,6 +240,7 @@ impl Lines {
         ensures rest { is_long result ≡ false → self.new.rest ≡ [] }
         ensures last { self.new.last ≡ result }
         ensures number { result ≡ Next.More → self.new.number ≡ self.old.number }
+        ensures ending { result ≢ Next.Line → self.new.ending ≡ self.old.ending }
         ensures limit { self.new.limit ≡ self.old.limit }
         ensures hungry { self.new.hungry ≡ true }
         ensures ended { self.new.ended ≡ true }

@@ -1,7 +1,7 @@
-// Numbers and fractions as decimal text.
-ghost use Rattle.std.specs.Prelude.{◌≡◌, ◌+◌, ◌≤◌, ◌++◌, OnOk, OnErr, decimal, length, take};
+// Numbers, fractions and estimates as decimal text.
+ghost use Rattle.std.specs.Prelude.{◌≡◌, ◌+◌, ◌≤◌, ◌++◌, OnOk, OnErr, decimal, codes, length, take};
 ghost use Rattle.sk_model.specs.Numbers.{number_of};
-ghost use Rattle.sk_lines.specs.Fractions.{fraction_text};
+ghost use Rattle.sk_lines.specs.Fractions.{fraction_text, estimate_text, estimate_line};
 
 use sk_model::OutOfMemory;
 
@@ -41,21 +41,40 @@ pub fn put_fraction(into: &mut [u8; 64], n: u64, d: u64) -> usize
     ensures text { take result into.new ≡ fraction_text n d }
     ensures length { result ≡ length (fraction_text n d) }
 {
-    let slash = put_decimal(into, n);
-    into[slash] = b'/';
-    slash + 1 + put_decimal(&mut into[slash + 1..], d)
+    put_parts(into, n, d)
 }
 
-// How many digits a number has.
-#[inline]
-fn decimal_len(n: u64) -> usize
-    ensures { result ≡ length (decimal n) }
+/// Writes `estimate n/d` to the front of `into`, and answers its length.
+pub fn put_estimate(into: &mut [u8; 64], n: u64, d: u64) -> usize
+    ensures text { take result into.new ≡ estimate_text n d }
+    ensures most { result ≤ 50 }
 {
-    n.max(1).ilog10() as usize + 1
+    let at = put_text(into, b"estimate ");
+    at + put_parts(&mut into[at..], n, d)
 }
 
-// Writes a number to the front of `into`, and answers its length.
-fn put_decimal(into: &mut [u8], n: u64) -> usize
+/// Writes `estimate n/d` and LF to the front of `into`, and answers their length.
+pub fn put_estimate_line(into: &mut [u8; 64], n: u64, d: u64) -> usize
+    ensures text { take result into.new ≡ estimate_line (n, d) }
+    ensures most { result ≤ 51 }
+{
+    let end = put_estimate(into, n, d);
+    into[end] = b'\n';
+    end + 1
+}
+
+/// Writes a text to the front of `into`, and answers its length.
+pub fn put_text(into: &mut [u8], text: &[u8]) -> usize
+    requires { length text.now ≤ length into.old }
+    ensures text { take result into.new ≡ text.now }
+    ensures length { result ≡ length text.now }
+{
+    into[..text.len()].copy_from_slice(text);
+    text.len()
+}
+
+/// Writes the digits of a number to the front of `into`, and answers how many they are.
+pub fn put_decimal(into: &mut [u8], n: u64) -> usize
     requires { length (decimal n) ≤ length into.old }
     ensures text { take result into.new ≡ decimal n }
     ensures length { result ≡ length (decimal n) }
@@ -68,4 +87,24 @@ fn put_decimal(into: &mut [u8], n: u64) -> usize
     let at = put_decimal(into, n / 10);
     into[at] = b'0' + (n % 10) as u8;
     at + 1
+}
+
+// Writes `n/d` to the front of `into`, and answers its length.
+fn put_parts(into: &mut [u8], n: u64, d: u64) -> usize
+    requires { 41 ≤ length into.old }
+    ensures text { take result into.new ≡ fraction_text n d }
+    ensures length { result ≡ length (fraction_text n d) }
+    ensures most { result ≤ 41 }
+{
+    let slash = put_decimal(into, n);
+    into[slash] = b'/';
+    slash + 1 + put_decimal(&mut into[slash + 1..], d)
+}
+
+// How many digits a number has.
+#[inline]
+fn decimal_len(n: u64) -> usize
+    ensures { result ≡ length (decimal n) }
+{
+    n.max(1).ilog10() as usize + 1
 }

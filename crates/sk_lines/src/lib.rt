@@ -1,13 +1,18 @@
-//! Lines out of a text that comes in pieces, and numbers and fractions as text.
+//! Lines out of a text that comes in pieces, and numbers, fractions and hashes as text.
 #![tactic(auto)]
 
 mod cutter;
 mod decimals;
+mod hashes;
 pub mod laws;
 mod marks;
 #[cfg(test)]
 mod tests;
 
 pub use cutter::{Ending, Lines, MOST_LIMIT, MOST_PIECE, Next};
-pub use decimals::{push_fraction, put_fraction, read_number};
+pub use decimals::{
+    push_fraction, put_decimal, put_estimate, put_estimate_line, put_fraction, put_text,
+    read_number,
+};
+pub use hashes::{HASH_LINE_LEN, hash_line, read_hash};
 pub use sk_model::OutOfMemory;

@@ -4,6 +4,7 @@ ghost use Rattle.sk_model.specs.Lines.{lines_of, open_lines_of};
 ghost use Rattle.sk_lines.specs.Cutter.{Follows, IsLongAfter};
 
 use super::*;
+use sk_model::limits::ITEM_DIGITS;
 use std::alloc::Global;
 use std::test::Fail;
 
@@ -221,6 +222,69 @@ fn numbers_at_their_limits(rt: HostRuntime) -> Result<(), Fail> {
     assert_eq!(rt; read_number(largest, u64::MAX), Some(u64::MAX - 1));
     assert_eq!(rt; read_number(b"99999999999999999999", u64::MAX), None);
     Ok(())
+}
+
+// How the last line ended, told behind one more piece.
+fn ending_behind(lines: &mut Lines, piece: &[u8]) -> Ending
+    requires size { length piece.now ≤ MOST_PIECE }
+    requires hungry { lines.old.hungry ≡ true }
+    requires not_ended { lines.old.ended ≡ false }
+    ensures { result ≡ lines.old.ending }
+{
+    lines.feed(piece);
+    lines.ending()
+}
+
+// How a line ended, told behind the piece that follows it.
+#[test]
+fn a_piece_more_keeps_the_ending(rt: HostRuntime) -> Result<(), Fail> {
+    let mut lines = Lines::new(rt.alloc(), 4)?;
+    lines.feed(b"ab\r\n");
+    assert_eq!(rt; lines.next(), Next::Line);
+    if lines.next() == Next::More {
+        assert_eq!(rt; ending_behind(&mut lines, b"cd"), Ending::CrLf);
+    }
+    Ok(())
+}
+
+#[test]
+fn hashes_as_text(rt: HostRuntime) {
+    let rows: [(u64, &[u8]); 3] = [
+        (0, b"000000000000\n"),
+        (224_131_386_917_309, b"cbd8a7b341bd\n"),
+        (281_474_976_710_655, b"ffffffffffff\n"),
+    ];
+    for (hash, want) in rows {
+        assert_eq!(rt; hash_line(hash).as_slice(), want);
+        assert_eq!(rt; read_hash(want), None);
+        assert_eq!(rt; read_hash(&want[..ITEM_DIGITS]), Some(hash));
+    }
+    let others: [&[u8]; 4] = [b"", b"00000000000", b"CBD8A7B341BD", b"00000000000g"];
+    for digits in others {
+        assert_eq!(rt; read_hash(digits), None);
+    }
+}
+
+#[test]
+fn estimates_as_lines(rt: HostRuntime) {
+    let rows: [(u64, u64, &[u8]); 3] = [
+        (0, 1, b"estimate 0/1\n"),
+        (
+            281_474_976_710_656,
+            224_131_386_917_309,
+            b"estimate 281474976710656/224131386917309\n",
+        ),
+        (
+            u64::MAX,
+            u64::MAX,
+            b"estimate 18446744073709551615/18446744073709551615\n",
+        ),
+    ];
+    for (n, d, want) in rows {
+        let mut line = [0; 64];
+        let len = put_estimate_line(&mut line, n, d);
+        assert_eq!(rt; &line[..len], want);
+    }
 }
 
 #[test]

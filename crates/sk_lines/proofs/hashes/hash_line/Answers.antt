@@ -1,7 +1,7 @@
 use Rattle.std.proofs.Common.{◌≡◌, ◌+◌, ◌-◌, ◌<◌, ◌/◌, ◌++◌, ℕ, length, drop, set, sym, ap, ◌∙◌, arith, rules}
-use Rattle.sk_image.specs.Images.{hex}
-use Rattle.sk_image.proofs.Digits.{digit_more, no_hex}
-use Rattle.sk_image.proofs.writer.line_of.Goals as goal
+use Rattle.sk_lines.specs.Hashes.{hex}
+use Rattle.sk_lines.proofs.Hexadecimal.{digit_more, no_hex}
+use Rattle.sk_lines.proofs.hashes.hash_line.Goals as goal
 
 pub digit-preserved : goal.digit-preserved
 digit-preserved c =

@@ -1,9 +1,9 @@
 use Rattle.std.proofs.Common.{◌≡◌, ◌^◌, ◌<◌, take}
-use Rattle.sk_image.specs.Images.{hex}
-use Rattle.sk_image.proofs.lines.read_hash.Given as goal
+use Rattle.sk_lines.specs.Hashes.{hex}
+use Rattle.sk_lines.proofs.hashes.read_hash.Given as goal
 
 abbrev pub invariant-digit : goal.invariant-digit
 invariant-digit l = record {
   small : l.hash < 16 ^ l.byte-index;
-  spelt : take l.byte-index l.line ≡ hex l.byte-index l.hash;
+  spelt : take l.byte-index l.digits ≡ hex l.byte-index l.hash;
 }

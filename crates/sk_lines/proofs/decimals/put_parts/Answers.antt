@@ -1,16 +1,16 @@
-use Rattle.std.proofs.Common.{◌≡◌, ℕ, ◌+◌, List, [], ◌∷◌, ◌++◌, length, take, slice_set, decimal, ap, ◌∙◌, arith, length-take, length-drop, length-set, length-append}
+use Rattle.std.proofs.Common.{◌≡◌, ◌≤◌, ℕ, ◌+◌, List, [], ◌∷◌, ◌++◌, length, take, slice_set, decimal, ap, ◌∙◌, arith, length-take, length-drop, length-set, length-append}
 use Rattle.std.proofs.lemmas.List.{take_more_set}
 use Rattle.sk_lines.proofs.Digits as digits
-use Rattle.sk_lines.proofs.decimals.put_fraction.Goals as goal
+use Rattle.sk_lines.proofs.decimals.put_parts.Goals as goal
 
 pub put_decimal-slash-requires : goal.put_decimal-slash-requires
-put_decimal-slash-requires c = omega (arith, c.told-into, digits.decimal_is_short c.args.n c.ranges.n.fits)
+put_decimal-slash-requires c = omega (arith, c.requires, digits.decimal_is_short c.args.n c.ranges.n.fits)
 
 pub put_decimal-requires : goal.put_decimal-requires
 put_decimal-requires c =
     let whole = c.put_decimal-slash.new.into in
     let place = c.put_decimal-slash.result in
-    let size : length whole ≡ 64 = omega (arith, c.told-into, c.put_decimal-slash.auto.into) in
+    let size : 41 ≤ length whole = omega (arith, c.requires, c.put_decimal-slash.auto.into) in
     simp (length-take, length-drop, length-set) (omega (arith, c.put_decimal-slash.ensures.most, digits.decimal_is_short c.args.d c.ranges.d.fits))
 
 pub returns-clause-text : goal.returns-clause-text
@@ -19,7 +19,7 @@ returns-clause-text c =
     let back = c.put_decimal.ensures in
     let into : List ℕ = c.put_decimal-slash.new.into in
     let slash : ℕ = c.put_decimal-slash.result in
-    let size : length into ≡ 64 = omega (arith, c.told-into, c.put_decimal-slash.auto.into) in
+    let size : 41 ≤ length into = omega (arith, c.requires, c.put_decimal-slash.auto.into) in
     let marked : take (slash + 1) (slice_set into slash 47) ≡ decimal c.args.n ++ 47 ∷ [] =
     take_more_set into slash 47 (omega (arith, front.most)) ∙ ap (λ (l : List ℕ). l ++ 47 ∷ []) front.text in
     let long : length (take (slash + 1) (slice_set into slash 47)) ≡ slash + 1 = omega (arith, ap length marked, length-append (decimal c.args.n) (47 ∷ []), front.length) in
