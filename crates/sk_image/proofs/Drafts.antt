@@ -1,9 +1,9 @@
 -- What a draft holds of the bytes that were taken.
-use Rattle.std.proofs.Common.{◌≡◌, ◌≢◌, ℕ, zero, suc, ◌+◌, ◌-◌, ◌<◌, ◌≤◌, Option, None, Some, IfSome, List, [], ◌∷◌, ◌++◌, length, take, drop, get_or, sym, ap, ◌∙◌, subst, arith, append_assoc, append-nil, take-append-drop}
+use Rattle.std.proofs.Common.{◌≡◌, ◌≢◌, ℕ, zero, suc, ◌+◌, ◌-◌, ◌<◌, ◌≤◌, Option, None, Some, IfSome, List, [], ◌∷◌, ◌++◌, length, take, drop, get_or, sym, ap, ◌∙◌, subst, arith, append_assoc, append-nil, length-append, take-append-drop}
 use Rattle.std.specs.Io.KnownBytes.{Consumes, IsAtEnd}
 use Rattle.std.proofs.lemmas.List.{drop_more}
 use Rattle.sk_image.specs.Images.{lines_of_image, joined}
-use Rattle.sk_image.specs.Reading.{BeginAnImage, IsBadAt, IsGoodSoFar}
+use Rattle.sk_image.specs.Reading.{most_line, most_piece, BeginAnImage, IsBadAt, IsGoodSoFar, TakesInTime}
 use Rattle.sk_image.specs.Inside.{Holds, HasTaken, IsBadFrom}
 use Rattle.sk_image.specs.declared.part.Part.{Part}
 use Rattle.sk_image.specs.declared.part.Part.TheVariants.{Nothing, Open, Whole}
@@ -38,7 +38,7 @@ module _ (draft : Draft) (text : List ℕ) (has : HasTaken draft text) (n : ℕ)
       subst (λ (m : ℕ). IsBadFrom m (text ++ 10 ∷ [])) (sym number)
       (bad_line has.lines draft.line.items text has.split (holds_begins draft.part has.lines has.holds) has.no_lf bad)
 
-  pub bad_when_long : (byte : ℕ) → byte ≢ 10 → length draft.line.items ≡ 64 → IsBadFrom n (text ++ byte ∷ [])
+  pub bad_when_long : (byte : ℕ) → byte ≢ 10 → length draft.line.items ≡ most_line → IsBadFrom n (text ++ byte ∷ [])
   bad_when_long byte other full =
       subst (λ (m : ℕ). IsBadFrom m (text ++ byte ∷ [])) (sym number)
       (long_line has.lines draft.line.items text has.split (holds_begins draft.part has.lines has.holds) has.no_lf byte other full)
@@ -74,3 +74,18 @@ bad_in_time n most None b seen taken few bad = tt
 bad_in_time n most (Some x) None seen taken few bad = absurd taken
 bad_in_time n most (Some x) (Some y) seen taken few bad = λ enough good.
     bad.not_good (take (most - length seen) y) (subst IsGoodSoFar (ap (take most) taken ∙ take_behind seen y most few) good)
+
+pub took : (a b : Option (List ℕ)) (draft : Draft) (front piece : List ℕ) (most : ℕ) → HasTaken draft front → Consumes a b (front ++ piece) →
+    length piece ≤ most_piece → length (front ++ piece) ≤ most → TakesInTime a b most
+took a b draft front piece most has taken short within = record {
+  front = front;
+  piece = piece;
+  taken = taken;
+  good = good_so_far draft front has;
+  short = short;
+  within = within;
+}
+
+pub took_front : (a b : Option (List ℕ)) (draft : Draft) (front : List ℕ) (most : ℕ) → HasTaken draft front → Consumes a b front → length front ≤ most → TakesInTime a b most
+took_front a b draft front most has taken within =
+    took a b draft front [] most has (subst (Consumes a b) (sym (append-nil front)) taken) (omega arith) (omega (arith, within, length-append front []))

@@ -1,24 +1,25 @@
 -- The lines of images: what they are made of, and that no two images share them.
-use Rattle.std.proofs.Common.{◌≡◌, ◌≢◌, ℕ, zero, suc, ◌+◌, ◌*◌, ◌/◌, ◌%◌, ◌^◌, ◌<◌, ◌≤◌, nat_lt, true, not, eqb, cond, ◌⊎◌, inl, inr, List, [], ◌∷◌, ◌++◌, length, map, take, get_or, codes, decimal, All, refl, sym, ap, ◌∙◌, subst, arith, append_assoc, append-nil, length-append, pow-suc}
-use Rattle.std.proofs.lemmas.Bool.{cond_both, ltb-true, cases_lt, lt-ltb, le-ltb, and_parts, not-true, eqb-false}
+use Rattle.std.proofs.Common.{◌≡◌, ◌≢◌, ℕ, ◌+◌, ◌%◌, ◌^◌, ◌<◌, ◌≤◌, true, not, eqb, ◌⊎◌, inl, inr, List, [], ◌∷◌, ◌++◌, length, map, take, get_or, codes, decimal, All, refl, sym, ap, ◌∙◌, subst, arith, append_assoc, append-nil, length-append}
+use Rattle.std.proofs.lemmas.Bool.{and_parts, not-true, eqb-false}
 use Rattle.std.specs.List.{list_all}
 use Rattle.std.proofs.lemmas.Fmt.{decimal_by_steps, decimal_injective, length-decimal-le}
 use Rattle.std.proofs.lemmas.List.Elements.{All-nil, All-cons, All-head, All-tail, All-same, All-append, All-push, All-weaker, All-take}
 use Rattle.std.proofs.lemmas.List.{append_cancel_left, take_at, get_or_append_left, length-map}
 use Rattle.std.specs.List.Sorted.{IsStrictlyIncreasing}
 use Rattle.sk_lines.specs.Cutter.{HasNoLf}
-use Rattle.sk_image.specs.Images.{IsImage, hex_digit, hex, first_line, hash_line, last_line, lines_of_image}
-use Rattle.sk_image.specs.Reading.{line_limit, BeginAnImage}
-use Rattle.sk_image.proofs.Digits.{length_hex}
-use Rattle.sk_image.proofs.Splits.{heads, tails, conses, no_cons, no_cons_behind, ends, cut}
-use Rattle.sk_model.specs.Width.{IsItem, AreItems}
-use Rattle.sk_model.specs.Limits.{most_k, line_limit}
+use Rattle.sk_image.specs.Images.{IsImage, first_line, last_line, lines_of_image}
+use Rattle.sk_lines.specs.Hashes.{hash_digits}
+use Rattle.sk_image.specs.Reading.{most_line, BeginAnImage}
+use Rattle.sk_lines.proofs.Hexadecimal.{length_hex, hex_digits, hash_injective}
+use Rattle.sk_image.proofs.Splits.{heads, tails, conses, no_cons, no_cons_behind, cut}
+use Rattle.sk_model.specs.Width.{item_digits, IsItem, AreItems}
+use Rattle.sk_model.specs.Limits.{most_k}
 
-pub hash_is_not_last : (hash count : ℕ) → hash_line hash ≡ last_line count → ⊥
+pub hash_is_not_last : (hash count : ℕ) → hash_digits hash ≡ last_line count → ⊥
 unfolding last_line
 hash_is_not_last hash count e =
     let P : ℕ → Type 0 = λ byte. (48 ≤ byte) × (byte ≤ 102) in
-    let all = All-same P (last_line count) (hash_line hash) (sym e) (hex_digits 12 hash) in
+    let all = All-same P (last_line count) (hash_digits hash) (sym e) (hex_digits item_digits hash) in
     absurd (omega (arith, (All-head P 110 (100 ∷ 32 ∷ decimal count) (All-tail P 101 (110 ∷ 100 ∷ 32 ∷ decimal count) all)).1))
 
 -- decimal digits
@@ -55,7 +56,7 @@ first_injective k seed k' seed' a b c d e =
 -- what is true of each line
 pub record IsLine (line : List ℕ) : Type 0 where
   pub no_lf : HasNoLf line
-  pub within : length line ≤ line_limit
+  pub within : length line ≤ most_line
 
 short : (n : ℕ) → n < 2 ^ 64 → length (decimal n) ≤ 20
 short n small = length-decimal-le 20 n (omega arith) (omega (arith, small)) small
@@ -87,21 +88,21 @@ last_is_line count small = record {
   within = omega (arith, short count small, length-append (codes "end ") (decimal count));
 }
 
-hash_is_line : (hash : ℕ) → IsLine (hash_line hash)
+hash_is_line : (hash : ℕ) → IsLine (hash_digits hash)
 hash_is_line hash = record {
-  no_lf = All-weaker (λ byte. (48 ≤ byte) × (byte ≤ 102)) (λ byte. byte ≢ 10) (λ byte is. λ e. absurd (omega (arith, is.0, e))) (hash_line hash) (hex_digits 12 hash);
-  within = omega (arith, length_hex 12 hash);
+  no_lf = All-weaker (λ byte. (48 ≤ byte) × (byte ≤ 102)) (λ byte. byte ≢ 10) (λ byte is. λ e. absurd (omega (arith, is.0, e))) (hash_digits hash) (hex_digits item_digits hash);
+  within = omega (arith, length_hex item_digits hash);
 }
 
-hashes_are_lines : (hashes : List ℕ) → All IsLine (map hash_line hashes)
+hashes_are_lines : (hashes : List ℕ) → All IsLine (map hash_digits hashes)
 hashes_are_lines [] = All-nil IsLine
-hashes_are_lines (h ∷ hashes) = All-cons IsLine (hash_line h) (map hash_line hashes) (hash_is_line h) (hashes_are_lines hashes)
+hashes_are_lines (h ∷ hashes) = All-cons IsLine (hash_digits h) (map hash_digits hashes) (hash_is_line h) (hashes_are_lines hashes)
 
 pub image_has_lines : (k seed : ℕ) (hashes : List ℕ) → IsImage k seed hashes → All IsLine (lines_of_image k seed hashes)
 unfolding lines_of_image
 image_has_lines k seed hashes whole =
-    All-cons IsLine (first_line k seed) (map hash_line hashes ++ last_line (length hashes) ∷ []) (first_is_line k seed (omega (arith, whole.most)) (omega (arith, whole.seed_fits)))
-    (All-push IsLine (map hash_line hashes) (last_line (length hashes)) (hashes_are_lines hashes) (last_is_line (length hashes) (omega (arith, whole.most, whole.within))))
+    All-cons IsLine (first_line k seed) (map hash_digits hashes ++ last_line (length hashes) ∷ []) (first_is_line k seed (omega (arith, whole.most)) (omega (arith, whole.seed_fits)))
+    (All-push IsLine (map hash_digits hashes) (last_line (length hashes)) (hashes_are_lines hashes) (last_is_line (length hashes) (omega (arith, whole.most, whole.within))))
 
 All-front : {X : Type 0} (P : X → Type 0) (xs ys : List X) → All P (xs ++ ys) → All P xs
 All-front P xs ys all = All-same P xs (take (length xs) (xs ++ ys)) (sym (take_at xs ys (length xs) refl)) (All-take P (length xs) (xs ++ ys) all)
@@ -143,19 +144,19 @@ new_image k seed least most fits = record {
 
 -- how the hashes of an image go on whose lines have these in front, and behind them one more
 OneMore : List ℕ → List ℕ → ℕ → List ℕ → List (List ℕ) → Type 0
-OneMore hashes hashes' count line rest = ((hashes' ≡ hashes) × (line ≡ last_line count) × (rest ≡ [])) ⊎ ((h : ℕ) × (more : List ℕ) × (hashes' ≡ hashes ++ h ∷ more) × (line ≡ hash_line h))
+OneMore hashes hashes' count line rest = ((hashes' ≡ hashes) × (line ≡ last_line count) × (rest ≡ [])) ⊎ ((h : ℕ) × (more : List ℕ) × (hashes' ≡ hashes ++ h ∷ more) × (line ≡ hash_digits h))
 
 goes_on : (hashes hashes' : List ℕ) (count : ℕ) (line : List ℕ) (rest : List (List ℕ)) → AreItems hashes → AreItems hashes' →
-    map hash_line hashes' ++ last_line count ∷ [] ≡ map hash_line hashes ++ line ∷ rest → OneMore hashes hashes' count line rest
+    map hash_digits hashes' ++ last_line count ∷ [] ≡ map hash_digits hashes ++ line ∷ rest → OneMore hashes hashes' count line rest
 unfolding OneMore
 goes_on [] [] count line rest i i' e = inl (refl, sym (heads (last_line count) line [] rest e), sym (tails (last_line count) line [] rest e))
-goes_on [] (h ∷ hashes') count line rest i i' e = inr (h, hashes', refl, sym (heads (hash_line h) line (map hash_line hashes' ++ last_line count ∷ []) rest e))
+goes_on [] (h ∷ hashes') count line rest i i' e = inr (h, hashes', refl, sym (heads (hash_digits h) line (map hash_digits hashes' ++ last_line count ∷ []) rest e))
 goes_on (h ∷ hashes) [] count line rest i i' e =
-    absurd (hash_is_not_last h count (sym (heads (last_line count) (hash_line h) [] (map hash_line hashes ++ line ∷ rest) e)))
+    absurd (hash_is_not_last h count (sym (heads (last_line count) (hash_digits h) [] (map hash_digits hashes ++ line ∷ rest) e)))
 goes_on (h ∷ hashes) (h' ∷ hashes') count line rest i i' e =
     let P : ℕ → Type 0 = λ item. IsItem item in
-    let front = heads (hash_line h') (hash_line h) (map hash_line hashes' ++ last_line count ∷ []) (map hash_line hashes ++ line ∷ rest) e in
-    let back = tails (hash_line h') (hash_line h) (map hash_line hashes' ++ last_line count ∷ []) (map hash_line hashes ++ line ∷ rest) e in
+    let front = heads (hash_digits h') (hash_digits h) (map hash_digits hashes' ++ last_line count ∷ []) (map hash_digits hashes ++ line ∷ rest) e in
+    let back = tails (hash_digits h') (hash_digits h) (map hash_digits hashes' ++ last_line count ∷ []) (map hash_digits hashes ++ line ∷ rest) e in
     let same : h' ≡ h = hash_injective h' h (All-head P h' hashes' i') (All-head P h hashes i) front in
     elim (goes_on hashes hashes' count line rest (All-tail P h hashes i) (All-tail P h' hashes' i') back) [
       | inl is ↦ inl (conses h' h hashes' hashes same is.0, is.1, is.2)
@@ -164,20 +165,20 @@ goes_on (h ∷ hashes) (h' ∷ hashes') count line rest i i' e =
 
 -- an image whose lines have these in front has this k and this seed, and its hashes go on so
 module _ (k seed : ℕ) (hashes : List ℕ) (line : List ℕ) (whole : IsImage k seed hashes) where
-  after_hashes : (rest : List (List ℕ)) (b : BeginAnImage ((first_line k seed ∷ map hash_line hashes) ++ line ∷ rest)) →
+  after_hashes : (rest : List (List ℕ)) (b : BeginAnImage ((first_line k seed ∷ map hash_digits hashes) ++ line ∷ rest)) →
       (b.k ≡ k) × (b.seed ≡ seed) × OneMore hashes b.hashes (length b.hashes) line (rest ++ b.begins.0)
   unfolding lines_of_image
   after_hashes rest b =
-      let all : map hash_line b.hashes ++ last_line (length b.hashes) ∷ [] ≡ (map hash_line hashes ++ line ∷ rest) ++ b.begins.0 =
-      tails (first_line b.k b.seed) (first_line k seed) (map hash_line b.hashes ++ last_line (length b.hashes) ∷ []) ((map hash_line hashes ++ line ∷ rest) ++ b.begins.0) b.begins.1 in
+      let all : map hash_digits b.hashes ++ last_line (length b.hashes) ∷ [] ≡ (map hash_digits hashes ++ line ∷ rest) ++ b.begins.0 =
+      tails (first_line b.k b.seed) (first_line k seed) (map hash_digits b.hashes ++ last_line (length b.hashes) ∷ []) ((map hash_digits hashes ++ line ∷ rest) ++ b.begins.0) b.begins.1 in
       let first : first_line b.k b.seed ≡ first_line k seed =
-      heads (first_line b.k b.seed) (first_line k seed) (map hash_line b.hashes ++ last_line (length b.hashes) ∷ []) ((map hash_line hashes ++ line ∷ rest) ++ b.begins.0) b.begins.1 in
+      heads (first_line b.k b.seed) (first_line k seed) (map hash_digits b.hashes ++ last_line (length b.hashes) ∷ []) ((map hash_digits hashes ++ line ∷ rest) ++ b.begins.0) b.begins.1 in
       let numbers = first_injective b.k b.seed k seed (omega (arith, b.whole.most)) (omega (arith, b.whole.seed_fits)) (omega (arith, whole.most)) (omega (arith, whole.seed_fits)) first in
-      (numbers.0, numbers.1, goes_on hashes b.hashes (length b.hashes) line (rest ++ b.begins.0) whole.items b.whole.items (all ∙ append_assoc (map hash_line hashes) (line ∷ rest) b.begins.0))
+      (numbers.0, numbers.1, goes_on hashes b.hashes (length b.hashes) line (rest ++ b.begins.0) whole.items b.whole.items (all ∙ append_assoc (map hash_digits hashes) (line ∷ rest) b.begins.0))
 
   -- a line that is neither the last one nor the next hash's begins no image
-  pub bad_behind_hashes : (line ≡ last_line (length hashes) → ⊥) → ((h : ℕ) → line ≡ hash_line h → IsImage k seed (hashes ++ h ∷ []) → ⊥) →
-      ¬ BeginAnImage ((first_line k seed ∷ map hash_line hashes) ++ line ∷ [])
+  pub bad_behind_hashes : (line ≡ last_line (length hashes) → ⊥) → ((h : ℕ) → line ≡ hash_digits h → IsImage k seed (hashes ++ h ∷ []) → ⊥) →
+      ¬ BeginAnImage ((first_line k seed ∷ map hash_digits hashes) ++ line ∷ [])
   unfolding OneMore
   bad_behind_hashes not_last no_hash = λ b.
       let is = after_hashes [] b in
@@ -195,14 +196,14 @@ module _ (k seed : ℕ) (hashes : List ℕ) (whole : IsImage k seed hashes) wher
   pub bad_behind_whole : (line : List ℕ) → ¬ BeginAnImage (lines_of_image k seed hashes ++ line ∷ [])
   unfolding lines_of_image OneMore
   bad_behind_whole line = λ b.
-      let again : BeginAnImage ((first_line k seed ∷ map hash_line hashes) ++ last_line (length hashes) ∷ (line ∷ [])) =
-      subst BeginAnImage (append_assoc (first_line k seed ∷ map hash_line hashes) (last_line (length hashes) ∷ []) (line ∷ [])) b in
+      let again : BeginAnImage ((first_line k seed ∷ map hash_digits hashes) ++ last_line (length hashes) ∷ (line ∷ [])) =
+      subst BeginAnImage (append_assoc (first_line k seed ∷ map hash_digits hashes) (last_line (length hashes) ∷ []) (line ∷ [])) b in
       elim (after_hashes k seed hashes (last_line (length hashes)) whole (line ∷ []) again).2 [
         | inl last ↦ no_cons line again.begins.0 last.2
         | inr next ↦ hash_is_not_last next.0 (length hashes) (sym next.3)
       ]
 
-  pub open_begins : BeginAnImage (first_line k seed ∷ map hash_line hashes)
+  pub open_begins : BeginAnImage (first_line k seed ∷ map hash_digits hashes)
   unfolding lines_of_image
   open_begins = record { k = k; seed = seed; hashes = hashes; whole = whole; begins = (last_line (length hashes) ∷ [], refl) }
 
@@ -223,30 +224,30 @@ pub bad_first : (line : List ℕ) → ((k seed : ℕ) → 2 ≤ k → k ≤ most
 unfolding lines_of_image
 bad_first line none = λ b.
     none b.k b.seed b.whole.least b.whole.most b.whole.seed_fits
-    (sym (heads (first_line b.k b.seed) line (map hash_line b.hashes ++ last_line (length b.hashes) ∷ []) b.begins.0 b.begins.1))
+    (sym (heads (first_line b.k b.seed) line (map hash_digits b.hashes ++ last_line (length b.hashes) ∷ []) b.begins.0 b.begins.1))
 
-hashes_are_no_last : (hashes hashes' : List ℕ) (count : ℕ) → map hash_line hashes' ++ last_line count ∷ [] ≡ map hash_line hashes → ⊥
-hashes_are_no_last [] hashes' count e = no_cons_behind (map hash_line hashes') (last_line count) [] e
-hashes_are_no_last (h ∷ hashes) [] count e = hash_is_not_last h count (sym (heads (last_line count) (hash_line h) [] (map hash_line hashes) e))
+hashes_are_no_last : (hashes hashes' : List ℕ) (count : ℕ) → map hash_digits hashes' ++ last_line count ∷ [] ≡ map hash_digits hashes → ⊥
+hashes_are_no_last [] hashes' count e = no_cons_behind (map hash_digits hashes') (last_line count) [] e
+hashes_are_no_last (h ∷ hashes) [] count e = hash_is_not_last h count (sym (heads (last_line count) (hash_digits h) [] (map hash_digits hashes) e))
 hashes_are_no_last (h ∷ hashes) (h' ∷ hashes') count e =
-    hashes_are_no_last hashes hashes' count (tails (hash_line h') (hash_line h) (map hash_line hashes' ++ last_line count ∷ []) (map hash_line hashes) e)
+    hashes_are_no_last hashes hashes' count (tails (hash_digits h') (hash_digits h) (map hash_digits hashes' ++ last_line count ∷ []) (map hash_digits hashes) e)
 
 -- lines without the last one are no image's
-pub open_is_not_whole : (k seed k' seed' : ℕ) (hashes hashes' : List ℕ) → lines_of_image k' seed' hashes' ≡ first_line k seed ∷ map hash_line hashes → ⊥
+pub open_is_not_whole : (k seed k' seed' : ℕ) (hashes hashes' : List ℕ) → lines_of_image k' seed' hashes' ≡ first_line k seed ∷ map hash_digits hashes → ⊥
 unfolding lines_of_image
 open_is_not_whole k seed k' seed' hashes hashes' e =
-    hashes_are_no_last hashes hashes' (length hashes') (tails (first_line k' seed') (first_line k seed) (map hash_line hashes' ++ last_line (length hashes') ∷ []) (map hash_line hashes) e)
+    hashes_are_no_last hashes hashes' (length hashes') (tails (first_line k' seed') (first_line k seed) (map hash_digits hashes' ++ last_line (length hashes') ∷ []) (map hash_digits hashes) e)
 
 pub nothing_is_not_whole : (k seed : ℕ) (hashes : List ℕ) → lines_of_image k seed hashes ≡ [] → ⊥
 unfolding lines_of_image
-nothing_is_not_whole k seed hashes e = no_cons (first_line k seed) (map hash_line hashes ++ last_line (length hashes) ∷ []) e
+nothing_is_not_whole k seed hashes e = no_cons (first_line k seed) (map hash_digits hashes ++ last_line (length hashes) ∷ []) e
 
 -- images with the same lines are one
 pub same_lines : (k k' seed seed' : ℕ) (hashes hashes' : List ℕ) → IsImage k seed hashes → IsImage k' seed' hashes' → lines_of_image k seed hashes ≡ lines_of_image k' seed' hashes' →
     (k ≡ k') × (seed ≡ seed') × (hashes ≡ hashes')
 unfolding lines_of_image OneMore
 same_lines k k' seed seed' hashes hashes' whole whole' e =
-    let b : BeginAnImage ((first_line k' seed' ∷ map hash_line hashes') ++ last_line (length hashes') ∷ []) =
+    let b : BeginAnImage ((first_line k' seed' ∷ map hash_digits hashes') ++ last_line (length hashes') ∷ []) =
     record { k = k; seed = seed; hashes = hashes; whole = whole; begins = ([], e ∙ sym (append-nil (lines_of_image k' seed' hashes'))) } in
     let is = after_hashes k' seed' hashes' (last_line (length hashes')) whole' [] b in
     elim is.2 [
@@ -257,8 +258,8 @@ same_lines k k' seed seed' hashes hashes' whole whole' e =
 pub number_of_lines : (k seed : ℕ) (hashes : List ℕ) → length (lines_of_image k seed hashes) ≡ length hashes + 2
 unfolding lines_of_image
 number_of_lines k seed hashes =
-    omega (arith, length-append (map hash_line hashes) (last_line (length hashes) ∷ []), length-map hashes hash_line)
+    omega (arith, length-append (map hash_digits hashes) (last_line (length hashes) ∷ []), length-map hashes hash_digits)
 
-pub with_last : (k seed : ℕ) (hashes : List ℕ) → (first_line k seed ∷ map hash_line hashes) ++ last_line (length hashes) ∷ [] ≡ lines_of_image k seed hashes
+pub with_last : (k seed : ℕ) (hashes : List ℕ) → (first_line k seed ∷ map hash_digits hashes) ++ last_line (length hashes) ∷ [] ≡ lines_of_image k seed hashes
 unfolding lines_of_image
 with_last k seed hashes = refl

@@ -1,4 +1,3 @@
-pub mod Digits
 pub mod Drafts
 pub mod Grammar
 pub mod Joins

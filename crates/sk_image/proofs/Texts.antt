@@ -3,12 +3,12 @@ use Rattle.std.proofs.Common.{◌≡◌, ◌≢◌, ℕ, ◌+◌, ◌≤◌, ◌
 use Rattle.std.proofs.lemmas.List.Elements.{All-nil, All-head, All-tail, All-push}
 use Rattle.std.proofs.lemmas.List.{length-map}
 use Rattle.sk_lines.specs.Cutter.{HasNoLf}
-use Rattle.sk_image.specs.Images.{IsImage, first_line, hash_line, lines_of_image, joined, text_of}
-use Rattle.sk_image.specs.Reading.{line_limit, BeginAnImage, IsBadAt, IsGoodSoFar}
+use Rattle.sk_image.specs.Images.{IsImage, first_line, lines_of_image, joined, text_of}
+use Rattle.sk_lines.specs.Hashes.{hash_digits}
+use Rattle.sk_image.specs.Reading.{most_line, BeginAnImage, IsBadAt, IsGoodSoFar}
 use Rattle.sk_image.specs.Inside.{IsBadFrom}
 use Rattle.sk_image.proofs.Splits.{conses, no_cons_behind, lines_split, joined_first, joined_none, cut, no_cut, cut_late}
 use Rattle.sk_image.proofs.Grammar.{IsLine, beginning_has_lines, without_lf, open_begins, whole_begins, open_is_not_whole, same_lines}
-use Rattle.sk_model.specs.Limits.{line_limit}
 
 no_lf_in_none : HasNoLf []
 no_lf_in_none = All-nil (λ byte. byte ≢ 10)
@@ -80,7 +80,7 @@ module _ (lines : List (List ℕ)) (rest : List ℕ) (ends : Ends lines rest) wh
           not_whole image.k image.seed image.hashes (parts.1 ∙ ap (λ (zs : List (List ℕ)). lines ++ zs) no_more.0 ∙ append-nil lines) no_more.1;
     }
 
-    is_not_good : ((piece : List ℕ) → HasNoLf piece → length piece ≤ line_limit → rest ≡ piece → ⊥) → ¬ IsGoodSoFar text
+    is_not_good : ((piece : List ℕ) → HasNoLf piece → length piece ≤ most_line → rest ≡ piece → ⊥) → ¬ IsGoodSoFar text
     is_not_good no_piece = λ good.
         let parts = front_of lines good.lines rest good.piece before good.before good.no_lf (sym split ∙ good.split) in
         let no_more = goes_no_further parts.0 good.piece (subst BeginAnImage parts.1 good.before) parts.2 in
@@ -105,12 +105,12 @@ module _ (lines : List (List ℕ)) (line text : List ℕ) (split : text ≡ join
       }
 
   -- a line that is too long already
-  pub long_line : (byte : ℕ) → byte ≢ 10 → length line ≡ line_limit → IsBadFrom (length lines + 1) (text ++ byte ∷ [])
+  pub long_line : (byte : ℕ) → byte ≢ 10 → length line ≡ most_line → IsBadFrom (length lines + 1) (text ++ byte ∷ [])
   unfolding Ends
   long_line byte other full =
       let long = line ++ byte ∷ [] in
       let none_in : HasNoLf long = All-push (λ c. c ≢ 10) line byte no_lf other in
-      let size : length long ≡ line_limit + 1 = omega (arith, full, length-append line (byte ∷ [])) in
+      let size : length long ≡ most_line + 1 = omega (arith, full, length-append line (byte ∷ [])) in
       let ends : (more : List ℕ) → Ends lines (long ++ more) = λ more line' more' e b.
       absurd (omega (arith, size, cut_late 10 long more line' more' none_in e, (last_line_is lines line' b).within)) in
       let all : (more : List ℕ) → (text ++ byte ∷ []) ++ more ≡ joined lines ++ (long ++ more) = λ more.
@@ -162,10 +162,10 @@ one_bad_line m n text a b =
     ]
 
 -- the text of an image without its last line
-pub without_last : (k seed : ℕ) (hashes : List ℕ) → IsImage k seed hashes → IsBadAt (length hashes + 2) (joined (first_line k seed ∷ map hash_line hashes))
+pub without_last : (k seed : ℕ) (hashes : List ℕ) → IsImage k seed hashes → IsBadAt (length hashes + 2) (joined (first_line k seed ∷ map hash_digits hashes))
 without_last k seed hashes whole =
-    let lines = first_line k seed ∷ map hash_line hashes in
-    let number : length lines + 1 ≡ length hashes + 2 = omega (arith, length-map hashes hash_line) in
+    let lines = first_line k seed ∷ map hash_digits hashes in
+    let number : length lines + 1 ≡ length hashes + 2 = omega (arith, length-map hashes hash_digits) in
     subst (λ (n : ℕ). IsBadAt n (joined lines)) number
     (bad_end lines [] (joined lines) (sym (append-nil (joined lines))) (open_begins k seed hashes whole) no_lf_in_none
     (λ k' seed' hashes' is none. open_is_not_whole k seed k' seed' hashes hashes' is))

@@ -1,34 +1,22 @@
 -- Images of sketches, and their texts.
-use Rattle.std.specs.Prelude.{ℕ, zero, suc, ◌+◌, ◌/◌, ◌%◌, ◌^◌, ◌<◌, ◌≤◌, nat_lt, if◌then◌else◌, List, [], ◌∷◌, ◌++◌, length, map, flat_map, codes, decimal}
+use Rattle.std.specs.Prelude.{ℕ, ◌^◌, ◌<◌, ◌≤◌, List, [], ◌∷◌, ◌++◌, length, map, flat_map, codes, decimal}
 use Rattle.std.specs.List.Sorted.{IsStrictlyIncreasing}
 use Rattle.sk_model.specs.Width.{AreItems}
-use Rattle.sk_model.specs.Limits.{most_k}
+use Rattle.sk_lines.specs.Hashes.{hash_digits}
+use Rattle.sk_model.specs.Limits.{least_k, most_k}
 
 -- the numbers of a sketch, and the hashes that it keeps
 pub record IsImage (k seed : ℕ) (hashes : List ℕ) : Type 0 where
-  pub least : 2 ≤ k
+  pub least : least_k ≤ k
   pub most : k ≤ most_k
   pub seed_fits : seed < 2 ^ 32
   pub rises : IsStrictlyIncreasing hashes
   pub items : AreItems hashes
   pub within : length hashes ≤ k
 
--- a hexadecimal digit, lower case
-abbrev pub hex_digit : ℕ → ℕ
-hex_digit digit = if nat_lt digit 10 then 48 + digit else 87 + digit
-
--- the last digits of a number in base 16, so many
-unfoldable pub hex : ℕ → ℕ → List ℕ
-hex zero n = []
-hex (suc width) n = hex width (n / 16) ++ hex_digit (n % 16) ∷ []
-
 -- the first line of an image
 unfoldable pub first_line : ℕ → ℕ → List ℕ
 first_line k seed = codes "theta1 k=" ++ decimal k ++ codes " seed=" ++ decimal seed
-
--- the line of a hash
-abbrev pub hash_line : ℕ → List ℕ
-hash_line hash = hex 12 hash
 
 -- the last line, with the number of hashes
 unfoldable pub last_line : ℕ → List ℕ
@@ -36,7 +24,7 @@ last_line count = codes "end " ++ decimal count
 
 -- the lines of an image
 unfoldable pub lines_of_image : ℕ → ℕ → List ℕ → List (List ℕ)
-lines_of_image k seed hashes = first_line k seed ∷ (map hash_line hashes ++ last_line (length hashes) ∷ [])
+lines_of_image k seed hashes = first_line k seed ∷ (map hash_digits hashes ++ last_line (length hashes) ∷ [])
 
 -- the text of lines that LF ends
 unfoldable pub joined : List (List ℕ) → List ℕ

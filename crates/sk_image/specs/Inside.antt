@@ -1,17 +1,17 @@
 -- What a reader of an image keeps of the bytes that it took.
 use Rattle.std.specs.Prelude.{◌≡◌, ℕ, ◌+◌, ◌≤◌, List, [], ◌∷◌, ◌++◌, length, map}
 use Rattle.sk_lines.specs.Cutter.{HasNoLf}
-use Rattle.sk_image.specs.Images.{first_line, hash_line, lines_of_image, joined}
-use Rattle.sk_image.specs.Reading.{line_limit, BeginAnImage, IsBadAt, IsGoodSoFar}
+use Rattle.sk_image.specs.Images.{first_line, lines_of_image, joined}
+use Rattle.sk_lines.specs.Hashes.{hash_digits}
+use Rattle.sk_image.specs.Reading.{most_line, BeginAnImage, IsBadAt, IsGoodSoFar}
 use Rattle.sk_image.specs.declared.part.Part.{Part}
 use Rattle.sk_image.specs.declared.part.Part.TheVariants.{Nothing, Open, Whole}
 use Rattle.sk_image.specs.declared.draft.Draft.{Draft}
-use Rattle.sk_model.specs.Limits.{line_limit}
 
 -- exactly these lines were taken
 abbrev pub Holds : Part → List (List ℕ) → Type 0
 Holds Nothing lines = lines ≡ []
-Holds (Open image) lines = lines ≡ first_line image.k image.seed ∷ map hash_line image.hashes.items
+Holds (Open image) lines = lines ≡ first_line image.k image.seed ∷ map hash_digits image.hashes.items
 Holds (Whole image) lines = lines ≡ lines_of_image image.k image.seed image.hashes.items
 
 -- one line more was taken
@@ -28,7 +28,7 @@ pub record HasTaken (draft : Draft) (text : List ℕ) : Type 0 where
   pub holds : Holds draft.part lines
   pub split : text ≡ joined lines ++ draft.line.items
   pub no_lf : HasNoLf draft.line.items
-  pub within : length draft.line.items ≤ line_limit
+  pub within : length draft.line.items ≤ most_line
 
 -- whatever follows, line n is the first that is not as its place requires
 pub record IsBadFrom (n : ℕ) (text : List ℕ) : Type 0 where

@@ -1,4 +1,5 @@
 pub use Rattle.sk_lines.specs.Cutter
+pub use Rattle.sk_lines.specs.Hashes
 pub use Rattle.sk_model.specs.Missing
 pub use Rattle.sk_model.specs.Sketch
 pub use Rattle.sk_model.specs.Width

@@ -1,13 +1,17 @@
 -- Texts that are read as images, and the line at which a text is none.
-use Rattle.std.specs.Prelude.{◌≡◌, ℕ, ◌+◌, ◌≤◌, List, [], ◌∷◌, ◌++◌, length}
+use Rattle.std.specs.Prelude.{◌≡◌, ℕ, ◌+◌, ◌≤◌, List, [], ◌∷◌, ◌++◌, length, Option}
+use Rattle.std.specs.Io.KnownBytes.{Consumes}
 use Rattle.sk_model.specs.Missing.{Begins}
 use Rattle.sk_lines.specs.Cutter.{HasNoLf}
 use Rattle.sk_image.specs.Images.{IsImage, lines_of_image, joined, text_of}
-use Rattle.sk_model.specs.Limits.{line_limit}
 
 -- no line of an image has more bytes
-abbrev pub line_limit : ℕ
-line_limit = 64
+abbrev pub most_line : ℕ
+most_line = 64
+
+-- one read is asked for at most so many bytes
+abbrev pub most_piece : ℕ
+most_piece = 8192
 
 -- the text of some image
 pub record IsImageText (text : List ℕ) : Type 0 where
@@ -44,4 +48,13 @@ pub record IsGoodSoFar (text : List ℕ) : Type 0 where
   pub split : text ≡ joined lines ++ piece
   pub before : BeginAnImage lines
   pub no_lf : HasNoLf piece
-  pub within : length piece ≤ line_limit
+  pub within : length piece ≤ most_line
+
+-- at most so many bytes were taken, and those before the last read, or all, are good so far
+pub record TakesInTime (old new : Option (List ℕ)) (most : ℕ) : Type 0 where
+  pub front : List ℕ
+  pub piece : List ℕ
+  pub taken : Consumes old new (front ++ piece)
+  pub good : IsGoodSoFar front
+  pub short : length piece ≤ most_piece
+  pub within : length (front ++ piece) ≤ most

@@ -1,7 +1,8 @@
 //! Laws of images. Each function is empty: its contract is the law.
 
 ghost use Rattle.std.specs.Prelude.{◌≡◌, ◌+◌, ℕ, List, ◌∷◌, length, map};
-ghost use Rattle.sk_image.specs.Images.{IsImage, first_line, hash_line, joined, text_of};
+ghost use Rattle.sk_image.specs.Images.{IsImage, first_line, joined, text_of};
+ghost use Rattle.sk_lines.specs.Hashes.{hash_digits};
 ghost use Rattle.sk_image.specs.Reading.{IsBadAt};
 
 pub mod worked;
@@ -24,5 +25,5 @@ pub fn one_bad_line()
 /// Where the last line of an image is missing, it is the line that is due.
 pub fn the_last_line_is_missed()
     ensures { (k seed : ℕ) (hashes : List ℕ) → IsImage k seed hashes
-        → IsBadAt (length hashes + 2) (joined (first_line k seed ∷ map hash_line hashes)) }
+        → IsBadAt (length hashes + 2) (joined (first_line k seed ∷ map hash_digits hashes)) }
 {}

@@ -1,11 +1,10 @@
 // The lines of an image, each alone.
 ghost use Rattle.std.specs.Prelude.{◌≡◌, ◌≢◌, ◌↔◌, ◌<◌, ◌≤◌, ◌+◌, ◌^◌, ◌++◌, ◌∷◌, ℕ, List, Some, None, All, IfSome, IsNone, MatchOption, IsTrue, decimal, length, codes};
-ghost use Rattle.sk_image.specs.Images.{hex_digit, first_line, hash_line, last_line};
-ghost use Rattle.sk_model.specs.Width.{IsItem};
-ghost use Rattle.sk_model.specs.Limits.{most_k};
+ghost use Rattle.sk_image.specs.Images.{first_line, last_line};
+ghost use Rattle.sk_model.specs.Limits.{least_k, most_k, IsFrom};
 
 use sk_lines::read_number;
-use sk_model::limits::{ITEM_DIGITS, LEAST_K, MOST_K};
+use sk_model::limits::{LEAST_K, MOST_K};
 
 const K_END: u64 = MOST_K as u64 + 1;
 
@@ -13,8 +12,8 @@ const SEED_END: u64 = 1 << 32;
 
 /// The k and the seed of a first line.
 pub fn read_first(line: &[u8]) -> Option<(u32, u32)>
-    ensures limits { IfSome result (λ first. (2 ≤ first.0) × (first.0 ≤ most_k)) }
-    ensures exact { (k seed : ℕ) → 2 ≤ k → k ≤ most_k → seed < 2 ^ 32
+    ensures limits { IfSome result (λ first. IsFrom least_k most_k first.0) }
+    ensures exact { (k seed : ℕ) → IsFrom least_k most_k k → seed < 2 ^ 32
         → (result ≡ Some (k, seed) ↔ line.now ≡ first_line k seed) }
 {
     let (k, seed) = numbers_of(line)?;
@@ -24,21 +23,6 @@ pub fn read_first(line: &[u8]) -> Option<(u32, u32)>
         return None;
     }
     Some((k as u32, seed as u32))
-}
-
-/// The hash of a line.
-pub fn read_hash(line: &[u8]) -> Option<u64>
-    ensures limit { IfSome result IsItem }
-    ensures exact { (hash : ℕ) → IsItem hash → (result ≡ Some hash ↔ line.now ≡ hash_line hash) }
-{
-    if line.len() != ITEM_DIGITS {
-        return None;
-    }
-    let mut hash = 0;
-    'digit: for byte in line {
-        hash = hash * 16 + read_digit(*byte)?;
-    }
-    Some(hash)
 }
 
 /// Whether a line is the last one behind so many hashes.
@@ -87,16 +71,4 @@ fn read_plain(bytes: &[u8], below: u64) -> Option<u64>
         return None;
     }
     read_number(bytes, below)
-}
-
-// The value of a hexadecimal digit, lower case.
-fn read_digit(byte: u8) -> Option<u64>
-    ensures limit { IfSome result (λ digit. digit < 16) }
-    ensures exact { (digit : ℕ) → digit < 16 → (result ≡ Some digit ↔ byte ≡ hex_digit digit) }
-{
-    match byte {
-        b'0'..=b'9' => Some(u64::from(byte - b'0')),
-        b'a'..=b'f' => Some(u64::from(byte - b'a') + 10),
-        _ => None,
-    }
 }

@@ -1,10 +1,12 @@
 // What the lines taken so far hold of an image.
-ghost use Rattle.sk_image.specs.Images.{IsImage, hash_line};
+ghost use Rattle.sk_image.specs.Images.{IsImage};
+ghost use Rattle.sk_lines.specs.Hashes.{hash_digits};
 ghost use Rattle.std.specs.Prelude.{◌≡◌, ◌≢◌, ◌↔◌, ◌+◌, ℕ, List, [], ◌∷◌, ◌++◌, Some, Err, IfOk, IfErr, length};
 
 use crate::image::Image;
-use crate::lines::{is_last, read_first, read_hash};
+use crate::lines::{is_last, read_first};
 use crate::stop::ReadStop;
+use sk_lines::read_hash;
 use std::alloc::Global;
 
 /// The lines taken so far.
@@ -71,7 +73,7 @@ impl Part {
 
 // The hash that a line puts behind those of an image.
 fn next_hash(image: &Image, line: &[u8]) -> Option<u64>
-    ensures { (hash : ℕ) → (result ≡ Some hash ↔ (line.now ≡ hash_line hash)
+    ensures { (hash : ℕ) → (result ≡ Some hash ↔ (line.now ≡ hash_digits hash)
         × IsImage image.now.k image.now.seed (image.now.hashes.items ++ hash ∷ [])) }
 {
     let hash = read_hash(line)?;

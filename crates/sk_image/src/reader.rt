@@ -1,9 +1,9 @@
 // Images from text.
 ghost use Rattle.std.specs.Prelude.{◌≡◌, ◌≤◌, ◌<◌, ℕ, List, Err, OnOk, IfOk, IfSome, IsErrOf, length, take};
 ghost use Rattle.std.specs.Io.KnownBytes.{Consumes, IsAtEnd};
-ghost use Rattle.sk_model.specs.Causes.{Rose};
+ghost use Rattle.sk_model.specs.Causes.{HasCauseIn};
 ghost use Rattle.sk_image.specs.Written.{image_text};
-ghost use Rattle.sk_image.specs.Reading.{IsBadAt, IsGoodSoFar};
+ghost use Rattle.sk_image.specs.Reading.{IsBadAt, IsGoodSoFar, TakesInTime};
 
 use crate::draft::Draft;
 use crate::image::Image;
@@ -15,7 +15,8 @@ use std::alloc::Global;
 const PIECE_LEN: usize = 8_192;
 
 /// Reads a source of fewer than `most` bytes, to its end, as the text of an image. The lines that it
-/// took are examined before it reads on.
+/// took are examined before it reads on. `TooMuch` comes also where a whole image was taken and behind
+/// it a piece that no LF ends.
 pub fn read<S: Source>(alloc: Global, source: &mut S, most: u64) -> Result<Image, ReadStop>
     // At `Ok` the whole source is the text of the image.
     ensures end { OnOk result (IsAtEnd (S.left source.new)) }
@@ -29,13 +30,14 @@ pub fn read<S: Source>(alloc: Global, source: &mut S, most: u64) -> Result<Image
         IfSome (S.left source.old) (λ text. most ≤ length text → ¬ IsGoodSoFar (take most text)) }
 
     // The other faults come where no line of the bytes taken is bad.
-    ensures read_fault { IsErrOf result ReadStop.ReadFault → Rose (S.faults source.old) (S.faults source.new) }
-    ensures read_fault_at { IsErrOf result ReadStop.ReadFault → (taken : List ℕ)
+    ensures read_fault { IsErrOf result ReadStop.ReadFault → (taken : List ℕ)
         × Consumes (S.left source.old) (S.left source.new) taken × (length taken < most) × IsGoodSoFar taken }
     ensures too_much { IsErrOf result ReadStop.TooMuch → (taken : List ℕ)
         × Consumes (S.left source.old) (S.left source.new) taken × (length taken ≡ most) × IsGoodSoFar taken }
 
-    ensures later { S.faults source.old ≤ S.faults source.new }
+    // Whatever it answers, no more was taken than this, and a read that failed is told.
+    ensures taken { TakesInTime (S.left source.old) (S.left source.new) most }
+    ensures cause { HasCauseIn ReadStop.ReadFault (S.faults source.old) (S.faults source.new) result }
     ensures stays { S.stands_on source.new ≡ S.stands_on source.old }
 {
     let mut draft = Draft::new(alloc);

@@ -11,7 +11,8 @@ pub enum ReadStop {
     ReadFault,
     /// The line of this number, counted from 1, is the first that is not as its place requires.
     BadImage(u64),
-    /// As many bytes were taken as are too much, and all their lines are as their places require.
+    /// As many bytes were taken as are too much, and each line that LF ended in them is as its place
+    /// requires. A piece of a line may stand behind them, also behind a whole image.
     TooMuch,
     /// No memory was left.
     OutOfMemory,

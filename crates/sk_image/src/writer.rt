@@ -1,17 +1,15 @@
 // Images to text.
 ghost use Rattle.std.specs.Prelude.{◌≡◌, ◌≤◌, ◌<◌, ◌++◌, ◌∷◌, [], OnOk, OnErr, IfOk, IsErrOf, string_bytes, codes};
 ghost use Rattle.std.specs.Io.KnownBytes.{Appends};
-ghost use Rattle.sk_model.specs.Causes.{Rose, AppendsFront};
+ghost use Rattle.sk_model.specs.Causes.{HasCauseIn, AppendsPart};
 ghost use Rattle.sk_image.specs.Written.{image_text};
-ghost use Rattle.sk_image.specs.Images.{hex_digit, first_line, hash_line, last_line};
+ghost use Rattle.sk_image.specs.Images.{first_line, last_line};
 
 use crate::image::Image;
 use sk_io::{Failed, Sink, write_all};
+use sk_lines::hash_line;
 use sk_model::OutOfMemory;
-use sk_model::limits::ITEM_DIGITS;
 use std::alloc::{AllocError, Global};
-
-const HASH_LINE_LEN: usize = 13;
 
 /// Why an image was not written, or not whole.
 #[derive(Clone, Copy, Debug, PartialEq, Eq)]
@@ -42,14 +40,14 @@ impl From<OutOfMemory> for WriteStop {
     }
 }
 
-/// Writes the text of an image. All of it is taken into memory first.
+/// Writes the text of an image, all of it made in memory first. Where a write fails, a part of the text
+/// was written; for want of memory nothing is.
 pub fn write<O: Sink>(alloc: Global, out: &mut O, image: &Image) -> Result<(), WriteStop>
     ensures ok { OnOk result (Appends (O.written out.old) (O.written out.new) (image_text image.now)) }
     ensures failed { IsErrOf result WriteStop.Failed →
-        AppendsFront (O.written out.old) (O.written out.new) (image_text image.now) }
-    ensures cause { IsErrOf result WriteStop.Failed → Rose (O.faults out.old) (O.faults out.new) }
+        AppendsPart (O.written out.old) (O.written out.new) (image_text image.now) }
+    ensures cause { HasCauseIn WriteStop.Failed (O.faults out.old) (O.faults out.new) result }
     ensures memory { IsErrOf result WriteStop.OutOfMemory → out.new ≡ out.old }
-    ensures later { O.faults out.old ≤ O.faults out.new }
 {
     let text = text(alloc, image)?;
     write_all(out, &text)?;
@@ -63,7 +61,7 @@ fn text(alloc: Global, image: &Image) -> Result<Vec<u8>, OutOfMemory>
     let mut text = Vec::new(alloc);
     push_line(&mut text, first(alloc, image.k, image.seed)?.as_bytes())?;
     'hash: for hash in &image.hashes {
-        text.extend_from_slice(&line_of(*hash))?;
+        text.extend_from_slice(&hash_line(*hash))?;
     }
     push_line(&mut text, last(alloc, image.hashes.len())?.as_bytes())?;
     Ok(text)
@@ -89,30 +87,4 @@ fn last(alloc: Global, count: usize) -> Result<String, AllocError>
     ensures { IfOk result (λ line. string_bytes line ≡ last_line count) }
 {
     format!(in alloc; "end {count}")
-}
-
-fn hex_digit(digit: u8) -> u8
-    requires { digit < 16 }
-    ensures { result ≡ hex_digit digit }
-{
-    if digit < 10 {
-        b'0' + digit
-    } else {
-        b'a' - 10 + digit
-    }
-}
-
-// The line of a hash, with LF.
-fn line_of(hash: u64) -> [u8; HASH_LINE_LEN]
-    ensures { result ≡ hash_line hash ++ codes "\n" }
-{
-    let mut line = [b'\n'; HASH_LINE_LEN];
-    let mut place = ITEM_DIGITS;
-    let mut rest = hash;
-    'digit: while place > 0 {
-        place -= 1;
-        line[place] = hex_digit((rest % 16) as u8);
-        rest /= 16;
-    }
-    line
 }

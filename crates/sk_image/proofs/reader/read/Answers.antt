@@ -8,11 +8,11 @@ use Rattle.sk_image.specs.Inside.{HasTaken, IsBadFrom}
 use Rattle.sk_image.specs.declared.image.Image.{Image}
 use Rattle.sk_image.specs.declared.stop.ReadStop.{ReadStop}
 use Rattle.sk_image.specs.declared.stop.ReadStop.TheVariants.{BadImage}
-use Rattle.sk_image.proofs.Drafts.{good_so_far, all_told, bad_told, bad_in_time}
+use Rattle.sk_image.proofs.Drafts.{good_so_far, all_told, bad_told, bad_in_time, took, took_front}
 use Rattle.sk_image.proofs.reader.read.Goals as goal
 
-pub returns-in_err-n-clause-read_fault_at : goal.returns-in_err-n-clause-read_fault_at
-returns-in_err-n-clause-read_fault_at g c = λ _.
+pub returns-in_err-n-clause-read_fault : goal.returns-in_err-n-clause-read_fault
+returns-in_err-n-clause-read_fault g c = λ _.
     let seen = c.read.invariant.seen in (
       seen.0,
       Consumes-kept _ _ _ _ seen.1 c.in_err-n.ensures.bytes,
@@ -72,7 +72,7 @@ read-preserved g c =
         omega (arith, seen.3, length-append seen.0 (take c.in_ok-n.n buf), c.in_ok-n.ensures.bound.1),
       );
       within = search rules;
-      later = omega (arith, c.in_ok-n.ensures.cause.later, c.read.invariant.later);
+      steady = c.in_ok-n.ensures.cause.steady ∙ c.read.invariant.steady;
       stays = c.in_ok-n.ensures.stays ∙ c.read.invariant.stays;
     }
 
@@ -84,3 +84,31 @@ returns-clause-too_much g c = λ _.
       omega (arith, seen.3, c.read-test.false, c.read.invariant.within),
       good_so_far c.read.draft seen.0 seen.2,
     )
+
+pub returns-in_err-n-clause-taken : goal.returns-in_err-n-clause-taken
+returns-in_err-n-clause-taken g c =
+    let seen = c.read.invariant.seen in
+    took_front _ _ c.read.draft seen.0 c.args.most seen.2 (Consumes-kept _ _ _ _ seen.1 c.in_err-n.ensures.bytes) (omega (arith, seen.3, c.read-test.true))
+
+pub returns-then-n-eq0-clause-taken : goal.returns-then-n-eq0-clause-taken
+returns-then-n-eq0-clause-taken g c =
+    let seen = c.read.invariant.seen in
+    let read = c.in_ok-n.ensures.bytes in
+    let none : take c.in_ok-n.n c.read-in-read.new.buf ≡ [] = ap (λ (n : ℕ). take n c.read-in-read.new.buf) c.if-n-eq0.true in
+    let more : Consumes (g.S.Source.left c.read.source) (g.S.Source.left c.read-in-read.new.self) [] = subst (Consumes (g.S.Source.left c.read.source) (g.S.Source.left c.read-in-read.new.self)) none read.0 in
+    took _ _ c.read.draft seen.0 [] c.args.most seen.2 (Consumes-trans _ _ _ _ _ seen.1 more) (omega arith) (omega (arith, seen.3, c.read-test.true, length-append seen.0 []))
+
+pub returns-in_err-draft-clause-taken : goal.returns-in_err-draft-clause-taken
+returns-in_err-draft-clause-taken g c =
+    let seen = c.read.invariant.seen in
+    let read = c.in_ok-n.ensures.bytes in
+    let buf : List ℕ = c.read-in-read.new.buf in
+    let within : c.read.taken + c.in_ok-n.n ≤ c.args.most = search rules in
+    let short : c.in_ok-n.n ≤ 8192 = search rules in
+    took _ _ c.read.draft seen.0 (take c.in_ok-n.n buf) c.args.most seen.2 (Consumes-trans _ _ _ _ _ seen.1 read.0)
+    (omega (arith, short, c.in_ok-n.ensures.bound.1)) (omega (arith, within, seen.3, length-append seen.0 (take c.in_ok-n.n buf), c.in_ok-n.ensures.bound.1))
+
+pub returns-clause-taken : goal.returns-clause-taken
+returns-clause-taken g c =
+    let seen = c.read.invariant.seen in
+    took_front _ _ c.read.draft seen.0 c.args.most seen.2 seen.1 (omega (arith, seen.3, c.read.invariant.within))

@@ -7,7 +7,7 @@ abbrev pub invariant-read : goal.invariant-read
 invariant-read g l = record {
   seen : (seen : List ℕ) × Consumes (g.S.Source.left l.initial.source) (g.S.Source.left l.source) seen × HasTaken l.draft seen × (length seen ≡ l.taken);
   within : l.taken ≤ l.most;
-  later : g.S.Source.faults l.initial.source ≤ g.S.Source.faults l.source;
+  steady : g.S.Source.faults l.source ≡ g.S.Source.faults l.initial.source;
   stays : g.S.Source.stands_on l.source ≡ g.S.Source.stands_on l.initial.source;
 }
 

@@ -1,6 +1,7 @@
 use Rattle.std.proofs.Common.{◌≡◌, ℕ, List, [], ◌∷◌, length, map, vec_len, refl, sym, ap, ◌∙◌, subst, arith, eq-eqb}
 use Rattle.std.proofs.lemmas.Bool.{true≢false}
-use Rattle.sk_image.specs.Images.{first_line, hash_line}
+use Rattle.sk_image.specs.Images.{first_line}
+use Rattle.sk_lines.specs.Hashes.{hash_digits}
 use Rattle.sk_image.specs.Inside.{Holds}
 use Rattle.sk_image.specs.declared.part.Part.{Part}
 use Rattle.sk_image.proofs.Grammar.{open_is_not_whole, nothing_is_not_whole}
@@ -22,7 +23,7 @@ returns-in-Open-clause-bad c = (
   refl,
   λ text has. bad_at_end c.args.self text has c.next_line-number.result (c.next_line-number.ensures has.lines has.holds) (λ k seed hashes whole none.
       let image = c.in-Open._image in
-      let are : has.lines ≡ first_line image.k image.seed ∷ map hash_line image.hashes.items = subst (λ (p : Part). Holds p has.lines) c.in-Open.is has.holds in
+      let are : has.lines ≡ first_line image.k image.seed ∷ map hash_digits image.hashes.items = subst (λ (p : Part). Holds p has.lines) c.in-Open.is has.holds in
       open_is_not_whole image.k image.seed k seed image.hashes.items hashes (whole ∙ are)),
 )
 
