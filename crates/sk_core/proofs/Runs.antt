@@ -101,15 +101,6 @@ pub run_empty : (k : ℕ) (f : Fine) → IsRun k [] [] f f
 unfolding IsRun
 run_empty k f = refl
 
--- the same of a loop over the events
-pub run_on : (k k' : ℕ) (events : List Event) (i : ℕ) (d : Event) (said said' : List Answer) (a : Answer) (from to to' : Fine) → k' ≡ k → i < length events → IsRun k (take i events) said from to → IsStep k' to (get_or events i d) a
-    → to' ≡ after k' (get_or events i d) to → said' ≡ said ++ a ∷ [] → IsRun k (take (i + 1) events) said' from to'
-run_on k k' events i d said said' a from to to' same inside run step is grown =
-    let e = get_or events i d in
-    let front : take i events ++ e ∷ [] ≡ take (i + 1) events = sym (take_more events i d inside) in
-    subst (λ (x : List Event × List Answer × Fine). IsRun k x.0 x.1 from x.2) (λ j. (front j, sym grown j, sym (is ∙ ap (λ n. after n e to) same) j))
-    (run_more k (take i events) said from to e a run (subst (λ n. IsStep n to e a) same step))
-
 -- ---- what a call says of one event
 
 pub is_enabled : (e : Event) (old new : Stored) (r : Result Answer NotEnabled) → Plays e old new r → OnOk r (IsEnabled e (machine_of old))

@@ -10,7 +10,7 @@ use Rattle.sk_machine.specs.declared.states.Mark.TheVariants.{Neither}
 use Rattle.sk_machine.specs.declared.states.Progress.{Progress}
 use Rattle.sk_core.specs.declared.token.Token.{Token}
 use Rattle.sk_model.specs.Width.{item_end}
-use Rattle.sk_model.specs.Limits.{most_k, most_updaters}
+use Rattle.sk_model.specs.Limits.{least_k, most_k, most_updaters}
 
 -- an updater: of what it kept so many items are handed over, and of the published list so many entries are
 -- its `given` and its `base`
@@ -52,7 +52,7 @@ blank_updater size = record { size = size; hint = item_end; fill = []; word = it
 
 -- a token that has seen and knows nothing
 abbrev pub blank_token : Token
-blank_token = record { live = true; seen = 0; known = replicate 64 0 }
+blank_token = record { live = true; seen = 0; known = replicate most_updaters 0 }
 
 -- the sizes of n updaters with buffers of b items; 0 where nobody is admitted
 abbrev pub sizes_of : ℕ → ℕ → ℕ → ℕ
@@ -115,7 +115,7 @@ pub record KnowsWithin (offers published : List Entry) (t : Token) : Type 0 wher
   pub known : (i : ℕ) → slice_index t.known i ≤ length (entries_by i offers)
 
 pub record IsStored (s : Stored) : Type 0 where
-  pub least : 2 ≤ s.k
+  pub least : least_k ≤ s.k
   pub most : s.k ≤ most_k
   pub few_updaters : length s.updaters ≤ most_updaters
   pub few_offers : length s.offers ≤ most_offers

@@ -2,7 +2,7 @@
 use Rattle.std.specs.Prelude.{ℕ, ◌++◌, ◌==◌, ◌&&◌, nat_le, if◌then◌else◌, List, [], ◌∷◌, codes, decimal, Option, Some, None, option_and_then}
 use Rattle.std.specs.Str.{bytes_eq}
 use Rattle.sk_model.specs.Numbers.{number_of}
-use Rattle.sk_lines.specs.Fractions.{fraction_text}
+use Rattle.sk_lines.specs.Fractions.{estimate_text}
 use Rattle.sk_core.specs.declared.event.Answer.{Answer}
 use Rattle.sk_core.specs.declared.event.Answer.TheVariants as answers
 use Rattle.sk_core.specs.declared.event.Event.{Event}
@@ -46,7 +46,7 @@ event_of_two word n m =
     else (if bytes_eq word (codes "admit") then Some (Admit n m)
     else None))
 
--- the event that fields name, with numbers below 2^48
+-- the event that fields name, with numbers below the end of the items
 abbrev pub event_of_fields : List (List ℕ) → Option Event
 event_of_fields [] = None
 event_of_fields (word ∷ []) = None
@@ -108,7 +108,7 @@ answer_text (answers.Took count) = codes "took " ++ decimal count
 answer_text (answers.Published count) = codes "published " ++ decimal count
 answer_text answers.Put = codes "put"
 answer_text (answers.Returned word) = codes "returned " ++ decimal word
-answer_text (answers.Estimate n d) = codes "estimate " ++ fraction_text n d
+answer_text (answers.Estimate n d) = estimate_text n d
 answer_text (answers.Token number) = codes "token " ++ decimal number
 answer_text answers.Joined = codes "joined"
 answer_text answers.Turned = codes "turned"

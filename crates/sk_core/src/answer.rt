@@ -1,77 +1,57 @@
 //! Answers as text.
-ghost use Rattle.std.specs.Prelude.{◌≡◌, ◌++◌, [], ◌∷◌, OnOk, OnErr, decimal, length, take, codes};
+ghost use Rattle.std.specs.Prelude.{◌≡◌, ◌≤◌, ◌++◌, [], ◌∷◌, OnOk, OnErr, decimal, length, take, codes};
 ghost use Rattle.sk_core.specs.Texts.{answer_text};
-ghost use Rattle.sk_lines.specs.Fractions.{fraction_text};
 
 use crate::event::Answer;
-use sk_lines::push_fraction;
+use sk_lines::{put_decimal, put_estimate, put_text};
 use sk_model::OutOfMemory;
 
-/// Appends an answer, without the end of a line. Where there is no memory, a part of it may stand behind the
-/// text.
-#[tactic(auto, unfolding(crate::specs::Texts::answer_text))]
+/// Appends an answer, without the end of a line. Where there is no memory, the text stays.
 pub fn push_answer(text: &mut Vec<u8>, answer: &Answer) -> Result<(), OutOfMemory>
     ensures ok { OnOk result (text.new.items ≡ text.old.items ++ answer_text answer.now) }
-    ensures err { OnErr result (take (length text.old.items) text.new.items ≡ text.old.items) }
+    ensures err { OnErr result (text.new.items ≡ text.old.items) }
+{
+    let mut line = [0; 64];
+    let len = put_answer(&mut line, answer);
+    text.extend_from_slice(&line[..len])?;
+    Ok(())
+}
+
+// Writes an answer to the front of `into`, and answers its length.
+#[tactic(auto, unfolding(crate::specs::Texts::answer_text))]
+fn put_answer(into: &mut [u8; 64], answer: &Answer) -> usize
+    ensures text { take result into.new ≡ answer_text answer.now }
+    ensures most { result ≤ 64 }
 {
     match *answer {
-        Answer::Kept => push_word(text, "kept"),
-        Answer::Filtered => push_word(text, "filtered"),
-        Answer::Hint(word) => push_number(text, "hint ", word),
-        Answer::Busy => push_word(text, "busy"),
-        Answer::Swapped => push_word(text, "swapped"),
-        Answer::Handed(count) => push_number(text, "handed ", count),
-        Answer::Waiting => push_word(text, "waiting"),
-        Answer::Nothing => push_word(text, "nothing"),
-        Answer::Took(count) => push_number(text, "took ", count),
-        Answer::Published(count) => push_number(text, "published ", count),
-        Answer::Put => push_word(text, "put"),
-        Answer::Returned(word) => push_number(text, "returned ", word),
-        Answer::Estimate(n, d) => push_estimate(text, n, d),
-        Answer::Token(number) => push_number(text, "token ", number),
-        Answer::Joined => push_word(text, "joined"),
-        Answer::Turned => push_word(text, "turned"),
-        Answer::Elsewhere(seat) => push_number(text, "elsewhere ", seat),
-        Answer::Yielded => push_word(text, "yielded"),
-        Answer::Admitted => push_word(text, "admitted"),
+        Answer::Kept => put_text(into, b"kept"),
+        Answer::Filtered => put_text(into, b"filtered"),
+        Answer::Hint(word) => put_number(into, b"hint ", word),
+        Answer::Busy => put_text(into, b"busy"),
+        Answer::Swapped => put_text(into, b"swapped"),
+        Answer::Handed(count) => put_number(into, b"handed ", count),
+        Answer::Waiting => put_text(into, b"waiting"),
+        Answer::Nothing => put_text(into, b"nothing"),
+        Answer::Took(count) => put_number(into, b"took ", count),
+        Answer::Published(count) => put_number(into, b"published ", count),
+        Answer::Put => put_text(into, b"put"),
+        Answer::Returned(word) => put_number(into, b"returned ", word),
+        Answer::Estimate(n, d) => put_estimate(into, n, d),
+        Answer::Token(number) => put_number(into, b"token ", number),
+        Answer::Joined => put_text(into, b"joined"),
+        Answer::Turned => put_text(into, b"turned"),
+        Answer::Elsewhere(seat) => put_number(into, b"elsewhere ", seat),
+        Answer::Yielded => put_text(into, b"yielded"),
+        Answer::Admitted => put_text(into, b"admitted"),
     }
 }
 
-fn push_word(text: &mut Vec<u8>, word: &str) -> Result<(), OutOfMemory>
-    ensures ok { OnOk result (text.new.items ≡ text.old.items ++ word.now) }
-    ensures err { OnErr result (take (length text.old.items) text.new.items ≡ text.old.items) }
+// Writes a word and a number to the front of `into`, and answers their length.
+fn put_number(into: &mut [u8; 64], word: &[u8], n: u64) -> usize
+    requires { length word.now ≤ 44 }
+    ensures text { take result into.new ≡ word.now ++ decimal n }
+    ensures most { result ≤ 64 }
 {
-    text.extend_from_slice(word.as_bytes())?;
-    Ok(())
-}
-
-fn push_number(text: &mut Vec<u8>, word: &str, n: u64) -> Result<(), OutOfMemory>
-    ensures ok { OnOk result (text.new.items ≡ text.old.items ++ (word.now ++ decimal n)) }
-    ensures err { OnErr result (take (length text.old.items) text.new.items ≡ text.old.items) }
-{
-    push_word(text, word)?;
-    push_decimal(text, n)
-}
-
-fn push_estimate(text: &mut Vec<u8>, n: u64, d: u64) -> Result<(), OutOfMemory>
-    ensures ok { OnOk result (text.new.items ≡ text.old.items ++ (codes "estimate " ++ fraction_text n d)) }
-    ensures err { OnErr result (take (length text.old.items) text.new.items ≡ text.old.items) }
-{
-    push_word(text, "estimate ")?;
-    push_fraction(text, n, d)
-}
-
-// Appends the digits of a number.
-#[tactic(auto, using(std::proofs::lemmas::Fmt::decimal_step, std::proofs::lemmas::Fmt::decimal_digit))]
-fn push_decimal(text: &mut Vec<u8>, n: u64) -> Result<(), OutOfMemory>
-    ensures ok { OnOk result (text.new.items ≡ text.old.items ++ decimal n) }
-    ensures err { OnErr result (take (length text.old.items) text.new.items ≡ text.old.items) }
-{
-    if n < 10 {
-        text.push(b'0' + n as u8)?;
-        return Ok(());
-    }
-    push_decimal(text, n / 10)?;
-    text.push(b'0' + (n % 10) as u8)?;
-    Ok(())
+    let at = put_text(into, word);
+    at + put_decimal(&mut into[at..], n)
 }

@@ -11,7 +11,7 @@ mod updater;
 
 pub use answer::push_answer;
 pub use event::{Answer, Event, NotEnabled};
-pub use state::{State, run_events};
+pub use state::State;
 pub use text::{read_event, read_machine, read_vacant};
 
 #[cfg(test)]

@@ -7,7 +7,6 @@ ghost use Rattle.sk_machine.specs.Fine.{IsAdmitted, IsLive};
 
 mod make;
 mod propagator;
-mod run;
 mod tokens;
 mod turns;
 mod updaters;
@@ -15,7 +14,6 @@ mod updaters;
 use crate::event::{Answer, Event, NotEnabled};
 use crate::token::Token;
 use crate::updater::Updater;
-pub use run::run_events;
 use sk_machine::Progress;
 use sk_theta::Theta;
 use std::marker::Model;

@@ -1,3 +1,6 @@
+ghost use Rattle.std.specs.Prelude.{◌≡◌, ◌++◌, if◌then◌else◌};
+ghost use Rattle.sk_core.specs.Texts.{answer_text};
+
 use super::*;
 use sk_model::OutOfMemory;
 use std::alloc::Global;
@@ -14,6 +17,13 @@ fn start(alloc: Global, line: &str) -> Result<Option<State>, OutOfMemory> {
     }
 }
 
+// Whether there was memory for an answer. If not, the text stays.
+fn is_told(text: &mut Vec<u8>, answer: &Answer) -> bool
+    ensures { text.new.items ≡ (if result then text.old.items ++ answer_text answer.now else text.old.items) }
+{
+    push_answer(text, answer).is_ok()
+}
+
 // Appends the answer to a line, or tells that it is none or that its event is not enabled.
 fn answer(state: &mut State, line: &str, text: &mut Vec<u8>) -> Result<bool, OutOfMemory> {
     let Some(event) = read_event(line.as_bytes()) else {
@@ -22,7 +32,9 @@ fn answer(state: &mut State, line: &str, text: &mut Vec<u8>) -> Result<bool, Out
     let Ok(answer) = state.step(&event) else {
         return Ok(false)
     };
-    push_answer(text, &answer)?;
+    if !is_told(text, &answer) {
+        return Err(OutOfMemory);
+    }
     text.push(b';')?;
     Ok(true)
 }
@@ -186,19 +198,4 @@ fn a_first_line_has_its_limits(rt: HostRuntime) {
     ] {
         assert!(rt; read_vacant(line.as_bytes()).is_none());
     }
-}
-
-#[test]
-fn a_run_stops_at_the_first_event_that_is_not_enabled(rt: HostRuntime) -> Result<(), Fail> {
-    let alloc = rt.alloc();
-    let mut state = State::new(alloc, 2, 1, 1)?;
-    let events = [
-        Event::Offer(0, 5),
-        Event::Look(0),
-        Event::Hand(0),
-        Event::Ask(0),
-    ];
-    let answers = run_events(alloc, &mut state, &events)?;
-    assert!(rt; answers.as_slice() == [Answer::Kept, Answer::Hint(1 << 48)].as_slice());
-    Ok(())
 }

@@ -1,7 +1,9 @@
 //! A token.
 
-/// The most updaters that there may be.
-pub const MOST_UPDATERS: usize = 64;
+use sk_model::limits;
+
+/// The most updaters that there may be, as a length.
+pub const MOST_UPDATERS: usize = limits::MOST_UPDATERS as usize;
 
 /// What a token has seen, and what it knows of each updater, as lengths.
 #[derive(Clone, Copy)]

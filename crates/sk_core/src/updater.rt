@@ -1,5 +1,5 @@
 //! An updater, with its buffers.
-ghost use Rattle.std.specs.Prelude.{◌≡◌, ◌+◌, ◌<◌, ◌≤◌, [], ◌∷◌, ◌++◌, length, IfOk, nat_lt, true, false, vec_capacity};
+ghost use Rattle.std.specs.Prelude.{◌≡◌, ◌+◌, ◌^◌, ◌<◌, ◌≤◌, [], ◌∷◌, ◌++◌, length, IfOk, nat_lt, true, false, vec_capacity};
 ghost use Rattle.sk_machine.specs.declared.states.Mark.TheVariants.{Neither, Ready, Swapped};
 ghost use Rattle.sk_core.specs.Stored.{StoredUpdater};
 ghost use Rattle.sk_model.specs.Width.{item_end};
@@ -131,7 +131,7 @@ impl Updater {
 
     // Hands over what lies in its slot.
     pub fn hand(&mut self)
-        requires { self.old.handed + length self.old.slot < 18446744073709551616 }
+        requires { self.old.handed + length self.old.slot < 2 ^ 64 }
         ensures { self.new ≡ record self.old { word = 0; mark = Neither; handed = self.old.handed + length self.old.slot } }
     {
         self.word = 0;

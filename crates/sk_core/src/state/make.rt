@@ -3,7 +3,7 @@ ghost use Rattle.std.specs.Prelude.{◌≡◌, ◌≤◌, IfOk, replicate};
 ghost use Rattle.sk_machine.specs.Fine.{fine_start};
 ghost use Rattle.sk_core.specs.Stored.{hint_by, word_by, machine_of, sizes_of, blank_updater};
 ghost use Rattle.sk_core.specs.Runs.{MeetsAll};
-ghost use Rattle.sk_model.specs.Limits.{most_k, most_size, most_updaters};
+ghost use Rattle.sk_model.specs.Limits.{least_k, most_k, most_size, most_updaters};
 
 use super::{MOST_OFFERS, MOST_TOKENS, State};
 use crate::token::{MOST_UPDATERS, Token};
@@ -14,10 +14,10 @@ use sk_theta::Theta;
 use std::alloc::Global;
 
 impl State {
-    /// The machine at its start: n updaters with buffers of b items, the turn with the heart, and token 0. k is
-    /// from 2 to 32,768, b from 1 to 4,096, and n from 1 to 64.
+    /// The machine at its start: n updaters with buffers of b items, the turn with the heart, and token 0. k, b
+    /// and n are within the limits of a run.
     pub fn new(alloc: Global, k: u32, b: u32, n: u32) -> Result<State, OutOfMemory>
-        requires least { 2 ≤ k }
+        requires least { least_k ≤ k }
         requires most { k ≤ most_k }
         requires size { b ≤ most_size }
         requires updaters { n ≤ most_updaters }
@@ -49,7 +49,7 @@ impl State {
 
     /// The same, but nobody is admitted.
     pub fn vacant(alloc: Global, k: u32, n: u32) -> Result<State, OutOfMemory>
-        requires least { 2 ≤ k }
+        requires least { least_k ≤ k }
         requires most { k ≤ most_k }
         requires updaters { n ≤ most_updaters }
         ensures sketch { IfOk result (λ s. s.k ≡ k) }
