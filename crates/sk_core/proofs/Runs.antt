@@ -1,6 +1,5 @@
 -- Each event that is enabled keeps the invariant, and so do runs.
-use Rattle.std.proofs.Common.{◌≡◌, ℕ, ◌+◌, ◌<◌, ◌≤◌, List, [], ◌∷◌, ◌++◌, length, take, get_or, Result, Ok, Err, OnOk, OnErr, IfOk, arith, refl, sym, ap, ◌∙◌, subst, cond, lt-ltb, le-ltb}
-use Rattle.std.proofs.lemmas.List.{take_more}
+use Rattle.std.proofs.Common.{◌≡◌, ℕ, ◌<◌, ◌≤◌, List, [], ◌∷◌, ◌++◌, Result, Ok, Err, OnOk, OnErr, IfOk, arith, refl, sym, ap, ◌∙◌, subst, cond, lt-ltb, le-ltb}
 use mathlib.Core.Logic.{dite}
 use native.Mathlib.Decide.{dec_le}
 use Rattle.sk_model.specs.Entries.{items_of_entries}

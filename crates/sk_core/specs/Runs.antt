@@ -1,7 +1,7 @@
 -- Whole runs: each event was enabled, and each answer says what it should.
 use Rattle.std.specs.Prelude.{◌≡◌, ◌↔◌, ℕ, ◌*◌, ◌<◌, List, [], ◌∷◌}
 use Rattle.sk_model.specs.Entries.{entries_by, items_of_entries}
-use Rattle.sk_model.specs.Missing.{Begins, LacksAtMost, longer}
+use Rattle.sk_model.specs.Missing.{Begins, LacksAtMost}
 use Rattle.sk_model.specs.Sketch.{IsIdle}
 use Rattle.sk_machine.specs.Fine.{Fine}
 use Rattle.sk_machine.specs.Invariant.{Invariant}
