@@ -8,11 +8,11 @@ use Rattle.std.specs.BinaryHeap.{IsHeap}
 use Rattle.sk_heap.specs.Heap.{times}
 use Rattle.sk_heap.specs.Table.{IsProbed, HoldsEach}
 use Rattle.sk_model.specs.Width.{AreItems}
-use Rattle.sk_model.specs.Limits.{most_k}
+use Rattle.sk_model.specs.Limits.{least_k, most_k}
 
 -- at most k hashes, in order as a heap, none of them twice, and the table that they are looked up in
 pub record IsHeld (k : ℕ) (heap table : List ℕ) : Type 0 where
-  pub least : 2 ≤ k
+  pub least : least_k ≤ k
   pub most : k ≤ most_k
   pub within : length heap ≤ k
   pub items : AreItems heap

@@ -6,7 +6,7 @@ ghost use Rattle.sk_theta.specs.Kept.{Sketch, StandsFor, IsWhole, theta_kept};
 ghost use Rattle.sk_heap.specs.Heap.{HasSame, IsMaxHeap};
 ghost use Rattle.sk_heap.specs.Table.{IsProbed, HoldsEach};
 ghost use Rattle.sk_model.specs.Width.{item_end, IsItem, AreItems};
-ghost use Rattle.sk_model.specs.Limits.{most_k};
+ghost use Rattle.sk_model.specs.Limits.{least_k, most_k};
 
 use crate::held::{put_in, sorted, theta_of};
 use sk_model::OutOfMemory;
@@ -41,9 +41,9 @@ impl Model for HeapTheta {
 }
 
 impl HeapTheta {
-    /// The sketch of the empty list. All its memory is taken here. k is from 2 to 32,768.
+    /// The sketch of the empty list. All its memory is taken here.
     pub fn new(alloc: Global, k: u32) -> Result<HeapTheta, OutOfMemory>
-        requires least { 2 ≤ k }
+        requires least { least_k ≤ k }
         requires most { k ≤ most_k }
         ensures numbers { IfOk result (λ s. s.k ≡ k) }
         ensures stands { IfOk result (λ s. StandsFor s []) }
@@ -118,7 +118,7 @@ impl HeapTheta {
         self.heap.len() as u32
     }
 
-    /// The greatest kept hash where there are k, else 2^48.
+    /// The greatest kept hash where there are k, else the end of the items, which stands for 1.
     pub fn theta(&self) -> u64
         ensures kept { result ≡ theta_kept self.now.k self.now.kept }
         ensures value { (hashes : List ℕ) → StandsFor self.now hashes → result ≡ theta_of self.now.k hashes }

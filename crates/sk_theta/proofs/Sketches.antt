@@ -1,5 +1,5 @@
 -- What one more hash makes of a sketch.
-use Rattle.std.proofs.Common.{◌≡◌, ◌≢◌, ◌↔◌, ℕ, ◌<◌, ◌≤◌, Bool, IsTrue, List, [], ◌∷◌, ◌++◌, take, get_or, ⊎_elim, sym, ap, ◌∙◌, arith, length-take, take_all}
+use Rattle.std.proofs.Common.{◌≡◌, ◌≢◌, ◌↔◌, ℕ, ◌≤◌, Bool, IsTrue, List, [], ◌∷◌, ◌++◌, take, get_or, ⊎_elim, sym, ap, ◌∙◌, arith, length-take, take_all}
 use Rattle.std.proofs.lemmas.List.Elements.{All-contains, All-contains_itself, All-weaker}
 use Rattle.sk_model.specs.Sketch.{placed, k_smallest}
 use Rattle.sk_model.proofs.Rising.{Has, Has-from_Contains, Contains-from_Has, Has-take, Has-placed, RisesFrom-increasing, RisesFrom-placed, RisesFrom-take, increasing_from_RisesFrom}

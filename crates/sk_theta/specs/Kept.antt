@@ -3,7 +3,7 @@ use Rattle.std.specs.Prelude.{◌≡◌, ℕ, ◌-◌, ◌≤◌, nat_lt, if◌t
 use Rattle.std.specs.List.Sorted.{IsStrictlyIncreasing}
 use Rattle.sk_model.specs.Sketch.{k_smallest}
 use Rattle.sk_model.specs.Width.{item_end, AreItems}
-use Rattle.sk_model.specs.Limits.{most_k}
+use Rattle.sk_model.specs.Limits.{least_k, most_k}
 
 -- its k, and the hashes that it keeps, rising
 pub record Sketch : Type 0 where
@@ -16,7 +16,7 @@ StandsFor sketch hashes = sketch.kept ≡ k_smallest sketch.k hashes
 
 -- what holds of every sketch
 pub record IsWhole (sketch : Sketch) : Type 0 where
-  pub least : 2 ≤ sketch.k
+  pub least : least_k ≤ sketch.k
   pub most : sketch.k ≤ most_k
   pub rises : IsStrictlyIncreasing sketch.kept
   pub within : length sketch.kept ≤ sketch.k

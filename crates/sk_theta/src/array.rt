@@ -3,7 +3,7 @@ ghost use Rattle.std.specs.Prelude.{◌≡◌, ◌≢◌, ◌↔◌, ◌+◌, �
 ghost use Rattle.sk_model.specs.Sketch.{placed, k_smallest, count_of, theta_of, estimate_of, packed_of, unpacked};
 ghost use Rattle.sk_theta.specs.Kept.{Sketch, StandsFor, IsWhole, theta_kept};
 ghost use Rattle.sk_model.specs.Width.{item_end, IsItem, AreItems};
-ghost use Rattle.sk_model.specs.Limits.{most_k};
+ghost use Rattle.sk_model.specs.Limits.{least_k, most_k};
 
 use crate::place::put_among;
 use crate::reply::Reply;
@@ -32,9 +32,9 @@ impl Model for Theta {
 }
 
 impl Theta {
-    /// The sketch of the empty list. All its memory is taken here. k is from 2 to 32,768.
+    /// The sketch of the empty list. All its memory is taken here.
     pub fn new(alloc: Global, k: u32) -> Result<Theta, OutOfMemory>
-        requires least { 2 ≤ k }
+        requires least { least_k ≤ k }
         requires most { k ≤ most_k }
         ensures numbers { IfOk result (λ s. s.k ≡ k) }
         ensures stands { IfOk result (λ s. StandsFor s []) }
@@ -102,7 +102,7 @@ impl Theta {
         self.kept.len() as u32
     }
 
-    /// The greatest kept hash where there are k, else 2^48.
+    /// The greatest kept hash where there are k, else the end of the items, which stands for 1.
     pub fn theta(&self) -> u64
         ensures kept { result ≡ theta_kept self.now.k self.now.kept }
         ensures value { (hashes : List ℕ) → StandsFor self.now hashes → result ≡ theta_of self.now.k hashes }

@@ -1,7 +1,7 @@
 //! A count and a theta, as a sketch answers them in one word.
 ghost use Rattle.std.specs.Prelude.{◌≡◌, ◌≤◌};
 ghost use Rattle.sk_model.specs.Sketch.{fraction_of, unpacked};
-ghost use Rattle.sk_model.specs.Limits.{most_k};
+ghost use Rattle.sk_model.specs.Limits.{least_k, most_k};
 
 use sk_model::limits::ITEM_END;
 
@@ -15,7 +15,7 @@ pub struct Reply {
 impl Reply {
     /// The estimate as a numerator and a denominator, not reduced.
     pub fn fraction(&self, k: u32) -> (u64, u64)
-        requires least { 2 ≤ k }
+        requires least { least_k ≤ k }
         requires most { k ≤ most_k }
         requires count { self.now.count ≤ k }
         requires theta { 1 ≤ self.now.theta }

@@ -9,11 +9,11 @@ use std::marker::Model;
 /// Which number is out of its limits.
 #[derive(Clone, Copy, Debug, PartialEq, Eq, Hash)]
 pub enum BadShape {
-    /// k is not from 2 to 32,768.
+    /// k is not from `LEAST_K` to `MOST_K`.
     K,
-    /// b is not from 1 to 4,096.
+    /// b is not from 1 to `MOST_SIZE`.
     B,
-    /// n is not from 1 to 64.
+    /// n is not from 1 to `MOST_UPDATERS`.
     N,
 }
 

@@ -1,6 +1,6 @@
 ghost use Rattle.std.specs.Prelude.{◌<◌, ◌≤◌};
 ghost use Rattle.sk_model.specs.Width.{IsItem};
-ghost use Rattle.sk_model.specs.Limits.{most_k};
+ghost use Rattle.sk_model.specs.Limits.{least_k, most_k};
 
 use super::*;
 use sk_model::plain;
@@ -76,7 +76,7 @@ fn draw(state: &mut u64, bound: u64) -> u64
 
 // Whether a sketch of numbers below the bound, one by one and as batches, is that of the plain form.
 fn agrees(alloc: Global, k: u32, bound: u64, state: &mut u64) -> Result<bool, Fail>
-    requires least { 2 ≤ k }
+    requires least { least_k ≤ k }
     requires most { k ≤ most_k }
 {
     let mut single = Theta::new(alloc, k)?;

@@ -1,6 +1,10 @@
 -- Places as the bits of a number.
 use Rattle.std.specs.Prelude.{ℕ, ◌+◌, ◌*◌, if◌then◌else◌, Bool, List, [], ◌∷◌}
 
+-- a mask has so many places
+abbrev pub most_places : ℕ
+most_places = 64
+
 -- the sum of 2 ^ i over the places i that have true
 unfoldable pub mask_of : List Bool → ℕ
 mask_of [] = 0

@@ -1,6 +1,6 @@
 // Watchers at their places.
 ghost use Rattle.std.specs.Prelude.{◌≡◌, ◌+◌, ◌^◌, ◌<◌, ◌≤◌, List, None, length, map, option_map, is_some, if◌then◌else◌, slice_set};
-ghost use Rattle.sk_watch.specs.Masks.{mask_of};
+ghost use Rattle.sk_watch.specs.Masks.{mask_of, most_places};
 ghost use Rattle.sk_watch.specs.Places.{Place, IsLive, armed_at, answers_at, told};
 ghost use Rattle.sk_watch.specs.Watching.{armed};
 
@@ -17,7 +17,7 @@ pub trait Seen {
 #[derive(Drop)]
 pub struct Board {
     boxes: Vec<Option<Box<dyn Watcher>>>,
-    ghost few: { length boxes.items ≤ 64 },
+    ghost few: { length boxes.items ≤ most_places },
 }
 
 impl Seen for Board {
@@ -27,7 +27,7 @@ impl Seen for Board {
 impl Board {
     /// A board with these watchers.
     pub fn new(boxes: Vec<Option<Box<dyn Watcher>>>) -> Board
-        requires { length boxes.items ≤ 64 }
+        requires { length boxes.items ≤ most_places }
         ensures { ⟦<Board as Seen>⟧.places result ≡ map (option_map watching) boxes.items }
     {
         Board { boxes }
@@ -106,7 +106,7 @@ fn tell_at(place: &mut Option<Box<dyn Watcher>>, reply: Reply) -> bool
 
 // The number with one bit more, above those that it has.
 fn with_bit(bits: u64, place: usize, bit: bool) -> u64
-    requires place { place < 64 }
+    requires place { place < most_places }
     requires below { bits < 2 ^ place }
     ensures value { result ≡ bits + (if bit then 2 ^ place else 0) }
 {
