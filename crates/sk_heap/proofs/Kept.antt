@@ -15,7 +15,6 @@ use Rattle.sk_theta.specs.Kept.{theta_kept}
 use Rattle.sk_heap.specs.Held.{IsExchanged}
 use Rattle.sk_heap.proofs.Distinct.{Has-permutation, All-from_Has, head_once, distinct_moved, rising_moves}
 use Rattle.sk_model.specs.Width.{item_end}
-use Rattle.sk_model.specs.Missing.{longer}
 
 pub rises : (xs : List ℕ) → IsStrictlyIncreasing (rising xs)
 rises xs = increasing_from_RisesFrom 0 (rising xs) (RisesFrom-rising xs)
