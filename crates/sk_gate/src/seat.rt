@@ -1,7 +1,6 @@
 //! A seat that may propagate: an updater's or the heart's.
 ghost use Rattle.std.specs.Prelude.{◌≡◌, ◌≤◌};
 ghost use Rattle.sk_gate.specs.Hands.{rotated, IsAt, IsPut};
-ghost use Rattle.sk_model.specs.Limits.{most_updaters};
 
 use crate::rule::{Hub, Slot};
 use atomic_table::Seat;
@@ -58,6 +57,7 @@ impl<C: Composable, R: Role> Model for Propagator<C, R> {
     ghost use Rattle.std.specs.Arc.{arc_value};
     ghost use Rattle.sk_gate.specs.Slots.{sketching, telling};
     ghost use Rattle.sk_gate.specs.Hands.{Standing, standing_of, Holds};
+    ghost use Rattle.sk_model.specs.Limits.{most_updaters};
 
     ghost Value = { Standing };
 
