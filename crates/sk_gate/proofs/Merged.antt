@@ -57,6 +57,9 @@ nothing (x ∷ xs) e = absurd (omega arith)
 same_length : {A : Type 0} (xs h : List A) → Begins xs h → length h ≤ length xs → xs ≡ h
 same_length xs h b le = sym (b.1 ∙ ap (λ l. xs ++ l) (nothing b.0 (let e = ap length b.1 in omega (arith, length-append xs b.0))) ∙ append-nil xs)
 
+pub begins_same : {A : Type 0} (xs ys : List A) → Begins xs ys → Begins ys xs → xs ≡ ys
+begins_same xs ys a b = same_length xs ys a (begins_length ys xs b)
+
 pub whole_second : {A : Type 0} (xs ys h : List A) → ys ≡ h → Begins xs h → longer xs ys ≡ h
 whole_second xs ys h e b = ⊎_elim (λ (lt : length xs < length ys). longer_second xs ys lt ∙ e)
     (λ (le : length ys ≤ length xs). let at = ap length e in let most = begins_length xs h b in longer_first xs ys le ∙ same_length xs h b (omega arith)) (cases_lt (length xs) (length ys))

@@ -153,10 +153,11 @@ module _ {C T : Type 0} (hint packed : List ℕ → List Entry → ℕ) (g : Ske
       within : (i : ℕ) → i < f.n → i < r.n
       within i l = omega arith
 
-      own : (p : Post) → PostOk r.n m r.owner j v.seen v.sizes v.drained p → KnowsOwn f v.seen p
+      own : (p : Post) → PostOk r.n m r.owner j v.seen v.sizes v.drained p → KnowsOwn f v p
       own Guest t = tt
-      own (Root made) t = tt
-      own (Updater i mine) t = let x = each i t.0 in (omega (arith, t.0, count), ap (λ (y : Mine). y.handed) t.2 ∙ sym x.handed, ap (λ (y : Mine). y.base) t.2 ∙ sym x.base, ap (λ (y : Mine). y.ready) t.2 ∙ sym x.ready, t.3)
+      own (Root made) t = λ i a l. let x = each i (within i l) in let y = t i a (within i l) in (x.handed ∙ ap (λ (z : Mine). z.handed) (sym y.1), y.2 ∙ sym x.size)
+      own (Updater i mine) t = let x = each i t.0 in
+          (omega (arith, t.0, count), ap (λ (y : Mine). y.handed) t.2 ∙ sym x.handed, ap (λ (y : Mine). y.base) t.2 ∙ sym x.base, ap (λ (y : Mine). y.ready) t.2 ∙ sym x.ready, t.3, t.4 ∙ sym x.size)
 
       duty : (d : Duty) → DutyOk r.n m r.left r.leader j v.seen v.post d → LeadsBy f v d
       duty Free t = tt
@@ -197,6 +198,7 @@ module _ {C T : Type 0} (hint packed : List ℕ → List Entry → ℕ) (g : Ske
           tokens = x.tokens;
           leader = λ on. (r.leader, (r.led (λ z. on (x.turn ∙ z))).1);
           one_leads = λ a b v w av bw lv lw. sym (leads_at a v.seen v.post v.duty lv (r.each_seat a v av.0 av.1).duty_is) ∙ leads_at b w.seen w.post w.duty lw (r.each_seat b w bw.0 bw.1).duty_is;
+          spoken = λ i l. (r.owner i, r.spoken i (within i l));
           one_own = λ i a b v w av bw iv iw. sym (subst (PostOk r.n m r.owner a v.seen v.sizes v.drained) iv (r.each_seat a v av.0 av.1).post_is).1 ∙ (subst (PostOk r.n m r.owner b w.seen w.sizes w.drained) iw (r.each_seat b w bw.0 bw.1).post_is).1;
           seen = (r.seer, subst (λ h. Has s.views r.seer (HasSeen h)) (sym x.published) r.seen);
           given = λ i l. let at = within i l in (r.giver i, subst (λ h. Has s.views (r.giver i) (HasGiven i h)) (sym (x.updaters i at).given) (r.given i at));

@@ -30,7 +30,7 @@ use Rattle.sk_gate.specs.Views.{known_of, given_of, size_of, mine_of, seat_in, l
 use Rattle.sk_gate.specs.Rule.{PostOk, DutyOk, OpenOk, Knows, Kept}
 use Rattle.sk_gate.specs.Moves.{LacksOwn, looked_mine, RenewsAt, LooksAt, AdmitsAt, handed_mine}
 use Rattle.sk_gate.specs.Plays.{Sat, asked, LookHand, looked, is_picked, rested_mine, rested, admitted, handed, published}
-use Rattle.sk_gate.proofs.Published.{published_seen, entries_of}
+use Rattle.sk_gate.proofs.Published.{published_seen, begun_seen, seen_between}
 use Rattle.sk_gate.proofs.Opened.{open_neutral, open_told, open_shut}
 use Rattle.sk_gate.proofs.Common.{Stays, viewed, updater_step, at_within, index_within}
 use Rattle.sk_gate.proofs.Known.{room_some}
@@ -177,6 +177,9 @@ module _ {C T : Type 0} (hint packed : List ℕ → List Entry → ℕ) (g : Ske
       let u' : CoarseUpdater = record u { mine = looked_mine u.mine base } in let ups : ℕ → CoarseUpdater = put m.updaters i u' in let m' : Coarse = record m { updaters = ups } in
       let now = event.looks (hint r.numbers) r.n m i r.meets inside admitted open_word in
       let still : v.seen ≡ m.published → longer v.seen base ≡ m.published = λ e. longer_same v.seen base (subst (Begins base) (sym e) ok.given_is) ∙ e in
+      let seen_is : Begins (longer v.seen base) m.published = longer_either v.seen base (λ l. Begins l m.published) o.seen_is ok.given_is in
+      let based : Begins base (longer v.seen base) = longer_right v.seen base m.published o.seen_is ok.given_is in
+      let own_handed : u.mine.handed ≡ mine.handed = ap (λ (y : Mine). y.handed) (sym own.2) in
       let knows : Knows r.n r.numbers r.name m' r.left r.owner r.leader id w = record {
         numbers_are = o.numbers_are;
         name_is = o.name_is;
@@ -184,13 +187,13 @@ module _ {C T : Type 0} (hint packed : List ℕ → List Entry → ℕ) (g : Ske
         known_sized = o.known_sized;
         given_sized = o.given_sized;
         sizes_are = o.sizes_are;
-        seen_is = longer_either v.seen base (λ l. Begins l m.published) o.seen_is ok.given_is;
+        seen_is = seen_is;
         heard_is = o.heard_is;
         names_are = o.names_are;
         known_is = λ a. each_put (λ c (y : CoarseUpdater). Begins (known_of v c) y.mine.handed) m.updaters i u' a (o.known_is i) (λ _. o.known_is a);
         known_with_size = o.known_with_size;
         given_is = λ a. each_put (λ c (y : CoarseUpdater). Begins (given_of v c) y.given) m.updaters i u' a (o.given_is i) (λ _. o.given_is a);
-        post_is = (inside, own.1, ap (λ y. looked_mine y base) own.2 ∙ ap (λ (y : CoarseUpdater). y.mine) (sym (put_here m.updaters i u')), longer_right v.seen base m.published o.seen_is ok.given_is, b, own.5);
+        post_is = (inside, own.1, ap (λ y. looked_mine y base) own.2 ∙ ap (λ (y : CoarseUpdater). y.mine) (sym (put_here m.updaters i u')), based, b, own.5);
         duty_is = duty_same r.n i m m' r.left r.leader id v.seen (longer v.seen base) mine (looked_mine mine base) v.post v.duty is refl refl refl still o.duty_is;
         open_is = λ _. subst (λ (y : CoarseUpdater). y.word ≢ 0) (sym (put_here m.updaters i u')) open_word;
         drained_is = λ a d. none_drained v.drained a own.5 d;
@@ -207,9 +210,11 @@ module _ {C T : Type 0} (hint packed : List ℕ → List Entry → ℕ) (g : Ske
         hint_is = word ∙ ok.open_hint open_word ∙ ap (λ l. hint l base) (sym o.numbers_are);
         grows = subst (λ (y : Mine). Begins y.base base) (sym own.2) ok.base_is;
         sees = longer_left v.seen base m.published o.seen_is ok.given_is;
+        is_seen = begun_seen (hint r.numbers) r.n m r.owner id v (longer v.seen base) o.sized r.meets seen_is o.post_is;
+        based = based;
+        all = ok.open_given open_word ∙ own_handed;
+        sees_all = seen_between i base (longer v.seen base) m.published mine.handed based seen_is (ok.open_given open_word ∙ own_handed) (ok.open_all open_word ∙ own_handed);
         again = λ on. sym (ok.ready_base (ap (λ (y : Mine). y.ready) (sym own.2) ∙ on)) ∙ ap (λ (y : Mine). y.base) (sym own.2);
-        all = ok.open_given open_word ∙ ap (λ (y : Mine). y.handed) (sym own.2);
-        entries = entries_of (hint r.numbers) r.n m v base o.sized r.meets ok.given_is;
         leads = λ e. let d = duty_seen r.n m r.left r.leader id v.seen v.post v.duty e o.duty_is in still (sym d) ∙ d;
       } in
       let go : (homes' : List (maybe.Option (Slot C T))) → length homes' ≡ length s.homes → get_elem? homes' i ≡ some none → ((j : ℕ) → j ≢ i → get_elem? homes' j ≡ get_elem? s.homes j)

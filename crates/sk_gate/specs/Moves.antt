@@ -60,9 +60,12 @@ pub record RenewsAt (hint : List ℕ → List Entry → ℕ) (v : View) (word : 
   pub hint_is : word ≡ hint v.numbers (mine_of w).base
   pub grows : Begins (mine_of v).base (mine_of w).base
   pub sees : Begins v.seen w.seen
-  pub again : (mine_of v).ready ≡ true → (mine_of w).base ≡ (mine_of v).base
+  pub is_seen : IsSeen v w.seen
+  -- the base is a beginning of what is seen, and each has all that the updater handed over
+  pub based : Begins (mine_of w).base w.seen
   pub all : entries_by i (mine_of w).base ≡ (mine_of v).handed
-  pub entries : All (IsEntry (length v.sizes)) (mine_of w).base
+  pub sees_all : entries_by i w.seen ≡ (mine_of v).handed
+  pub again : (mine_of v).ready ≡ true → (mine_of w).base ≡ (mine_of v).base
   pub leads : leads v.duty ≡ true → w.seen ≡ v.seen
 
 -- a look that loaded 0: something was handed over that is not in the base

@@ -1,5 +1,5 @@
 -- What the table shows at every moment between two steps: a state of the whole machine that meets its whole invariant.
-use Rattle.std.specs.Prelude.{◌≡◌, ◌≢◌, ◌⊎◌, ℕ, ◌+◌, ◌<◌, List, length, true, Contains, None, slice_index}
+use Rattle.std.specs.Prelude.{◌≡◌, ◌≢◌, ◌⊎◌, ℕ, ◌+◌, ◌<◌, ◌≤◌, List, [], length, true, Contains, None, slice_index}
 use mathlib.Core.Option.{some, none}
 use mathlib.Core.Option as maybe
 use lib.ListN.{get_elem?}
@@ -18,7 +18,7 @@ use Rattle.sk_machine.specs.declared.views.Duty.TheVariants.{Free, Leads}
 use Rattle.sk_machine.specs.declared.views.View.{View}
 use Rattle.sk_gate.specs.declared.load.Trunk.{Trunk}
 use Rattle.sk_gate.specs.Slots.{Slot, full, trunk, word_of, turn_word, contents, room, Sketching, Telling, ToldOk, TrunkOk}
-use Rattle.sk_gate.specs.Views.{known_of, given_of, size_of, mine_of, seat_in, leads}
+use Rattle.sk_gate.specs.Views.{known_of, given_of, size_of, mine_of, seat_in, leads, SpeaksFor}
 use Rattle.sk_gate.specs.Rule.{Has, HasSeen, IsLed, HasGiven, Kept}
 
 -- the words are the machine's
@@ -61,11 +61,13 @@ pub record ShowsTrunk {C T : Type 0} (g : Sketching C) (numbers name : List ℕ)
 
 -- ---- seats
 
--- an updater's seat knows its own lists
-abbrev pub KnowsOwn : Fine → List Entry → Post → Type 0
-KnowsOwn f seen Guest = Unit {0}
-KnowsOwn f seen (Root made) = Unit {0}
-KnowsOwn f seen (Updater i mine) = let u = f.updaters i in (i < f.n) × (mine.handed ≡ u.handed) × (mine.base ≡ u.base) × (mine.ready ≡ is_ready u.mark) × Begins mine.base seen
+-- what a seat knows of those that it speaks for: of updaters yet to be given out that they handed nothing over, of its
+-- own lists all; and how large their buffers are, 0 before they are admitted
+abbrev pub KnowsOwn : Fine → View → Post → Type 0
+KnowsOwn f v Guest = Unit {0}
+KnowsOwn f v (Root made) = (i : ℕ) → made ≤ i → i < f.n → ((f.updaters i).handed ≡ []) × (size_of v i ≡ (f.updaters i).size)
+KnowsOwn f v (Updater i mine) = let u = f.updaters i in
+    (i < f.n) × (mine.handed ≡ u.handed) × (mine.base ≡ u.base) × (mine.ready ≡ is_ready u.mark) × Begins mine.base v.seen × (size_of v i ≡ u.size)
 
 -- a seat leads where the turn has its number, knows where the machine is, and has seen all
 abbrev pub LeadsBy : Fine → View → Duty → Type 0
@@ -88,7 +90,7 @@ pub record ShowsView (numbers name : List ℕ) (f : Fine) (v : View) : Type 0 wh
   pub known : (i : ℕ) → i < f.n → Begins (known_of v i) (f.updaters i).handed
   pub given : (i : ℕ) → i < f.n → Begins (given_of v i) (f.updaters i).given
   pub sizes : (i : ℕ) → i < f.n → size_of v i ≢ 0 → size_of v i ≡ (f.updaters i).size
-  pub own : KnowsOwn f v.seen v.post
+  pub own : KnowsOwn f v v.post
   pub duty : LeadsBy f v v.duty
   pub drained : (i : ℕ) → Contains v.drained i → KnowsDrained f (known_of v i) i
 
@@ -104,7 +106,8 @@ pub record ShowsSeats (numbers name : List ℕ) (f : Fine) (views : List View) :
   -- one leads where the turn is held, and no two
   pub leader : f.turn ≢ 0 → (j : ℕ) × Has views j IsLed
   pub one_leads : (a b : ℕ) (v w : View) → IsLive views a v → IsLive views b w → leads v.duty ≡ true → leads w.duty ≡ true → a ≡ b
-  -- no two are of one updater
+  -- one speaks for each updater, and no two are of one updater
+  pub spoken : (i : ℕ) → i < f.n → (j : ℕ) × Has views j (SpeaksFor i)
   pub one_own : (i a b : ℕ) (v w : View) → IsLive views a v → IsLive views b w → v.post ≡ Updater i (mine_of v) → w.post ≡ Updater i (mine_of w) → a ≡ b
   -- what is published was seen, and what was given back was recorded
   pub seen : (j : ℕ) × Has views j (HasSeen f.published)
