@@ -19,7 +19,7 @@ use Rattle.sk_machine.specs.declared.views.View.{View}
 use Rattle.sk_gate.specs.declared.load.Trunk.{Trunk}
 use Rattle.sk_gate.specs.Slots.{Slot, full, trunk, word_of, turn_word, contents, room, Sketching, Telling, ToldOk, TrunkOk}
 use Rattle.sk_gate.specs.Views.{known_of, given_of, size_of, mine_of, seat_in, leads, SpeaksFor}
-use Rattle.sk_gate.specs.Rule.{Has, HasSeen, IsLed, HasGiven, Kept}
+use Rattle.sk_gate.specs.Rule.{Has, HasSeen, IsLed, HasGiven}
 
 -- the words are the machine's
 pub record ShowsWords (words : List ℕ) (f : Fine) : Type 0 where
@@ -126,6 +126,6 @@ pub record Shown {C T : Type 0} (hint packed : List ℕ → List Entry → ℕ) 
   pub trunk_is : ShowsTrunk g numbers name machine (get_elem? s.homes machine.n)
   pub seats : ShowsSeats numbers name machine s.views
 
--- whenever the table keeps its rule
-abbrev pub AlwaysShown : {C T : Type 0} → (List ℕ → List Entry → ℕ) → (List ℕ → List Entry → ℕ) → Sketching C → Telling T → Type 0
-AlwaysShown {C} {T} hint packed g k = (s : State (Slot C T) View) → Kept hint packed g k s → Shown hint packed g k s
+-- whenever a table keeps a rule, of what it was told when it was made
+abbrev pub AlwaysShown : {C T A : Type 0} → (List ℕ → List Entry → ℕ) → (List ℕ → List Entry → ℕ) → Sketching C → Telling T → (A → State (Slot C T) View → Type 0) → Type 0
+AlwaysShown {C} {T} {A} hint packed g k holds = (about : A) (s : State (Slot C T) View) → holds about s → Shown hint packed g k s
