@@ -10,7 +10,7 @@ use Rattle.atomic_table.specs.Table.{State}
 use Rattle.atomic_table.proofs.Lists.{at_set, set_here, set_else}
 use Rattle.sk_model.specs.Entries.{Entry}
 use Rattle.sk_model.specs.Missing.{Begins}
-use Rattle.sk_model.proofs.Missing.{begins_refl, begins_trans}
+use Rattle.sk_model.proofs.Missing.{begins_refl}
 use Rattle.sk_machine.specs.Numbered.{put}
 use Rattle.sk_machine.specs.Coarse.{CoarseUpdater, Coarse, At, Meets}
 use Rattle.sk_machine.specs.declared.views.Stage.{Stage}
@@ -26,6 +26,7 @@ use Rattle.sk_machine.proofs.Coarse as event
 use Rattle.sk_gate.specs.declared.load.Held.{Held}
 use Rattle.sk_gate.specs.Slots.{Slot, contents, Sketching, Telling, HeldOk}
 use Rattle.sk_gate.specs.Views.{given_of, leads, SpeaksBy, SpeaksFor}
+use Rattle.sk_gate.proofs.Beginnings.{lists_grow}
 use Rattle.sk_gate.specs.Rule.{SlotOk, PostOk, DutyOk, OpenOk, Knows, Has, HasSeen, IsLed, HasGiven, Kept}
 
 -- the live seats, where one has a new view
@@ -134,18 +135,13 @@ module _ {C T : Type 0} (hint packed : List ℕ → List Entry → ℕ) (g : Ske
       → ((m'.turn ≡ m.turn) × (m'.stage ≡ m.stage) × (left' ≡ left) × (m'.published ≡ m.published)) ⊎ (leader ≡ id)
       → Knows n numbers name m left owner leader j v → Knows n numbers name m' left' owner leader j v
   others_know n numbers name m m' left left' owner leader id j v apart sizes own_sizes more-published more-handed more-given same duties o = record {
-    numbers_are = o.numbers_are;
-    name_is = o.name_is;
-    sized = o.sized;
-    known_sized = o.known_sized;
-    given_sized = o.given_sized;
-    sizes_are = λ i known. let is = o.sizes_are i known in is ∙ sym (sizes i (λ z. known (is ∙ z)));
-    seen_is = begins_trans _ _ _ o.seen_is more-published;
-    heard_is = λ h d. begins_trans _ _ _ (o.heard_is h d) more-published;
-    names_are = o.names_are;
-    known_is = λ i. begins_trans _ _ _ (o.known_is i) (more-handed i);
-    known_with_size = o.known_with_size;
-    given_is = λ i. begins_trans _ _ _ (o.given_is i) (more-given i);
+    sketch = o.sketch;
+    sizes = record {
+      sized = o.sizes.sized;
+      sizes_are = λ i known. let is = o.sizes.sizes_are i known in is ∙ sym (sizes i (λ z. known (is ∙ z)));
+      known_with_size = o.sizes.known_with_size;
+    };
+    lists = lists_grow more-published more-handed more-given o.lists;
     post_is = post v.post o.post_is;
     duty_is = duty v.duty o.duty_is;
     open_is = opened v.post o.post_is o.open_is;

@@ -41,20 +41,10 @@ pub room_some : (b : ℕ) → b ≢ 0 → room b ≡ b
 room_some b there = ap (λ (c : Bool). cond c 1 b) (ne_eqb b 0 there)
 
 -- a list of sizes that is set at one place to the size there
-pub sizes_set : (l : List ℕ) (i b : ℕ) (sizes : ℕ → ℕ) → i < length l → b ≡ sizes i → ((j : ℕ) → slice_index l j ≢ 0 → slice_index l j ≡ sizes j) → (j : ℕ) → slice_index (set l i b) j ≢ 0 → slice_index (set l i b) j ≡ sizes j
-sizes_set l i b sizes inside is are j there = dite (ℕ_discrete j i)
-    (λ e. ap (slice_index (set l i b)) e ∙ get_or-set_same l i b 0 inside ∙ is ∙ ap sizes (sym e))
-    (λ ne. let same = get_or-set_other l i j b 0 ne in same ∙ are j (λ z. there (same ∙ z)))
-
 pub size_set : (l : List ℕ) (i b : ℕ) (sizes : ℕ → ℕ) → i < length l → b ≡ sizes i → (j : ℕ) → slice_index l j ≡ sizes j → slice_index (set l i b) j ≡ sizes j
 size_set l i b sizes inside is j are = dite (ℕ_discrete j i)
     (λ e. ap (slice_index (set l i b)) e ∙ get_or-set_same l i b 0 inside ∙ is ∙ ap sizes (sym e))
     (λ ne. get_or-set_other l i j b 0 ne ∙ are)
-
-pub set_there : (l : List ℕ) (i b : ℕ) → i < length l → b ≢ 0 → (j : ℕ) → slice_index l j ≢ 0 → slice_index (set l i b) j ≢ 0
-set_there l i b inside least j there = dite (ℕ_discrete j i)
-    (λ e z. least (sym (get_or-set_same l i b 0 inside) ∙ ap (slice_index (set l i b)) (sym e) ∙ z))
-    (λ ne z. there (sym (get_or-set_other l i j b 0 ne) ∙ z))
 
 pub post_same : (n : ℕ) (m m' : Coarse) (owner : ℕ → ℕ) (j : ℕ) (seen seen' : List Entry) (sizes sizes' drained : List ℕ) (p : Post) → ((i : ℕ) → (m.updaters i).mine ≡ (m'.updaters i).mine)
     → ((i : ℕ) → slice_index sizes i ≡ m.sizes i → slice_index sizes' i ≡ m'.sizes i) → Begins seen seen' → PostOk n m owner j seen sizes drained p → PostOk n m' owner j seen' sizes' drained p
@@ -75,18 +65,9 @@ drained_same n m m' owner j known picked i same o = record {
 pub stepped_knows : (n : ℕ) (numbers name : List ℕ) (m : Coarse) (left : Bool) (owner : ℕ → ℕ) (leader j : ℕ) (v : View) (steps' : List Move) → OpenOk m steps' v.post → Knows n numbers name m left owner leader j v
     → Knows n numbers name m left owner leader j (record v { steps = steps' })
 stepped_knows n numbers name m left owner leader j v steps' opened o = record {
-  numbers_are = o.numbers_are;
-  name_is = o.name_is;
-  sized = o.sized;
-  known_sized = o.known_sized;
-  given_sized = o.given_sized;
-  sizes_are = o.sizes_are;
-  seen_is = o.seen_is;
-  heard_is = o.heard_is;
-  names_are = o.names_are;
-  known_is = o.known_is;
-  known_with_size = o.known_with_size;
-  given_is = o.given_is;
+  sketch = o.sketch;
+  sizes = o.sizes;
+  lists = o.lists;
   post_is = o.post_is;
   duty_is = o.duty_is;
   open_is = opened;

@@ -16,3 +16,4 @@ pub mod Starts
 pub mod Taken
 pub mod Turns
 pub mod Updaters
+pub mod Beginnings

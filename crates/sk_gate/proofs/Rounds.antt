@@ -12,7 +12,7 @@ use Rattle.atomic_table.specs.Table.{State, Act, step, keeps, takes, gives, Vali
 use Rattle.atomic_table.proofs.Lists.{set_here, set_else}
 use Rattle.sk_model.specs.Entries.{Entry, tagged}
 use Rattle.sk_model.specs.Missing.{Begins}
-use Rattle.sk_model.proofs.Missing.{begins_refl, begins_trans}
+use Rattle.sk_model.proofs.Missing.{begins_refl}
 use Rattle.sk_compose.specs.declared.buffer.Parcel.{Parcel}
 use Rattle.sk_machine.specs.Numbered.{put}
 use Rattle.sk_machine.specs.Coarse.{most_entries, CoarseUpdater, Coarse, At, IsBatch, IsBehindBy, IsClosed, after_find, after_publish, after_give_back}
@@ -31,9 +31,10 @@ use Rattle.sk_gate.specs.Moves.{IsSeen, FindsAt, LeavesAt, PublishesAt, GivesBac
 use Rattle.sk_gate.specs.Plays.{Sat, found, left_it, published, gave_back}
 use Rattle.sk_gate.proofs.Opened.{open_neutral, open_told}
 use Rattle.sk_gate.proofs.Merged.{set_begins}
-use Rattle.sk_gate.proofs.Known.{some_none, some_same, has_own, room_some, sizes_set, size_set, set_there, post_same, drained_same, stepped_knows, stepped_stays}
+use Rattle.sk_gate.proofs.Known.{some_none, some_same, has_own, room_some, size_set, post_same, drained_same, stepped_knows, stepped_stays}
 use Rattle.sk_gate.proofs.Published.{published_seen}
 use Rattle.sk_gate.proofs.Common.{has_stays, SameUpdater, viewed, propagator_step}
+use Rattle.sk_gate.proofs.Beginnings.{lists_grow, lists_see, sizes_put}
 use Rattle.sk_model.specs.Limits.{most_updaters}
 
 module _ {C T : Type 0} (hint packed : List ℕ → List Entry → ℕ) (g : Sketching C) (k : Telling T) where
@@ -70,7 +71,7 @@ module _ {C T : Type 0} (hint packed : List ℕ → List Entry → ℕ) (g : Ske
       let m' : Coarse = after_find i m in
       let homes' : List (maybe.Option (Slot C T)) = set s.homes i none in
       let w : View = record v { steps = v.steps ++ Find i 0 ∷ []; duty = Leads (Busy i u.waiting) false; sizes = set v.sizes i b } in
-      let wide_i : i < length v.sizes = let e = o.sized in omega arith in
+      let wide_i : i < length v.sizes = let e = o.sizes.sized in omega arith in
       let same-words : set s.words (i + 1) x ≡ s.words = set-get_or s.words (i + 1) 0 in
       let meets' = event.finds (hint r.numbers) r.n m i r.meets near idle z in
       let shut : IsBehindBy b m.published i u u.waiting = subst (IsClosed b m.published i u) idle (ok.closed z) in
@@ -100,18 +101,9 @@ module _ {C T : Type 0} (hint packed : List ℕ → List Entry → ℕ) (g : Ske
             (has_stays (HasSeen m.published) (HasSeen m.published) s.views id r.seer v w at (λ e. e) (λ _ e. e) r.seen)
             (λ j l. has_stays (HasGiven j (m.updaters j).given) (HasGiven j (m.updaters j).given) s.views id (r.giver j) v w at (λ e. e) (λ _ e. e) (r.given j l))
             (record {
-              numbers_are = o.numbers_are;
-              name_is = o.name_is;
-              sized = length-set v.sizes i b ∙ o.sized;
-              known_sized = o.known_sized;
-              given_sized = o.given_sized;
-              sizes_are = sizes_set v.sizes i b m.sizes wide_i refl o.sizes_are;
-              seen_is = o.seen_is;
-              heard_is = o.heard_is;
-              names_are = o.names_are;
-              known_is = o.known_is;
-              known_with_size = λ j e. set_there v.sizes i b wide_i there j (o.known_with_size j e);
-              given_is = o.given_is;
+              sketch = o.sketch;
+              sizes = sizes_put i b wide_i there refl (λ _ _. refl) o.sizes;
+              lists = o.lists;
               post_is = post_same r.n m m' r.owner id v.seen v.seen v.sizes (set v.sizes i b) v.drained v.post (λ _. refl) (size_set v.sizes i b m.sizes wide_i refl) (begins_refl v.seen) o.post_is;
               duty_is = (duty.0, duty.1, refl, refl, duty.4);
               open_is = open_told m m' v.steps (Find i 0) i 0 v.post (λ _ _. refl) (λ ne. absurd (ne refl)) (λ _ _ a. a) o.open_is;
@@ -124,7 +116,7 @@ module _ {C T : Type 0} (hint packed : List ℕ → List Entry → ℕ) (g : Ske
               view = λ a. record v { steps = v.steps ++ Find i 0 ∷ []; duty = Leads (Busy i u.waiting) false; sizes = set v.sizes i (sym size_now a) };
               batch = subst (λ c. IsBatch c u.waiting) (sym size_now) shut.0;
               few = subst (λ (l : List Entry). length l + length u.waiting ≤ most_entries) (sym duty.4) (event.entries_are_few (hint r.numbers) r.n m' i u.waiting meets' (omega arith) refl);
-              same = λ e. size_now ∙ sym (o.sizes_are i e);
+              same = λ e. size_now ∙ sym (o.sizes.sizes_are i e);
             },
           ),
           (λ ne. absurd (ne zero)),
@@ -188,18 +180,9 @@ module _ {C T : Type 0} (hint packed : List ℕ → List Entry → ℕ) (g : Ske
             (has_stays (HasSeen m.published) (HasSeen m.published) s.views id r.seer v w at (λ e. e) (λ _ e. e) r.seen)
             (λ j l. has_stays (HasGiven j (m.updaters j).given) (HasGiven j (m.updaters j).given) s.views id (r.giver j) v w at (λ e. e) (λ _ e. e) (r.given j l))
             (record {
-              numbers_are = o.numbers_are;
-              name_is = o.name_is;
-              sized = o.sized;
-              known_sized = o.known_sized;
-              given_sized = o.given_sized;
-              sizes_are = o.sizes_are;
-              seen_is = o.seen_is;
-              heard_is = o.heard_is;
-              names_are = o.names_are;
-              known_is = o.known_is;
-              known_with_size = o.known_with_size;
-              given_is = o.given_is;
+              sketch = o.sketch;
+              sizes = o.sizes;
+              lists = o.lists;
               post_is = o.post_is;
               duty_is = (duty.0, duty.1, duty.2, refl, duty.4);
               open_is = open_told m m v.steps (Find i 0) i 0 v.post (λ _ _. refl) (λ ne. absurd (ne refl)) (λ _ _ a. a) o.open_is;
@@ -243,7 +226,7 @@ module _ {C T : Type 0} (hint packed : List ℕ → List Entry → ℕ) (g : Ske
       let homes' : List (maybe.Option (Slot C T)) = homes_after s.homes me.1 act in
       propagator_step hint packed g k s r 0 id x v w h' (Published i) m.updaters false id r.giver homes'
       duty.0 turns refl live (λ j e. e) at as_deep
-      (get_or-set_same s.words 0 x 0 (omega arith) ∙ is ∙ (λ a. packed (o.numbers_are a) (seen a)))
+      (get_or-set_same s.words 0 x 0 (omega arith) ∙ is ∙ (λ a. packed (o.sketch.numbers_are a) (seen a)))
       (get_or-set_other s.words 0 (r.n + 1) x 0 (λ e. omega arith) ∙ r.turn_is) (λ j l. get_or-set_other s.words 0 (j + 1) x 0 (λ e. omega arith) ∙ r.words_are j l)
       (event.publishes (hint r.numbers) r.n m i batch r.meets turns busy) r.vacant
       (λ j l. let q = r.each_slot j l in dite (ℕ_discrete j i)
@@ -264,18 +247,10 @@ module _ {C T : Type 0} (hint packed : List ℕ → List Entry → ℕ) (g : Ske
       (has_own (HasSeen h') s.views id v w at (live, seen))
       (λ j l. has_stays (HasGiven j (m.updaters j).given) (HasGiven j (m.updaters j).given) s.views id (r.giver j) v w at (λ e. e) (λ _ e. e) (r.given j l))
       (record {
-        numbers_are = o.numbers_are;
-        name_is = o.name_is;
-        sized = o.sized;
-        known_sized = o.known_sized;
-        given_sized = o.given_sized;
-        sizes_are = o.sizes_are;
-        seen_is = subst (Begins seen') seen (begins_refl seen');
-        heard_is = λ x d. begins_trans _ _ _ (o.heard_is x d) (tagged i batch, refl);
-        names_are = o.names_are;
-        known_is = o.known_is;
-        known_with_size = o.known_with_size;
-        given_is = o.given_is;
+        sketch = o.sketch;
+        sizes = o.sizes;
+        lists = lists_see (subst (Begins seen') seen (begins_refl seen'))
+            (lists_grow (tagged i batch, refl) (λ j. begins_refl (m.updaters j).mine.handed) (λ j. begins_refl (m.updaters j).given) o.lists);
         post_is = post_same r.n m m' r.owner id v.seen seen' v.sizes v.sizes v.drained v.post (λ _. refl) (λ j e. e) more o.post_is;
         duty_is = (duty.0, duty.1, refl, refl, seen);
         open_is = open_neutral m m' v.steps (Publish x (length batch)) v.post (λ _ _. refl) (λ _ z. z) o.open_is;
@@ -296,7 +271,7 @@ module _ {C T : Type 0} (hint packed : List ℕ → List Entry → ℕ) (g : Ske
       let lies : get_elem? s.homes i ≡ some (left_home (left_of v.duty)) = (r.each_slot i near).led at_i ∙ ap (λ b. some (left_home b)) (sym duty.3) in
       let place : (j : ℕ) (b : Bool) → v.duty ≡ Leads (Busy j (batch_of v)) b → i ≡ j = λ j b e. ap (λ d. place_in (stage_of d)) (sym leads ∙ e) in
       let turns : m.turn ≢ 0 = λ e. let t = duty.1 in omega arith in
-      let next = published_seen (hint r.numbers) r.n (after_publish i (batch_of v) m) r.owner id v o.sized (event.publishes (hint r.numbers) r.n m i (batch_of v) r.meets turns (sym duty.2)) o.post_is in
+      let next = published_seen (hint r.numbers) r.n (after_publish i (batch_of v) m) r.owner id v o.sizes.sized (event.publishes (hint r.numbers) r.n m i (batch_of v) r.meets turns (sym duty.2)) o.post_is in
       let seen : IsSeen v w.seen = subst (IsSeen v) (ap (λ l. l ++ tagged i (batch_of v)) (sym duty.4)) next in
       ⊎_elim
       (λ (on : left_of v.duty ≡ true). let home : get_elem? s.homes i ≡ some (some None) = lies ∙ ap (λ b. some (left_home b)) on in (
@@ -342,11 +317,11 @@ module _ {C T : Type 0} (hint packed : List ℕ → List Entry → ℕ) (g : Ske
       let m' : Coarse = after_give_back i x m in
       let homes' : List (maybe.Option (Slot C T)) = set s.homes i (some (full p)) in
       let some-handed : u.mine.handed ≢ [] = λ e. let f = ap length e in let l = ok.closed_more z in omega arith in
-      let now : x ≡ hint r.numbers h = is ∙ (λ a. hint (o.numbers_are a) (duty.4 a)) in
+      let now : x ≡ hint r.numbers h = is ∙ (λ a. hint (o.sketch.numbers_are a) (duty.4 a)) in
       let b : ℕ = m.sizes i in
-      let same_size : size_of v i ≡ b = o.sizes_are i there in
+      let same_size : size_of v i ≡ b = o.sizes.sizes_are i there in
       let some-size : b ≢ 0 = λ e. there (same_size ∙ e) in
-      let wide_i : i < length v.given = let e = o.given_sized in omega arith in
+      let wide_i : i < length v.given = let e = o.lists.given_sized in omega arith in
       let w : View = record v { steps = v.steps ++ GiveBack i x ∷ []; duty = Leads Idle false; given = set v.given i v.seen } in
       let given_here : given_of w i ≡ h = get_or-set_same v.given i v.seen [] wide_i ∙ duty.4 in
       let place : (j : ℕ) → v.duty ≡ Leads (Published j) false → i ≡ j = λ j e. ap (λ d. place_in (stage_of d)) (sym leads ∙ e) in
@@ -372,7 +347,7 @@ module _ {C T : Type 0} (hint packed : List ℕ → List Entry → ℕ) (g : Ske
                   (λ untold. absurd (some_none (sym told ∙ untold))),
                   λ t' is_t. (
                     some-handed,
-                    subst (λ (y : List ℕ × T × List Entry). TellsList k y.0 y.1 y.2) (λ a. (o.name_is a, some_same (sym told ∙ is_t) a, duty.4 a)) tells,
+                    subst (λ (y : List ℕ × T × List Entry). TellsList k y.0 y.1 y.2) (λ a. (o.sketch.name_is a, some_same (sym told ∙ is_t) a, duty.4 a)) tells,
                   ),
                 ),
               );
@@ -393,19 +368,17 @@ module _ {C T : Type 0} (hint packed : List ℕ → List Entry → ℕ) (g : Ske
             (λ ne. subst (λ y. Has (set s.views id w) y (HasGiven j (m.updaters j).given)) (sym (put_else r.giver i id j ne))
             (has_stays (HasGiven j (m.updaters j).given) (HasGiven j (m.updaters j).given) s.views id (r.giver j) v w at (λ e. (e.0, get_or-set_other v.given i j v.seen [] ne ∙ e.1)) (λ _ e. e) (r.given j l))))
             (record {
-              numbers_are = o.numbers_are;
-              name_is = o.name_is;
-              sized = o.sized;
-              known_sized = o.known_sized;
-              given_sized = length-set v.given i v.seen ∙ o.given_sized;
-              sizes_are = o.sizes_are;
-              seen_is = o.seen_is;
-              heard_is = o.heard_is;
-              names_are = o.names_are;
-              known_is = λ j. subst (λ (y : Mine). Begins (known_of v j) y.handed) (same_mine j) (o.known_is j);
-              known_with_size = o.known_with_size;
-              given_is = λ j. each_put (λ a (c : CoarseUpdater). Begins (slice_index_or (set v.given i v.seen) a []) c.given) m.updaters i u' j (set_begins v.given i v.seen h o.seen_is)
-                  (λ ne. subst (λ l. Begins l (m.updaters j).given) (sym (get_or-set_other v.given i j v.seen [] ne)) (o.given_is j));
+              sketch = o.sketch;
+              sizes = o.sizes;
+              lists = record {
+                known_sized = o.lists.known_sized;
+                given_sized = length-set v.given i v.seen ∙ o.lists.given_sized;
+                seen_is = o.lists.seen_is;
+                heard_is = o.lists.heard_is;
+                known_is = λ j. subst (λ (y : Mine). Begins (known_of v j) y.handed) (same_mine j) (o.lists.known_is j);
+                given_is = λ j. each_put (λ a (c : CoarseUpdater). Begins (slice_index_or (set v.given i v.seen) a []) c.given) m.updaters i u' j (set_begins v.given i v.seen h o.lists.seen_is)
+                    (λ ne. subst (λ l. Begins l (m.updaters j).given) (sym (get_or-set_other v.given i j v.seen [] ne)) (o.lists.given_is j));
+              };
               post_is = post_same r.n m m' r.owner id v.seen v.seen v.sizes v.sizes v.drained v.post same_mine (λ j e. e) (begins_refl v.seen) o.post_is;
               duty_is = (duty.0, duty.1, refl, refl, duty.4);
               open_is = open_told m m' v.steps (GiveBack i x) i x v.post (λ _ _. refl) (λ _. subst (λ (c : CoarseUpdater). c.word ≢ 0) (sym (put_here m.updaters i u')) open_now) (λ j ne a. (same j).word a) o.open_is;

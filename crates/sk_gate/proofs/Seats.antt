@@ -90,18 +90,9 @@ never_handed hint m i ok nothing z = let more = ok.closed_more z in let e = ap l
 -- another seat speaks for the updater i from now on
 owned_else : (n : ℕ) (numbers name : List ℕ) (m : Coarse) (left : Bool) (owner : ℕ → ℕ) (leader i had new j : ℕ) (u : View) → owner i ≡ had → j ≢ had → Knows n numbers name m left owner leader j u → Knows n numbers name m left (put owner i new) leader j u
 owned_else n numbers name m left owner leader i had new j u was apart o = record {
-  numbers_are = o.numbers_are;
-  name_is = o.name_is;
-  sized = o.sized;
-  known_sized = o.known_sized;
-  given_sized = o.given_sized;
-  sizes_are = o.sizes_are;
-  seen_is = o.seen_is;
-  heard_is = o.heard_is;
-  names_are = o.names_are;
-  known_is = o.known_is;
-  known_with_size = o.known_with_size;
-  given_is = o.given_is;
+  sketch = o.sketch;
+  sizes = o.sizes;
+  lists = o.lists;
   post_is = post u.post o.post_is;
   duty_is = o.duty_is;
   open_is = o.open_is;
@@ -263,18 +254,24 @@ module _ {C T : Type 0} (hint packed : List ℕ → List Entry → ℕ) (g : Ske
         given = λ i l. (v, refl, (refl, blank_at (length sizes) i));
         spoken = λ i l. (v, refl, (refl, inl (omega arith)));
         each_seat = λ j w e live. one (λ a b. Knows (length parcels) numbers name m true (λ _. 0) 0 a b) v j w e (record {
-          numbers_are = refl;
-          name_is = refl;
-          sized = size;
-          known_sized = blanks_length _ (length sizes) ∙ size;
-          given_sized = blanks_length _ (length sizes) ∙ size;
-          sizes_are = λ i _. refl;
-          seen_is = begins_refl [];
-          heard_is = λ h d. absurd (omega (arith, d.1));
-          names_are = λ x d. absurd (omega (arith, d.1));
-          known_is = λ i. subst (λ l. Begins l []) (sym (blank_at (length sizes) i)) (begins_refl []);
-          known_with_size = λ i ne. absurd (ne (blank_at (length sizes) i));
-          given_is = λ i. subst (λ l. Begins l []) (sym (blank_at (length sizes) i)) (begins_refl []);
+          sketch = record {
+            numbers_are = refl;
+            name_is = refl;
+            names_are = λ x d. absurd (omega (arith, d.1));
+          };
+          sizes = record {
+            sized = size;
+            sizes_are = λ i _. refl;
+            known_with_size = λ i ne. absurd (ne (blank_at (length sizes) i));
+          };
+          lists = record {
+            known_sized = blanks_length _ (length sizes) ∙ size;
+            given_sized = blanks_length _ (length sizes) ∙ size;
+            seen_is = begins_refl [];
+            heard_is = λ h d. absurd (omega (arith, d.1));
+            known_is = λ i. subst (λ l. Begins l []) (sym (blank_at (length sizes) i)) (begins_refl []);
+            given_is = λ i. subst (λ l. Begins l []) (sym (blank_at (length sizes) i)) (begins_refl []);
+          };
           post_is = λ i le lt. (refl, refl, refl);
           duty_is = tt;
           open_is = tt;
@@ -323,7 +320,7 @@ module _ {C T : Type 0} (hint packed : List ℕ → List Entry → ℕ) (g : Ske
   pub makes : (id n : ℕ) (v : View) (made : ℕ) → v.live ≡ true → v.post ≡ Root made → v.duty ≡ Free → v.drained ≡ [] → length v.sizes ≡ n → made < n → Splits Rule id v (after_making v) (new_updater v)
   makes id n v made live is free nothing size inside s r at =
       let m = r.machine in let h = m.published in let left : View = after_making v in let right : View = new_updater v in let o = r.each_seat id v at live in
-      let number : made_in v.post ≡ made = ap made_in is in let more : made < r.n = omega (arith, o.sized) in let last : ℕ = length s.views in let owner' : ℕ → ℕ = put r.owner made last in
+      let number : made_in v.post ≡ made = ap made_in is in let more : made < r.n = omega (arith, o.sizes.sized) in let last : ℕ = length s.views in let owner' : ℕ → ℕ = put r.owner made last in
       let own = subst (PostOk r.n m r.owner id v.seen v.sizes v.drained) is o.post_is in let first = own made (omega arith) more in
       let none : (i : ℕ) → Contains v.drained i → ⊥ = λ i d. let e = ap length nothing in omega (arith, d.1) in
       reviewed s r (set s.views id left ++ right ∷ []) owner' r.seer r.giver
@@ -336,35 +333,28 @@ module _ {C T : Type 0} (hint packed : List ℕ → List Entry → ℕ) (g : Ske
       (λ p. (p.0, ⊎_elim (λ (le : made ≤ i). inl (subst (λ z. suc z ≤ i) (sym number) (omega arith))) (λ d. absurd (none i d)) (subst (SpeaksBy i v.drained) is p.1)))
       (λ u p. p) (r.spoken i l)))
       (seats_split (Knows r.n r.numbers r.name m r.left owner' r.leader) s.views id left right (record {
-        numbers_are = o.numbers_are;
-        name_is = o.name_is;
-        sized = o.sized;
-        known_sized = o.known_sized;
-        given_sized = o.given_sized;
-        sizes_are = o.sizes_are;
-        seen_is = o.seen_is;
-        heard_is = o.heard_is;
-        names_are = o.names_are;
-        known_is = o.known_is;
-        known_with_size = o.known_with_size;
-        given_is = o.given_is;
+        sketch = o.sketch;
+        sizes = o.sizes;
+        lists = o.lists;
         post_is = λ i le lt. let b : made < i = subst (λ z. z < i) number le in let y = own i (omega arith) lt in (put_else r.owner made last i (λ e. omega arith) ∙ y.0, y.1, y.2);
         duty_is = subst (DutyOk r.n m r.left r.leader id v.seen left.post) (sym free) tt;
         open_is = tt;
         drained_is = λ i d. absurd (none i d);
       }) (record {
-        numbers_are = o.numbers_are;
-        name_is = o.name_is;
-        sized = o.sized;
-        known_sized = blanks_length _ (length v.sizes) ∙ o.sized;
-        given_sized = blanks_length _ (length v.sizes) ∙ o.sized;
-        sizes_are = o.sizes_are;
-        seen_is = o.seen_is;
-        heard_is = o.heard_is;
-        names_are = o.names_are;
-        known_is = λ i. subst (λ l. Begins l (m.updaters i).mine.handed) (sym (blank_at (length v.sizes) i)) (begins_nil (m.updaters i).mine.handed);
-        known_with_size = λ i ne. absurd (ne (blank_at (length v.sizes) i));
-        given_is = λ i. subst (λ l. Begins l (m.updaters i).given) (sym (blank_at (length v.sizes) i)) (begins_nil (m.updaters i).given);
+        sketch = o.sketch;
+        sizes = record {
+          sized = o.sizes.sized;
+          sizes_are = o.sizes.sizes_are;
+          known_with_size = λ i ne. absurd (ne (blank_at (length v.sizes) i));
+        };
+        lists = record {
+          known_sized = blanks_length _ (length v.sizes) ∙ o.sizes.sized;
+          given_sized = blanks_length _ (length v.sizes) ∙ o.sizes.sized;
+          seen_is = o.lists.seen_is;
+          heard_is = o.lists.heard_is;
+          known_is = λ i. subst (λ l. Begins l (m.updaters i).mine.handed) (sym (blank_at (length v.sizes) i)) (begins_nil (m.updaters i).mine.handed);
+          given_is = λ i. subst (λ l. Begins l (m.updaters i).given) (sym (blank_at (length v.sizes) i)) (begins_nil (m.updaters i).given);
+        };
         post_is = subst (λ z. PostOk r.n m owner' last v.seen v.sizes [] (Updater z blank_mine)) (sym number) (more, put_here r.owner made last, first.1, begins_nil v.seen, first.2, refl);
         duty_is = tt;
         open_is = λ _ z. never_handed (hint r.numbers) m made (r.meets.each made more) (ap (λ (y : Mine). y.handed) (sym first.1)) (subst (λ j. (m.updaters j).word ≡ 0) number z);
@@ -381,35 +371,28 @@ module _ {C T : Type 0} (hint packed : List ℕ → List Entry → ℕ) (g : Ske
       (λ i l. has_split (HasGiven i (m.updaters i).given) (HasGiven i (m.updaters i).given) s.views id (r.giver i) v left right at (λ p. p) (λ u p. p) (r.given i l))
       (λ i l. has_split (SpeaksFor i) (SpeaksFor i) s.views id (r.owner i) v left right at (λ p. p) (λ u p. p) (r.spoken i l))
       (seats_split (Knows r.n r.numbers r.name m r.left r.owner r.leader) s.views id left right (record {
-        numbers_are = o.numbers_are;
-        name_is = o.name_is;
-        sized = o.sized;
-        known_sized = o.known_sized;
-        given_sized = o.given_sized;
-        sizes_are = o.sizes_are;
-        seen_is = o.seen_is;
-        heard_is = o.heard_is;
-        names_are = o.names_are;
-        known_is = o.known_is;
-        known_with_size = o.known_with_size;
-        given_is = o.given_is;
+        sketch = o.sketch;
+        sizes = o.sizes;
+        lists = o.lists;
         post_is = o.post_is;
         duty_is = o.duty_is;
         open_is = open_neutral m m v.steps Split v.post (λ _ _. refl) (λ _ z. z) o.open_is;
         drained_is = o.drained_is;
       }) (record {
-        numbers_are = o.numbers_are;
-        name_is = o.name_is;
-        sized = o.sized;
-        known_sized = subst (λ z. length (told_on z v.known v.post) ≡ r.n) (sym o.sized) (told_length r.n v.known v.post o.known_sized);
-        given_sized = blanks_length _ (length v.sizes) ∙ o.sized;
-        sizes_are = o.sizes_are;
-        seen_is = o.seen_is;
-        heard_is = o.heard_is;
-        names_are = o.names_are;
-        known_is = told_known r.n m r.owner id v.seen v.sizes v.drained (length v.sizes) v.known v.post o.post_is o.known_is;
-        known_with_size = told_sized r.n m r.owner id v.seen v.sizes v.drained (length v.sizes) v.known (hint r.numbers) r.meets v.post o.post_is o.known_with_size;
-        given_is = λ i. subst (λ l. Begins l (m.updaters i).given) (sym (blank_at (length v.sizes) i)) (begins_nil (m.updaters i).given);
+        sketch = o.sketch;
+        sizes = record {
+          sized = o.sizes.sized;
+          sizes_are = o.sizes.sizes_are;
+          known_with_size = told_sized r.n m r.owner id v.seen v.sizes v.drained (length v.sizes) v.known (hint r.numbers) r.meets v.post o.post_is o.sizes.known_with_size;
+        };
+        lists = record {
+          known_sized = subst (λ z. length (told_on z v.known v.post) ≡ r.n) (sym o.sizes.sized) (told_length r.n v.known v.post o.lists.known_sized);
+          given_sized = blanks_length _ (length v.sizes) ∙ o.sizes.sized;
+          seen_is = o.lists.seen_is;
+          heard_is = o.lists.heard_is;
+          known_is = told_known r.n m r.owner id v.seen v.sizes v.drained (length v.sizes) v.known v.post o.post_is o.lists.known_is;
+          given_is = λ i. subst (λ l. Begins l (m.updaters i).given) (sym (blank_at (length v.sizes) i)) (begins_nil (m.updaters i).given);
+        };
         post_is = tt;
         duty_is = tt;
         open_is = tt;
@@ -426,27 +409,33 @@ module _ {C T : Type 0} (hint packed : List ℕ → List Entry → ℕ) (g : Ske
       → Rule record { words = s.words; homes = s.homes; views = set (set s.views id (after_join v w)) other spent }
   joined id v other w s r owner' live live' free apart at here speaks long known sized post drained others =
       let m = r.machine in let h = m.published in let v' : View = after_join v w in let o = r.each_seat id v at live in let q = r.each_seat other w here live' in
-      let both = seen_joined r.n m r.left r.leader id v.seen w.seen v.post v.duty o.seen_is q.seen_is o.duty_is in
-      let sizes : (i : ℕ) → size_of v i ≡ m.sizes i → size_of v' i ≡ m.sizes i = λ i e. sizes_either (λ x. x ≡ m.sizes i) v.sizes w.sizes i (λ _. e) (λ z. ⊎_elim (λ (y : size_of w i ≡ 0). y ∙ sym z ∙ e) (λ ne. q.sizes_are i ne) (cases_eq (size_of w i) 0)) in
+      let both = seen_joined r.n m r.left r.leader id v.seen w.seen v.post v.duty o.lists.seen_is q.lists.seen_is o.duty_is in
+      let sizes : (i : ℕ) → size_of v i ≡ m.sizes i → size_of v' i ≡ m.sizes i = λ i e. sizes_either (λ x. x ≡ m.sizes i) v.sizes w.sizes i (λ _. e) (λ z. ⊎_elim (λ (y : size_of w i ≡ 0). y ∙ sym z ∙ e) (λ ne. q.sizes.sizes_are i ne) (cases_eq (size_of w i) 0)) in
       reviewed s r (set (set s.views id v') other spent) owner' (put (λ x. x) other id r.seer) (λ i. put (λ x. x) other id (r.giver i))
       (has_kept s.views id other v w v' IsLed IsLed r.leader at here (λ p. p) (λ p. true≢false (sym p.1 ∙ ap leads free)) (λ u p. p))
       (has_joined s.views id other v w v' (HasSeen h) (HasSeen h) r.seer apart at here (λ p. (live, both.first p.1)) (λ p. (live, both.second p.1)) (λ u p. p) r.seen)
       (λ i l. has_joined s.views id other v w v' (HasGiven i (m.updaters i).given) (HasGiven i (m.updaters i).given) (r.giver i) apart at here
-      (λ p. (live, merged_first v.given w.given i (m.updaters i).given p.1 (q.given_is i))) (λ p. (live, merged_second v.given w.given i (m.updaters i).given p.1 (o.given_is i))) (λ u p. p) (r.given i l))
+      (λ p. (live, merged_first v.given w.given i (m.updaters i).given p.1 (q.lists.given_is i))) (λ p. (live, merged_second v.given w.given i (m.updaters i).given p.1 (o.lists.given_is i))) (λ u p. p) (r.given i l))
       speaks
       (seats_joined s.views id other v w v' (Knows r.n r.numbers r.name m r.left owner' r.leader) (record {
-        numbers_are = o.numbers_are;
-        name_is = o.name_is;
-        sized = sizes_length r.n v.sizes w.sizes o.sized q.sized;
-        known_sized = long;
-        given_sized = merged_length r.n v.given w.given o.given_sized q.given_sized;
-        sizes_are = λ i. sizes_either (λ x. x ≢ 0 → x ≡ m.sizes i) v.sizes w.sizes i (λ _. o.sizes_are i) (λ _. q.sizes_are i);
-        seen_is = both.within;
-        heard_is = λ x d. heard_both v.heard w.heard v.seen w.seen (λ l. Begins l h) o.heard_is o.seen_is q.seen_is q.heard_is x d;
-        names_are = λ x d. ⊎_elim (o.names_are x) (λ e. sym e ∙ q.name_is) (Contains-push_cases v.names w.name x d);
-        known_is = known;
-        known_with_size = sized;
-        given_is = λ i. merged_either (λ l. Begins l (m.updaters i).given) v.given w.given i (o.given_is i) (q.given_is i);
+        sketch = record {
+          numbers_are = o.sketch.numbers_are;
+          name_is = o.sketch.name_is;
+          names_are = λ x d. ⊎_elim (o.sketch.names_are x) (λ e. sym e ∙ q.sketch.name_is) (Contains-push_cases v.names w.name x d);
+        };
+        sizes = record {
+          sized = sizes_length r.n v.sizes w.sizes o.sizes.sized q.sizes.sized;
+          sizes_are = λ i. sizes_either (λ x. x ≢ 0 → x ≡ m.sizes i) v.sizes w.sizes i (λ _. o.sizes.sizes_are i) (λ _. q.sizes.sizes_are i);
+          known_with_size = sized;
+        };
+        lists = record {
+          known_sized = long;
+          given_sized = merged_length r.n v.given w.given o.lists.given_sized q.lists.given_sized;
+          seen_is = both.within;
+          heard_is = λ x d. heard_both v.heard w.heard v.seen w.seen (λ l. Begins l h) o.lists.heard_is o.lists.seen_is q.lists.seen_is q.lists.heard_is x d;
+          known_is = known;
+          given_is = λ i. merged_either (λ l. Begins l (m.updaters i).given) v.given w.given i (o.lists.given_is i) (q.lists.given_is i);
+        };
         post_is = post sizes both.grows;
         duty_is = duty_joined r.n m r.left r.leader id v.seen w.seen v.post v.duty o.duty_is;
         open_is = open_neutral m m v.steps Join v.post (λ _ _. refl) (λ _ z. z) o.open_is;
@@ -461,15 +450,15 @@ module _ {C T : Type 0} (hint packed : List ℕ → List Entry → ℕ) (g : Ske
       let known : v'.known ≡ merged v.known w.known = ap (known_with v.known w.known) guest in let drained : v'.drained ≡ v.drained = ap (drained_with v.drained) guest in
       joined id v other w s r r.owner live live' free apart at here
       (λ i l. has_kept s.views id other v w v' (SpeaksFor i) (SpeaksFor i) (r.owner i) at here (λ p. (live, subst (λ d. SpeaksBy i d v.post) (sym drained) p.1)) (λ p. subst (SpeaksBy i w.drained) guest p.1) (λ u p. p) (r.spoken i l))
-      (ap length known ∙ merged_length r.n v.known w.known o.known_sized q.known_sized)
-      (λ i. subst (λ ks. Begins (get_or ks i []) (m.updaters i).mine.handed) (sym known) (merged_either (λ l. Begins l (m.updaters i).mine.handed) v.known w.known i (o.known_is i) (q.known_is i)))
+      (ap length known ∙ merged_length r.n v.known w.known o.lists.known_sized q.lists.known_sized)
+      (λ i. subst (λ ks. Begins (get_or ks i []) (m.updaters i).mine.handed) (sym known) (merged_either (λ l. Begins l (m.updaters i).mine.handed) v.known w.known i (o.lists.known_is i) (q.lists.known_is i)))
       (λ i. subst (λ ks. get_or ks i [] ≢ [] → size_of v' i ≢ 0) (sym known) (merged_either (λ l. l ≢ [] → size_of v' i ≢ 0) v.known w.known i
-      (λ ne. size_first v.sizes w.sizes i (o.known_with_size i ne)) (λ ne. size_second v.sizes w.sizes i (q.known_with_size i ne))))
+      (λ ne. size_first v.sizes w.sizes i (o.sizes.known_with_size i ne)) (λ ne. size_second v.sizes w.sizes i (q.sizes.known_with_size i ne))))
       (λ same more. subst (λ d. PostOk r.n m r.owner id v'.seen v'.sizes d v.post) (sym drained) (post_joined r.n m r.owner id v.seen v'.seen v.sizes v'.sizes v.drained v.post more same o.post_is))
       (λ i d. let y = o.drained_is i (subst (λ l. Contains l i) drained d) in record {
         within = y.within;
         own = y.own;
-        all = ap (λ ks. get_or ks i []) known ∙ merged_first v.known w.known i (m.updaters i).mine.handed y.all (q.known_is i);
+        all = ap (λ ks. get_or ks i []) known ∙ merged_first v.known w.known i (m.updaters i).mine.handed y.all (q.lists.known_is i);
         given = y.given;
         was_picked = λ e. subst (λ l. Contains l i) (sym (ap (picked_with v.picked) guest)) (y.was_picked e);
       })
@@ -483,19 +472,19 @@ module _ {C T : Type 0} (hint packed : List ℕ → List Entry → ℕ) (g : Ske
       let p = subst (PostOk r.n m r.owner other w.seen w.sizes w.drained) is q.post_is in let ok = r.meets.each i p.0 in
       let known : v'.known ≡ set v.known i mine.handed = ap (known_with v.known w.known) is in let drained : v'.drained ≡ v.drained ++ i ∷ [] = ap (drained_with v.drained) is in
       let picked : v'.picked ≡ (if mine.picked then v.picked ++ i ∷ [] else v.picked) = ap (picked_with v.picked) is in
-      let handed : mine.handed ≡ (m.updaters i).mine.handed = ap (λ (x : Mine). x.handed) p.2 in let inside : i < length v.known = omega (arith, o.known_sized, p.0) in
+      let handed : mine.handed ≡ (m.updaters i).mine.handed = ap (λ (x : Mine). x.handed) p.2 in let inside : i < length v.known = omega (arith, o.lists.known_sized, p.0) in
       joined id v other w s r owner' live live' free apart at here
       (λ a l. each_put (λ b x. Has (set (set s.views id v') other spent) x (SpeaksFor b)) r.owner i id a
       (v', at_both s.views id other v w v' apart at, (live, subst (SpeaksBy i v'.drained) (sym heart) (inr (subst (λ d. Contains d i) (sym drained) (Contains-push v.drained i)))))
       (λ ne. has_kept s.views id other v w v' (SpeaksFor a) (SpeaksFor a) (r.owner a) at here
       (λ p. (live, subst (SpeaksBy a v'.drained) (sym heart) (⊎_elim inl (λ d. inr (subst (λ l. Contains l a) (sym drained) (Contains-append_left v.drained (i ∷ []) a d))) (subst (SpeaksBy a v.drained) heart p.1))))
       (λ p. ne (sym (subst (SpeaksBy a w.drained) is p.1))) (λ u p. p) (r.spoken a l)))
-      (ap length known ∙ length-set v.known i mine.handed ∙ o.known_sized)
+      (ap length known ∙ length-set v.known i mine.handed ∙ o.lists.known_sized)
       (λ a. subst (λ ks. Begins (get_or ks a []) (m.updaters a).mine.handed) (sym known) (known_at v.known i mine.handed a (λ l. Begins l (m.updaters a).mine.handed) inside
-      (λ e. subst (λ z. Begins mine.handed (m.updaters z).mine.handed) (sym e) (subst (Begins mine.handed) handed (begins_refl mine.handed))) (λ _. o.known_is a)))
+      (λ e. subst (λ z. Begins mine.handed (m.updaters z).mine.handed) (sym e) (subst (Begins mine.handed) handed (begins_refl mine.handed))) (λ _. o.lists.known_is a)))
       (λ a. subst (λ ks. get_or ks a [] ≢ [] → size_of v' a ≢ 0) (sym known) (known_at v.known i mine.handed a (λ l. l ≢ [] → size_of v' a ≢ 0) inside
-      (λ e ne. size_second v.sizes w.sizes a (λ z. ne (handed ∙ (ok.vacant (sym p.4 ∙ ap (size_of w) (sym e) ∙ z)).0))) (λ _ ne. size_first v.sizes w.sizes a (o.known_with_size a ne))))
-      (λ same more. subst (PostOk r.n m owner' id v'.seen v'.sizes v'.drained) (sym heart) (λ a le lt. absurd (omega (arith, o.sized, size, le, lt))))
+      (λ e ne. size_second v.sizes w.sizes a (λ z. ne (handed ∙ (ok.vacant (sym p.4 ∙ ap (size_of w) (sym e) ∙ z)).0))) (λ _ ne. size_first v.sizes w.sizes a (o.sizes.known_with_size a ne))))
+      (λ same more. subst (PostOk r.n m owner' id v'.seen v'.sizes v'.drained) (sym heart) (λ a le lt. absurd (omega (arith, o.sizes.sized, size, le, lt))))
       (λ a d. ⊎_elim
       (λ (e : a ≡ i). subst (λ z. DrainedOk r.n m owner' id (known_of v' z) v'.picked z) (sym e) (record {
         within = p.0;

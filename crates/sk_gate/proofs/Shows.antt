@@ -134,14 +134,14 @@ module _ {C T : Type 0} (hint packed : List ℕ → List Entry → ℕ) (g : Ske
   view_shown : (f : Fine) → f.n ≡ r.n → f.published ≡ m.published → stage_of f.updaters f.in_hand f.progress ≡ m.stage → f.turn ≡ m.turn → ((i : ℕ) → i < r.n → ShowsUpdater m.stage (m.sizes i) i (m.updaters i) (f.updaters i))
       → (j : ℕ) (v : View) → IsLive s.views j v → ShowsView r.numbers r.name f v
   view_shown f count published stage turn each j v at = record {
-    numbers_are = o.numbers_are;
-    name_is = o.name_is;
-    seen = subst (Begins v.seen) (sym published) o.seen_is;
-    heard = λ h d. subst (Begins h) (sym published) (o.heard_is h d);
-    names = o.names_are;
-    known = λ i l. subst (Begins (known_of v i)) (sym (each i (within i l)).handed) (o.known_is i);
-    given = λ i l. subst (Begins (given_of v i)) (sym (each i (within i l)).given) (o.given_is i);
-    sizes = λ i l ne. o.sizes_are i ne ∙ sym (each i (within i l)).size;
+    numbers_are = o.sketch.numbers_are;
+    name_is = o.sketch.name_is;
+    seen = subst (Begins v.seen) (sym published) o.lists.seen_is;
+    heard = λ h d. subst (Begins h) (sym published) (o.lists.heard_is h d);
+    names = o.sketch.names_are;
+    known = λ i l. subst (Begins (known_of v i)) (sym (each i (within i l)).handed) (o.lists.known_is i);
+    given = λ i l. subst (Begins (given_of v i)) (sym (each i (within i l)).given) (o.lists.given_is i);
+    sizes = λ i l ne. o.sizes.sizes_are i ne ∙ sym (each i (within i l)).size;
     own = own v.post o.post_is;
     duty = duty v.duty o.duty_is;
     drained = λ i d. let y = o.drained_is i d in let x = each i y.within in record { within = omega (arith, y.within, count); all = y.all ∙ sym x.handed; given = λ z. y.given (sym x.word ∙ z) };
@@ -165,7 +165,7 @@ module _ {C T : Type 0} (hint packed : List ℕ → List Entry → ℕ) (g : Ske
 
   pub always_shown : Shown hint packed g k s
   always_shown =
-      let w = shown_by (hint r.numbers) (packed r.numbers) r.n m s.views r.meets (λ j v at live. let o = r.each_seat j v at live in record { seen = o.seen_is; known = λ i _. o.known_is i }) in
+      let w = shown_by (hint r.numbers) (packed r.numbers) r.n m s.views r.meets (λ j v at live. let o = r.each_seat j v at live in record { seen = o.lists.seen_is; known = λ i _. o.lists.known_is i }) in
       let f : Fine = w.machine in let x = w.shown in let within : (i : ℕ) → i < f.n → i < r.n = λ i l. omega (arith, x.count) in record {
         numbers = r.numbers;
         name = r.name;

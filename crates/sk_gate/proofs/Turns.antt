@@ -21,14 +21,15 @@ use Rattle.sk_gate.specs.declared.load.Trunk.{Trunk}
 use Rattle.sk_gate.specs.declared.load.Held.{Held}
 use Rattle.sk_gate.specs.Slots.{Slot, trunk, contents, Sketching, Telling, HeldOk, TrunkOk}
 use Rattle.sk_gate.specs.Views.{known_of, size_of, seat_in, leads, stage_of, left_of, is_busy, MayYield, SpeaksFor}
-use Rattle.sk_gate.specs.Rule.{left_home, SlotOk, DutyOk, Knows, HasSeen, IsLed, HasGiven, Kept}
+use Rattle.sk_gate.specs.Rule.{left_home, SlotOk, DutyOk, KnowsSizes, Knows, HasSeen, IsLed, HasGiven, Kept}
 use Rattle.sk_gate.specs.Moves.{ResumesAt}
 use Rattle.sk_gate.specs.Plays.{Sat, turned, yielded}
 use Rattle.sk_gate.specs.Hands.{StageKnown}
 use Rattle.sk_gate.proofs.Opened.{open_neutral}
-use Rattle.sk_gate.proofs.Known.{has_own, sizes_set, size_set, set_there, post_same, drained_same, stepped_knows, stepped_stays}
+use Rattle.sk_gate.proofs.Known.{has_own, size_set, post_same, drained_same, stepped_knows, stepped_stays}
 use Rattle.sk_gate.proofs.Published.{published_seen}
 use Rattle.sk_gate.proofs.Common.{seats_stay, has_stays, viewed, others_know}
+use Rattle.sk_gate.proofs.Beginnings.{lists_see, sizes_put}
 use Rattle.sk_model.specs.Limits.{most_updaters}
 
 -- ---- stages
@@ -75,18 +76,9 @@ left_busy (Published i) left may busy = absurd may
 -- while nobody propagates, it does not matter who did
 released : (n : ℕ) (numbers name : List ℕ) (m : Coarse) (left : Bool) (owner : ℕ → ℕ) (leader leader' j : ℕ) (v : View) → m.turn ≡ 0 → Knows n numbers name m left owner leader j v → Knows n numbers name m left owner leader' j v
 released n numbers name m left owner leader leader' j v free o = record {
-  numbers_are = o.numbers_are;
-  name_is = o.name_is;
-  sized = o.sized;
-  known_sized = o.known_sized;
-  given_sized = o.given_sized;
-  sizes_are = o.sizes_are;
-  seen_is = o.seen_is;
-  heard_is = o.heard_is;
-  names_are = o.names_are;
-  known_is = o.known_is;
-  known_with_size = o.known_with_size;
-  given_is = o.given_is;
+  sketch = o.sketch;
+  sizes = o.sizes;
+  lists = o.lists;
   post_is = o.post_is;
   duty_is = duty v.duty o.duty_is;
   open_is = o.open_is;
@@ -109,10 +101,10 @@ module _ {C T : Type 0} (hint packed : List ℕ → List Entry → ℕ) (g : Ske
 
   -- sizes': those that the seat knows then, left': whether the slot of the stage was left
   takes_turn : (id n who : ℕ) (v : View) (left' : Bool) (sizes' : List ℕ) (t : Trunk C T) (more : List (ℕ × Slot C T)) → who ≡ seat_in n v.post → who ≤ n → v.live ≡ true → (s : State (Slot C T) View) (r : Rule s) → r.n ≡ n → get_elem? s.views id ≡ some v → r.machine.turn ≡ 0
-      → length sizes' ≡ r.n → ((j : ℕ) → slice_index sizes' j ≢ 0 → slice_index sizes' j ≡ r.machine.sizes j) → ((j : ℕ) → slice_index v.sizes j ≢ 0 → slice_index sizes' j ≢ 0) → ((j : ℕ) → slice_index v.sizes j ≡ r.machine.sizes j → slice_index sizes' j ≡ r.machine.sizes j)
+      → KnowsSizes r.n r.machine.sizes sizes' v.known → ((j : ℕ) → slice_index v.sizes j ≡ r.machine.sizes j → slice_index sizes' j ≡ r.machine.sizes j)
       → ((j : ℕ) → At r.machine.stage j → r.left ≡ left')
       → Rule (stepped s (n + 1) (who + 1) id more (taken_view v r.machine.published r.machine.stage left' sizes') (takes r.n (trunk t)))
-  takes_turn id n who v left' sizes' t more is within live s r same_n at free long are there own lefts =
+  takes_turn id n who v left' sizes' t more is within live s r same_n at free knows_sizes own lefts =
       let m = r.machine in
       let o = r.each_seat id v at live in
       let m' : Coarse = after_turn who m in
@@ -122,19 +114,10 @@ module _ {C T : Type 0} (hint packed : List ℕ → List Entry → ℕ) (g : Ske
       let words' : List ℕ = set s.words (n + 1) (who + 1) in
       let w : View = taken_view v m.published m.stage left' sizes' in
       let known : Knows r.n r.numbers r.name m' left' r.owner id id w = record {
-        numbers_are = o.numbers_are;
-        name_is = o.name_is;
-        sized = long;
-        known_sized = o.known_sized;
-        given_sized = o.given_sized;
-        sizes_are = are;
-        seen_is = begins_refl m.published;
-        heard_is = o.heard_is;
-        names_are = o.names_are;
-        known_is = o.known_is;
-        known_with_size = λ j e. there j (o.known_with_size j e);
-        given_is = o.given_is;
-        post_is = post_same r.n m m' r.owner id v.seen m.published v.sizes sizes' v.drained v.post (λ _. refl) own o.seen_is o.post_is;
+        sketch = o.sketch;
+        sizes = knows_sizes;
+        lists = lists_see (begins_refl m.published) o.lists;
+        post_is = post_same r.n m m' r.owner id v.seen m.published v.sizes sizes' v.drained v.post (λ _. refl) own o.lists.seen_is o.post_is;
         duty_is = (refl, ap (λ a. a + 1) (is ∙ ap (λ a. seat_in a v.post) (sym same_n)), refl, refl, refl);
         open_is = open_neutral m m' v.steps (Turn 0) v.post (λ _ _. refl) (λ _ z. z) o.open_is;
         drained_is = λ j e. drained_same r.n m m' r.owner id (known_of v j) v.picked j (record { mine = refl; word = λ a. a }) (o.drained_is j e);
@@ -190,9 +173,9 @@ module _ {C T : Type 0} (hint packed : List ℕ → List Entry → ℕ) (g : Ske
       let deep' = r.deep in
       let same_n : r.n ≡ n = omega arith in
       let word : x ≡ m.turn = ap (λ a. get_or s.words (a + 1) 0) (sym same_n) ∙ r.turn_is in
-      let long : length v.sizes ≡ r.n = o.sized in
+      let long : length v.sizes ≡ r.n = o.sizes.sized in
       let numbered : (t : Trunk C T) (w : View) → TrunkOk g r.numbers r.name w.seen (stage_of w.duty) (size_of w) t → w.numbers ≡ v.numbers → w.name ≡ v.name → (j : ℕ) → n + 1 ≡ j + 1 → Lifts me (w, (r.n, trunk t) ∷ me.1) j
-      = λ t w ok e f j l. (t, ap (λ a. (a, trunk t) ∷ me.1) (let same : r.n ≡ j = omega arith in same), subst (λ (y : List ℕ × List ℕ). TrunkOk g y.0 y.1 w.seen (stage_of w.duty) (size_of w) t) (λ a. (sym (e ∙ o.numbers_are) a, sym (f ∙ o.name_is) a)) ok) in
+      = λ t w ok e f j l. (t, ap (λ a. (a, trunk t) ∷ me.1) (let same : r.n ≡ j = omega arith in same), subst (λ (y : List ℕ × List ℕ). TrunkOk g y.0 y.1 w.seen (stage_of w.duty) (size_of w) t) (λ a. (sym (e ∙ o.sketch.numbers_are) a, sym (f ∙ o.sketch.name_is) a)) ok) in
       exchanged x 0 (who + 1) (Goes s (n + 1) id me then)
       (λ zero.
       let z : m.turn ≡ 0 = sym word ∙ zero in
@@ -203,13 +186,13 @@ module _ {C T : Type 0} (hint packed : List ℕ → List Entry → ℕ) (g : Ske
         w,
         takes r.n (trunk t.0),
         t.1,
-        takes_turn id n who v false v.sizes t.0 me.1 is within live s r same_n at z long o.sizes_are (λ _ e. e) (λ _ e. e) (λ j a. absurd (subst (λ y. At y j) idle a)),
+        takes_turn id n who v false v.sizes t.0 me.1 is within live s r same_n at z o.sizes (λ _ e. e) (λ j a. absurd (subst (λ y. At y j) idle a)),
         (
           (
             (λ _. record {
               view = refl;
-              grows = o.seen_is;
-              is_seen = published_seen (hint r.numbers) r.n m r.owner id v o.sized r.meets o.post_is;
+              grows = o.lists.seen_is;
+              is_seen = published_seen (hint r.numbers) r.n m r.owner id v o.sizes.sized r.meets o.post_is;
               resumes = subst (ResumesAt v w) (sym idle) (refl, refl);
             }),
             (λ ne. absurd (ne zero)),
@@ -235,21 +218,21 @@ module _ {C T : Type 0} (hint packed : List ℕ → List Entry → ℕ) (g : Ske
         w,
         takes r.n (trunk t.0),
         t.1,
-        takes_turn id n who v true sizes' t.0 me.1 is within live s r same_n at z (length-set v.sizes i b ∙ long) (sizes_set v.sizes i b m.sizes wide_i refl o.sizes_are) (set_there v.sizes i b wide_i there) (size_set v.sizes i b m.sizes wide_i refl)
+        takes_turn id n who v true sizes' t.0 me.1 is within live s r same_n at z (sizes_put i b wide_i there refl (λ _ _. refl) o.sizes) (size_set v.sizes i b m.sizes wide_i refl)
             (λ j a. t.3 (busy_at m.stage j may a)),
         (
           (
             (λ _. record {
               view = refl;
-              grows = o.seen_is;
-              is_seen = published_seen (hint r.numbers) r.n m r.owner id v o.sized r.meets o.post_is;
+              grows = o.lists.seen_is;
+              is_seen = published_seen (hint r.numbers) r.n m r.owner id v o.sizes.sized r.meets o.post_is;
               resumes = subst (ResumesAt v w) (sym busy.2) (
                 wide_i,
                 (λ a. set v.sizes i (sym size_now a)),
                 refl,
                 subst (λ c. IsBatch c batch) (sym size_now) behind.0,
                 event.entries_are_few (hint r.numbers) r.n m i batch r.meets (omega arith) busy.2,
-                (λ e. size_now ∙ sym (o.sizes_are i e)),
+                (λ e. size_now ∙ sym (o.sizes.sizes_are i e)),
               );
             }),
             (λ ne. absurd (ne zero)),
@@ -294,21 +277,12 @@ module _ {C T : Type 0} (hint packed : List ℕ → List Entry → ℕ) (g : Ske
       let homes' : List (maybe.Option (Slot C T)) = set s.homes n (some (trunk t)) in
       let words' : List ℕ = set s.words (n + 1) 0 in
       let w : View = record v { steps = v.steps ++ Yield ∷ []; duty = Free } in
-      let trunk_ok : TrunkOk g r.numbers r.name m.published m.stage m.sizes t = subst (λ (y : List ℕ × List ℕ × List Entry × Stage). TrunkOk g y.0 y.1 y.2 y.3 m.sizes t) (λ a. (o.numbers_are a, o.name_is a, duty.4 a, duty.2 a))
-      (trunk_same g v.numbers v.name v.seen stage (size_of v) m.sizes t (λ i a. o.sizes_are i (known_at v stage its i known a)) laid) in
+      let trunk_ok : TrunkOk g r.numbers r.name m.published m.stage m.sizes t = subst (λ (y : List ℕ × List ℕ × List Entry × Stage). TrunkOk g y.0 y.1 y.2 y.3 m.sizes t) (λ a. (o.sketch.numbers_are a, o.sketch.name_is a, duty.4 a, duty.2 a))
+      (trunk_same g v.numbers v.name v.seen stage (size_of v) m.sizes t (λ i a. o.sizes.sizes_are i (known_at v stage its i known a)) laid) in
       let known' : Knows r.n r.numbers r.name m' r.left r.owner r.leader id w = record {
-        numbers_are = o.numbers_are;
-        name_is = o.name_is;
-        sized = o.sized;
-        known_sized = o.known_sized;
-        given_sized = o.given_sized;
-        sizes_are = o.sizes_are;
-        seen_is = o.seen_is;
-        heard_is = o.heard_is;
-        names_are = o.names_are;
-        known_is = o.known_is;
-        known_with_size = o.known_with_size;
-        given_is = o.given_is;
+        sketch = o.sketch;
+        sizes = o.sizes;
+        lists = o.lists;
         post_is = post_same r.n m m' r.owner id v.seen v.seen v.sizes v.sizes v.drained v.post (λ _. refl) (λ _ e. e) (begins_refl v.seen) o.post_is;
         duty_is = tt;
         open_is = open_neutral m m' v.steps Yield v.post (λ _ _. refl) (λ _ z. z) o.open_is;

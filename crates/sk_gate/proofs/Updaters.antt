@@ -1,5 +1,5 @@
 -- The steps of any seat and of an updater keep the rule.
-use Rattle.std.proofs.Common.{◌≡◌, ◌≢◌, ℕ, ◌+◌, ◌<◌, ◌≤◌, Bool, true, false, true≢false, List, [], ◌∷◌, ◌++◌, length, get_or, set, Contains, Option, Some, None, sym, refl, ap, ◌∙◌, subst, ⊎_elim, arith, length-set, get_or-set_other, get_or-set_same}
+use Rattle.std.proofs.Common.{◌≡◌, ◌≢◌, ℕ, ◌+◌, ◌<◌, ◌≤◌, Bool, true, false, true≢false, List, [], ◌∷◌, ◌++◌, length, get_or, set, Contains, Option, Some, None, sym, refl, ap, ◌∙◌, subst, ⊎_elim, arith, length-set, get_or-set_same}
 use Rattle.std.proofs.lemmas.Bool.{cases_Bool}
 use Rattle.std.specs.Prelude.{not, is_some}
 use mathlib.Core.Option.{some, none}
@@ -11,7 +11,7 @@ use Rattle.atomic_table.specs.Table.{State, step, keeps, takes, gives, Allows, r
 use Rattle.atomic_table.proofs.Lists.{set_here, set_else}
 use Rattle.sk_model.specs.Entries.{Entry, entries_by}
 use Rattle.sk_model.specs.Missing.{Begins, LacksAtMost, longer}
-use Rattle.sk_model.proofs.Missing.{begins_refl, begins_nil, begins_more, begins_trans}
+use Rattle.sk_model.proofs.Missing.{begins_refl, begins_nil, begins_trans}
 use Rattle.sk_compose.specs.declared.buffer.Parcel.{Parcel}
 use Rattle.sk_machine.specs.Numbered.{put}
 use Rattle.sk_machine.specs.Coarse.{CoarseUpdater, Coarse, IsBatch, after_admit}
@@ -33,8 +33,9 @@ use Rattle.sk_gate.specs.Plays.{Sat, asked, LookHand, looked, is_picked, rested_
 use Rattle.sk_gate.proofs.Published.{published_seen, begun_seen, seen_between}
 use Rattle.sk_gate.proofs.Opened.{open_neutral, open_told, open_shut}
 use Rattle.sk_gate.proofs.Common.{Stays, viewed, updater_step, at_within, index_within}
-use Rattle.sk_gate.proofs.Known.{room_some}
+use Rattle.sk_gate.proofs.Known.{room_some, stepped_knows, stepped_stays}
 use Rattle.sk_gate.proofs.Merged.{longer_either, longer_left, longer_right, longer_same}
+use Rattle.sk_gate.proofs.Beginnings.{lists_put, lists_see, sizes_put}
 use Rattle.sk_model.specs.Width.{AreItems}
 use Rattle.sk_model.specs.Limits.{most_kept}
 
@@ -97,19 +98,10 @@ module _ {C T : Type 0} (hint packed : List ℕ → List Entry → ℕ) (g : Ske
         keeps,
         tt,
         viewed hint packed g k s r 0 id v w at (record {
-          numbers_are = o.numbers_are;
-          name_is = o.name_is;
-          sized = o.sized;
-          known_sized = o.known_sized;
-          given_sized = o.given_sized;
-          sizes_are = o.sizes_are;
-          seen_is = begins_refl h;
-          heard_is = o.heard_is;
-          names_are = o.names_are;
-          known_is = o.known_is;
-          known_with_size = o.known_with_size;
-          given_is = o.given_is;
-          post_is = post_sees r.n m r.owner id v.seen h v.sizes v.drained v.post o.seen_is o.post_is;
+          sketch = o.sketch;
+          sizes = o.sizes;
+          lists = lists_see (begins_refl h) o.lists;
+          post_is = post_sees r.n m r.owner id v.seen h v.sizes v.drained v.post o.lists.seen_is o.post_is;
           duty_is = duty_sees r.n m r.left r.leader id v.seen h v.post v.duty (λ _. refl) o.duty_is;
           open_is = open_neutral m m v.steps (Ask x) v.post (λ _ _. refl) (λ _ z. z) o.open_is;
           drained_is = o.drained_is;
@@ -117,13 +109,13 @@ module _ {C T : Type 0} (hint packed : List ℕ → List Entry → ℕ) (g : Ske
         (
           record {
             view = refl;
-            grows = o.seen_is;
-            is_seen = published_seen (hint r.numbers) r.n m r.owner id v o.sized r.meets o.post_is;
-            heard = o.heard_is;
-            named = λ y d. o.names_are y d ∙ sym o.name_is;
-            value = r.published_is ∙ ap (λ l. packed l h) (sym o.numbers_are);
-            lacks = λ i some-known. let there = o.known_with_size i some-known in let inside : i < r.n = subst (λ z. i < z) o.sized (index_within v.sizes i there) in
-                subst (LacksAtMost (known_of v i) (entries_by i h)) (sym (o.sizes_are i there)) (event.lacks_known (hint r.numbers) r.n m i (known_of v i) r.meets inside (o.known_is i));
+            grows = o.lists.seen_is;
+            is_seen = published_seen (hint r.numbers) r.n m r.owner id v o.sizes.sized r.meets o.post_is;
+            heard = o.lists.heard_is;
+            named = λ y d. o.sketch.names_are y d ∙ sym o.sketch.name_is;
+            value = r.published_is ∙ ap (λ l. packed l h) (sym o.sketch.numbers_are);
+            lacks = λ i some-known. let there = o.sizes.known_with_size i some-known in let inside : i < r.n = subst (λ z. i < z) o.sizes.sized (index_within v.sizes i there) in
+                subst (LacksAtMost (known_of v i) (entries_by i h)) (sym (o.sizes.sizes_are i there)) (event.lacks_known (hint r.numbers) r.n m i (known_of v i) r.meets inside (o.lists.known_is i));
             lacks_own = lacks_own s r id v v.post o.post_is;
             leads = λ leads. duty_seen r.n m r.left r.leader id v.seen v.post v.duty leads o.duty_is;
             drained = λ i d. let y = o.drained_is i d in (r.meets.each i y.within).open_all y.given ∙ sym y.all;
@@ -142,24 +134,7 @@ module _ {C T : Type 0} (hint packed : List ℕ → List Entry → ℕ) (g : Ske
         w,
         keeps,
         tt,
-        viewed hint packed g k s r (i + 1) id v w at (record {
-          numbers_are = o.numbers_are;
-          name_is = o.name_is;
-          sized = o.sized;
-          known_sized = o.known_sized;
-          given_sized = o.given_sized;
-          sizes_are = o.sizes_are;
-          seen_is = o.seen_is;
-          heard_is = o.heard_is;
-          names_are = o.names_are;
-          known_is = o.known_is;
-          known_with_size = o.known_with_size;
-          given_is = o.given_is;
-          post_is = o.post_is;
-          duty_is = o.duty_is;
-          open_is = open_told m m v.steps (Look i x) i x v.post (λ _ _. refl) (λ ne. absurd (ne closed)) (λ _ _ z. z) o.open_is;
-          drained_is = o.drained_is;
-        }) (record { live = live; seen = λ e. e; given = λ _ _ e. e; leads = λ e. e; speaks = λ _ t. t }),
+        viewed hint packed g k s r (i + 1) id v w at (stepped_knows r.n r.numbers r.name m r.left r.owner r.leader id v w.steps (open_told m m v.steps (Look i x) i x v.post (λ _ _. refl) (λ ne. absurd (ne closed)) (λ _ _ z. z) o.open_is) o) (stepped_stays r.n m v w.steps live),
         λ j _ at-j _. subst (λ a. LooksAt hint v x w a × LookHand k me x (w, me.1) a) (here j at-j) (
           (
             (λ ne. absurd (ne closed)),
@@ -177,22 +152,13 @@ module _ {C T : Type 0} (hint packed : List ℕ → List Entry → ℕ) (g : Ske
       let u' : CoarseUpdater = record u { mine = looked_mine u.mine base } in let ups : ℕ → CoarseUpdater = put m.updaters i u' in let m' : Coarse = record m { updaters = ups } in
       let now = event.looks (hint r.numbers) r.n m i r.meets inside admitted open_word in
       let still : v.seen ≡ m.published → longer v.seen base ≡ m.published = λ e. longer_same v.seen base (subst (Begins base) (sym e) ok.given_is) ∙ e in
-      let seen_is : Begins (longer v.seen base) m.published = longer_either v.seen base (λ l. Begins l m.published) o.seen_is ok.given_is in
-      let based : Begins base (longer v.seen base) = longer_right v.seen base m.published o.seen_is ok.given_is in
+      let seen_is : Begins (longer v.seen base) m.published = longer_either v.seen base (λ l. Begins l m.published) o.lists.seen_is ok.given_is in
+      let based : Begins base (longer v.seen base) = longer_right v.seen base m.published o.lists.seen_is ok.given_is in
       let own_handed : u.mine.handed ≡ mine.handed = ap (λ (y : Mine). y.handed) (sym own.2) in
       let knows : Knows r.n r.numbers r.name m' r.left r.owner r.leader id w = record {
-        numbers_are = o.numbers_are;
-        name_is = o.name_is;
-        sized = o.sized;
-        known_sized = o.known_sized;
-        given_sized = o.given_sized;
-        sizes_are = o.sizes_are;
-        seen_is = seen_is;
-        heard_is = o.heard_is;
-        names_are = o.names_are;
-        known_is = λ a. each_put (λ c (y : CoarseUpdater). Begins (known_of v c) y.mine.handed) m.updaters i u' a (o.known_is i) (λ _. o.known_is a);
-        known_with_size = o.known_with_size;
-        given_is = λ a. each_put (λ c (y : CoarseUpdater). Begins (given_of v c) y.given) m.updaters i u' a (o.given_is i) (λ _. o.given_is a);
+        sketch = o.sketch;
+        sizes = o.sizes;
+        lists = lists_see seen_is (lists_put i u' (begins_refl u.mine.handed) (begins_refl u.given) o.lists);
         post_is = (inside, own.1, ap (λ y. looked_mine y base) own.2 ∙ ap (λ (y : CoarseUpdater). y.mine) (sym (put_here m.updaters i u')), based, b, own.5);
         duty_is = duty_same r.n i m m' r.left r.leader id v.seen (longer v.seen base) mine (looked_mine mine base) v.post v.duty is refl refl refl still o.duty_is;
         open_is = λ _. subst (λ (y : CoarseUpdater). y.word ≢ 0) (sym (put_here m.updaters i u')) open_word;
@@ -207,10 +173,10 @@ module _ {C T : Type 0} (hint packed : List ℕ → List Entry → ℕ) (g : Ske
       } in
       let renews : RenewsAt hint v x w i = record {
         view = refl;
-        hint_is = word ∙ ok.open_hint open_word ∙ ap (λ l. hint l base) (sym o.numbers_are);
+        hint_is = word ∙ ok.open_hint open_word ∙ ap (λ l. hint l base) (sym o.sketch.numbers_are);
         grows = subst (λ (y : Mine). Begins y.base base) (sym own.2) ok.base_is;
-        sees = longer_left v.seen base m.published o.seen_is ok.given_is;
-        is_seen = begun_seen (hint r.numbers) r.n m r.owner id v (longer v.seen base) o.sized r.meets seen_is o.post_is;
+        sees = longer_left v.seen base m.published o.lists.seen_is ok.given_is;
+        is_seen = begun_seen (hint r.numbers) r.n m r.owner id v (longer v.seen base) o.sizes.sized r.meets seen_is o.post_is;
         based = based;
         all = ok.open_given open_word ∙ own_handed;
         sees_all = seen_between i base (longer v.seen base) m.published mine.handed based seen_is (ok.open_given open_word ∙ own_handed) (ok.open_all open_word ∙ own_handed);
@@ -252,7 +218,7 @@ module _ {C T : Type 0} (hint packed : List ℕ → List Entry → ℕ) (g : Ske
               refl,
               (
                 p.2 ∙ ap (λ c. contents [] c) (room_some (m.sizes i) admitted ∙ sym b),
-                λ unpicked. subst (λ (y : List ℕ × List ℕ). ToldOk k y.0 p.0 y.1 base) (λ a. (sym o.name_is a, (ap (λ (y : Mine). y.handed) (sym own.2)) a)) (p.3 (ap (λ (y : Mine). y.picked) (sym own.2) ∙ unpicked)),
+                λ unpicked. subst (λ (y : List ℕ × List ℕ). ToldOk k y.0 p.0 y.1 base) (λ a. (sym o.sketch.name_is a, (ap (λ (y : Mine). y.handed) (sym own.2)) a)) (p.3 (ap (λ (y : Mine). y.picked) (sym own.2) ∙ unpicked)),
               ),
             );
           },
@@ -281,25 +247,16 @@ module _ {C T : Type 0} (hint packed : List ℕ → List Entry → ℕ) (g : Ske
                 set_here s.homes i (some (full p)) (omega arith),
                 empty ∙ ap (λ c. contents [] c) (b ∙ sym (room_some (m.sizes i) admitted)),
                 λ unpicked. told_rested k r.name p u.mine.handed u.given (ap (λ (y : Mine). is_picked y.handed (is_some p.told)) (sym own.2) ∙ unpicked)
-                    (λ t e. subst (λ (y : List ℕ × Mine × List Entry). (y.1.handed ≢ []) × TellsList k y.0 t y.2) (λ a. (o.name_is a, own.2 a, (ap (λ (y : Mine). y.base) own.2 ∙ ok.ready_base on) a)) (told t e)),
+                    (λ t e. subst (λ (y : List ℕ × Mine × List Entry). (y.1.handed ≢ []) × TellsList k y.0 t y.2) (λ a. (o.sketch.name_is a, own.2 a, (ap (λ (y : Mine). y.base) own.2 ∙ ok.ready_base on) a)) (told t e)),
               );
               waiting = λ z. absurd (open_word z);
               led = λ a. absurd (ok.open_apart open_word a);
             })
             (λ j ne. set_else s.homes i j (some (full p)) ne)
             (record {
-              numbers_are = o.numbers_are;
-              name_is = o.name_is;
-              sized = o.sized;
-              known_sized = o.known_sized;
-              given_sized = o.given_sized;
-              sizes_are = o.sizes_are;
-              seen_is = o.seen_is;
-              heard_is = o.heard_is;
-              names_are = o.names_are;
-              known_is = λ a. each_put (λ c (y : CoarseUpdater). Begins (known_of v c) y.mine.handed) m.updaters i u' a (o.known_is i) (λ _. o.known_is a);
-              known_with_size = o.known_with_size;
-              given_is = λ a. each_put (λ c (y : CoarseUpdater). Begins (given_of v c) y.given) m.updaters i u' a (o.given_is i) (λ _. o.given_is a);
+              sketch = o.sketch;
+              sizes = o.sizes;
+              lists = lists_put i u' (begins_refl u.mine.handed) (begins_refl u.given) o.lists;
               post_is = (inside, own.1, ap (λ (y : Mine). rested_mine y gone) own.2 ∙ ap (λ (y : CoarseUpdater). y.mine) (sym (put_here m.updaters i u')), own.3, b, own.5);
               duty_is = duty_same r.n i m m' r.left r.leader id v.seen v.seen mine (rested_mine mine gone) v.post v.duty is refl refl refl (λ e. e) o.duty_is;
               open_is = λ _. subst (λ (y : CoarseUpdater). y.word ≢ 0) (sym (put_here m.updaters i u')) open_word;
@@ -319,13 +276,14 @@ module _ {C T : Type 0} (hint packed : List ℕ → List Entry → ℕ) (g : Ske
   pub admits : (slots id n : ℕ) (me : Sat C T) (i b : ℕ) → slots ≡ n + 1 → me.0.live ≡ true → me.0.post ≡ Updater i (mine_of me.0) → (mine_of me.0).picked ≡ false → size_of me.0 i ≡ 0 → 1 ≤ b → Allows Rule slots id me (i + 1) (λ x. x) (admitted hint b (step slots (i + 1) 0 0 none) me)
   admits slots id n me i b size live is unpicked vacant least s r deep at _ = let v : View = me.0 in let m = r.machine in let x : ℕ = get_or s.words (i + 1) 0 in let o = r.each_seat id v at live in
       let mine : Mine = mine_of v in let own = subst (PostOk r.n m r.owner id v.seen v.sizes v.drained) is o.post_is in let inside : i < r.n = own.0 in let u = m.updaters i in let ok = r.meets.each i inside in let slot = r.each_slot i inside in
-      let word : x ≡ u.word = r.words_are i inside in let zeroed : m.sizes i ≡ 0 = sym own.4 ∙ vacant in let long = o.sized in
+      let word : x ≡ u.word = r.words_are i inside in let zeroed : m.sizes i ≡ 0 = sym own.4 ∙ vacant in let long = o.sizes.sized in
       let open_word : u.word ≢ 0 = event.open_vacant (hint r.numbers) (m.sizes i) m.published m.stage i u ok zeroed in
       let nothing = ok.vacant zeroed in let given : u.given ≡ [] = r.vacant i inside zeroed in
       let u' : CoarseUpdater = record u { mine = looked_mine u.mine u.given } in let ups : ℕ → CoarseUpdater = put m.updaters i u' in let sizes : ℕ → ℕ = put m.sizes i b in let m' : Coarse = record m { sizes = sizes; updaters = ups } in
       let now = event.looks (hint r.numbers) r.n (after_admit i b m) i (event.admits (hint r.numbers) r.n m i b r.meets inside zeroed least) inside (λ z. let e = put_here m.sizes i b in omega arith) open_word in
       let w : View = record v { steps = v.steps ++ Look i x ∷ []; post = Updater i (looked_mine mine []); sizes = set v.sizes i b } in
-      let set_size : size_of w i ≡ b = get_or-set_same v.sizes i b 0 (omega arith) in
+      let wide : i < length v.sizes = omega arith in let positive : b ≢ 0 = λ z. omega arith in
+      let set_size : size_of w i ≡ b = get_or-set_same v.sizes i b 0 wide in
       let p = slot.resting open_word nothing.1 in
       let none_told : p.0.told ≡ None = none_of p.0.told (λ t e. ((p.3 (ap (λ (y : Mine). y.picked) (sym own.2) ∙ unpicked)).1 t e).0 nothing.0) in (
         w,
@@ -342,22 +300,9 @@ module _ {C T : Type 0} (hint packed : List ℕ → List Entry → ℕ) (g : Ske
             })
             (λ j ne. set_else s.homes i j none ne)
             (record {
-              numbers_are = o.numbers_are;
-              name_is = o.name_is;
-              sized = length-set v.sizes i b ∙ o.sized;
-              known_sized = o.known_sized;
-              given_sized = o.given_sized;
-              sizes_are = λ a there. dite (ℕ_discrete a i)
-                  (λ e. ap (size_of w) e ∙ set_size ∙ sym (put_here m.sizes i b) ∙ ap sizes (sym e))
-                  (λ ne. let same = get_or-set_other v.sizes i a b 0 ne in same ∙ o.sizes_are a (λ z. there (same ∙ z)) ∙ sym (put_else m.sizes i b a ne));
-              seen_is = o.seen_is;
-              heard_is = o.heard_is;
-              names_are = o.names_are;
-              known_is = λ a. each_put (λ c (y : CoarseUpdater). Begins (known_of v c) y.mine.handed) m.updaters i u' a (o.known_is i) (λ _. o.known_is a);
-              known_with_size = λ a some-known z. dite (ℕ_discrete a i)
-                  (λ e. let q : size_of w i ≡ 0 = ap (size_of w) (sym e) ∙ z in omega arith)
-                  (λ ne. o.known_with_size a some-known (sym (get_or-set_other v.sizes i a b 0 ne) ∙ z));
-              given_is = λ a. each_put (λ c (y : CoarseUpdater). Begins (given_of v c) y.given) m.updaters i u' a (o.given_is i) (λ _. o.given_is a);
+              sketch = o.sketch;
+              sizes = sizes_put i b wide positive (put_here m.sizes i b) (λ j ne. put_else m.sizes i b j ne) o.sizes;
+              lists = lists_put i u' (begins_refl u.mine.handed) (begins_refl u.given) o.lists;
               post_is = (
                 inside,
                 own.1,
@@ -381,7 +326,7 @@ module _ {C T : Type 0} (hint packed : List ℕ → List Entry → ℕ) (g : Ske
           record {
             view = refl;
             size = set_size;
-            hint_is = word ∙ ok.open_hint open_word ∙ (λ a. hint (sym o.numbers_are a) (given a));
+            hint_is = word ∙ ok.open_hint open_word ∙ (λ a. hint (sym o.sketch.numbers_are a) (given a));
             lower = λ z. open_word (sym word ∙ z);
             none = ap (λ (y : Mine). y.handed) own.2 ∙ nothing.0;
           },
@@ -412,18 +357,9 @@ module _ {C T : Type 0} (hint packed : List ℕ → List Entry → ℕ) (g : Ske
             })
             (λ j ne. set_else s.homes i j (some (full p)) ne)
             (record {
-              numbers_are = o.numbers_are;
-              name_is = o.name_is;
-              sized = o.sized;
-              known_sized = o.known_sized;
-              given_sized = o.given_sized;
-              sizes_are = o.sizes_are;
-              seen_is = o.seen_is;
-              heard_is = o.heard_is;
-              names_are = o.names_are;
-              known_is = λ a. each_put (λ c (y : CoarseUpdater). Begins (known_of v c) y.mine.handed) m.updaters i u' a (begins_more _ _ xs (o.known_is i)) (λ _. o.known_is a);
-              known_with_size = o.known_with_size;
-              given_is = λ a. each_put (λ c (y : CoarseUpdater). Begins (given_of v c) y.given) m.updaters i u' a (o.given_is i) (λ _. o.given_is a);
+              sketch = o.sketch;
+              sizes = o.sizes;
+              lists = lists_put i u' (xs, refl) (begins_refl u.given) o.lists;
               post_is = (inside, own.1, ap (λ (y : Mine). handed_mine y xs) own.2 ∙ ap (λ (y : CoarseUpdater). y.mine) (sym (put_here m.updaters i u')), own.3, b, own.5);
               duty_is = duty_same r.n i m m' r.left r.leader id v.seen v.seen mine (handed_mine mine xs) v.post v.duty is refl refl refl (λ e. e) o.duty_is;
               open_is = λ e. absurd (true≢false (sym e ∙ open_shut i v.steps));

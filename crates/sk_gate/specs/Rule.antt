@@ -1,5 +1,5 @@
 -- The rule of the table: words, slots and views show a coarse machine that meets its invariant.
-use Rattle.std.specs.Prelude.{◌≡◌, ◌≢◌, ℕ, ◌+◌, ◌<◌, ◌≤◌, List, [], length, Bool, true, false, Contains, None, slice_index}
+use Rattle.std.specs.Prelude.{◌≡◌, ◌≢◌, ℕ, ◌+◌, ◌<◌, ◌≤◌, List, [], length, Bool, true, false, Contains, None, slice_index, slice_index_or}
 use mathlib.Core.Option.{some, none}
 use mathlib.Core.Option as maybe
 use lib.ListN.{get_elem?}
@@ -17,7 +17,7 @@ use Rattle.sk_machine.specs.declared.views.Duty.TheVariants.{Free, Leads}
 use Rattle.sk_machine.specs.declared.views.View.{View}
 use Rattle.sk_gate.specs.declared.load.Trunk.{Trunk}
 use Rattle.sk_gate.specs.Slots.{Slot, full, trunk, word_of, turn_word, contents, room, Sketching, Telling, ToldOk, TrunkOk}
-use Rattle.sk_gate.specs.Views.{known_of, given_of, size_of, seat_in, leads, is_busy, is_open, SpeaksFor}
+use Rattle.sk_gate.specs.Views.{known_of, given_of, seat_in, leads, is_busy, is_open, SpeaksFor}
 
 -- ---- slots
 
@@ -66,20 +66,32 @@ pub record DrainedOk (n : ℕ) (m : Coarse) (owner : ℕ → ℕ) (j : ℕ) (kno
   pub given : (m.updaters i).word ≢ 0
   pub was_picked : (m.updaters i).mine.picked ≡ true → Contains picked i
 
+-- what a view says of the table's sketch: its numbers and name, and the names of those that it took in
+pub record KnowsSketch (numbers name : List ℕ) (its_numbers its_name : List ℕ) (names : List (List ℕ)) : Type 0 where
+  pub numbers_are : its_numbers ≡ numbers
+  pub name_is : its_name ≡ name
+  pub names_are : (x : List ℕ) → Contains names x → x ≡ name
+
+-- of how large buffers are, where it says it: at least of each updater that it knows items of
+pub record KnowsSizes (n : ℕ) (real : ℕ → ℕ) (sizes : List ℕ) (known : List (List ℕ)) : Type 0 where
+  pub sized : length sizes ≡ n
+  pub sizes_are : (i : ℕ) → slice_index sizes i ≢ 0 → slice_index sizes i ≡ real i
+  pub known_with_size : (i : ℕ) → slice_index_or known i [] ≢ [] → slice_index sizes i ≢ 0
+
+-- of lists, each of which the machine's begins with
+pub record KnowsLists (n : ℕ) (published : List Entry) (updaters : ℕ → CoarseUpdater) (seen : List Entry) (heard : List (List Entry)) (known : List (List ℕ)) (given : List (List Entry)) : Type 0 where
+  pub known_sized : length known ≡ n
+  pub given_sized : length given ≡ n
+  pub seen_is : Begins seen published
+  pub heard_is : (h : List Entry) → Contains heard h → Begins h published
+  pub known_is : (i : ℕ) → Begins (slice_index_or known i []) (updaters i).mine.handed
+  pub given_is : (i : ℕ) → Begins (slice_index_or given i []) (updaters i).given
+
 -- what a live view, which stands at j, says of the machine
 pub record Knows (n : ℕ) (numbers name : List ℕ) (m : Coarse) (left : Bool) (owner : ℕ → ℕ) (leader j : ℕ) (v : View) : Type 0 where
-  pub numbers_are : v.numbers ≡ numbers
-  pub name_is : v.name ≡ name
-  pub sized : length v.sizes ≡ n
-  pub known_sized : length v.known ≡ n
-  pub given_sized : length v.given ≡ n
-  pub sizes_are : (i : ℕ) → size_of v i ≢ 0 → size_of v i ≡ m.sizes i
-  pub seen_is : Begins v.seen m.published
-  pub heard_is : (h : List Entry) → Contains v.heard h → Begins h m.published
-  pub names_are : (x : List ℕ) → Contains v.names x → x ≡ name
-  pub known_is : (i : ℕ) → Begins (known_of v i) (m.updaters i).mine.handed
-  pub known_with_size : (i : ℕ) → known_of v i ≢ [] → size_of v i ≢ 0
-  pub given_is : (i : ℕ) → Begins (given_of v i) (m.updaters i).given
+  pub sketch : KnowsSketch numbers name v.numbers v.name v.names
+  pub sizes : KnowsSizes n m.sizes v.sizes v.known
+  pub lists : KnowsLists n m.published m.updaters v.seen v.heard v.known v.given
   pub post_is : PostOk n m owner j v.seen v.sizes v.drained v.post
   pub duty_is : DutyOk n m left leader j v.seen v.post v.duty
   pub open_is : OpenOk m v.steps v.post
