@@ -17,3 +17,4 @@ pub mod Taken
 pub mod Turns
 pub mod Updaters
 pub mod Beginnings
+pub mod Copies

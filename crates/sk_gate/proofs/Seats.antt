@@ -24,13 +24,14 @@ use Rattle.sk_machine.proofs.Numbered.{put_here, put_else, each_put}
 use Rattle.sk_machine.proofs.Coarse as event
 use Rattle.sk_gate.specs.declared.load.Trunk.{Trunk}
 use Rattle.sk_gate.specs.Slots.{Slot, full, trunk, room, Sketching, Telling}
-use Rattle.sk_gate.specs.Views.{known_of, size_of, mine_of, leads, merged, sizes_of, blanks, first_view, made_in, after_making, new_updater, after_split, copy_of, told_on, known_with, drained_with, picked_with, seen_with, after_join, spent, SpeaksBy, SpeaksFor}
+use Rattle.sk_gate.specs.Views.{known_of, size_of, mine_of, leads, merged, sizes_of, blanks, first_view, made_in, after_making, new_updater, after_split, copy_of, told_on, only_at, sizes_on, known_with, drained_with, picked_with, seen_with, after_join, spent, SpeaksBy, SpeaksFor}
 use Rattle.sk_gate.specs.Rule.{PostOk, DutyOk, DrainedOk, Knows, Has, HasSeen, IsLed, HasGiven, Kept}
 use Rattle.sk_gate.specs.Plays.{Sat}
 use Rattle.sk_gate.specs.Hands.{Holds}
 use Rattle.sk_gate.proofs.Own.{same_holds}
 use Rattle.sk_gate.proofs.Opened.{open_neutral}
 use Rattle.sk_gate.proofs.Common.{seats_stay, at_within, has_stays}
+use Rattle.sk_gate.proofs.Copies.{only_here, copied_length, copied_size}
 use Rattle.sk_gate.proofs.Merged.{blank_at, blanks_length, set_begins, longer_either, longer_left, whole_first, whole_second, merged_length, merged_either, merged_first, merged_second, sizes_length, sizes_either, size_first, size_second}
 
 -- ---- lists of views
@@ -134,6 +135,14 @@ module _ (n : ℕ) (m : Coarse) (owner : ℕ → ℕ) (j : ℕ) (seen : List Ent
   told_sized hint ok (Updater a mine) t h i = λ is z. let x = blank_set size a i mine.handed is in
       let none : m.sizes a ≡ 0 = sym t.4 ∙ ap (λ b. get_or sizes b 0) (sym x.0) ∙ z in
       x.1 (ap (λ (y : Mine). y.handed) t.2 ∙ ((ok.each a t.0).vacant none).0)
+
+-- a copy knows the size of whom it knows of
+told_known_size : (size : ℕ) (sizes : List ℕ) (known : List (List ℕ)) (p : Post) → ((i : ℕ) → get_or (told_on size known p) i [] ≢ [] → get_or sizes i 0 ≢ 0) → (i : ℕ) → get_or (told_on size known p) i [] ≢ [] → get_or (sizes_on sizes p) i 0 ≢ 0
+told_known_size size sizes known Guest h i is = h i is
+told_known_size size sizes known (Root made) h i is = h i is
+told_known_size size sizes known (Updater a mine) h i is =
+    let own : i ≡ a = (blank_set size a i mine.handed is).0 in
+    subst (λ z. z ≢ 0) (sym (subst (λ z. get_or (only_at z sizes) i 0 ≡ get_or sizes i 0) own (only_here sizes i))) (h i is)
 
 told_length : (n : ℕ) (known : List (List ℕ)) (p : Post) → length known ≡ n → length (told_on n known p) ≡ n
 told_length n known Guest e = e
@@ -381,9 +390,9 @@ module _ {C T : Type 0} (hint packed : List ℕ → List Entry → ℕ) (g : Ske
       }) (record {
         sketch = o.sketch;
         sizes = record {
-          sized = o.sizes.sized;
-          sizes_are = o.sizes.sizes_are;
-          known_with_size = told_sized r.n m r.owner id v.seen v.sizes v.drained (length v.sizes) v.known (hint r.numbers) r.meets v.post o.post_is o.sizes.known_with_size;
+          sized = copied_length v.sizes v.post ∙ o.sizes.sized;
+          sizes_are = λ i known. let same = copied_size v.sizes v.post i known in same ∙ o.sizes.sizes_are i (subst (λ z. z ≢ 0) same known);
+          known_with_size = told_known_size (length v.sizes) v.sizes v.known v.post (told_sized r.n m r.owner id v.seen v.sizes v.drained (length v.sizes) v.known (hint r.numbers) r.meets v.post o.post_is o.sizes.known_with_size);
         };
         lists = record {
           known_sized = subst (λ z. length (told_on z v.known v.post) ≡ r.n) (sym o.sizes.sized) (told_length r.n v.known v.post o.lists.known_sized);

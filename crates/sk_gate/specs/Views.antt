@@ -1,5 +1,5 @@
 -- What a view says, and the views that a split and a join give.
-use Rattle.std.specs.Prelude.{◌≡◌, ◌⊎◌, ℕ, zero, suc, ◌≤◌, ◌==◌, if◌then◌else◌, List, [], ◌∷◌, ◌++◌, length, replicate, Bool, true, false, not, fold, Contains, slice_index, slice_index_or, slice_set}
+use Rattle.std.specs.Prelude.{◌≡◌, ◌⊎◌, ℕ, zero, suc, ◌≤◌, ◌==◌, if◌then◌else◌, List, [], ◌∷◌, ◌++◌, length, map, replicate, Bool, true, false, not, fold, Contains, slice_index, slice_index_or, slice_set}
 use Rattle.sk_model.specs.Entries.{Entry}
 use Rattle.sk_compose.specs.declared.buffer.Parcel.{Parcel}
 use Rattle.sk_machine.specs.Coarse.{blank_mine}
@@ -166,6 +166,18 @@ told_on n known Guest = known
 told_on n known (Root made) = known
 told_on n known (Updater i mine) = slice_set (blanks n) i mine.handed
 
+-- the number at one place, and 0 at all others
+abbrev pub only_at : ℕ → List ℕ → List ℕ
+only_at i [] = []
+only_at zero (x ∷ xs) = x ∷ map (λ _. 0) xs
+only_at (suc i) (x ∷ xs) = 0 ∷ only_at i xs
+
+-- and the sizes: of an updater its own, else those that the seat knows
+abbrev pub sizes_on : List ℕ → Post → List ℕ
+sizes_on sizes Guest = sizes
+sizes_on sizes (Root made) = sizes
+sizes_on sizes (Updater i mine) = only_at i sizes
+
 abbrev pub after_split : View → View
 after_split v = record v { steps = v.steps ++ Split ∷ [] }
 
@@ -179,6 +191,7 @@ copy_of v = record v {
   given = blanks (length v.sizes);
   drained = [];
   picked = [];
+  sizes = sizes_on v.sizes v.post;
 }
 
 abbrev pub known_with : List (List ℕ) → List (List ℕ) → Post → List (List ℕ)

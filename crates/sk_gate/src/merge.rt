@@ -7,6 +7,7 @@ ghost use Rattle.sk_gate.specs.Slots.{contents, sketching, TrunkOk};
 ghost use Rattle.sk_gate.specs.Views.{size_of, batch_of, left_of};
 ghost use Rattle.sk_gate.specs.Hands.{IsTrunk};
 ghost use Rattle.sk_gate.specs.Merge.{MergesAt};
+ghost use Rattle.sk_gate.specs.Moves.{IsSeen};
 ghost use Rattle.sk_model.specs.Limits.{most_size};
 
 use crate::load::{Held, Trunk};
@@ -35,6 +36,7 @@ pub fn merge_batch<C: Composable, R: Role, W: Wait>(
     ensures count { IfOk result (λ n. n ≡ length (batch_of seat.old.view)) }
     ensures most { IfOk result (λ n. n ≤ most_size) }
     ensures merged { IfOk result (λ _. MergesAt C.hint_of C.packed_of seat.old.view seat.new.view i) }
+    ensures seen { IfOk result (λ _. IsSeen seat.old.view seat.new.view.seen) }
     ensures lower { IfOk result (λ _. C.hint_of seat.new.view.numbers seat.new.view.seen ≢ 0) }
     ensures kept { IfErr result (λ _. seat.new.view ≡ seat.old.view) }
     ensures cause { IfErr result (λ _. IsTrue C.TAKES_MEMORY) }

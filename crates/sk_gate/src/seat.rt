@@ -52,7 +52,6 @@ pub struct Propagator<C: Composable, R: Role> {
 }
 
 impl<C: Composable, R: Role> Model for Propagator<C, R> {
-    ghost use Rattle.sk_model.specs.Limits.{most_updaters};
     ghost use Rattle.std.specs.Prelude.{◌≡◌, ◌≤◌, ◌+◌};
     ghost use Rattle.std.specs.Arc.{arc_value};
     ghost use Rattle.sk_gate.specs.Slots.{sketching, telling};
