@@ -24,10 +24,10 @@ use Rattle.sk_machine.specs.declared.views.View.{View}
 use Rattle.sk_machine.proofs.Numbered.{each_put}
 use Rattle.sk_machine.proofs.Coarse as event
 use Rattle.sk_gate.specs.declared.load.Held.{Held}
-use Rattle.sk_gate.specs.Slots.{Slot, contents, Sketching, Telling, HeldOk}
+use Rattle.sk_gate.specs.Slots.{Slot, contents, Sketching, Telling, IsHeld}
 use Rattle.sk_gate.specs.Views.{given_of, leads, SpeaksBy, SpeaksFor}
 use Rattle.sk_gate.proofs.Beginnings.{lists_grow}
-use Rattle.sk_gate.specs.Rule.{SlotOk, PostOk, DutyOk, OpenOk, Knows, Has, HasSeen, IsLed, HasGiven, Kept}
+use Rattle.sk_gate.specs.Rule.{IsSlot, KnowsPost, KnowsDuty, KnowsOpen, Knows, Has, HasSeen, IsLed, HasGiven, KeepsRule}
 
 -- the live seats, where one has a new view
 pub seats_stay : (K : ℕ → View → Type 0) (vs : List View) (me : ℕ) (w : View) → (w.live ≡ true → K me w)
@@ -69,7 +69,7 @@ led_size hint n m i ok at zeroed =
     let o = ok.each i (ok.stage_at i at) in
     event.open_vacant hint (m.sizes i) m.published m.stage i (m.updaters i) o zeroed (event.closed_at hint (m.sizes i) m.published m.stage i (m.updaters i) o at)
 
-pub held_sizes : {T : Type 0} (stage : Stage) (b b' : ℕ → ℕ) (held : Option (Held T)) → ((i : ℕ) → At stage i → b' i ≡ b i) → HeldOk stage b held → HeldOk stage b' held
+pub held_sizes : {T : Type 0} (stage : Stage) (b b' : ℕ → ℕ) (held : Option (Held T)) → ((i : ℕ) → At stage i → b' i ≡ b i) → IsHeld stage b held → IsHeld stage b' held
 held_sizes Idle b b' held same t = t
 held_sizes (Busy i batch) b b' held same t = (t.0, t.1, t.2, t.3 ∙ ap (λ z. contents batch z) (sym (same i refl)))
 held_sizes (Published i) b b' held same t = t
@@ -93,7 +93,7 @@ module _ {C T : Type 0} (hint packed : List ℕ → List Entry → ℕ) (g : Ske
   St = State (Slot C T) View
 
   abbrev Rule : St → Type 0
-  Rule = Kept hint packed g k
+  Rule = KeepsRule hint packed g k
 
   -- a step that changes the seat's own view alone
   pub viewed : (s : St) (r : Rule s) (i id : ℕ) (v w : View) → get_elem? s.views id ≡ some v → Knows r.n r.numbers r.name r.machine r.left r.owner r.leader id w → Stays r.n r.machine r.machine v w
@@ -154,17 +154,17 @@ module _ {C T : Type 0} (hint packed : List ℕ → List Entry → ℕ) (g : Ske
       sized : (i : ℕ) → owner i ≡ j → m'.sizes i ≡ m.sizes i
       sized i own = ⊎_elim (λ s. s) (λ mine. absurd (apart (sym own ∙ mine))) (own_sizes i)
 
-      post : (p : Post) → PostOk n m owner j v.seen v.sizes v.drained p → PostOk n m' owner j v.seen v.sizes v.drained p
+      post : (p : Post) → KnowsPost n m owner j v.seen v.sizes v.drained p → KnowsPost n m' owner j v.seen v.sizes v.drained p
       post Guest t = tt
       post (Root made) t = λ i a l. let y = t i a l in (y.0, y.1 ∙ (others i y.0).mine, y.2 ∙ sym (sized i y.0))
       post (Updater i mine) t = (t.0, t.1, t.2 ∙ (others i t.1).mine, t.3, t.4 ∙ sym (sized i t.1), t.5)
 
-      opened : (p : Post) → PostOk n m owner j v.seen v.sizes v.drained p → OpenOk m v.steps p → OpenOk m' v.steps p
+      opened : (p : Post) → KnowsPost n m owner j v.seen v.sizes v.drained p → KnowsOpen m v.steps p → KnowsOpen m' v.steps p
       opened Guest t e = tt
       opened (Root made) t e = tt
       opened (Updater i mine) t e = λ known. (others i t.1).word (e known)
 
-      duty : (d : Duty) → DutyOk n m left leader j v.seen v.post d → DutyOk n m' left' leader j v.seen v.post d
+      duty : (d : Duty) → KnowsDuty n m left leader j v.seen v.post d → KnowsDuty n m' left' leader j v.seen v.post d
       duty Free t = tt
       duty (Leads stage its) t = ⊎_elim (λ e. (t.0, e.0 ∙ t.1, t.2 ∙ sym e.1, t.3 ∙ sym e.2, t.4 ∙ sym e.3)) (λ mine. absurd (apart (sym t.0 ∙ mine))) duties
 
@@ -172,7 +172,7 @@ module _ {C T : Type 0} (hint packed : List ℕ → List Entry → ℕ) (g : Ske
   pub updater_step : (s : St) (r : Rule s) (i id x : ℕ) (v w : View) (u : CoarseUpdater) (sizes : ℕ → ℕ) (homes' : List (maybe.Option (Slot C T))) → i < r.n → r.owner i ≡ id → get_elem? s.views id ≡ some v → length homes' ≡ length s.homes
       → ((j : ℕ) → r.machine.sizes j ≢ 0 → sizes j ≡ r.machine.sizes j) → ((j : ℕ) → j ≢ i → sizes j ≡ r.machine.sizes j)
       → Meets (hint r.numbers) r.n (record r.machine { sizes = sizes; updaters = put r.machine.updaters i u }) → x ≡ u.word → u.given ≡ (r.machine.updaters i).given → Begins (r.machine.updaters i).mine.handed u.mine.handed
-      → SlotOk k r.name (sizes i) r.machine.stage r.left i u (get_elem? homes' i) → ((j : ℕ) → j ≢ i → get_elem? homes' j ≡ get_elem? s.homes j)
+      → IsSlot k r.name (sizes i) r.machine.stage r.left i u (get_elem? homes' i) → ((j : ℕ) → j ≢ i → get_elem? homes' j ≡ get_elem? s.homes j)
       → Knows r.n r.numbers r.name (record r.machine { sizes = sizes; updaters = put r.machine.updaters i u }) r.left r.owner r.leader id w
       → Stays r.n r.machine (record r.machine { sizes = sizes; updaters = put r.machine.updaters i u }) v w
       → Rule record { words = set s.words (i + 1) x; homes = homes'; views = set s.views id w }
@@ -198,8 +198,8 @@ module _ {C T : Type 0} (hint packed : List ℕ → List Entry → ℕ) (g : Ske
         vacant = λ j l. each_put (λ a (b : CoarseUpdater). sizes a ≡ 0 → b.given ≡ []) m.updaters i u j
             (λ z. now-given ∙ r.vacant i inside (was_vacant m.sizes sizes i (grow i) z))
             (λ ne z. r.vacant j l (sym (same-sizes j ne) ∙ z));
-        each_slot = λ j l. each_put (λ a (b : CoarseUpdater). SlotOk k r.name (sizes a) m.stage r.left a b (get_elem? homes' a)) m.updaters i u j slot
-            (λ ne. subst (λ (y : ℕ × maybe.Option (maybe.Option (Slot C T))). SlotOk k r.name y.0 m.stage r.left j (m.updaters j) y.1) (λ a. (sym (same-sizes j ne) a, sym (slots j ne) a)) (r.each_slot j l));
+        each_slot = λ j l. each_put (λ a (b : CoarseUpdater). IsSlot k r.name (sizes a) m.stage r.left a b (get_elem? homes' a)) m.updaters i u j slot
+            (λ ne. subst (λ (y : ℕ × maybe.Option (maybe.Option (Slot C T))). IsSlot k r.name y.0 m.stage r.left j (m.updaters j) y.1) (λ a. (sym (same-sizes j ne) a, sym (slots j ne) a)) (r.each_slot j l));
         rests = λ z. let t = r.rests z in (
           t.0,
           slots r.n (λ e. omega arith) ∙ t.1,
@@ -231,7 +231,7 @@ module _ {C T : Type 0} (hint packed : List ℕ → List Entry → ℕ) (g : Ske
       → r.leader ≡ id → r.machine.turn ≢ 0 → leads w.duty ≡ true → w.live ≡ true → ((i : ℕ) → SpeaksBy i v.drained v.post → SpeaksBy i w.drained w.post) → get_elem? s.views id ≡ some v → length homes' ≡ length s.homes
       → get_or (set s.words a x) 0 0 ≡ packed r.numbers h' → get_or (set s.words a x) (r.n + 1) 0 ≡ r.machine.turn → ((j : ℕ) → j < r.n → get_or (set s.words a x) (j + 1) 0 ≡ (updaters' j).word)
       → Meets (hint r.numbers) r.n (record r.machine { published = h'; stage = stage'; updaters = updaters' }) → ((j : ℕ) → j < r.n → r.machine.sizes j ≡ 0 → (updaters' j).given ≡ [])
-      → ((j : ℕ) → j < r.n → SlotOk k r.name (r.machine.sizes j) stage' left' j (updaters' j) (get_elem? homes' j)) → get_elem? homes' r.n ≡ get_elem? s.homes r.n
+      → ((j : ℕ) → j < r.n → IsSlot k r.name (r.machine.sizes j) stage' left' j (updaters' j) (get_elem? homes' j)) → get_elem? homes' r.n ≡ get_elem? s.homes r.n
       → Begins r.machine.published h' → ((j : ℕ) → Begins (r.machine.updaters j).given (updaters' j).given) → ((j : ℕ) → SameUpdater (r.machine.updaters j) (updaters' j))
       → Has (set s.views id w) seer' (HasSeen h') → ((i : ℕ) → i < r.n → Has (set s.views id w) (giver' i) (HasGiven i (updaters' i).given))
       → Knows r.n r.numbers r.name (record r.machine { published = h'; stage = stage'; updaters = updaters' }) left' r.owner r.leader id w

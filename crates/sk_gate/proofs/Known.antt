@@ -15,7 +15,7 @@ use Rattle.sk_machine.specs.declared.views.Post.{Post}
 use Rattle.sk_machine.specs.declared.views.Post.TheVariants.{Guest, Root, Updater}
 use Rattle.sk_machine.specs.declared.views.View.{View}
 use Rattle.sk_gate.specs.Slots.{room}
-use Rattle.sk_gate.specs.Rule.{PostOk, OpenOk, DrainedOk, Knows, Has}
+use Rattle.sk_gate.specs.Rule.{KnowsPost, KnowsOpen, KnowsTakenIn, Knows, Has}
 use Rattle.sk_gate.proofs.Common.{SameUpdater, Stays}
 
 pub some_none : {A : Type 0} {a : A} → Some a ≡ None → ⊥
@@ -47,12 +47,12 @@ size_set l i b sizes inside is j are = dite (ℕ_discrete j i)
     (λ ne. get_or-set_other l i j b 0 ne ∙ are)
 
 pub post_same : (n : ℕ) (m m' : Coarse) (owner : ℕ → ℕ) (j : ℕ) (seen seen' : List Entry) (sizes sizes' drained : List ℕ) (p : Post) → ((i : ℕ) → (m.updaters i).mine ≡ (m'.updaters i).mine)
-    → ((i : ℕ) → slice_index sizes i ≡ m.sizes i → slice_index sizes' i ≡ m'.sizes i) → Begins seen seen' → PostOk n m owner j seen sizes drained p → PostOk n m' owner j seen' sizes' drained p
+    → ((i : ℕ) → slice_index sizes i ≡ m.sizes i → slice_index sizes' i ≡ m'.sizes i) → Begins seen seen' → KnowsPost n m owner j seen sizes drained p → KnowsPost n m' owner j seen' sizes' drained p
 post_same n m m' owner j seen seen' sizes sizes' drained Guest same are more t = tt
 post_same n m m' owner j seen seen' sizes sizes' drained (Root made) same are more t = λ i a l. let y = t i a l in (y.0, y.1 ∙ same i, are i y.2)
 post_same n m m' owner j seen seen' sizes sizes' drained (Updater i mine) same are more t = (t.0, t.1, t.2 ∙ same i, begins_trans _ _ _ t.3 more, are i t.4, t.5)
 
-pub drained_same : (n : ℕ) (m m' : Coarse) (owner : ℕ → ℕ) (j : ℕ) (known picked : List ℕ) (i : ℕ) → SameUpdater (m.updaters i) (m'.updaters i) → DrainedOk n m owner j known picked i → DrainedOk n m' owner j known picked i
+pub drained_same : (n : ℕ) (m m' : Coarse) (owner : ℕ → ℕ) (j : ℕ) (known picked : List ℕ) (i : ℕ) → SameUpdater (m.updaters i) (m'.updaters i) → KnowsTakenIn n m owner j known picked i → KnowsTakenIn n m' owner j known picked i
 drained_same n m m' owner j known picked i same o = record {
   within = o.within;
   own = o.own;
@@ -62,7 +62,7 @@ drained_same n m m' owner j known picked i same o = record {
 }
 
 -- a step of which only its record tells
-pub stepped_knows : (n : ℕ) (numbers name : List ℕ) (m : Coarse) (left : Bool) (owner : ℕ → ℕ) (leader j : ℕ) (v : View) (steps' : List Move) → OpenOk m steps' v.post → Knows n numbers name m left owner leader j v
+pub stepped_knows : (n : ℕ) (numbers name : List ℕ) (m : Coarse) (left : Bool) (owner : ℕ → ℕ) (leader j : ℕ) (v : View) (steps' : List Move) → KnowsOpen m steps' v.post → Knows n numbers name m left owner leader j v
     → Knows n numbers name m left owner leader j (record v { steps = steps' })
 stepped_knows n numbers name m left owner leader j v steps' opened o = record {
   sketch = o.sketch;

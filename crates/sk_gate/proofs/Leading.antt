@@ -20,16 +20,16 @@ use Rattle.sk_machine.specs.declared.views.Duty.TheVariants.{Free, Leads}
 use Rattle.sk_machine.specs.declared.views.View.{View}
 use Rattle.sk_gate.specs.declared.load.Load.TheVariants as load
 use Rattle.sk_gate.specs.declared.load.Trunk.{Trunk}
-use Rattle.sk_gate.specs.Slots.{Slot, full, trunk, contents, Sketching, Telling, TellsList, TrunkOk}
-use Rattle.sk_gate.specs.Views.{size_of, mine_in, seat_in, leads, stage_of, left_of, batch_of, MayYield}
+use Rattle.sk_gate.specs.Slots.{Slot, full, trunk, contents, Sketching, Telling, TellsList, IsTrunkOf}
+use Rattle.sk_gate.specs.Views.{size_of, mine_in, seat_in, leads, stage_in, left_in, batch_of, IsAtRest}
 use Rattle.sk_gate.specs.Moves.{ResumesAt, TakesTurnAt, MissesTurnAt, YieldsAt, FindsBatchAt, FindsAt, LeavesAt, PublishesAt, GivesBackAt}
 use Rattle.sk_gate.specs.Plays.{Sat, gave_back, left_it, yielded}
-use Rattle.sk_gate.specs.Rule.{Kept}
-use Rattle.sk_gate.specs.Hands.{has_parcel, IsAt, IsPut, Standing, standing_of, StageHand, StageKnown, TrunkHand, LeadsBy, OwnHand, IsPost, Holds}
+use Rattle.sk_gate.specs.Rule.{KeepsRule}
+use Rattle.sk_gate.specs.Hands.{has_parcel, LiesAt, IsPut, SeatState, seat_state, StageHand, StageKnown, TrunkHand, DutyHand, OwnHand, IsPost, Holds}
 use Rattle.sk_gate.proofs.Own.{post_keeps, leads_keeps, own_keeps}
 use Rattle.sk_gate.proofs.Rounds.{leaves, gives_back}
 use Rattle.sk_gate.proofs.Turns.{yields}
-use Rattle.sk_gate.proofs.Standing.{is_lifted, shown_of, standing_parts, standing_at, leads_shape}
+use Rattle.sk_gate.proofs.SeatState.{is_lifted, shown_of, seat_state_parts, seat_state_at, leads_shape}
 
 -- a new view that says the same of the seat's own updater
 record KeepsOwn (v w : View) (i : ℕ) : Type 0 where
@@ -59,7 +59,7 @@ pub seat_at : (v : View) (heart : Bool) (n number : ℕ) → IsPost v heart n nu
 seat_at v true n number t = let same = t.1 in (t.1 ∙ ap (seat_in n) (sym t.0), omega arith)
 seat_at v false n number t = let less = t.1 in (ap (seat_in n) (sym t.0), omega arith)
 
-led_duty : (d : Duty) → leads d ≡ true → d ≡ Leads (stage_of d) (left_of d)
+led_duty : (d : Duty) → leads d ≡ true → d ≡ Leads (stage_in d) (left_in d)
 led_duty Free led = absurd (true≢false (sym led))
 led_duty (Leads stage left) led = refl
 
@@ -90,7 +90,7 @@ module _ {C T : Type 0} where
   trunk_out g v n stage second t seen = ⊎_elim (λ e. e) (λ e. absurd (true≢false (sym seen ∙ ap is_lifted e.1))) t
 
   trunk_in : (g : Sketching C) (v : View) (n : ℕ) (stage : Stage) (second : List (ℕ × Slot C T)) → TrunkHand v g n stage second → is_lifted second ≡ false
-      → (t : Trunk C T) × (second ≡ (n, trunk t) ∷ []) × TrunkOk g v.numbers v.name v.seen stage (size_of v) t
+      → (t : Trunk C T) × (second ≡ (n, trunk t) ∷ []) × IsTrunkOf g v.numbers v.name v.seen stage (size_of v) t
   trunk_in g v n stage second t seen = ⊎_elim (λ e. absurd (true≢false (sym (ap is_lifted e) ∙ seen))) (λ e. e) t
 
   trunk_one : (g : Sketching C) (v : View) (n : ℕ) (stage : Stage) (second : List (ℕ × Slot C T)) → TrunkHand v g n stage second → (x : Slot C T) × (second ≡ (n, x) ∷ [])
@@ -111,14 +111,14 @@ module _ {C T : Type 0} where
   published_out k v i left first t seen = ⊎_elim (λ e. e) (λ e. absurd (true≢false (sym (ap has_parcel e.2) ∙ seen))) t
 
   -- nothing of the stage is in hand where the turn may be yielded
-  yields_none : (k : Telling T) (v : View) (stage : Stage) (left : Bool) (first : List (ℕ × Slot C T)) → MayYield (Leads stage left) → StageHand v k stage left first → first ≡ []
+  yields_none : (k : Telling T) (v : View) (stage : Stage) (left : Bool) (first : List (ℕ × Slot C T)) → IsAtRest (Leads stage left) → StageHand v k stage left first → first ≡ []
   yields_none k v Idle left first may t = t
   yields_none k v (Busy i batch) true first may t = t
   yields_none k v (Busy i batch) false first may t = absurd (true≢false (sym may))
   yields_none k v (Published i) left first may t = absurd may
 
 -- a turn finds the slot of the stage at home
-resumed_hand : (C : Type 0) {T : Type 0} (k : Telling T) (v w : View) (stage : Stage) (left : Bool) → ResumesAt v w stage → left ≡ left_of w.duty → StageHand w {C = C} k stage left []
+resumed_hand : (C : Type 0) {T : Type 0} (k : Telling T) (v w : View) (stage : Stage) (left : Bool) → ResumesAt v w stage → left ≡ left_in w.duty → StageHand w {C = C} k stage left []
 resumed_hand C k v w Idle left t is = refl
 resumed_hand C k v w (Busy i batch) left t is = subst (λ b. StageHand w {C = C} k (Busy i batch) b []) (sym (is ∙ t.2)) refl
 resumed_hand C k v w (Published i) left t is = absurd t
@@ -135,26 +135,26 @@ resumed_own v w (Published j) i t = absurd t
 
 -- a turn keeps how many sizes there are
 pub taken_sizes : (v w : View) → TakesTurnAt v w → length w.sizes ≡ length v.sizes
-taken_sizes v w told = (resumed_own v w (stage_of w.duty) 0 told.resumes).0
+taken_sizes v w told = (resumed_own v w (stage_in w.duty) 0 told.resumes).0
 
 -- ---- over each call
 
 -- of a seat that is seen as `old`
-module _ {C T : Type 0} (g : Sketching C) (k : Telling T) {heart : Bool} {n number front : ℕ} {own : Bool} {m : Sat C T} {table : TableId} {old : Standing} (h : Holds g k heart n number front own m) (e : standing_of m.0 table number front m.1 ≡ old) where
+module _ {C T : Type 0} (g : Sketching C) (k : Telling T) {heart : Bool} {n number front : ℕ} {own : Bool} {m : Sat C T} {table : TableId} {old : SeatState} (h : Holds g k heart n number front own m) (e : seat_state m.0 table number front m.1 ≡ old) where
   shown : shown_of m.0 table number h.first h.second h.third ≡ old
-  shown = sym (standing_at g k heart n number front own m table h) ∙ e
+  shown = sym (seat_state_at g k heart n number front own m table h) ∙ e
 
   pub view_is : m.0 ≡ old.view
-  view_is = ap (λ (z : Standing). z.view) e
+  view_is = ap (λ (z : SeatState). z.view) e
 
   pub within : (i : ℕ) → i < length old.view.sizes → i < n
   within i inside = subst (λ z. i < z) (ap (λ (y : View). length y.sizes) (sym view_is) ∙ h.sized) inside
 
   filled_is : has_parcel h.first ≡ old.filled
-  filled_is = ap (λ (z : Standing). z.filled) shown
+  filled_is = ap (λ (z : SeatState). z.filled) shown
 
   lifted_is : is_lifted h.second ≡ old.lifted
-  lifted_is = ap (λ (z : Standing). z.lifted) shown
+  lifted_is = ap (λ (z : SeatState). z.lifted) shown
 
   -- it has its own slot or not, as its field says
   own_behind : (b : Bool) (hand : List (ℕ × Slot C T)) → OwnHand m.0 k number b hand → bool_byte b ≡ length hand
@@ -166,9 +166,9 @@ module _ {C T : Type 0} (g : Sketching C) (k : Telling T) {heart : Bool} {n numb
 
   -- what is true of it, and seen of it, after a call
   abbrev pub Next : Sat C T → TableId → ℕ → View → Bool → Bool → Type 0
-  Next m' table' front' view' filled' lifted' = Holds g k heart n number front' own m' × (standing_of m'.0 table' number front' m'.1 ≡ record { view = view'; table = old.table; number = old.number; own = old.own; filled = filled'; lifted = lifted' })
+  Next m' table' front' view' filled' lifted' = Holds g k heart n number front' own m' × (seat_state m'.0 table' number front' m'.1 ≡ record { view = view'; table = old.table; number = old.number; own = old.own; filled = filled'; lifted = lifted' })
 
-  next : (m' : Sat C T) (table' : TableId) (front' : ℕ) (view' : View) (first second : List (ℕ × Slot C T)) (filled' lifted' : Bool) → table' ≡ table → KeepsOwn m.0 m'.0 number → m'.0 ≡ view' → LeadsBy m'.0 g k n m'.0.duty first second
+  next : (m' : Sat C T) (table' : TableId) (front' : ℕ) (view' : View) (first second : List (ℕ × Slot C T)) (filled' lifted' : Bool) → table' ≡ table → KeepsOwn m.0 m'.0 number → m'.0 ≡ view' → DutyHand m'.0 g k n m'.0.duty first second
       → m'.1 ≡ first ++ second ++ h.third → length first + length second ≡ front' → has_parcel first ≡ filled' → is_lifted second ≡ lifted' → Next m' table' front' view' filled' lifted'
   next m' table' front' view' first second filled' lifted' tables same views leading hand counted fills lifts = (
     record {
@@ -184,22 +184,22 @@ module _ {C T : Type 0} (g : Sketching C) (k : Telling T) {heart : Bool} {n numb
       own_is = h.own_is ∙ ap (λ p. (mine_in p).ready) (sym same.post);
       owned = own_sized k m.0 m'.0 number own h.third same h.owned;
     },
-    standing_parts m'.0 table' number front' m'.1 first second h.third hand counted (leads_shape m'.0 g k n m'.0.duty first second leading)
+    seat_state_parts m'.0 table' number front' m'.1 first second h.third hand counted (leads_shape m'.0 g k n m'.0.duty first second leading)
         ∙ (λ a. record {
           view = views a;
-          table = (tables ∙ ap (λ (z : Standing). z.table) shown) a;
-          number = ap (λ (z : Standing). z.number) shown a;
-          own = ap (λ (z : Standing). z.own) shown a;
+          table = (tables ∙ ap (λ (z : SeatState). z.table) shown) a;
+          number = ap (λ (z : SeatState). z.number) shown a;
+          own = ap (λ (z : SeatState). z.own) shown a;
           filled = fills a;
           lifted = lifts a;
         }),
   )
 
   -- a step after which the view is this, and its own updater's part of it as before
-  by_view : (w w' : View) (first second : List (ℕ × Slot C T)) → w ≡ w' → LeadsBy w' g k n w'.duty first second → LeadsBy w g k n w.duty first second
-  by_view w w' first second is t = subst (λ (y : View). LeadsBy y g k n y.duty first second) (sym is) t
+  by_view : (w w' : View) (first second : List (ℕ × Slot C T)) → w ≡ w' → DutyHand w' g k n w'.duty first second → DutyHand w g k n w.duty first second
+  by_view w w' first second is t = subst (λ (y : View). DutyHand y g k n y.duty first second) (sym is) t
 
-  free_hand : (d : Duty) (first second : List (ℕ × Slot C T)) → leads d ≡ false → LeadsBy m.0 g k n d first second → (first ≡ []) × (second ≡ [])
+  free_hand : (d : Duty) (first second : List (ℕ × Slot C T)) → leads d ≡ false → DutyHand m.0 g k n d first second → (first ≡ []) × (second ≡ [])
   free_hand Free first second free t = t
   free_hand (Leads stage left) first second free t = absurd (true≢false free)
 
@@ -209,19 +209,19 @@ module _ {C T : Type 0} (g : Sketching C) (k : Telling T) {heart : Bool} {n numb
       (sym filled_is ∙ ap has_parcel none-there.0, sym lifted_is ∙ ap is_lifted none-there.1)
 
   pub turned_next : (m' : Sat C T) (table' : TableId) (t : Trunk C T) → leads old.view.duty ≡ false → table' ≡ table → TakesTurnAt m.0 m'.0 → m'.1 ≡ (n, trunk t) ∷ m.1
-      → TrunkOk g m'.0.numbers m'.0.name m'.0.seen (stage_of m'.0.duty) (size_of m'.0) t → Next m' table' 1 m'.0 old.filled old.lifted
+      → IsTrunkOf g m'.0.numbers m'.0.name m'.0.seen (stage_in m'.0.duty) (size_of m'.0) t → Next m' table' 1 m'.0 old.filled old.lifted
   turned_next m' table' t free tables told hand laid =
       let none-there = free_hand m.0.duty h.first h.second (ap (λ (y : View). leads y.duty) view_is ∙ free) h.leading in
       let w : View = m'.0 in
-      let stage : Stage = stage_of w.duty in
-      let left : Bool = left_of w.duty in
+      let stage : Stage = stage_in w.duty in
+      let left : Bool = left_in w.duty in
       let is = told.view in
       let sizes = resumed_own m.0 w stage number told.resumes in
       let whole : m.1 ≡ h.third = h.hand ∙ (λ a. none-there.0 a ++ none-there.1 a ++ h.third) in
       next m' table' 1 w [] ((n, trunk t) ∷ []) old.filled old.lifted tables
       (record { live = ap (λ (y : View). y.live) is; post = ap (λ (y : View). y.post) is; name = ap (λ (y : View). y.name) is; long = sizes.0; size = sizes.1 })
       refl
-      (subst (λ d. LeadsBy w g k n d [] ((n, trunk t) ∷ [])) (sym (ap (λ (y : View). y.duty) is)) (resumed_hand C k m.0 w stage left told.resumes refl, resumed_known m.0 w stage left sizes.0 told.resumes, inr (t, refl, laid)))
+      (subst (λ d. DutyHand w g k n d [] ((n, trunk t) ∷ [])) (sym (ap (λ (y : View). y.duty) is)) (resumed_hand C k m.0 w stage left told.resumes refl, resumed_known m.0 w stage left sizes.0 told.resumes, inr (t, refl, laid)))
       (hand ∙ ap (λ l. (n, trunk t) ∷ l) whole) refl (ap has_parcel (sym none-there.0) ∙ filled_is) (ap is_lifted (sym none-there.1) ∙ lifted_is)
 
   pub missed_next : (m' : Sat C T) (table' : TableId) (found : ℕ) → leads old.view.duty ≡ false → table' ≡ table → MissesTurnAt m.0 found m'.0 → m'.1 ≡ m.1 → Next m' table' front m'.0 old.filled old.lifted
@@ -235,14 +235,14 @@ module _ {C T : Type 0} (g : Sketching C) (k : Telling T) {heart : Bool} {n numb
 
   -- ---- slots in hand
 
-  led : leads old.view.duty ≡ true → m.0.duty ≡ Leads (stage_of m.0.duty) (left_of m.0.duty)
+  led : leads old.view.duty ≡ true → m.0.duty ≡ Leads (stage_in m.0.duty) (left_in m.0.duty)
   led is = led_duty m.0.duty (ap (λ (y : View). leads y.duty) view_is ∙ is)
 
   parts : (stage : Stage) (left : Bool) → m.0.duty ≡ Leads stage left → StageHand m.0 k stage left h.first × StageKnown m.0 stage left × TrunkHand m.0 g n stage h.second
-  parts stage left is = subst (λ d. LeadsBy m.0 g k n d h.first h.second) is h.leading
+  parts stage left is = subst (λ d. DutyHand m.0 g k n d h.first h.second) is h.leading
 
-  join : (stage : Stage) (left : Bool) (first second : List (ℕ × Slot C T)) → m.0.duty ≡ Leads stage left → StageHand m.0 k stage left first → StageKnown m.0 stage left → TrunkHand m.0 g n stage second → LeadsBy m.0 g k n m.0.duty first second
-  join stage left first second is a b c = subst (λ d. LeadsBy m.0 g k n d first second) (sym is) (a, b, c)
+  join : (stage : Stage) (left : Bool) (first second : List (ℕ × Slot C T)) → m.0.duty ≡ Leads stage left → StageHand m.0 k stage left first → StageKnown m.0 stage left → TrunkHand m.0 g n stage second → DutyHand m.0 g k n m.0.duty first second
+  join stage left first second is a b c = subst (λ d. DutyHand m.0 g k n d first second) (sym is) (a, b, c)
 
   same_view : (m' : Sat C T) → m'.0 ≡ m.0 → KeepsOwn m.0 m'.0 number
   same_view m' is = keeps_own m.0 m'.0 number m.0.seen m.0.steps m.0.duty m.0.given is
@@ -251,37 +251,37 @@ module _ {C T : Type 0} (g : Sketching C) (k : Telling T) {heart : Bool} {n numb
   trunk_place : (x : Slot C T) → h.second ≡ (n, x) ∷ [] → (m.1 ≡ h.first ++ (n, x) ∷ h.third) × (length h.first ≡ front - 1)
   trunk_place x is = (h.hand ∙ ap (λ l. h.first ++ l ++ h.third) is ∙ append_assoc h.first ((n, x) ∷ []) h.third, let c = h.counted in let one = ap length is in omega arith)
 
-  pub trunk_at : (behind : ℕ) → leads old.view.duty ≡ true → behind ≡ bool_byte own → IsAt n (front - 1) behind m.1
-  trunk_at behind is long = let l = led is in let x = trunk_one g m.0 n (stage_of m.0.duty) h.second (parts _ _ l).2 in let p = trunk_place x.0 x.1 in (h.first, x.0, h.third, p.0, p.1, sym (long ∙ behind_is))
+  pub trunk_at : (behind : ℕ) → leads old.view.duty ≡ true → behind ≡ bool_byte own → LiesAt n (front - 1) behind m.1
+  trunk_at behind is long = let l = led is in let x = trunk_one g m.0 n (stage_in m.0.duty) h.second (parts _ _ l).2 in let p = trunk_place x.0 x.1 in (h.first, x.0, h.third, p.0, p.1, sym (long ∙ behind_is))
 
   pub lifted_next : (m' : Sat C T) (table' : TableId) (behind : ℕ) (result : Slot C T) → leads old.view.duty ≡ true → old.lifted ≡ false → behind ≡ bool_byte own → table' ≡ table → m'.0 ≡ m.0 → IsPut n (front - 1) behind m.1 result None m'.1
-      → ((t : Trunk C T) × (result ≡ trunk t) × TrunkOk g old.view.numbers old.view.name old.view.seen (stage_of old.view.duty) (size_of old.view) t) × StageKnown old.view (stage_of old.view.duty) (left_of old.view.duty) × Next m' table' front old.view old.filled true
+      → ((t : Trunk C T) × (result ≡ trunk t) × IsTrunkOf g old.view.numbers old.view.name old.view.seen (stage_in old.view.duty) (size_of old.view) t) × StageKnown old.view (stage_in old.view.duty) (left_in old.view.duty) × Next m' table' front old.view old.filled true
   lifted_next m' table' behind result is laid long tables views put =
       let l = led is in
-      let stage : Stage = stage_of m.0.duty in
-      let left : Bool = left_of m.0.duty in
+      let stage : Stage = stage_in m.0.duty in
+      let left : Bool = left_in m.0.duty in
       let its = parts stage left l in
       let t = trunk_in g m.0 n stage h.second its.2 (lifted_is ∙ laid) in
       let p = trunk_place (trunk t.0) t.1 in
       let now = put h.first (trunk t.0) h.third p.0 p.1 (sym (long ∙ behind_is)) in (
-        (t.0, now.0, subst (λ (y : View). TrunkOk g y.numbers y.name y.seen (stage_of y.duty) (size_of y) t.0) view_is t.2),
-        subst (λ (y : View). StageKnown y (stage_of y.duty) (left_of y.duty)) view_is its.1,
+        (t.0, now.0, subst (λ (y : View). IsTrunkOf g y.numbers y.name y.seen (stage_in y.duty) (size_of y) t.0) view_is t.2),
+        subst (λ (y : View). StageKnown y (stage_in y.duty) (left_in y.duty)) view_is its.1,
         next m' table' front old.view h.first ((n, None) ∷ []) old.filled true tables (same_view m' views) (views ∙ view_is)
             (by_view m'.0 m.0 h.first ((n, None) ∷ []) views (join stage left h.first ((n, None) ∷ []) l its.0 its.1 (inl refl)))
             (now.1 ∙ sym (append_assoc h.first ((n, None) ∷ []) h.third)) (let c = h.counted in let one = ap length t.1 in omega arith) filled_is refl,
       )
 
-  pub laid_next : (m' : Sat C T) (table' : TableId) (behind : ℕ) (result : Slot C T) (t : Trunk C T) → leads old.view.duty ≡ true → old.lifted ≡ true → TrunkOk g old.view.numbers old.view.name old.view.seen (stage_of old.view.duty) (size_of old.view) t
+  pub laid_next : (m' : Sat C T) (table' : TableId) (behind : ℕ) (result : Slot C T) (t : Trunk C T) → leads old.view.duty ≡ true → old.lifted ≡ true → IsTrunkOf g old.view.numbers old.view.name old.view.seen (stage_in old.view.duty) (size_of old.view) t
       → behind ≡ bool_byte own → table' ≡ table → m'.0 ≡ m.0 → IsPut n (front - 1) behind m.1 result (trunk t) m'.1 → Next m' table' front old.view old.filled false
   laid_next m' table' behind result t is out ok long tables views put =
       let l = led is in
-      let stage : Stage = stage_of m.0.duty in
-      let left : Bool = left_of m.0.duty in
+      let stage : Stage = stage_in m.0.duty in
+      let left : Bool = left_in m.0.duty in
       let its = parts stage left l in
       let away = trunk_out g m.0 n stage h.second its.2 (lifted_is ∙ out) in
       let p = trunk_place None away in
       let now = put h.first None h.third p.0 p.1 (sym (long ∙ behind_is)) in
-      let laid = subst (λ (y : View). TrunkOk g y.numbers y.name y.seen (stage_of y.duty) (size_of y) t) (sym view_is) ok in
+      let laid = subst (λ (y : View). IsTrunkOf g y.numbers y.name y.seen (stage_in y.duty) (size_of y) t) (sym view_is) ok in
       next m' table' front old.view h.first ((n, trunk t) ∷ []) old.filled false tables (same_view m' views) (views ∙ view_is)
       (by_view m'.0 m.0 h.first ((n, trunk t) ∷ []) views (join stage left h.first ((n, trunk t) ∷ []) l its.0 its.1 (inr (t, refl, laid))))
       (now.1 ∙ sym (append_assoc h.first ((n, trunk t) ∷ []) h.third)) (let c = h.counted in let one = ap length away in omega arith) filled_is refl
@@ -313,7 +313,7 @@ module _ {C T : Type 0} (g : Sketching C) (k : Telling T) {heart : Bool} {n numb
         size = λ there. ap (λ (y : View). size_of y number) view ∙ sized_own v.sizes i b number wide told.same there;
       })
       refl
-      (subst (λ d. LeadsBy w g k n d ((i, full p) ∷ []) h.second) (sym (ap (λ (y : View). y.duty) view)) (
+      (subst (λ d. DutyHand w g k n d ((i, full p) ∷ []) h.second) (sym (ap (λ (y : View). y.duty) view)) (
         inr (p, refl, buffer),
         (subst (λ z. i < z) (sym long) wide, (λ z. let least = told.batch.0 in let most = told.batch.1 in omega arith), told.batch, subst (λ (l : List Entry). length l + length (batch_of w) ≤ most_entries) (sym seen) told.few),
         inl away,
@@ -338,7 +338,7 @@ module _ {C T : Type 0} (g : Sketching C) (k : Telling T) {heart : Bool} {n numb
     (let c = h.counted in let a = ap length is in let b = ap length second in omega arith),
   )
 
-  pub taken_at : (i behind : ℕ) → old.view.duty ≡ Leads (Busy i (batch_of old.view)) false → old.filled ≡ true → behind ≡ 1 + bool_byte own → IsAt i 0 behind m.1
+  pub taken_at : (i behind : ℕ) → old.view.duty ≡ Leads (Busy i (batch_of old.view)) false → old.filled ≡ true → behind ≡ 1 + bool_byte own → LiesAt i 0 behind m.1
   taken_at i behind is there long =
       let its = parts _ _ (duty_as _ is) in
       let p = busy_in k m.0 i (batch_of old.view) h.first its.0 (filled_is ∙ there) in
@@ -363,20 +363,20 @@ module _ {C T : Type 0} (g : Sketching C) (k : Telling T) {heart : Bool} {n numb
             now.1 (let c = place.2 in let b = ap length x.1 in omega arith) refl lifted_is,
       )
 
-  published_leads : (w : View) (x i : ℕ) (left : Bool) → old.view.duty ≡ Leads (Busy i (batch_of old.view)) left → PublishesAt m.0 x w i → old.lifted ≡ true → LeadsBy w g k n w.duty ((i, None) ∷ []) h.second
+  published_leads : (w : View) (x i : ℕ) (left : Bool) → old.view.duty ≡ Leads (Busy i (batch_of old.view)) left → PublishesAt m.0 x w i → old.lifted ≡ true → DutyHand w g k n w.duty ((i, None) ∷ []) h.second
   published_leads w x i left is told out =
       let v : View = m.0 in
       let its = parts _ left (duty_as _ is) in
       let away = trunk_out g v n _ h.second its.2 (lifted_is ∙ out) in
       by_view w (record v { seen = v.seen ++ tagged i (batch_of v); steps = v.steps ++ Publish x (length (batch_of v)) ∷ []; duty = Leads (Published i) false }) ((i, None) ∷ []) h.second told (inl refl, (its.1.0, its.1.1, refl), inl away)
 
-  pub published_next : (m' : Sat C T) (table' : TableId) (x i : ℕ) → old.view.duty ≡ Leads (Busy i (batch_of old.view)) (left_of old.view.duty) → old.filled ≡ false → old.lifted ≡ true → table' ≡ table
+  pub published_next : (m' : Sat C T) (table' : TableId) (x i : ℕ) → old.view.duty ≡ Leads (Busy i (batch_of old.view)) (left_in old.view.duty) → old.filled ≡ false → old.lifted ≡ true → table' ≡ table
       → (m.0.duty ≡ Leads (Busy i (batch_of m.0)) false → PublishesAt m.0 x m'.0 i × (m'.1 ≡ m.1)) → (m.0.duty ≡ Leads (Busy i (batch_of m.0)) true → PublishesAt m.0 x m'.0 i × (m'.1 ≡ (i, None) ∷ m.1))
       → PublishesAt m.0 x m'.0 i × Next m' table' 2 m'.0 old.filled old.lifted
   published_next m' table' x i is away out tables kept took =
       let v : View = m.0 in
       let batch : List ℕ = batch_of old.view in
-      let left : Bool = left_of old.view.duty in
+      let left : Bool = left_in old.view.duty in
       let seen' : List Entry = v.seen ++ tagged i (batch_of v) in
       let steps' : List Move = v.steps ++ Publish x (length (batch_of v)) ∷ [] in
       let same : batch ≡ batch_of v = ap batch_of (sym view_is) in
@@ -400,7 +400,7 @@ module _ {C T : Type 0} (g : Sketching C) (k : Telling T) {heart : Bool} {n numb
       done t.0 (t.1 ∙ h.hand ∙ ap (λ l. l ++ h.second ++ h.third) none-in))
       (cases_Bool left)
 
-  pub put_at : (i behind : ℕ) → old.view.duty ≡ Leads (Published i) false → old.filled ≡ false → behind ≡ 1 + bool_byte own → IsAt i 0 behind m.1
+  pub put_at : (i behind : ℕ) → old.view.duty ≡ Leads (Published i) false → old.filled ≡ false → behind ≡ 1 + bool_byte own → LiesAt i 0 behind m.1
   put_at i behind is away long =
       let its = parts _ _ (duty_as _ is) in
       let none-in = published_out k m.0 i false h.first its.0 (filled_is ∙ away) in
@@ -463,22 +463,22 @@ module _ {C T : Type 0} (g : Sketching C) (k : Telling T) {heart : Bool} {n numb
       (hand ∙ ap rest place.0) (let b = ap length t.1 in omega arith) (sym away) lifted_is
 
   -- the trunk that is given back, where nothing of the stage is in hand
-  pub yielded_at : MayYield old.view.duty → old.lifted ≡ false
-      → (t : Trunk C T) × (m.1 ≡ (n, trunk t) ∷ h.third) × TrunkOk g m.0.numbers m.0.name m.0.seen (stage_of m.0.duty) (size_of m.0) t × StageKnown m.0 (stage_of m.0.duty) (left_of m.0.duty) × MayYield m.0.duty × (h.first ≡ [])
+  pub yielded_at : IsAtRest old.view.duty → old.lifted ≡ false
+      → (t : Trunk C T) × (m.1 ≡ (n, trunk t) ∷ h.third) × IsTrunkOf g m.0.numbers m.0.name m.0.seen (stage_in m.0.duty) (size_of m.0) t × StageKnown m.0 (stage_in m.0.duty) (left_in m.0.duty) × IsAtRest m.0.duty × (h.first ≡ [])
   yielded_at may laid =
       let v : View = m.0 in
-      let may' : MayYield v.duty = subst (λ (y : View). MayYield y.duty) (sym view_is) may in
-      let l : v.duty ≡ Leads (stage_of v.duty) (left_of v.duty) = yielding v.duty may' in
-      let its = parts (stage_of v.duty) (left_of v.duty) l in
-      let t = trunk_in g v n (stage_of v.duty) h.second its.2 (lifted_is ∙ laid) in
-      let nothing = yields_none k v (stage_of v.duty) (left_of v.duty) h.first (subst MayYield l may') its.0 in
+      let may' : IsAtRest v.duty = subst (λ (y : View). IsAtRest y.duty) (sym view_is) may in
+      let l : v.duty ≡ Leads (stage_in v.duty) (left_in v.duty) = yielding v.duty may' in
+      let its = parts (stage_in v.duty) (left_in v.duty) l in
+      let t = trunk_in g v n (stage_in v.duty) h.second its.2 (lifted_is ∙ laid) in
+      let nothing = yields_none k v (stage_in v.duty) (left_in v.duty) h.first (subst IsAtRest l may') its.0 in
       (t.0, h.hand ∙ (λ a. nothing a ++ t.1 a ++ h.third), t.2, its.1, may', nothing)
     where
-      yielding : (d : Duty) → MayYield d → d ≡ Leads (stage_of d) (left_of d)
+      yielding : (d : Duty) → IsAtRest d → d ≡ Leads (stage_in d) (left_in d)
       yielding Free may = absurd may
       yielding (Leads stage left) may = refl
 
-  pub yielded_next : (m' : Sat C T) (table' : TableId) → MayYield old.view.duty → old.lifted ≡ false → table' ≡ table → YieldsAt m.0 m'.0 → m'.1 ≡ rest m.1 → Next m' table' 0 m'.0 old.filled old.lifted
+  pub yielded_next : (m' : Sat C T) (table' : TableId) → IsAtRest old.view.duty → old.lifted ≡ false → table' ≡ table → YieldsAt m.0 m'.0 → m'.1 ≡ rest m.1 → Next m' table' 0 m'.0 old.filled old.lifted
   yielded_next m' table' may laid tables told hand =
       let v : View = m.0 in
       let place = yielded_at may laid in
@@ -493,24 +493,24 @@ module _ {C T : Type 0} (g : Sketching C) (k : Telling T) {heart : Bool} {n numb
   found_as i left is = subst (λ (y : View). y.duty ≡ Leads (Busy i (batch_of y)) (left y)) (sym view_is) is
 
   pub gives_back_at : (hint packed : List ℕ → List Entry → ℕ) (slots id i x : ℕ) → slots ≡ n + 1 → old.view.duty ≡ Leads (Published i) false → old.filled ≡ true → x ≡ hint old.view.numbers old.view.seen → 1 ≤ x
-      → Allows (Kept hint packed g k) slots id m (i + 1) (λ _. x) (λ _. gave_back (step slots (i + 1) x 0 none) m x)
+      → Allows (KeepsRule hint packed g k) slots id m (i + 1) (λ _. x) (λ _. gave_back (step slots (i + 1) x 0 none) m x)
   gives_back_at hint packed slots id i x size is there value lower =
       let p = given_at i is there in
       let whole : m ≡ (m.0, (i, full p.0) ∷ (h.second ++ h.third)) = λ a. (m.0, p.2 a) in
-      subst (λ (y : Sat C T). Allows (Kept hint packed g k) slots id y (i + 1) (λ _. x) (λ _. gave_back (step slots (i + 1) x 0 none) y x)) (sym whole)
+      subst (λ (y : Sat C T). Allows (KeepsRule hint packed g k) slots id y (i + 1) (λ _. x) (λ _. gave_back (step slots (i + 1) x 0 none) y x)) (sym whole)
       (gives_back hint packed g k slots id n i x m.0 p.0 p.1 (h.second ++ h.third) size p.6 h.live (duty_as _ is) p.7 (value ∙ ap (λ (y : View). hint y.numbers y.seen) (sym view_is)) (λ z. omega arith) p.3 p.4 p.5)
 
   pub leaves_at : (hint packed : List ℕ → List Entry → ℕ) (slots id i : ℕ) → slots ≡ n + 1 → old.view.duty ≡ Leads (Busy i (batch_of old.view)) false → old.filled ≡ false
-      → Allows (Kept hint packed g k) slots id m (i + 1) (λ x. x) (left_it (step slots (i + 1) 0 0 none) m)
+      → Allows (KeepsRule hint packed g k) slots id m (i + 1) (λ x. x) (left_it (step slots (i + 1) 0 0 none) m)
   leaves_at hint packed slots id i size is away =
       let p = left_at i is away in
       let whole : m ≡ (m.0, (i, None) ∷ (h.second ++ h.third)) = λ a. (m.0, p.0 a) in
-      subst (λ (y : Sat C T). Allows (Kept hint packed g k) slots id y (i + 1) (λ x. x) (left_it (step slots (i + 1) 0 0 none) y)) (sym whole)
+      subst (λ (y : Sat C T). Allows (KeepsRule hint packed g k) slots id y (i + 1) (λ x. x) (left_it (step slots (i + 1) 0 0 none) y)) (sym whole)
       (leaves hint packed g k slots id n i m.0 (h.second ++ h.third) size p.1 h.live p.2)
 
-  pub yields_at : (hint packed : List ℕ → List Entry → ℕ) (slots id : ℕ) → slots ≡ n + 1 → MayYield old.view.duty → old.lifted ≡ false → Allows (Kept hint packed g k) slots id m (n + 1) (λ _. 0) (λ _. yielded (step slots (n + 1) 0 0 none) m 0)
+  pub yields_at : (hint packed : List ℕ → List Entry → ℕ) (slots id : ℕ) → slots ≡ n + 1 → IsAtRest old.view.duty → old.lifted ≡ false → Allows (KeepsRule hint packed g k) slots id m (n + 1) (λ _. 0) (λ _. yielded (step slots (n + 1) 0 0 none) m 0)
   yields_at hint packed slots id size may laid =
       let p = yielded_at may laid in
       let whole : m ≡ (m.0, (n, trunk p.0) ∷ h.third) = λ a. (m.0, p.1 a) in
-      subst (λ (y : Sat C T). Allows (Kept hint packed g k) slots id y (n + 1) (λ _. 0) (λ _. yielded (step slots (n + 1) 0 0 none) y 0)) (sym whole)
+      subst (λ (y : Sat C T). Allows (KeepsRule hint packed g k) slots id y (n + 1) (λ _. 0) (λ _. yielded (step slots (n + 1) 0 0 none) y 0)) (sym whole)
       (yields hint packed g k slots id n m.0 p.0 h.third size h.live p.4 p.3 p.2)

@@ -11,7 +11,7 @@ pub mod Merged
 pub mod Rounds
 pub mod Seats
 pub mod Shows
-pub mod Standing
+pub mod SeatState
 pub mod Starts
 pub mod Taken
 pub mod Turns

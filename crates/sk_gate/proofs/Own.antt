@@ -18,16 +18,16 @@ use Rattle.sk_machine.specs.declared.views.Duty.TheVariants.{Free, Leads}
 use Rattle.sk_machine.specs.declared.views.View.{View}
 use Rattle.sk_gate.specs.declared.load.Trunk.{Trunk}
 use Rattle.sk_gate.specs.declared.load.Load.TheVariants as load
-use Rattle.sk_gate.specs.Slots.{Slot, full, contents, Sketching, Telling, TellsList, ToldOk, TrunkOk}
+use Rattle.sk_gate.specs.Slots.{Slot, full, contents, Sketching, Telling, TellsList, TellsGiven, IsTrunkOf}
 use Rattle.sk_gate.specs.Views.{size_of, mine_in, mine_of, leads}
 use Rattle.sk_gate.specs.Moves.{AsksAt, looked_mine, RenewsAt, LooksAt, AdmitsAt, handed_mine, HandsAt}
 use Rattle.sk_gate.specs.Plays.{Sat, LookHand, handed}
 use Rattle.atomic_table.specs.Seated.{TableId}
-use Rattle.sk_gate.specs.Hands.{is_empty, Own, own_looked, Standing, standing_of, rotated, IsAt, IsPut, own_in, IsPost, StageHand, LeadsBy, OwnHand, IsEmptyOwn, IsFullOwn, Holds}
-use Rattle.sk_gate.specs.Rule.{Kept}
+use Rattle.sk_gate.specs.Hands.{is_empty, Own, own_looked, SeatState, seat_state, rotated, LiesAt, IsPut, own_in, IsPost, StageHand, DutyHand, OwnHand, IsEmptyOwn, IsFullOwn, Holds}
+use Rattle.sk_gate.specs.Rule.{KeepsRule}
 use Rattle.sk_gate.proofs.Rotated.{placed_first}
 use Rattle.sk_gate.proofs.Updaters.{hands}
-use Rattle.sk_gate.proofs.Standing.{shown_with, own_shown}
+use Rattle.sk_gate.proofs.SeatState.{shown_with, own_shown}
 use Rattle.sk_model.specs.Limits.{most_kept}
 
 -- a new view that speaks for the same seat
@@ -51,10 +51,10 @@ same_full {p = p} e = ap (parcel_of p) e
 
 module _ {C T : Type 0} (g : Sketching C) (k : Telling T) where
   -- and knows the same as whoever propagates
-  pub leads_keeps : (v w : View) (n : ℕ) (d : Duty) (first second : List (ℕ × Slot C T)) → (leads d ≡ true → w.seen ≡ v.seen) → w.sizes ≡ v.sizes → w.numbers ≡ v.numbers → w.name ≡ v.name → LeadsBy v g k n d first second → LeadsBy w g k n d first second
+  pub leads_keeps : (v w : View) (n : ℕ) (d : Duty) (first second : List (ℕ × Slot C T)) → (leads d ≡ true → w.seen ≡ v.seen) → w.sizes ≡ v.sizes → w.numbers ≡ v.numbers → w.name ≡ v.name → DutyHand v g k n d first second → DutyHand w g k n d first second
   leads_keeps v w n Free first second seen sizes numbers name t = t
   leads_keeps v w n (Leads stage left) first second seen sizes numbers name t =
-      subst (λ (y : List Entry × List ℕ × List ℕ × List ℕ). LeadsBy (record v { seen = y.0; sizes = y.1; numbers = y.2; name = y.3 }) g k n (Leads stage left) first second) (λ a. (sym (seen refl) a, sym sizes a, sym numbers a, sym name a)) t
+      subst (λ (y : List Entry × List ℕ × List ℕ × List ℕ). DutyHand (record v { seen = y.0; sizes = y.1; numbers = y.2; name = y.3 }) g k n (Leads stage left) first second) (λ a. (sym (seen refl) a, sym sizes a, sym numbers a, sym name a)) t
 
   -- its own slot, if it knows the same of itself
   pub own_keeps : (v w : View) (i : ℕ) (own : Bool) (hand : List (ℕ × Slot C T)) → mine_of w ≡ mine_of v → size_of w i ≡ size_of v i → w.name ≡ v.name → OwnHand v k i own hand → OwnHand w k i own hand
@@ -84,7 +84,7 @@ module _ {C T : Type 0} (g : Sketching C) (k : Telling T) where
         third = h.third;
         hand = same ∙ h.hand;
         counted = h.counted;
-        leading = subst (λ d. LeadsBy w g k n d h.first h.second) (sym duty) (leads_keeps v w n v.duty h.first h.second seen sizes numbers name h.leading);
+        leading = subst (λ d. DutyHand w g k n d h.first h.second) (sym duty) (leads_keeps v w n v.duty h.first h.second seen sizes numbers name h.leading);
         own_is = h.own_is ∙ ap (λ (y : Mine). y.ready) (sym mine);
         owned = own_keeps v w number own h.third mine (ap (λ l. slice_index l number) sizes) name h.owned;
       }
@@ -126,7 +126,7 @@ module _ {C T : Type 0} (g : Sketching C) (k : Telling T) where
   }
 
   -- its place in hand
-  pub own_placed : (heart : Bool) (n number front : ℕ) (own : Bool) (m : Sat C T) → (h : Holds g k heart n number front own m) → own ≡ true → IsAt number front 0 m.1
+  pub own_placed : (heart : Bool) (n number front : ℕ) (own : Bool) (m : Sat C T) → (h : Holds g k heart n number front own m) → own ≡ true → LiesAt number front 0 m.1
   own_placed heart n number front own m h on = let p = own_at heart n number front own m h on in (h.first ++ h.second, full p.0, [], p.2, length-append h.first h.second ∙ h.counted, refl)
 
   -- what an exchange there gives
@@ -142,7 +142,7 @@ module _ {C T : Type 0} (g : Sketching C) (k : Telling T) where
       (t.2 ∙ (λ a. record { items = (e a).buffer.items; capacity = (e a).buffer.capacity; told = is_some (e a).told }), subst (λ p. IsEmptyOwn m.0 k number p ⊎ IsFullOwn m.0 number p) e t.3, t.4)
 
   -- of an empty parcel
-  pub own_taken : (heart : Bool) (n number front : ℕ) (own : Bool) (m : Sat C T) (table : TableId) (now : Standing) (old new : Slot C T) (q : Parcel T) (hand : List (ℕ × Slot C T)) → (h : Holds g k heart n number front own m) → own ≡ true → standing_of m.0 table number front m.1 ≡ now
+  pub own_taken : (heart : Bool) (n number front : ℕ) (own : Bool) (m : Sat C T) (table : TableId) (now : SeatState) (old new : Slot C T) (q : Parcel T) (hand : List (ℕ × Slot C T)) → (h : Holds g k heart n number front own m) → own ≡ true → seat_state m.0 table number front m.1 ≡ now
       → now.own.items ≡ [] → IsPut number front 0 m.1 old new hand → old ≡ full q → (now.own ≡ record { items = q.buffer.items; capacity = q.buffer.capacity; told = is_some q.told }) × IsEmptyOwn m.0 k number q
   own_taken heart n number front own m table now old new q hand h on is unswapped put gives =
       let t = own_gave heart n number front own m old new q hand h on put gives in
@@ -150,11 +150,11 @@ module _ {C T : Type 0} (g : Sketching C) (k : Telling T) where
       (e, empty_at m.0 number q t.1 (ap (λ (o : Own). o.items) (sym e) ∙ unswapped))
 
   -- a seat whose own parcel was exchanged, and which now shows another
-  pub exchanged_shown : (heart : Bool) (n number front : ℕ) (own : Bool) (m m' : Sat C T) (table : TableId) (now : Standing) (q : Parcel T) → (h : Holds g k heart n number front own m) → standing_of m.0 table number front m.1 ≡ now → m'.0 ≡ m.0 → m'.1 ≡ (h.first ++ h.second) ++ (number, full q) ∷ []
-      → standing_of m'.0 table number front m'.1 ≡ record now { own = record { items = q.buffer.items; capacity = q.buffer.capacity; told = is_some q.told } }
+  pub exchanged_shown : (heart : Bool) (n number front : ℕ) (own : Bool) (m m' : Sat C T) (table : TableId) (now : SeatState) (q : Parcel T) → (h : Holds g k heart n number front own m) → seat_state m.0 table number front m.1 ≡ now → m'.0 ≡ m.0 → m'.1 ≡ (h.first ++ h.second) ++ (number, full q) ∷ []
+      → seat_state m'.0 table number front m'.1 ≡ record now { own = record { items = q.buffer.items; capacity = q.buffer.capacity; told = is_some q.told } }
   exchanged_shown heart n number front own m m' table now q h is same cut =
       shown_with g k heart n number front own m table now h is m'.0 m'.1 ((number, full q) ∷ []) cut
-      ∙ λ a. record now { view = (same ∙ ap (λ (s : Standing). s.view) is) a; own = record { items = q.buffer.items; capacity = q.buffer.capacity; told = is_some q.told } }
+      ∙ λ a. record now { view = (same ∙ ap (λ (s : SeatState). s.view) is) a; own = record { items = q.buffer.items; capacity = q.buffer.capacity; told = is_some q.told } }
 
   -- it has not
   pub none_own : (heart : Bool) (n number front : ℕ) (own : Bool) (m : Sat C T) → (h : Holds g k heart n number front own m) → own ≡ false → (h.third ≡ []) × (m.1 ≡ h.first ++ h.second)
@@ -162,11 +162,11 @@ module _ {C T : Type 0} (g : Sketching C) (k : Telling T) where
 
   -- what it knows as whoever propagates needs only the sizes that it knew
   pub leads_sizes : (v w : View) (n : ℕ) (d : Duty) (first second : List (ℕ × Slot C T)) → w.seen ≡ v.seen → w.numbers ≡ v.numbers → w.name ≡ v.name → length w.sizes ≡ length v.sizes → ((i : ℕ) → size_of v i ≢ 0 → size_of w i ≡ size_of v i)
-      → LeadsBy v g k n d first second → LeadsBy w g k n d first second
+      → DutyHand v g k n d first second → DutyHand w g k n d first second
   leads_sizes v w n Free first second seen numbers name long sizes t = t
   leads_sizes v w n (Leads Idle left) first second seen numbers name long sizes t = (t.0, tt, ⊎_elim inl (λ e. inr (e.0, e.1, laid e.0 e.2)) t.2)
     where
-      laid : (q : Trunk C T) → TrunkOk g v.numbers v.name v.seen Idle (size_of v) q → TrunkOk g w.numbers w.name w.seen Idle (size_of w) q
+      laid : (q : Trunk C T) → IsTrunkOf g v.numbers v.name v.seen Idle (size_of v) q → IsTrunkOf g w.numbers w.name w.seen Idle (size_of w) q
       laid q x = record { of_it = subst (g.is_of q.global) (sym seen) x.of_it; numbers_are = x.numbers_are ∙ sym numbers; name_is = x.name_is ∙ sym name; held_is = x.held_is }
   leads_sizes v w n (Leads (Busy i batch) left) first second seen numbers name long sizes t = let known = t.1 in let same : size_of w i ≡ size_of v i = sizes i known.1 in (
     slot left t.0,
@@ -183,7 +183,7 @@ module _ {C T : Type 0} (g : Sketching C) (k : Telling T) where
       slot true x = x
       slot false x = ⊎_elim inl (λ e. inr (e.0, e.1, e.2 ∙ ap (λ z. contents batch z) (sym (sizes i t.1.1)))) x
 
-      laid : (q : Trunk C T) → TrunkOk g v.numbers v.name v.seen (Busy i batch) (size_of v) q → TrunkOk g w.numbers w.name w.seen (Busy i batch) (size_of w) q
+      laid : (q : Trunk C T) → IsTrunkOf g v.numbers v.name v.seen (Busy i batch) (size_of v) q → IsTrunkOf g w.numbers w.name w.seen (Busy i batch) (size_of w) q
       laid q x = let h = x.held_is in
           record { of_it = subst (g.is_of q.global) (sym seen) x.of_it; numbers_are = x.numbers_are ∙ sym numbers; name_is = x.name_is ∙ sym name; held_is = (h.0, h.1, h.2, h.3 ∙ ap (λ z. contents batch z) (sym (sizes i t.1.1))) }
   leads_sizes v w n (Leads (Published i) left) first second seen numbers name long sizes t = let known = t.1 in let same : size_of w i ≡ size_of v i = sizes i known.1 in (
@@ -194,9 +194,9 @@ module _ {C T : Type 0} (g : Sketching C) (k : Telling T) where
 
   -- ---- a look
 
-  looked_sees : (hint : List ℕ → List Entry → ℕ) (v w : View) (r i : ℕ) (first second : List (ℕ × Slot C T)) (n : ℕ) → RenewsAt hint v r w i → LeadsBy v g k n v.duty first second → LeadsBy w g k n w.duty first second
+  looked_sees : (hint : List ℕ → List Entry → ℕ) (v w : View) (r i : ℕ) (first second : List (ℕ × Slot C T)) (n : ℕ) → RenewsAt hint v r w i → DutyHand v g k n v.duty first second → DutyHand w g k n w.duty first second
   looked_sees hint v w r i first second n t leading = let at = t.view in
-      subst (λ d. LeadsBy w g k n d first second) (ap (λ (y : View). y.duty) (sym at)) (leads_keeps v w n v.duty first second t.leads (ap (λ (y : View). y.sizes) at) (ap (λ (y : View). y.numbers) at) (ap (λ (y : View). y.name) at) leading)
+      subst (λ d. DutyHand w g k n d first second) (ap (λ (y : View). y.duty) (sym at)) (leads_keeps v w n v.duty first second t.leads (ap (λ (y : View). y.sizes) at) (ap (λ (y : View). y.numbers) at) (ap (λ (y : View). y.name) at) leading)
 
   -- that took no slot
   pub looked_holds : (hint : List ℕ → List Entry → ℕ) (n number front r : ℕ) (own : Bool) (m m' : Sat C T) → (h : Holds g k false n number front own m) → (own_in h.third).items ≡ [] → LooksAt hint m.0 r m'.0 number → LookHand k m r m' number → (r ≡ 0) ⊎ (own ≡ true)
@@ -263,7 +263,7 @@ module _ {C T : Type 0} (g : Sketching C) (k : Telling T) where
         );
       }
 
-  told_there : (p : Parcel T) (name handed : List ℕ) (base : List Entry) → ToldOk k name p handed base → is_some p.told ≡ not (is_empty handed)
+  told_there : (p : Parcel T) (name handed : List ℕ) (base : List Entry) → TellsGiven k name p handed base → is_some p.told ≡ not (is_empty handed)
   told_there p name handed base told = go p.told handed told.0 (λ t e. (told.1 t e).0)
     where
       go : (x : Option T) (xs : List ℕ) → (x ≡ None → xs ≡ []) → ((t : T) → x ≡ Some t → xs ≢ []) → is_some x ≡ not (is_empty xs)
@@ -275,15 +275,15 @@ module _ {C T : Type 0} (g : Sketching C) (k : Telling T) where
   looked_own : (v : View) (r i : ℕ) (o : Own) → r ≢ 0 → (mine_of v).ready ≡ false → own_looked r v i o ≡ record { items = []; capacity = size_of v i; told = not (is_empty (mine_of v).handed) }
   looked_own v r i o ne off = (λ a. if ne_eqb r 0 ne a then o else (if off a then o else record { items = []; capacity = size_of v i; told = not (is_empty (mine_of v).handed) }))
 
-  pub looked_shown : (hint : List ℕ → List Entry → ℕ) (n number front r : ℕ) (own : Bool) (m m' : Sat C T) (table : TableId) (now : Standing) → (h : Holds g k false n number front own m) → standing_of m.0 table number front m.1 ≡ now → LooksAt hint m.0 r m'.0 number → LookHand k m r m' number → r ≢ 0
-      → own ≡ false → standing_of m'.0 table number front (turned m'.1) ≡ record now { view = m'.0; own = own_looked r now.view now.number now.own }
+  pub looked_shown : (hint : List ℕ → List Entry → ℕ) (n number front r : ℕ) (own : Bool) (m m' : Sat C T) (table : TableId) (now : SeatState) → (h : Holds g k false n number front own m) → seat_state m.0 table number front m.1 ≡ now → LooksAt hint m.0 r m'.0 number → LookHand k m r m' number → r ≢ 0
+      → own ≡ false → seat_state m'.0 table number front (turned m'.1) ≡ record now { view = m'.0; own = own_looked r now.view now.number now.own }
   looked_shown hint n number front r own m m' table now h is t hand ne off =
       let v : View = m.0 in let ready : (mine_of v).ready ≡ false = sym h.own_is ∙ off in let p = hand.takes ne ready in let none_there = none_own false n number front own m h off in
       let third : List (ℕ × Slot C T) = (number, full p.0) ∷ [] in
       let cut : turned m'.1 ≡ h.first ++ h.second ++ third = ap turned p.1 ∙ ap (λ l. l ++ (number, full p.0) ∷ []) none_there.1 in
       let told = told_there p.0 v.name (mine_of v).handed (mine_of m'.0).base (p.2.1 h.post.3) in
       let has : own_in third ≡ record { items = []; capacity = size_of v number; told = not (is_empty (mine_of v).handed) } = λ a. record { items = (p.2.0 a).items; capacity = (p.2.0 a).capacity; told = told a } in
-      let o : own_in third ≡ own_looked r now.view now.number now.own = has ∙ sym (looked_own v r number (own_in (drop front m.1)) ne ready) ∙ ap (λ (s : Standing). own_looked r s.view s.number s.own) is in
+      let o : own_in third ≡ own_looked r now.view now.number now.own = has ∙ sym (looked_own v r number (own_in (drop front m.1)) ne ready) ∙ ap (λ (s : SeatState). own_looked r s.view s.number s.own) is in
       shown_with g k false n number front own m table now h is m'.0 (turned m'.1) third cut ∙ λ a. record now { view = m'.0; own = o a }
 
   -- ---- a hand
@@ -298,14 +298,14 @@ module _ {C T : Type 0} (g : Sketching C) (k : Telling T) where
     third = [];
     hand = hand ∙ sym (append-nil (h.first ++ h.second));
     counted = h.counted;
-    leading = subst (λ d. LeadsBy w g k n d h.first h.second) (ap (λ (q : View). q.duty) (sym t))
+    leading = subst (λ d. DutyHand w g k n d h.first h.second) (ap (λ (q : View). q.duty) (sym t))
         (leads_keeps v w n v.duty h.first h.second (λ _. ap (λ (q : View). q.seen) t) (ap (λ (q : View). q.sizes) t) (ap (λ (q : View). q.numbers) t) (ap (λ (q : View). q.name) t) h.leading);
     own_is = ap (λ (q : Mine). q.ready) (sym mine);
     owned = refl;
   }
 
   -- items are seen in its own slot
-  pub own_there : (heart : Bool) (n number front : ℕ) (own : Bool) (m : Sat C T) (table : TableId) (now : Standing) (h : Holds g k heart n number front own m) → standing_of m.0 table number front m.1 ≡ now → now.own.items ≢ [] → own ≡ true
+  pub own_there : (heart : Bool) (n number front : ℕ) (own : Bool) (m : Sat C T) (table : TableId) (now : SeatState) (h : Holds g k heart n number front own m) → seat_state m.0 table number front m.1 ≡ now → now.own.items ≢ [] → own ≡ true
   own_there heart n number front own m table now h is some_there = ⊎_elim (λ e. e)
       (λ (off : own ≡ false). absurd (some_there (ap (λ (o : Own). o.items) (sym (own_shown g k heart n number front own m table now h is) ∙ ap own_in (none_own heart n number front own m h off).0))))
       (cases_Bool own)
@@ -316,16 +316,16 @@ module _ {C T : Type 0} (g : Sketching C) (k : Telling T) where
       let first = placed_first front m.1 (h.first ++ h.second) number (full t.0) [] t.2 (length-append h.first h.second ∙ h.counted) in
       (t.0, turned ∙ (λ a. (m.0, first a)), ap own_in t.1, t.3, t.4)
 
-  pub hands_at : (hint packed : List ℕ → List Entry → ℕ) (slots id n number front : ℕ) (own : Bool) (m m₁ : Sat C T) (table : TableId) (now : Standing) → (h : Holds g k false n number front own m) → standing_of m.0 table number front m.1 ≡ now → now.own.items ≢ [] → slots ≡ n + 1 → m₁ ≡ (m.0, rotated front m.1)
-      → Allows (Kept hint packed g k) slots id m₁ (number + 1) (λ _. 0) (λ _. handed (step slots (number + 1) 0 0 none) m₁ 0)
+  pub hands_at : (hint packed : List ℕ → List Entry → ℕ) (slots id n number front : ℕ) (own : Bool) (m m₁ : Sat C T) (table : TableId) (now : SeatState) → (h : Holds g k false n number front own m) → seat_state m.0 table number front m.1 ≡ now → now.own.items ≢ [] → slots ≡ n + 1 → m₁ ≡ (m.0, rotated front m.1)
+      → Allows (KeepsRule hint packed g k) slots id m₁ (number + 1) (λ _. 0) (λ _. handed (step slots (number + 1) 0 0 none) m₁ 0)
   hands_at hint packed slots id n number front own m m₁ table now h is some_there size turned =
       let on = own_there false n number front own m table now h is some_there in let t = rotated_own false n number front own m m₁ h on turned in let p : Parcel T = t.0 in
       let items : p.buffer.items ≢ [] = λ e. some_there (ap (λ (o : Own). o.items) (sym (own_shown g k false n number front own m table now h is) ∙ t.2) ∙ e) in
       let has = full_at m.0 number p t.3 items in
-      subst (λ (x : Sat C T). Allows (Kept hint packed g k) slots id x (number + 1) (λ _. 0) (λ _. handed (step slots (number + 1) 0 0 none) x 0)) (sym t.1)
+      subst (λ (x : Sat C T). Allows (KeepsRule hint packed g k) slots id x (number + 1) (λ _. 0) (λ _. handed (step slots (number + 1) 0 0 none) x 0)) (sym t.1)
       (hands hint packed g k slots id n m.0 number p (h.first ++ h.second) size h.live h.post.0 (sym h.own_is ∙ on) t.4 has.3 has.0 has.1 has.2)
 
-  pub handed_after : (n number front : ℕ) (own : Bool) (m m₁ m' : Sat C T) (table : TableId) (now : Standing) → (h : Holds g k false n number front own m) → standing_of m.0 table number front m.1 ≡ now → now.own.items ≢ [] → m₁ ≡ (m.0, rotated front m.1) → handed (step 0 0 0 0 none) m₁ 0 m'
+  pub handed_after : (n number front : ℕ) (own : Bool) (m m₁ m' : Sat C T) (table : TableId) (now : SeatState) → (h : Holds g k false n number front own m) → seat_state m.0 table number front m.1 ≡ now → now.own.items ≢ [] → m₁ ≡ (m.0, rotated front m.1) → handed (step 0 0 0 0 none) m₁ 0 m'
       → HandsAt m.0 m'.0 number now.own.items × (m'.1 ≡ h.first ++ h.second)
   handed_after n number front own m m₁ m' table now h is some_there turned t =
       let on = own_there false n number front own m table now h is some_there in let r = rotated_own false n number front own m m₁ h on turned in let p : Parcel T = r.0 in
@@ -351,7 +351,7 @@ module _ {C T : Type 0} (g : Sketching C) (k : Telling T) where
         third = (number, full p) ∷ [];
         hand = ap turned has ∙ ap (λ l. l ++ (number, full p) ∷ []) none_there.1;
         counted = h.counted;
-        leading = subst (λ d. LeadsBy w g k n d h.first h.second) (ap (λ (q : View). q.duty) (sym at))
+        leading = subst (λ d. DutyHand w g k n d h.first h.second) (ap (λ (q : View). q.duty) (sym at))
             (leads_sizes v w n v.duty h.first h.second (ap (λ (q : View). q.seen) at) (ap (λ (q : View). q.numbers) at) (ap (λ (q : View). q.name) at) (ap length sizes ∙ length-set v.sizes number b)
             (λ i there. ap (λ l. slice_index l i) sizes ∙ get_or-set_other v.sizes number i b 0 (λ e. there (ap (size_of v) e ∙ vacant))) h.leading);
         own_is = ap (λ (q : Mine). q.ready) (sym mine);
@@ -371,8 +371,8 @@ module _ {C T : Type 0} (g : Sketching C) (k : Telling T) where
   pub own_vacant : (heart : Bool) (n number front : ℕ) (own : Bool) (m : Sat C T) → Holds g k heart n number front own m → size_of m.0 number ≡ 0 → own ≡ false
   own_vacant heart n number front own m h vacant = ⊎_elim (λ (on : own ≡ true). absurd ((own_at heart n number front own m h on).4 vacant)) (λ e. e) (cases_Bool own)
 
-  pub admitted_shown : (n number front : ℕ) (own : Bool) (m m' : Sat C T) (table : TableId) (now : Standing) (p : Parcel T) → (h : Holds g k false n number front own m) → standing_of m.0 table number front m.1 ≡ now → size_of m.0 number ≡ 0
-      → m'.1 ≡ (number, full p) ∷ m.1 → p.buffer ≡ contents [] 1 → p.told ≡ None → standing_of m'.0 table number front (turned m'.1) ≡ record now { view = m'.0; own = record { items = []; capacity = 1; told = false } }
+  pub admitted_shown : (n number front : ℕ) (own : Bool) (m m' : Sat C T) (table : TableId) (now : SeatState) (p : Parcel T) → (h : Holds g k false n number front own m) → seat_state m.0 table number front m.1 ≡ now → size_of m.0 number ≡ 0
+      → m'.1 ≡ (number, full p) ∷ m.1 → p.buffer ≡ contents [] 1 → p.told ≡ None → seat_state m'.0 table number front (turned m'.1) ≡ record now { view = m'.0; own = record { items = []; capacity = 1; told = false } }
   admitted_shown n number front own m m' table now p h is vacant has empty told =
       let none_there = none_own false n number front own m h (own_vacant false n number front own m h vacant) in
       shown_with g k false n number front own m table now h is m'.0 (turned m'.1) ((number, full p) ∷ []) (ap turned has ∙ ap (λ l. l ++ (number, full p) ∷ []) none_there.1)

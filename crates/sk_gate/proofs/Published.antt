@@ -9,7 +9,7 @@ use Rattle.sk_machine.specs.declared.views.Post.{Post}
 use Rattle.sk_machine.specs.declared.views.Post.TheVariants.{Guest, Root, Updater}
 use Rattle.sk_machine.specs.declared.views.View.{View}
 use Rattle.sk_machine.proofs.Coarse as event
-use Rattle.sk_gate.specs.Rule.{PostOk}
+use Rattle.sk_gate.specs.Rule.{KnowsPost}
 use Rattle.sk_gate.specs.Moves.{SeesOwn, IsSeen}
 use Rattle.sk_gate.proofs.Merged.{begins_same}
 
@@ -26,16 +26,16 @@ entries_of : (hint : List Entry → ℕ) (n : ℕ) (m : Coarse) (v : View) (list
 entries_of hint n m v list size ok b = all_front (IsEntry (length v.sizes)) list b.0 (subst (All (IsEntry (length v.sizes))) b.1 (subst (λ z. All (IsEntry z) m.published) (sym size) ok.entries))
 
 -- a beginning of it is seen
-pub begun_seen : (hint : List Entry → ℕ) (n : ℕ) (m : Coarse) (owner : ℕ → ℕ) (j : ℕ) (v : View) (list : List Entry) → length v.sizes ≡ n → Meets hint n m → Begins list m.published → PostOk n m owner j v.seen v.sizes v.drained v.post → IsSeen v list
+pub begun_seen : (hint : List Entry → ℕ) (n : ℕ) (m : Coarse) (owner : ℕ → ℕ) (j : ℕ) (v : View) (list : List Entry) → length v.sizes ≡ n → Meets hint n m → Begins list m.published → KnowsPost n m owner j v.seen v.sizes v.drained v.post → IsSeen v list
 begun_seen hint n m owner j v list size ok b t = record { entries = entries_of hint n m v list size ok b; own = own v.post t }
   where
-    own : (p : Post) → PostOk n m owner j v.seen v.sizes v.drained p → SeesOwn list p
+    own : (p : Post) → KnowsPost n m owner j v.seen v.sizes v.drained p → SeesOwn list p
     own Guest t = tt
     own (Root made) t = tt
     own (Updater i mine) t = subst (λ (y : Mine). Begins (entries_by i list) y.handed) (sym t.2)
         (begins_trans _ _ _ (event.entries_by_begins i list m.published b) (event.of_published_begins hint (m.sizes i) m.published m.stage i (m.updaters i) (ok.each i t.0)))
 
-pub published_seen : (hint : List Entry → ℕ) (n : ℕ) (m : Coarse) (owner : ℕ → ℕ) (j : ℕ) (v : View) → length v.sizes ≡ n → Meets hint n m → PostOk n m owner j v.seen v.sizes v.drained v.post → IsSeen v m.published
+pub published_seen : (hint : List Entry → ℕ) (n : ℕ) (m : Coarse) (owner : ℕ → ℕ) (j : ℕ) (v : View) → length v.sizes ≡ n → Meets hint n m → KnowsPost n m owner j v.seen v.sizes v.drained v.post → IsSeen v m.published
 published_seen hint n m owner j v size ok t = begun_seen hint n m owner j v m.published size ok (begins_refl m.published) t
 
 -- what lies between two lists, by which one updater added the same, is by it the same

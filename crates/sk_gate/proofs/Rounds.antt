@@ -25,8 +25,8 @@ use Rattle.sk_machine.specs.declared.views.View.{View}
 use Rattle.sk_machine.proofs.Numbered.{put_here, put_else, each_put}
 use Rattle.sk_machine.proofs.Coarse as event
 use Rattle.sk_gate.specs.Slots.{Slot, full, contents, Sketching, Telling, TellsList}
-use Rattle.sk_gate.specs.Views.{known_of, given_of, size_of, leads, stage_of, left_of, batch_of}
-use Rattle.sk_gate.specs.Rule.{left_home, SlotOk, DutyOk, Has, HasSeen, HasGiven, Kept}
+use Rattle.sk_gate.specs.Views.{known_of, given_of, size_of, leads, stage_in, left_in, batch_of}
+use Rattle.sk_gate.specs.Rule.{left_home, IsSlot, KnowsDuty, Has, HasSeen, HasGiven, KeepsRule}
 use Rattle.sk_gate.specs.Moves.{IsSeen, FindsAt, LeavesAt, PublishesAt, GivesBackAt}
 use Rattle.sk_gate.specs.Plays.{Sat, found, left_it, published, gave_back}
 use Rattle.sk_gate.proofs.Opened.{open_neutral, open_told}
@@ -39,7 +39,7 @@ use Rattle.sk_model.specs.Limits.{most_updaters}
 
 module _ {C T : Type 0} (hint packed : List ℕ → List Entry → ℕ) (g : Sketching C) (k : Telling T) where
   abbrev Rule : State (Slot C T) View → Type 0
-  Rule = Kept hint packed g k
+  Rule = KeepsRule hint packed g k
 
   -- what a find of updater i tells
   abbrev FoundBy : Sat C T → ℕ → Sat C T → ℕ → Type 0
@@ -51,7 +51,7 @@ module _ {C T : Type 0} (hint packed : List ℕ → List Entry → ℕ) (g : Ske
       let m = r.machine in
       let x : ℕ = get_or s.words (i + 1) 0 in
       let o = r.each_seat id v at live in
-      let duty = subst (DutyOk r.n m r.left r.leader id v.seen v.post) leads o.duty_is in
+      let duty = subst (KnowsDuty r.n m r.left r.leader id v.seen v.post) leads o.duty_is in
       let deep' = r.deep in
       let same_n : r.n ≡ n = omega arith in
       let near : i < r.n = omega arith in
@@ -84,13 +84,13 @@ module _ {C T : Type 0} (hint packed : List ℕ → List Entry → ℕ) (g : Ske
             (ap (λ ws. get_or ws 0 0) same-words ∙ r.published_is) (ap (λ ws. get_or ws (r.n + 1) 0) same-words ∙ r.turn_is) (λ j l. ap (λ ws. get_or ws (j + 1) 0) same-words ∙ r.words_are j l)
             meets' r.vacant
             (λ j l. dite (ℕ_discrete j i)
-            (λ e. subst (λ a. SlotOk k r.name (m.sizes a) (Busy i u.waiting) false a (m.updaters a) (get_elem? homes' a)) (sym e) (record {
+            (λ e. subst (λ a. IsSlot k r.name (m.sizes a) (Busy i u.waiting) false a (m.updaters a) (get_elem? homes' a)) (sym e) (record {
               ready = λ _. set_here s.homes i none (omega arith);
               resting = λ ne. absurd (ne z);
               waiting = λ _ off. absurd (off refl);
               led = λ _. set_here s.homes i none (omega arith);
             }))
-            (λ ne. subst (SlotOk k r.name (m.sizes j) (Busy i u.waiting) false j (m.updaters j)) (sym (set_else s.homes i j none ne)) (let q = r.each_slot j l in record {
+            (λ ne. subst (IsSlot k r.name (m.sizes j) (Busy i u.waiting) false j (m.updaters j)) (sym (set_else s.homes i j none ne)) (let q = r.each_slot j l in record {
               ready = q.ready;
               resting = q.resting;
               waiting = λ a _. q.waiting a (λ t. subst (λ y. At y j) idle t);
@@ -142,7 +142,7 @@ module _ {C T : Type 0} (hint packed : List ℕ → List Entry → ℕ) (g : Ske
       let x : ℕ = get_or s.words (i + 1) 0 in
       let o = r.each_seat id v at live in
       let batch : List ℕ = batch_of v in
-      let duty = subst (DutyOk r.n m r.left r.leader id v.seen v.post) leads o.duty_is in
+      let duty = subst (KnowsDuty r.n m r.left r.leader id v.seen v.post) leads o.duty_is in
       let deep' = r.deep in
       let near : i < r.n = omega arith in
       let u = m.updaters i in
@@ -163,13 +163,13 @@ module _ {C T : Type 0} (hint packed : List ℕ → List Entry → ℕ) (g : Ske
             (ap (λ ws. get_or ws 0 0) same-words ∙ r.published_is) (ap (λ ws. get_or ws (r.n + 1) 0) same-words ∙ r.turn_is) (λ j l. ap (λ ws. get_or ws (j + 1) 0) same-words ∙ r.words_are j l)
             r.meets r.vacant
             (λ j l. dite (ℕ_discrete j i)
-            (λ e. subst (λ a. SlotOk k r.name (m.sizes a) m.stage true a (m.updaters a) (get_elem? homes' a)) (sym e) (record {
+            (λ e. subst (λ a. IsSlot k r.name (m.sizes a) m.stage true a (m.updaters a) (get_elem? homes' a)) (sym e) (record {
               ready = λ on. absurd (true≢false (sym on ∙ ok.closed_ready z));
               resting = λ ne. absurd (ne z);
               waiting = λ _ off. absurd (off (subst (λ y. At y i) duty.2 refl));
               led = λ _. laid;
             }))
-            (λ ne. subst (SlotOk k r.name (m.sizes j) m.stage true j (m.updaters j)) (sym (set_else s.homes i j (some None) ne)) (let q = r.each_slot j l in record {
+            (λ ne. subst (IsSlot k r.name (m.sizes j) m.stage true j (m.updaters j)) (sym (set_else s.homes i j (some None) ne)) (let q = r.each_slot j l in record {
               ready = q.ready;
               resting = q.resting;
               waiting = q.waiting;
@@ -210,7 +210,7 @@ module _ {C T : Type 0} (hint packed : List ℕ → List Entry → ℕ) (g : Ske
       let m = r.machine in
       let o = r.each_seat id v at live in
       let batch : List ℕ = batch_of v in
-      let duty = subst (DutyOk r.n m r.left r.leader id v.seen v.post) leads o.duty_is in
+      let duty = subst (KnowsDuty r.n m r.left r.leader id v.seen v.post) leads o.duty_is in
       let deep' = r.deep in
       let wide = r.wide in
       let h : List Entry = m.published in
@@ -230,13 +230,13 @@ module _ {C T : Type 0} (hint packed : List ℕ → List Entry → ℕ) (g : Ske
       (get_or-set_other s.words 0 (r.n + 1) x 0 (λ e. omega arith) ∙ r.turn_is) (λ j l. get_or-set_other s.words 0 (j + 1) x 0 (λ e. omega arith) ∙ r.words_are j l)
       (event.publishes (hint r.numbers) r.n m i batch r.meets turns busy) r.vacant
       (λ j l. let q = r.each_slot j l in dite (ℕ_discrete j i)
-      (λ e. subst (λ a. SlotOk k r.name (m.sizes a) (Published i) false a (m.updaters a) (get_elem? homes' a)) (sym e) (let z = event.closed_at (hint r.numbers) (m.sizes i) h m.stage i (m.updaters i) (r.meets.each i near) (subst (λ t. At t i) duty.2 refl) in record {
+      (λ e. subst (λ a. IsSlot k r.name (m.sizes a) (Published i) false a (m.updaters a) (get_elem? homes' a)) (sym e) (let z = event.closed_at (hint r.numbers) (m.sizes i) h m.stage i (m.updaters i) (r.meets.each i near) (subst (λ t. At t i) duty.2 refl) in record {
         ready = λ _. out;
         resting = λ ne. absurd (ne z);
         waiting = λ _ off. absurd (off refl);
         led = λ _. out;
       }))
-      (λ ne. subst (SlotOk k r.name (m.sizes j) (Published i) false j (m.updaters j)) (sym (others j ne)) (record {
+      (λ ne. subst (IsSlot k r.name (m.sizes j) (Published i) false j (m.updaters j)) (sym (others j ne)) (record {
         ready = q.ready;
         resting = q.resting;
         waiting = λ a off. q.waiting a (λ t. off (subst (λ y. At y j) busy t));
@@ -257,46 +257,46 @@ module _ {C T : Type 0} (hint packed : List ℕ → List Entry → ℕ) (g : Ske
         drained_is = λ j e. drained_same r.n m m' r.owner id (known_of v j) v.picked j (record { mine = refl; word = λ a. a }) (o.drained_is j e);
       })
 
-  pub publishes : (slots id n i x : ℕ) (me : Sat C T) → slots ≡ n + 1 → me.0.live ≡ true → me.0.duty ≡ Leads (Busy i (batch_of me.0)) (left_of me.0.duty) → x ≡ packed me.0.numbers (me.0.seen ++ tagged i (batch_of me.0))
+  pub publishes : (slots id n i x : ℕ) (me : Sat C T) → slots ≡ n + 1 → me.0.live ≡ true → me.0.duty ≡ Leads (Busy i (batch_of me.0)) (left_in me.0.duty) → x ≡ packed me.0.numbers (me.0.seen ++ tagged i (batch_of me.0))
       → Allows Rule slots id me 0 (λ _. x) (λ _. published (step slots 0 x 0 none) me x)
   publishes slots id n i x me size live leads is s r deep at _ =
       let v : View = me.0 in
       let m = r.machine in
       let o = r.each_seat id v at live in
-      let duty = subst (DutyOk r.n m r.left r.leader id v.seen v.post) leads o.duty_is in
+      let duty = subst (KnowsDuty r.n m r.left r.leader id v.seen v.post) leads o.duty_is in
       let at_i : At m.stage i = subst (λ t. At t i) duty.2 refl in
       let near : i < r.n = r.meets.stage_at i at_i in
       let deep' = r.deep in
       let w : View = record v { seen = v.seen ++ tagged i (batch_of v); steps = v.steps ++ Publish x (length (batch_of v)) ∷ []; duty = Leads (Published i) false } in
-      let lies : get_elem? s.homes i ≡ some (left_home (left_of v.duty)) = (r.each_slot i near).led at_i ∙ ap (λ b. some (left_home b)) (sym duty.3) in
-      let place : (j : ℕ) (b : Bool) → v.duty ≡ Leads (Busy j (batch_of v)) b → i ≡ j = λ j b e. ap (λ d. place_in (stage_of d)) (sym leads ∙ e) in
+      let lies : get_elem? s.homes i ≡ some (left_home (left_in v.duty)) = (r.each_slot i near).led at_i ∙ ap (λ b. some (left_home b)) (sym duty.3) in
+      let place : (j : ℕ) (b : Bool) → v.duty ≡ Leads (Busy j (batch_of v)) b → i ≡ j = λ j b e. ap (λ d. place_in (stage_in d)) (sym leads ∙ e) in
       let turns : m.turn ≢ 0 = λ e. let t = duty.1 in omega arith in
       let next = published_seen (hint r.numbers) r.n (after_publish i (batch_of v) m) r.owner id v o.sizes.sized (event.publishes (hint r.numbers) r.n m i (batch_of v) r.meets turns (sym duty.2)) o.post_is in
       let seen : IsSeen v w.seen = subst (IsSeen v) (ap (λ l. l ++ tagged i (batch_of v)) (sym duty.4)) next in
       ⊎_elim
-      (λ (on : left_of v.duty ≡ true). let home : get_elem? s.homes i ≡ some (some None) = lies ∙ ap (λ b. some (left_home b)) on in (
+      (λ (on : left_in v.duty ≡ true). let home : get_elem? s.homes i ≡ some (some None) = lies ∙ ap (λ b. some (left_home b)) on in (
         w,
         takes i None,
         home,
-        publishes_by slots id n i x me (left_of v.duty) (takes i None) size live leads is s r deep at home (length-set s.homes i none) (set_here s.homes i none (omega arith)) (λ j ne. set_else s.homes i j none ne),
+        publishes_by slots id n i x me (left_in v.duty) (takes i None) size live leads is s r deep at home (length-set s.homes i none) (set_here s.homes i none (omega arith)) (λ j ne. set_else s.homes i j none ne),
         λ j. (
-          (λ e. absurd (true≢false (sym on ∙ ap left_of e))),
+          (λ e. absurd (true≢false (sym on ∙ ap left_in e))),
           (λ e. subst (λ a. PublishesAt v x w a × ((i, None) ∷ me.1 ≡ (a, None) ∷ me.1)) (place j true e) (refl, refl)),
           seen,
         ),
       ))
-      (λ (off : left_of v.duty ≡ false). let home : get_elem? s.homes i ≡ some none = lies ∙ ap (λ b. some (left_home b)) off in (
+      (λ (off : left_in v.duty ≡ false). let home : get_elem? s.homes i ≡ some none = lies ∙ ap (λ b. some (left_home b)) off in (
         w,
         keeps,
         tt,
-        publishes_by slots id n i x me (left_of v.duty) keeps size live leads is s r deep at tt refl home (λ j ne. refl),
+        publishes_by slots id n i x me (left_in v.duty) keeps size live leads is s r deep at tt refl home (λ j ne. refl),
         λ j. (
           (λ e. subst (λ a. PublishesAt v x w a × (me.1 ≡ me.1)) (place j false e) (refl, refl)),
-          (λ e. absurd (true≢false (sym (ap left_of e) ∙ off))),
+          (λ e. absurd (true≢false (sym (ap left_in e) ∙ off))),
           seen,
         ),
       ))
-      (cases_Bool (left_of v.duty))
+      (cases_Bool (left_in v.duty))
 
   pub gives_back : (slots id n i x : ℕ) (v : View) (p : Parcel T) (t : T) (more : List (ℕ × Slot C T)) → slots ≡ n + 1 → i < n → v.live ≡ true → v.duty ≡ Leads (Published i) false → size_of v i ≢ 0 → x ≡ hint v.numbers v.seen → x ≢ 0
       → p.buffer ≡ contents [] (size_of v i) → p.told ≡ Some t → TellsList k v.name t v.seen
@@ -304,7 +304,7 @@ module _ {C T : Type 0} (hint packed : List ℕ → List Entry → ℕ) (g : Ske
   gives_back slots id n i x v p t more size inside live leads there is open_now empty told tells s r deep at _ =
       let m = r.machine in
       let o = r.each_seat id v at live in
-      let duty = subst (DutyOk r.n m r.left r.leader id v.seen v.post) leads o.duty_is in
+      let duty = subst (KnowsDuty r.n m r.left r.leader id v.seen v.post) leads o.duty_is in
       let deep' = r.deep in
       let wide = r.wide in
       let near : i < r.n = omega arith in
@@ -324,7 +324,7 @@ module _ {C T : Type 0} (hint packed : List ℕ → List Entry → ℕ) (g : Ske
       let wide_i : i < length v.given = let e = o.lists.given_sized in omega arith in
       let w : View = record v { steps = v.steps ++ GiveBack i x ∷ []; duty = Leads Idle false; given = set v.given i v.seen } in
       let given_here : given_of w i ≡ h = get_or-set_same v.given i v.seen [] wide_i ∙ duty.4 in
-      let place : (j : ℕ) → v.duty ≡ Leads (Published j) false → i ≡ j = λ j e. ap (λ d. place_in (stage_of d)) (sym leads ∙ e) in
+      let place : (j : ℕ) → v.duty ≡ Leads (Published j) false → i ≡ j = λ j e. ap (λ d. place_in (stage_in d)) (sym leads ∙ e) in
       let same_mine : (j : ℕ) → (m.updaters j).mine ≡ (m'.updaters j).mine = λ j. each_put (λ a (c : CoarseUpdater). (m.updaters a).mine ≡ c.mine) m.updaters i u' j refl (λ _. refl) in
       let same : (j : ℕ) → SameUpdater (m.updaters j) (m'.updaters j) = λ j. each_put (λ a c. SameUpdater (m.updaters a) c) m.updaters i u' j (record { mine = refl; word = λ _. open_now }) (λ _. record { mine = refl; word = λ e. e }) in (
         w,
@@ -336,7 +336,7 @@ module _ {C T : Type 0} (hint packed : List ℕ → List Entry → ℕ) (g : Ske
             (λ j l. each_put (λ a (c : CoarseUpdater). get_or (set s.words (i + 1) x) (a + 1) 0 ≡ c.word) m.updaters i u' j (get_or-set_same s.words (i + 1) x 0 (omega arith)) (λ ne. get_or-set_other s.words (i + 1) (j + 1) x 0 (λ e. ne (omega arith)) ∙ r.words_are j l))
             (event.gives_back (hint r.numbers) r.n m i x r.meets stage now open_now)
             (λ j l. each_put (λ a (c : CoarseUpdater). m.sizes a ≡ 0 → c.given ≡ []) m.updaters i u' j (λ e. absurd (some-size e)) (λ _. r.vacant j l))
-            (λ j l. each_put (λ a (c : CoarseUpdater). SlotOk k r.name (m.sizes a) Idle false a c (get_elem? homes' a)) m.updaters i u' j
+            (λ j l. each_put (λ a (c : CoarseUpdater). IsSlot k r.name (m.sizes a) Idle false a c (get_elem? homes' a)) m.updaters i u' j
             (record {
               ready = λ on. absurd (true≢false (sym on ∙ ok.closed_ready z));
               resting = λ _ _. (
@@ -354,7 +354,7 @@ module _ {C T : Type 0} (hint packed : List ℕ → List Entry → ℕ) (g : Ske
               waiting = λ y. absurd (open_now y);
               led = λ y. absurd y;
             })
-            (λ ne. let q = r.each_slot j l in subst (SlotOk k r.name (m.sizes j) Idle false j (m.updaters j)) (sym (set_else s.homes i j (some (full p)) ne)) (record {
+            (λ ne. let q = r.each_slot j l in subst (IsSlot k r.name (m.sizes j) Idle false j (m.updaters j)) (sym (set_else s.homes i j (some (full p)) ne)) (record {
               ready = q.ready;
               resting = q.resting;
               waiting = λ a _. q.waiting a (λ y. ne (sym (subst (λ c. At c j) stage y)));

@@ -24,8 +24,8 @@ use Rattle.sk_machine.proofs.Numbered.{put_here, put_else, each_put}
 use Rattle.sk_machine.proofs.Coarse as event
 use Rattle.sk_gate.specs.declared.load.Trunk.{Trunk}
 use Rattle.sk_gate.specs.Slots.{Slot, full, trunk, room, Sketching, Telling}
-use Rattle.sk_gate.specs.Views.{known_of, size_of, mine_of, leads, merged, sizes_of, blanks, first_view, made_in, after_making, new_updater, after_split, copy_of, told_on, only_at, sizes_on, known_with, drained_with, picked_with, seen_with, after_join, spent, SpeaksBy, SpeaksFor}
-use Rattle.sk_gate.specs.Rule.{PostOk, DutyOk, DrainedOk, Knows, Has, HasSeen, IsLed, HasGiven, Kept}
+use Rattle.sk_gate.specs.Views.{known_of, size_of, mine_of, leads, merged, admitted_sizes, blanks, first_view, made_in, after_making, new_updater, after_split, copy_of, told_on, only_at, sizes_on, known_with, drained_with, picked_with, seen_with, after_join, spent, SpeaksBy, SpeaksFor}
+use Rattle.sk_gate.specs.Rule.{KnowsPost, KnowsDuty, KnowsTakenIn, Knows, Has, HasSeen, IsLed, HasGiven, KeepsRule}
 use Rattle.sk_gate.specs.Plays.{Sat}
 use Rattle.sk_gate.specs.Hands.{Holds}
 use Rattle.sk_gate.proofs.Own.{same_holds}
@@ -103,7 +103,7 @@ owned_else n numbers name m left owner leader i had new j u was apart o = record
     still : (a : ℕ) → owner a ≡ j → put owner i new a ≡ j
     still a own = put_else owner i new a (λ e. apart (sym own ∙ ap owner e ∙ was)) ∙ own
 
-    post : (p : Post) → PostOk n m owner j u.seen u.sizes u.drained p → PostOk n m (put owner i new) j u.seen u.sizes u.drained p
+    post : (p : Post) → KnowsPost n m owner j u.seen u.sizes u.drained p → KnowsPost n m (put owner i new) j u.seen u.sizes u.drained p
     post Guest t = tt
     post (Root made) t = λ a le lt. let y = t a le lt in (still a y.0, y.1, y.2)
     post (Updater a mine) t = (t.0, still a t.1, t.2, t.3, t.4, t.5)
@@ -120,7 +120,7 @@ blank_set n a i xs some_there = ⊎_elim
     ends (x ∷ l) b = absurd (let e = begins_length (x ∷ l) [] b in omega arith)
 
 module _ (n : ℕ) (m : Coarse) (owner : ℕ → ℕ) (j : ℕ) (seen : List Entry) (sizes drained : List ℕ) (size : ℕ) (known : List (List ℕ)) where
-  told_known : (p : Post) → PostOk n m owner j seen sizes drained p → ((i : ℕ) → Begins (get_or known i []) (m.updaters i).mine.handed) → (i : ℕ) → Begins (get_or (told_on size known p) i []) (m.updaters i).mine.handed
+  told_known : (p : Post) → KnowsPost n m owner j seen sizes drained p → ((i : ℕ) → Begins (get_or known i []) (m.updaters i).mine.handed) → (i : ℕ) → Begins (get_or (told_on size known p) i []) (m.updaters i).mine.handed
   told_known Guest t h i = h i
   told_known (Root made) t h i = h i
   told_known (Updater a mine) t h i = ⊎_elim
@@ -129,7 +129,7 @@ module _ (n : ℕ) (m : Coarse) (owner : ℕ → ℕ) (j : ℕ) (seen : List Ent
       (λ (ne : i ≢ a). subst (λ l. Begins l (m.updaters i).mine.handed) (sym (get_or-set_other (blanks size) a i mine.handed [] ne ∙ blank_at size i)) (begins_nil (m.updaters i).mine.handed))
       (cases_eq i a)
 
-  told_sized : (hint : List Entry → ℕ) → Meets hint n m → (p : Post) → PostOk n m owner j seen sizes drained p → ((i : ℕ) → get_or known i [] ≢ [] → get_or sizes i 0 ≢ 0) → (i : ℕ) → get_or (told_on size known p) i [] ≢ [] → get_or sizes i 0 ≢ 0
+  told_sized : (hint : List Entry → ℕ) → Meets hint n m → (p : Post) → KnowsPost n m owner j seen sizes drained p → ((i : ℕ) → get_or known i [] ≢ [] → get_or sizes i 0 ≢ 0) → (i : ℕ) → get_or (told_on size known p) i [] ≢ [] → get_or sizes i 0 ≢ 0
   told_sized hint ok Guest t h i = h i
   told_sized hint ok (Root made) t h i = h i
   told_sized hint ok (Updater a mine) t h i = λ is z. let x = blank_set size a i mine.handed is in
@@ -151,7 +151,7 @@ told_length n known (Updater a mine) e = length-set (blanks n) a mine.handed ∙
 
 -- a seat has seen more, and knows more sizes
 post_joined : (n : ℕ) (m : Coarse) (owner : ℕ → ℕ) (j : ℕ) (seen seen' : List Entry) (sizes sizes' drained : List ℕ) (p : Post) → Begins seen seen' → ((i : ℕ) → get_or sizes i 0 ≡ m.sizes i → get_or sizes' i 0 ≡ m.sizes i)
-    → PostOk n m owner j seen sizes drained p → PostOk n m owner j seen' sizes' drained p
+    → KnowsPost n m owner j seen sizes drained p → KnowsPost n m owner j seen' sizes' drained p
 post_joined n m owner j seen seen' sizes sizes' drained Guest b same t = tt
 post_joined n m owner j seen seen' sizes sizes' drained (Root made) b same t = λ i le lt. let y = t i le lt in (y.0, y.1, same i y.2)
 post_joined n m owner j seen seen' sizes sizes' drained (Updater i mine) b same t = (t.0, t.1, t.2, begins_trans _ _ _ t.3 b, same i t.4, t.5)
@@ -172,11 +172,11 @@ record SeenBoth (h seen more seen' : List Entry) : Type 0 where
   first : seen ≡ h → seen' ≡ h
   second : more ≡ h → seen' ≡ h
 
-seen_joined : (n : ℕ) (m : Coarse) (left : Bool) (leader j : ℕ) (seen more : List Entry) (post : Post) (d : Duty) → Begins seen m.published → Begins more m.published → DutyOk n m left leader j seen post d → SeenBoth m.published seen more (seen_with seen more d)
+seen_joined : (n : ℕ) (m : Coarse) (left : Bool) (leader j : ℕ) (seen more : List Entry) (post : Post) (d : Duty) → Begins seen m.published → Begins more m.published → KnowsDuty n m left leader j seen post d → SeenBoth m.published seen more (seen_with seen more d)
 seen_joined n m left leader j seen more post Free a b t = record { within = longer_either seen more (λ l. Begins l m.published) a b; grows = longer_left seen more m.published a b; first = λ e. whole_first seen more m.published e b; second = λ e. whole_second seen more m.published e a }
 seen_joined n m left leader j seen more post (Leads stage its) a b t = record { within = a; grows = begins_refl seen; first = λ e. e; second = λ _. t.4 }
 
-duty_joined : (n : ℕ) (m : Coarse) (left : Bool) (leader j : ℕ) (seen more : List Entry) (post : Post) (d : Duty) → DutyOk n m left leader j seen post d → DutyOk n m left leader j (seen_with seen more d) post d
+duty_joined : (n : ℕ) (m : Coarse) (left : Bool) (leader j : ℕ) (seen more : List Entry) (post : Post) (d : Duty) → KnowsDuty n m left leader j seen post d → KnowsDuty n m left leader j (seen_with seen more d) post d
 duty_joined n m left leader j seen more post Free t = tt
 duty_joined n m left leader j seen more post (Leads stage its) t = t
 
@@ -197,12 +197,12 @@ picked_still picked i a false d = d
 
 -- ---- sizes at the start
 
-pub sizes_of_length : {T : Type 0} (admitted : ℕ) (ps : List (Parcel T)) → length (sizes_of admitted ps) ≡ length ps
+pub sizes_of_length : {T : Type 0} (admitted : ℕ) (ps : List (Parcel T)) → length (admitted_sizes admitted ps) ≡ length ps
 sizes_of_length admitted [] = refl
 sizes_of_length zero (p ∷ ps) = ap suc (sizes_of_length zero ps)
 sizes_of_length (suc admitted) (p ∷ ps) = ap suc (sizes_of_length admitted ps)
 
-room_at : {T : Type 0} (admitted : ℕ) (ps : List (Parcel T)) (i : ℕ) (p : Parcel T) → get_elem? ps i ≡ some p → 1 ≤ p.buffer.capacity → (admitted ≤ i → p.buffer.capacity ≡ 1) → p.buffer.capacity ≡ room (get_or (sizes_of admitted ps) i 0)
+room_at : {T : Type 0} (admitted : ℕ) (ps : List (Parcel T)) (i : ℕ) (p : Parcel T) → get_elem? ps i ≡ some p → 1 ≤ p.buffer.capacity → (admitted ≤ i → p.buffer.capacity ≡ 1) → p.buffer.capacity ≡ room (get_or (admitted_sizes admitted ps) i 0)
 room_at admitted [] i p e least vacant = absurd (some-ne-none p (sym e))
 room_at zero (q ∷ ps) zero p e least vacant = vacant (omega arith)
 room_at zero (q ∷ ps) (suc i) p e least vacant = room_at zero ps i p e least (λ _. vacant (omega arith))
@@ -212,15 +212,15 @@ room_at (suc admitted) (q ∷ ps) (suc i) p e least vacant = room_at admitted ps
 
 module _ {C T : Type 0} (hint packed : List ℕ → List Entry → ℕ) (g : Sketching C) (k : Telling T) where
   abbrev Rule : State (Slot C T) View → Type 0
-  Rule = Kept hint packed g k
+  Rule = KeepsRule hint packed g k
 
   pub starts : (words : List ℕ) (parcels : List (Parcel T)) (admitted : ℕ) (t : Trunk C T) → length words ≡ length parcels + 2 → get_or words 0 0 ≡ packed (g.numbers t.global) [] → get_or words (length parcels + 1) 0 ≡ 0
       → hint (g.numbers t.global) [] ≢ 0 → ((i : ℕ) → i < length parcels → get_or words (i + 1) 0 ≡ hint (g.numbers t.global) [])
       → ((i : ℕ) (p : Parcel T) → get_elem? parcels i ≡ some p → (p.buffer.items ≡ []) × (p.told ≡ None) × (1 ≤ p.buffer.capacity) × (admitted ≤ i → p.buffer.capacity ≡ 1))
       → g.is_of t.global [] → t.held ≡ None
-      → Rule (opening words (Rattle.std.specs.Prelude.map (λ p. full p) parcels ++ trunk t ∷ []) (first_view (sizes_of admitted parcels) (g.numbers t.global) (g.name t.global)))
+      → Rule (opening words (Rattle.std.specs.Prelude.map (λ p. full p) parcels ++ trunk t ∷ []) (first_view (admitted_sizes admitted parcels) (g.numbers t.global) (g.name t.global)))
   starts words parcels count t long first turn positive hints empty fresh nothing =
-      let numbers = g.numbers t.global in let name = g.name t.global in let sizes : List ℕ = sizes_of count parcels in
+      let numbers = g.numbers t.global in let name = g.name t.global in let sizes : List ℕ = admitted_sizes count parcels in
       let m : Coarse = coarse_start (hint numbers) (λ i. get_or sizes i 0) 0 in let v : View = first_view sizes numbers name in
       let f : Parcel T → Slot C T = λ p. full p in let last : Slot C T = trunk t in
       let many : length (map f parcels) ≡ length parcels = length-map parcels f in
@@ -330,7 +330,7 @@ module _ {C T : Type 0} (hint packed : List ℕ → List Entry → ℕ) (g : Ske
   makes id n v made live is free nothing size inside s r at =
       let m = r.machine in let h = m.published in let left : View = after_making v in let right : View = new_updater v in let o = r.each_seat id v at live in
       let number : made_in v.post ≡ made = ap made_in is in let more : made < r.n = omega (arith, o.sizes.sized) in let last : ℕ = length s.views in let owner' : ℕ → ℕ = put r.owner made last in
-      let own = subst (PostOk r.n m r.owner id v.seen v.sizes v.drained) is o.post_is in let first = own made (omega arith) more in
+      let own = subst (KnowsPost r.n m r.owner id v.seen v.sizes v.drained) is o.post_is in let first = own made (omega arith) more in
       let none : (i : ℕ) → Contains v.drained i → ⊥ = λ i d. let e = ap length nothing in omega (arith, d.1) in
       reviewed s r (set s.views id left ++ right ∷ []) owner' r.seer r.giver
       (has_split IsLed IsLed s.views id r.leader v left right at (λ p. p) (λ u p. p))
@@ -346,7 +346,7 @@ module _ {C T : Type 0} (hint packed : List ℕ → List Entry → ℕ) (g : Ske
         sizes = o.sizes;
         lists = o.lists;
         post_is = λ i le lt. let b : made < i = subst (λ z. z < i) number le in let y = own i (omega arith) lt in (put_else r.owner made last i (λ e. omega arith) ∙ y.0, y.1, y.2);
-        duty_is = subst (DutyOk r.n m r.left r.leader id v.seen left.post) (sym free) tt;
+        duty_is = subst (KnowsDuty r.n m r.left r.leader id v.seen left.post) (sym free) tt;
         open_is = tt;
         drained_is = λ i d. absurd (none i d);
       }) (record {
@@ -364,7 +364,7 @@ module _ {C T : Type 0} (hint packed : List ℕ → List Entry → ℕ) (g : Ske
           known_is = λ i. subst (λ l. Begins l (m.updaters i).mine.handed) (sym (blank_at (length v.sizes) i)) (begins_nil (m.updaters i).mine.handed);
           given_is = λ i. subst (λ l. Begins l (m.updaters i).given) (sym (blank_at (length v.sizes) i)) (begins_nil (m.updaters i).given);
         };
-        post_is = subst (λ z. PostOk r.n m owner' last v.seen v.sizes [] (Updater z blank_mine)) (sym number) (more, put_here r.owner made last, first.1, begins_nil v.seen, first.2, refl);
+        post_is = subst (λ z. KnowsPost r.n m owner' last v.seen v.sizes [] (Updater z blank_mine)) (sym number) (more, put_here r.owner made last, first.1, begins_nil v.seen, first.2, refl);
         duty_is = tt;
         open_is = λ _ z. never_handed (hint r.numbers) m made (r.meets.each made more) (ap (λ (y : Mine). y.handed) (sym first.1)) (subst (λ j. (m.updaters j).word ≡ 0) number z);
         drained_is = λ i d. absurd (omega (arith, d.1));
@@ -412,8 +412,8 @@ module _ {C T : Type 0} (hint packed : List ℕ → List Entry → ℕ) (g : Ske
   joined : (id : ℕ) (v : View) (other : ℕ) (w : View) (s : State (Slot C T) View) (r : Rule s) (owner' : ℕ → ℕ) → v.live ≡ true → w.live ≡ true → w.duty ≡ Free → other ≢ id → get_elem? s.views id ≡ some v → get_elem? s.views other ≡ some w
       → ((i : ℕ) → i < r.n → Has (set (set s.views id (after_join v w)) other spent) (owner' i) (SpeaksFor i))
       → length (after_join v w).known ≡ r.n → ((i : ℕ) → Begins (known_of (after_join v w) i) (r.machine.updaters i).mine.handed) → ((i : ℕ) → known_of (after_join v w) i ≢ [] → size_of (after_join v w) i ≢ 0)
-      → (((i : ℕ) → size_of v i ≡ r.machine.sizes i → size_of (after_join v w) i ≡ r.machine.sizes i) → Begins v.seen (after_join v w).seen → PostOk r.n r.machine owner' id (after_join v w).seen (after_join v w).sizes (after_join v w).drained v.post)
-      → ((i : ℕ) → Contains (after_join v w).drained i → DrainedOk r.n r.machine owner' id (known_of (after_join v w) i) (after_join v w).picked i)
+      → (((i : ℕ) → size_of v i ≡ r.machine.sizes i → size_of (after_join v w) i ≡ r.machine.sizes i) → Begins v.seen (after_join v w).seen → KnowsPost r.n r.machine owner' id (after_join v w).seen (after_join v w).sizes (after_join v w).drained v.post)
+      → ((i : ℕ) → Contains (after_join v w).drained i → KnowsTakenIn r.n r.machine owner' id (known_of (after_join v w) i) (after_join v w).picked i)
       → ((j : ℕ) (u : View) → j ≢ id → j ≢ other → get_elem? s.views j ≡ some u → u.live ≡ true → Knows r.n r.numbers r.name r.machine r.left owner' r.leader j u)
       → Rule record { words = s.words; homes = s.homes; views = set (set s.views id (after_join v w)) other spent }
   joined id v other w s r owner' live live' free apart at here speaks long known sized post drained others =
@@ -463,7 +463,7 @@ module _ {C T : Type 0} (hint packed : List ℕ → List Entry → ℕ) (g : Ske
       (λ i. subst (λ ks. Begins (get_or ks i []) (m.updaters i).mine.handed) (sym known) (merged_either (λ l. Begins l (m.updaters i).mine.handed) v.known w.known i (o.lists.known_is i) (q.lists.known_is i)))
       (λ i. subst (λ ks. get_or ks i [] ≢ [] → size_of v' i ≢ 0) (sym known) (merged_either (λ l. l ≢ [] → size_of v' i ≢ 0) v.known w.known i
       (λ ne. size_first v.sizes w.sizes i (o.sizes.known_with_size i ne)) (λ ne. size_second v.sizes w.sizes i (q.sizes.known_with_size i ne))))
-      (λ same more. subst (λ d. PostOk r.n m r.owner id v'.seen v'.sizes d v.post) (sym drained) (post_joined r.n m r.owner id v.seen v'.seen v.sizes v'.sizes v.drained v.post more same o.post_is))
+      (λ same more. subst (λ d. KnowsPost r.n m r.owner id v'.seen v'.sizes d v.post) (sym drained) (post_joined r.n m r.owner id v.seen v'.seen v.sizes v'.sizes v.drained v.post more same o.post_is))
       (λ i d. let y = o.drained_is i (subst (λ l. Contains l i) drained d) in record {
         within = y.within;
         own = y.own;
@@ -478,7 +478,7 @@ module _ {C T : Type 0} (hint packed : List ℕ → List Entry → ℕ) (g : Ske
   joins_updater id n v other i w live live' size heart is rest free s r at apart there =
       let v' : View = after_join v w in let m = r.machine in let here : get_elem? s.views other ≡ some w = sym (set_else s.views id other v' apart) ∙ there in
       let o = r.each_seat id v at live in let q = r.each_seat other w here live' in let mine : Mine = mine_of w in let owner' : ℕ → ℕ = put r.owner i id in
-      let p = subst (PostOk r.n m r.owner other w.seen w.sizes w.drained) is q.post_is in let ok = r.meets.each i p.0 in
+      let p = subst (KnowsPost r.n m r.owner other w.seen w.sizes w.drained) is q.post_is in let ok = r.meets.each i p.0 in
       let known : v'.known ≡ set v.known i mine.handed = ap (known_with v.known w.known) is in let drained : v'.drained ≡ v.drained ++ i ∷ [] = ap (drained_with v.drained) is in
       let picked : v'.picked ≡ (if mine.picked then v.picked ++ i ∷ [] else v.picked) = ap (picked_with v.picked) is in
       let handed : mine.handed ≡ (m.updaters i).mine.handed = ap (λ (x : Mine). x.handed) p.2 in let inside : i < length v.known = omega (arith, o.lists.known_sized, p.0) in
@@ -493,9 +493,9 @@ module _ {C T : Type 0} (hint packed : List ℕ → List Entry → ℕ) (g : Ske
       (λ e. subst (λ z. Begins mine.handed (m.updaters z).mine.handed) (sym e) (subst (Begins mine.handed) handed (begins_refl mine.handed))) (λ _. o.lists.known_is a)))
       (λ a. subst (λ ks. get_or ks a [] ≢ [] → size_of v' a ≢ 0) (sym known) (known_at v.known i mine.handed a (λ l. l ≢ [] → size_of v' a ≢ 0) inside
       (λ e ne. size_second v.sizes w.sizes a (λ z. ne (handed ∙ (ok.vacant (sym p.4 ∙ ap (size_of w) (sym e) ∙ z)).0))) (λ _ ne. size_first v.sizes w.sizes a (o.sizes.known_with_size a ne))))
-      (λ same more. subst (PostOk r.n m owner' id v'.seen v'.sizes v'.drained) (sym heart) (λ a le lt. absurd (omega (arith, o.sizes.sized, size, le, lt))))
+      (λ same more. subst (KnowsPost r.n m owner' id v'.seen v'.sizes v'.drained) (sym heart) (λ a le lt. absurd (omega (arith, o.sizes.sized, size, le, lt))))
       (λ a d. ⊎_elim
-      (λ (e : a ≡ i). subst (λ z. DrainedOk r.n m owner' id (known_of v' z) v'.picked z) (sym e) (record {
+      (λ (e : a ≡ i). subst (λ z. KnowsTakenIn r.n m owner' id (known_of v' z) v'.picked z) (sym e) (record {
         within = p.0;
         own = put_here r.owner i id;
         all = ap (λ ks. get_or ks i []) known ∙ get_or-set_same v.known i mine.handed [] inside ∙ handed;

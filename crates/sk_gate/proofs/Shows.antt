@@ -25,10 +25,10 @@ use Rattle.sk_machine.specs.declared.views.View.{View}
 use Rattle.sk_machine.proofs.Coarse as event
 use Rattle.sk_machine.proofs.Shown.{shown_by}
 use Rattle.sk_gate.specs.declared.load.Load.TheVariants as load
-use Rattle.sk_gate.specs.Slots.{Slot, full, contents, room, Sketching, Telling, ToldOk, HeldOk}
+use Rattle.sk_gate.specs.Slots.{Slot, full, contents, room, Sketching, Telling, TellsGiven, IsHeld}
 use Rattle.sk_gate.specs.Views.{known_of, given_of, seat_in, leads, SpeaksBy}
-use Rattle.sk_gate.specs.Rule.{left_home, SlotOk, PostOk, DutyOk, Knows, Has, HasGiven, HasSeen, Kept}
-use Rattle.sk_gate.specs.Shows.{IsPickedBy, IsPicked, HasParcel, ShowsSlot, KnowsOwn, LeadsBy, IsLive, ShowsTrunk, ShowsView, Shown}
+use Rattle.sk_gate.specs.Rule.{left_home, IsSlot, KnowsPost, KnowsDuty, Knows, Has, HasGiven, HasSeen, KeepsRule}
+use Rattle.sk_gate.specs.Shows.{IsPickedBy, IsPicked, HasParcel, ShowsSlot, KnowsOwn, LeadsBy, IsLiveSeat, ShowsTrunk, ShowsView, Shown}
 use Rattle.sk_gate.proofs.Common.{held_sizes}
 use Rattle.sk_gate.proofs.Known.{room_some}
 
@@ -74,7 +74,7 @@ module _ {C T : Type 0} where
       some_none e = cc
   not_left home p false a b = not_out home p a b
 
-module _ {C T : Type 0} (hint packed : List ℕ → List Entry → ℕ) (g : Sketching C) (k : Telling T) (s : State (Slot C T) View) (r : Kept hint packed g k s) where
+module _ {C T : Type 0} (hint packed : List ℕ → List Entry → ℕ) (g : Sketching C) (k : Telling T) (s : State (Slot C T) View) (r : KeepsRule hint packed g k s) where
   abbrev m : Coarse
   m = r.machine
 
@@ -83,7 +83,7 @@ module _ {C T : Type 0} (hint packed : List ℕ → List Entry → ℕ) (g : Ske
   unpicked i l whole = let h = r.spoken i l in let v : View = h.0 in let o = r.each_seat (r.owner i) v h.1 h.2.0 in
       go v v.post h.2.1 o.post_is (λ d on. whole (r.owner i, v, h.1, h.2.0, inl ((o.drained_is i d).was_picked on))) (λ p. whole (r.owner i, v, h.1, h.2.0, inr p))
     where
-      go : (v : View) (p : Post) → SpeaksBy i v.drained p → PostOk r.n m r.owner (r.owner i) v.seen v.sizes v.drained p → (Contains v.drained i → ¬ ((m.updaters i).mine.picked ≡ true)) → ¬ IsPickedBy i p → (m.updaters i).mine.picked ≡ false
+      go : (v : View) (p : Post) → SpeaksBy i v.drained p → KnowsPost r.n m r.owner (r.owner i) v.seen v.sizes v.drained p → (Contains v.drained i → ¬ ((m.updaters i).mine.picked ≡ true)) → ¬ IsPickedBy i p → (m.updaters i).mine.picked ≡ false
       go v Guest speaks t unmarked alone = absurd speaks
       go v (Root made) speaks t unmarked alone = ⊎_elim (λ (le : made ≤ i). ap (λ (x : Mine). x.picked) (sym (t i le l).1)) (λ d. ⊎_elim (λ on. absurd (unmarked d on)) (λ off. off) (cases_Bool (m.updaters i).mine.picked)) speaks
       go v (Updater a mine) e t unmarked alone = ⊎_elim (λ on. absurd (alone (e, on)))
@@ -107,7 +107,7 @@ module _ {C T : Type 0} (hint packed : List ℕ → List Entry → ℕ) (g : Ske
           (cases_eq u.word 0),
     );
     told = λ p has open_now free. let ne : u.word ≢ 0 = λ z. open_now (x.word ∙ z) in let y = c.resting ne (off p has) in
-        subst (λ (t : Parcel T × List ℕ × List Entry). ToldOk k r.name t.0 t.1 t.2) (λ a. (same_parcel home y.0 p y.1 has a, sym x.handed a, sym x.given a)) (y.3 (unpicked i l free));
+        subst (λ (t : Parcel T × List ℕ × List Entry). TellsGiven k r.name t.0 t.1 t.2) (λ a. (same_parcel home y.0 p y.1 has a, sym x.handed a, sym x.given a)) (y.3 (unpicked i l free));
   }
     where
       u : CoarseUpdater
@@ -119,7 +119,7 @@ module _ {C T : Type 0} (hint packed : List ℕ → List Entry → ℕ) (g : Ske
       home : maybe.Option (maybe.Option (Slot C T))
       home = get_elem? s.homes i
 
-      c : SlotOk k r.name (m.sizes i) m.stage r.left i u home
+      c : IsSlot k r.name (m.sizes i) m.stage r.left i u home
       c = r.each_slot i l
 
       ok : MeetsUpdater (hint r.numbers) (m.sizes i) m.published m.stage i u
@@ -132,7 +132,7 @@ module _ {C T : Type 0} (hint packed : List ℕ → List Entry → ℕ) (g : Ske
       off p has = ⊎_elim (λ on. absurd (not_out home p has (c.ready on))) (λ e. e) (cases_Bool u.mine.ready)
 
   view_shown : (f : Fine) → f.n ≡ r.n → f.published ≡ m.published → stage_of f.updaters f.in_hand f.progress ≡ m.stage → f.turn ≡ m.turn → ((i : ℕ) → i < r.n → ShowsUpdater m.stage (m.sizes i) i (m.updaters i) (f.updaters i))
-      → (j : ℕ) (v : View) → IsLive s.views j v → ShowsView r.numbers r.name f v
+      → (j : ℕ) (v : View) → IsLiveSeat s.views j v → ShowsView r.numbers r.name f v
   view_shown f count published stage turn each j v at = record {
     numbers_are = o.sketch.numbers_are;
     name_is = o.sketch.name_is;
@@ -153,13 +153,13 @@ module _ {C T : Type 0} (hint packed : List ℕ → List Entry → ℕ) (g : Ske
       within : (i : ℕ) → i < f.n → i < r.n
       within i l = omega arith
 
-      own : (p : Post) → PostOk r.n m r.owner j v.seen v.sizes v.drained p → KnowsOwn f v p
+      own : (p : Post) → KnowsPost r.n m r.owner j v.seen v.sizes v.drained p → KnowsOwn f v p
       own Guest t = tt
       own (Root made) t = λ i a l. let x = each i (within i l) in let y = t i a (within i l) in (x.handed ∙ ap (λ (z : Mine). z.handed) (sym y.1), y.2 ∙ sym x.size)
       own (Updater i mine) t = let x = each i t.0 in
           (omega (arith, t.0, count), ap (λ (y : Mine). y.handed) t.2 ∙ sym x.handed, ap (λ (y : Mine). y.base) t.2 ∙ sym x.base, ap (λ (y : Mine). y.ready) t.2 ∙ sym x.ready, t.3, t.4 ∙ sym x.size)
 
-      duty : (d : Duty) → DutyOk r.n m r.left r.leader j v.seen v.post d → LeadsBy f v d
+      duty : (d : Duty) → KnowsDuty r.n m r.left r.leader j v.seen v.post d → LeadsBy f v d
       duty Free t = tt
       duty (Leads place left) t = (turn ∙ t.1 ∙ ap (λ n. seat_in n v.post + 1) (sym count), t.2 ∙ sym stage, t.4 ∙ sym published)
 
@@ -188,7 +188,7 @@ module _ {C T : Type 0} (hint packed : List ℕ → List Entry → ℕ) (g : Ske
               of_it = subst (g.is_of t.0.global) (sym x.published) t.2.of_it;
               numbers_are = t.2.numbers_are;
               name_is = t.2.name_is;
-              held_is = subst (λ stage. HeldOk stage (λ i. (f.updaters i).size) t.0.held) (sym x.stage) (held_sizes m.stage m.sizes (λ i. (f.updaters i).size) t.0.held (λ i at. (x.updaters i (r.meets.stage_at i at)).size) t.2.held_is);
+              held_is = subst (λ stage. IsHeld stage (λ i. (f.updaters i).size) t.0.held) (sym x.stage) (held_sizes m.stage m.sizes (λ i. (f.updaters i).size) t.0.held (λ i at. (x.updaters i (r.meets.stage_at i at)).size) t.2.held_is);
             },
           );
         });
@@ -199,12 +199,12 @@ module _ {C T : Type 0} (hint packed : List ℕ → List Entry → ℕ) (g : Ske
           leader = λ on. (r.leader, (r.led (λ z. on (x.turn ∙ z))).1);
           one_leads = λ a b v w av bw lv lw. sym (leads_at a v.seen v.post v.duty lv (r.each_seat a v av.0 av.1).duty_is) ∙ leads_at b w.seen w.post w.duty lw (r.each_seat b w bw.0 bw.1).duty_is;
           spoken = λ i l. (r.owner i, r.spoken i (within i l));
-          one_own = λ i a b v w av bw iv iw. sym (subst (PostOk r.n m r.owner a v.seen v.sizes v.drained) iv (r.each_seat a v av.0 av.1).post_is).1 ∙ (subst (PostOk r.n m r.owner b w.seen w.sizes w.drained) iw (r.each_seat b w bw.0 bw.1).post_is).1;
+          one_own = λ i a b v w av bw iv iw. sym (subst (KnowsPost r.n m r.owner a v.seen v.sizes v.drained) iv (r.each_seat a v av.0 av.1).post_is).1 ∙ (subst (KnowsPost r.n m r.owner b w.seen w.sizes w.drained) iw (r.each_seat b w bw.0 bw.1).post_is).1;
           seen = (r.seer, subst (λ h. Has s.views r.seer (HasSeen h)) (sym x.published) r.seen);
           given = λ i l. let at = within i l in (r.giver i, subst (λ h. Has s.views (r.giver i) (HasGiven i h)) (sym (x.updaters i at).given) (r.given i at));
         };
       }
     where
-      leads_at : (j : ℕ) (seen : List Entry) (post : Post) (d : Duty) → leads d ≡ true → DutyOk r.n m r.left r.leader j seen post d → r.leader ≡ j
+      leads_at : (j : ℕ) (seen : List Entry) (post : Post) (d : Duty) → leads d ≡ true → KnowsDuty r.n m r.left r.leader j seen post d → r.leader ≡ j
       leads_at j seen post Free e t = absurd (true≢false (sym e))
       leads_at j seen post (Leads stage left) e t = t.0

@@ -13,22 +13,22 @@ use Rattle.sk_machine.specs.declared.views.Duty.TheVariants.{Free, Leads}
 use Rattle.sk_machine.specs.declared.views.View.{View}
 use Rattle.sk_gate.specs.Slots.{Slot, full, contents, Sketching, Telling, TellsList}
 use Rattle.sk_gate.specs.Views.{size_of, mine_in, mine_of, leads, seen_with, after_join}
-use Rattle.sk_gate.specs.Rule.{Kept}
+use Rattle.sk_gate.specs.Rule.{KeepsRule}
 use Rattle.sk_gate.specs.Plays.{Sat, is_picked, rested_mine, rested}
-use Rattle.sk_gate.specs.Hands.{Standing, standing_of, own_in, rested_of, LeadsBy, OwnHand, Holds}
+use Rattle.sk_gate.specs.Hands.{SeatState, seat_state, own_in, rested_of, DutyHand, OwnHand, Holds}
 use Rattle.sk_gate.proofs.Merged.{sizes_length, sizes_either}
-use Rattle.sk_gate.proofs.Standing.{own_shown}
+use Rattle.sk_gate.proofs.SeatState.{own_shown}
 use Rattle.sk_gate.proofs.Own.{own_at, empty_at, leads_sizes}
 use Rattle.sk_gate.proofs.Updaters.{rests}
 
 module _ {C T : Type 0} (g : Sketching C) (k : Telling T) where
   -- who does not lead has none of the propagator's slots
-  nothing_leads : (v : View) (n : ℕ) (d : Duty) (first second : List (ℕ × Slot C T)) → leads d ≡ false → LeadsBy v g k n d first second → (first ≡ []) × (second ≡ []) × (d ≡ Free)
+  nothing_leads : (v : View) (n : ℕ) (d : Duty) (first second : List (ℕ × Slot C T)) → leads d ≡ false → DutyHand v g k n d first second → (first ≡ []) × (second ≡ []) × (d ≡ Free)
   nothing_leads v n Free first second free t = (t.0, t.1, refl)
   nothing_leads v n (Leads stage left) first second free t = absurd (true≢false free)
 
   -- an updater that is ready, does not lead and has not swapped: it has one slot, with an empty parcel of its room
-  pub record Resting (n number : ℕ) (m : Sat C T) (now : Standing) : Type 0 where
+  pub record Resting (n number : ℕ) (m : Sat C T) (now : SeatState) : Type 0 where
     pub parcel : Parcel T
     pub hand : m.1 ≡ (number, full parcel) ∷ []
     pub empty : parcel.buffer ≡ contents [] (size_of m.0 number)
@@ -37,14 +37,14 @@ module _ {C T : Type 0} (g : Sketching C) (k : Telling T) where
     pub free : m.0.duty ≡ Free
     pub shown : is_some parcel.told ≡ now.own.told
 
-  pub resting : (n number front : ℕ) (own : Bool) (m : Sat C T) (table : TableId) (now : Standing) → Holds g k false n number front own m → standing_of m.0 table number front m.1 ≡ now → leads now.view.duty ≡ false → (mine_of now.view).ready ≡ true
+  pub resting : (n number front : ℕ) (own : Bool) (m : Sat C T) (table : TableId) (now : SeatState) → Holds g k false n number front own m → seat_state m.0 table number front m.1 ≡ now → leads now.view.duty ≡ false → (mine_of now.view).ready ≡ true
       → now.own.items ≡ [] → now.own.capacity ≡ size_of now.view now.number → Resting n number m now
   resting n number front own m table now h is free ready unswapped capacity =
-      let v : View = m.0 in let same : v ≡ now.view = ap (λ (s : Standing). s.view) is in let on : own ≡ true = h.own_is ∙ ap (λ (x : View). (mine_of x).ready) same ∙ ready in
+      let v : View = m.0 in let same : v ≡ now.view = ap (λ (s : SeatState). s.view) is in let on : own ≡ true = h.own_is ∙ ap (λ (x : View). (mine_of x).ready) same ∙ ready in
       let p = own_at g k false n number front own m h on in let none_led = nothing_leads v n v.duty h.first h.second (ap (λ (x : View). leads x.duty) same ∙ free) h.leading in
       let shown : own_in h.third ≡ now.own = own_shown g k false n number front own m table now h is in
       let items : p.0.buffer.items ≡ [] = ap (λ l. (own_in l).items) (sym p.1) ∙ ap (λ o. o.items) shown ∙ unswapped in
-      let most : p.0.buffer.capacity ≡ size_of v number = ap (λ l. (own_in l).capacity) (sym p.1) ∙ ap (λ o. o.capacity) shown ∙ capacity ∙ (λ a. size_of (sym same a) (sym (ap (λ (s : Standing). s.number) is) a)) in record {
+      let most : p.0.buffer.capacity ≡ size_of v number = ap (λ l. (own_in l).capacity) (sym p.1) ∙ ap (λ o. o.capacity) shown ∙ capacity ∙ (λ a. size_of (sym same a) (sym (ap (λ (s : SeatState). s.number) is) a)) in record {
         parcel = p.0;
         hand = p.2 ∙ (λ a. (none_led.0 a ++ none_led.1 a) ++ (number, full p.0) ∷ []);
         empty = λ a. record { items = items a; capacity = most a };
@@ -76,14 +76,14 @@ rested_says w i r picked w' e live free = record {
 }
 
 -- what is taken in is what stands for it then
-pub same_join : (v : View) (r : ℕ) (told : Bool) (w' : View) (was now : Standing) → w' ≡ rested_view was.view was.number r (is_picked (mine_of was.view).handed told) → was ≡ now → told ≡ now.own.told → after_join v w' ≡ after_join v (rested_of now)
+pub same_join : (v : View) (r : ℕ) (told : Bool) (w' : View) (was now : SeatState) → w' ≡ rested_view was.view was.number r (is_picked (mine_of was.view).handed told) → was ≡ now → told ≡ now.own.told → after_join v w' ≡ after_join v (rested_of now)
 same_join v r told w' was now e is shown = ap (after_join v) e ∙ ap (λ y. after_join v (rested_of (record was { own = record was.own { told = y } }))) shown
     ∙ λ a. after_join v (rested_of (record (is a) { own = record (is a).own { told = now.own.told } }))
 
 module _ {C T : Type 0} (hint packed : List ℕ → List Entry → ℕ) (g : Sketching C) (k : Telling T) where
-  pub gives_up : (slots id n number : ℕ) (m : Sat C T) (now : Standing) → slots ≡ n + 1 → m.0.live ≡ true → m.0.post ≡ Updater number (mine_of m.0) → (mine_of m.0).ready ≡ true → (x : Resting g k n number m now)
-      → Allows (Kept hint packed g k) slots id m (number + 1) (λ x. x) (rested (step slots (number + 1) 0 0 none) m)
-  gives_up slots id n number m now size live is ready x = subst (λ (hand : List (ℕ × Slot C T)). Allows (Kept hint packed g k) slots id (m.0, hand) (number + 1) (λ x. x) (rested (step slots (number + 1) 0 0 none) (m.0, hand))) (sym x.hand)
+  pub gives_up : (slots id n number : ℕ) (m : Sat C T) (now : SeatState) → slots ≡ n + 1 → m.0.live ≡ true → m.0.post ≡ Updater number (mine_of m.0) → (mine_of m.0).ready ≡ true → (x : Resting g k n number m now)
+      → Allows (KeepsRule hint packed g k) slots id m (number + 1) (λ x. x) (rested (step slots (number + 1) 0 0 none) m)
+  gives_up slots id n number m now size live is ready x = subst (λ (hand : List (ℕ × Slot C T)). Allows (KeepsRule hint packed g k) slots id (m.0, hand) (number + 1) (λ x. x) (rested (step slots (number + 1) 0 0 none) (m.0, hand))) (sym x.hand)
       (rests hint packed g k slots id n m.0 number x.parcel [] size live is ready x.there x.empty x.told)
 
 module _ {C T : Type 0} (g : Sketching C) (k : Telling T) where
@@ -103,7 +103,7 @@ module _ {C T : Type 0} (g : Sketching C) (k : Telling T) where
     owned = subst (λ b. OwnHand (after_join v w) k number b h.third) (sym off) (subst (λ b. OwnHand v k number b h.third) off h.owned);
   }
     where
-      lead : (d : Duty) → m.0.duty ≡ d → LeadsBy m.0 g k n d h.first h.second → LeadsBy (after_join m.0 w) g k n d h.first h.second
+      lead : (d : Duty) → m.0.duty ≡ d → DutyHand m.0 g k n d h.first h.second → DutyHand (after_join m.0 w) g k n d h.first h.second
       lead Free e t = t
       lead (Leads stage left) e t = leads_sizes g k m.0 (after_join m.0 w) n (Leads stage left) h.first h.second (ap (seen_with m.0.seen w.seen) e) refl refl (sizes_length n m.0.sizes w.sizes h.sized long ∙ sym h.sized)
           (λ i there. sizes_either (λ x. x ≡ size_of m.0 i) m.0.sizes w.sizes i (λ _. refl) (λ z. absurd (there z))) t

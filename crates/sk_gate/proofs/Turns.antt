@@ -19,9 +19,9 @@ use Rattle.sk_machine.specs.declared.views.View.{View}
 use Rattle.sk_machine.proofs.Coarse as event
 use Rattle.sk_gate.specs.declared.load.Trunk.{Trunk}
 use Rattle.sk_gate.specs.declared.load.Held.{Held}
-use Rattle.sk_gate.specs.Slots.{Slot, trunk, contents, Sketching, Telling, HeldOk, TrunkOk}
-use Rattle.sk_gate.specs.Views.{known_of, size_of, seat_in, leads, stage_of, left_of, is_busy, MayYield, SpeaksFor}
-use Rattle.sk_gate.specs.Rule.{left_home, SlotOk, DutyOk, KnowsSizes, Knows, HasSeen, IsLed, HasGiven, Kept}
+use Rattle.sk_gate.specs.Slots.{Slot, trunk, contents, Sketching, Telling, IsHeld, IsTrunkOf}
+use Rattle.sk_gate.specs.Views.{known_of, size_of, seat_in, leads, stage_in, left_in, is_busy, IsAtRest, SpeaksFor}
+use Rattle.sk_gate.specs.Rule.{left_home, IsSlot, KnowsDuty, KnowsSizes, Knows, HasSeen, IsLed, HasGiven, KeepsRule}
 use Rattle.sk_gate.specs.Moves.{ResumesAt}
 use Rattle.sk_gate.specs.Plays.{Sat, turned, yielded}
 use Rattle.sk_gate.specs.Hands.{StageKnown}
@@ -45,13 +45,13 @@ busy_at Idle i may at = absurd at
 busy_at (Busy j batch) i may at = refl
 busy_at (Published j) i may at = absurd may
 
-held_same : {T : Type 0} (stage : Stage) (sizes sizes' : ℕ → ℕ) (held : Option (Held T)) → ((i : ℕ) → At stage i → sizes i ≡ sizes' i) → HeldOk stage sizes held → HeldOk stage sizes' held
+held_same : {T : Type 0} (stage : Stage) (sizes sizes' : ℕ → ℕ) (held : Option (Held T)) → ((i : ℕ) → At stage i → sizes i ≡ sizes' i) → IsHeld stage sizes held → IsHeld stage sizes' held
 held_same Idle sizes sizes' held same e = e
 held_same (Busy i batch) sizes sizes' held same t = (t.0, t.1, t.2, t.3 ∙ ap (contents batch) (same i refl))
 held_same (Published i) sizes sizes' held same e = e
 
 pub trunk_same : {C T : Type 0} (g : Sketching C) (numbers name : List ℕ) (list : List Entry) (stage : Stage) (sizes sizes' : ℕ → ℕ) (t : Trunk C T) → ((i : ℕ) → At stage i → sizes i ≡ sizes' i)
-    → TrunkOk g numbers name list stage sizes t → TrunkOk g numbers name list stage sizes' t
+    → IsTrunkOf g numbers name list stage sizes t → IsTrunkOf g numbers name list stage sizes' t
 trunk_same g numbers name list stage sizes sizes' t same o = record { of_it = o.of_it; numbers_are = o.numbers_are; name_is = o.name_is; held_is = held_same stage sizes sizes' t.held same o.held_is }
 
 known_at : (v : View) (stage : Stage) (left : Bool) (i : ℕ) → StageKnown v stage left → At stage i → size_of v i ≢ 0
@@ -59,16 +59,16 @@ known_at v Idle left i known at = absurd at
 known_at v (Busy j batch) left i known at = subst (λ a. size_of v a ≢ 0) at known.1
 known_at v (Published j) left i known at = subst (λ a. size_of v a ≢ 0) at known.1
 
-leading : (d : Duty) → MayYield d → d ≡ Leads (stage_of d) (left_of d)
+leading : (d : Duty) → IsAtRest d → d ≡ Leads (stage_in d) (left_in d)
 leading Free may = absurd may
 leading (Leads stage left) may = refl
 
-may_rest : (stage : Stage) (left : Bool) → MayYield (Leads stage left) → MayRest stage
+may_rest : (stage : Stage) (left : Bool) → IsAtRest (Leads stage left) → MayRest stage
 may_rest Idle left may = tt
 may_rest (Busy i batch) left may = tt
 may_rest (Published i) left may = absurd may
 
-left_busy : (stage : Stage) (left : Bool) → MayYield (Leads stage left) → is_busy stage ≡ true → left ≡ true
+left_busy : (stage : Stage) (left : Bool) → IsAtRest (Leads stage left) → is_busy stage ≡ true → left ≡ true
 left_busy Idle left may busy = absurd (true≢false (sym busy))
 left_busy (Busy i batch) left may busy = may
 left_busy (Published i) left may busy = absurd may
@@ -85,7 +85,7 @@ released n numbers name m left owner leader leader' j v free o = record {
   drained_is = o.drained_is;
 }
   where
-    duty : (d : Duty) → DutyOk n m left leader j v.seen v.post d → DutyOk n m left leader' j v.seen v.post d
+    duty : (d : Duty) → KnowsDuty n m left leader j v.seen v.post d → KnowsDuty n m left leader' j v.seen v.post d
     duty Free t = tt
     duty (Leads stage its) t = let e = t.1 in absurd (omega arith)
 
@@ -93,7 +93,7 @@ released n numbers name m left owner leader leader' j v free o = record {
 
 module _ {C T : Type 0} (hint packed : List ℕ → List Entry → ℕ) (g : Sketching C) (k : Telling T) where
   abbrev Rule : State (Slot C T) View → Type 0
-  Rule = Kept hint packed g k
+  Rule = KeepsRule hint packed g k
 
   -- the view of a seat that has taken the turn
   abbrev taken_view : View → List Entry → Stage → Bool → List ℕ → View
@@ -138,7 +138,7 @@ module _ {C T : Type 0} (hint packed : List ℕ → List Entry → ℕ) (g : Ske
         words_are = λ j l. get_or-set_other s.words (n + 1) (j + 1) (who + 1) 0 (λ e. omega arith) ∙ r.words_are j l;
         meets = event.turns (hint r.numbers) r.n m who r.meets (omega arith);
         vacant = r.vacant;
-        each_slot = λ j l. subst (SlotOk k r.name (m.sizes j) m.stage left' j (m.updaters j)) (sym (set_else s.homes r.n j none (λ e. omega arith))) (let q = r.each_slot j l in record {
+        each_slot = λ j l. subst (IsSlot k r.name (m.sizes j) m.stage left' j (m.updaters j)) (sym (set_else s.homes r.n j none (λ e. omega arith))) (let q = r.each_slot j l in record {
           ready = q.ready;
           resting = q.resting;
           waiting = q.waiting;
@@ -160,7 +160,7 @@ module _ {C T : Type 0} (hint packed : List ℕ → List Entry → ℕ) (g : Ske
 
   -- what a turn that found 0 gives
   abbrev Lifts : Sat C T → Sat C T → ℕ → Type 0
-  Lifts m m' n = (t : Trunk C T) × (m'.1 ≡ (n, trunk t) ∷ m.1) × TrunkOk g m'.0.numbers m'.0.name m'.0.seen (stage_of m'.0.duty) (size_of m'.0) t
+  Lifts m m' n = (t : Trunk C T) × (m'.1 ≡ (n, trunk t) ∷ m.1) × IsTrunkOf g m'.0.numbers m'.0.name m'.0.seen (stage_in m'.0.duty) (size_of m'.0) t
 
   pub turns : (slots id n who : ℕ) (me : Sat C T) → slots ≡ n + 1 → n ≤ most_updaters → who ≡ seat_in n me.0.post → who ≤ n → me.0.live ≡ true → leads me.0.duty ≡ false
       → Allows Rule slots id me (n + 1) (λ x. either (eqb x 0) (who + 1) x) (turned g (step slots (n + 1) 0 (who + 1) none) me)
@@ -174,8 +174,8 @@ module _ {C T : Type 0} (hint packed : List ℕ → List Entry → ℕ) (g : Ske
       let same_n : r.n ≡ n = omega arith in
       let word : x ≡ m.turn = ap (λ a. get_or s.words (a + 1) 0) (sym same_n) ∙ r.turn_is in
       let long : length v.sizes ≡ r.n = o.sizes.sized in
-      let numbered : (t : Trunk C T) (w : View) → TrunkOk g r.numbers r.name w.seen (stage_of w.duty) (size_of w) t → w.numbers ≡ v.numbers → w.name ≡ v.name → (j : ℕ) → n + 1 ≡ j + 1 → Lifts me (w, (r.n, trunk t) ∷ me.1) j
-      = λ t w ok e f j l. (t, ap (λ a. (a, trunk t) ∷ me.1) (let same : r.n ≡ j = omega arith in same), subst (λ (y : List ℕ × List ℕ). TrunkOk g y.0 y.1 w.seen (stage_of w.duty) (size_of w) t) (λ a. (sym (e ∙ o.sketch.numbers_are) a, sym (f ∙ o.sketch.name_is) a)) ok) in
+      let numbered : (t : Trunk C T) (w : View) → IsTrunkOf g r.numbers r.name w.seen (stage_in w.duty) (size_of w) t → w.numbers ≡ v.numbers → w.name ≡ v.name → (j : ℕ) → n + 1 ≡ j + 1 → Lifts me (w, (r.n, trunk t) ∷ me.1) j
+      = λ t w ok e f j l. (t, ap (λ a. (a, trunk t) ∷ me.1) (let same : r.n ≡ j = omega arith in same), subst (λ (y : List ℕ × List ℕ). IsTrunkOf g y.0 y.1 w.seen (stage_in w.duty) (size_of w) t) (λ a. (sym (e ∙ o.sketch.numbers_are) a, sym (f ∙ o.sketch.name_is) a)) ok) in
       exchanged x 0 (who + 1) (Goes s (n + 1) id me then)
       (λ zero.
       let z : m.turn ≡ 0 = sym word ∙ zero in
@@ -259,16 +259,16 @@ module _ {C T : Type 0} (hint packed : List ℕ → List Entry → ℕ) (g : Ske
         ),
       ))
 
-  pub yields : (slots id n : ℕ) (v : View) (t : Trunk C T) (more : List (ℕ × Slot C T)) → slots ≡ n + 1 → v.live ≡ true → MayYield v.duty → StageKnown v (stage_of v.duty) (left_of v.duty) → TrunkOk g v.numbers v.name v.seen (stage_of v.duty) (size_of v) t
+  pub yields : (slots id n : ℕ) (v : View) (t : Trunk C T) (more : List (ℕ × Slot C T)) → slots ≡ n + 1 → v.live ≡ true → IsAtRest v.duty → StageKnown v (stage_in v.duty) (left_in v.duty) → IsTrunkOf g v.numbers v.name v.seen (stage_in v.duty) (size_of v) t
       → Allows Rule slots id (v, (n, trunk t) ∷ more) (n + 1) (λ _. 0) (λ _. yielded (step slots (n + 1) 0 0 none) (v, (n, trunk t) ∷ more) 0)
   yields slots id n v t more size live may known laid s r deep at _ =
       let m = r.machine in
       let o = r.each_seat id v at live in
       let is = leading v.duty may in
-      let its : Bool = left_of v.duty in
-      let stage : Stage = stage_of v.duty in
-      let duty = subst (DutyOk r.n m r.left r.leader id v.seen v.post) is o.duty_is in
-      let may' : MayYield (Leads stage its) = subst MayYield is may in
+      let its : Bool = left_in v.duty in
+      let stage : Stage = stage_in v.duty in
+      let duty = subst (KnowsDuty r.n m r.left r.leader id v.seen v.post) is o.duty_is in
+      let may' : IsAtRest (Leads stage its) = subst IsAtRest is may in
       let rest_now : MayRest m.stage = subst MayRest duty.2 (may_rest stage its may') in
       let deep' = r.deep in
       let wide' = r.wide in
@@ -277,7 +277,7 @@ module _ {C T : Type 0} (hint packed : List ℕ → List Entry → ℕ) (g : Ske
       let homes' : List (maybe.Option (Slot C T)) = set s.homes n (some (trunk t)) in
       let words' : List ℕ = set s.words (n + 1) 0 in
       let w : View = record v { steps = v.steps ++ Yield ∷ []; duty = Free } in
-      let trunk_ok : TrunkOk g r.numbers r.name m.published m.stage m.sizes t = subst (λ (y : List ℕ × List ℕ × List Entry × Stage). TrunkOk g y.0 y.1 y.2 y.3 m.sizes t) (λ a. (o.sketch.numbers_are a, o.sketch.name_is a, duty.4 a, duty.2 a))
+      let trunk_ok : IsTrunkOf g r.numbers r.name m.published m.stage m.sizes t = subst (λ (y : List ℕ × List ℕ × List Entry × Stage). IsTrunkOf g y.0 y.1 y.2 y.3 m.sizes t) (λ a. (o.sketch.numbers_are a, o.sketch.name_is a, duty.4 a, duty.2 a))
       (trunk_same g v.numbers v.name v.seen stage (size_of v) m.sizes t (λ i a. o.sizes.sizes_are i (known_at v stage its i known a)) laid) in
       let known' : Knows r.n r.numbers r.name m' r.left r.owner r.leader id w = record {
         sketch = o.sketch;
@@ -308,7 +308,7 @@ module _ {C T : Type 0} (hint packed : List ℕ → List Entry → ℕ) (g : Ske
           words_are = λ j l. get_or-set_other s.words (n + 1) (j + 1) 0 0 (λ e. omega arith) ∙ r.words_are j l;
           meets = event.yields (hint r.numbers) r.n m r.meets rest_now;
           vacant = r.vacant;
-          each_slot = λ j l. subst (SlotOk k r.name (m.sizes j) m.stage r.left j (m.updaters j)) (sym (set_else s.homes n j (some (trunk t)) (λ e. omega arith))) (r.each_slot j l);
+          each_slot = λ j l. subst (IsSlot k r.name (m.sizes j) m.stage r.left j (m.updaters j)) (sym (set_else s.homes n j (some (trunk t)) (λ e. omega arith))) (r.each_slot j l);
           rests = λ _. (t, ap (get_elem? homes') same_n ∙ set_here s.homes n (some (trunk t)) (omega arith), trunk_ok, λ busy. sym duty.3 ∙ left_busy stage its may' (ap is_busy duty.2 ∙ busy));
           led = λ ne. absurd (ne refl);
           seen = has_stays (HasSeen m.published) (HasSeen m.published) s.views id r.seer v w at (λ e. e) (λ _ e. e) r.seen;

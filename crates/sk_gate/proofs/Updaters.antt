@@ -25,9 +25,9 @@ use Rattle.sk_machine.specs.declared.views.View.{View}
 use Rattle.sk_machine.proofs.Numbered.{put_here, put_else, each_put}
 use Rattle.sk_machine.proofs.Coarse as event
 use Rattle.sk_gate.specs.declared.load.Load.TheVariants as load
-use Rattle.sk_gate.specs.Slots.{Slot, full, contents, room, Sketching, Telling, TellsList, ToldOk}
+use Rattle.sk_gate.specs.Slots.{Slot, full, contents, room, Sketching, Telling, TellsList, TellsGiven}
 use Rattle.sk_gate.specs.Views.{known_of, given_of, size_of, mine_of, seat_in, leads, is_open, SpeaksBy}
-use Rattle.sk_gate.specs.Rule.{PostOk, DutyOk, OpenOk, Knows, Kept}
+use Rattle.sk_gate.specs.Rule.{KnowsPost, KnowsDuty, KnowsOpen, Knows, KeepsRule}
 use Rattle.sk_gate.specs.Moves.{LacksOwn, looked_mine, RenewsAt, LooksAt, AdmitsAt, handed_mine}
 use Rattle.sk_gate.specs.Plays.{Sat, asked, LookHand, looked, is_picked, rested_mine, rested, admitted, handed, published}
 use Rattle.sk_gate.proofs.Published.{published_seen, begun_seen, seen_between}
@@ -40,18 +40,18 @@ use Rattle.sk_model.specs.Width.{AreItems}
 use Rattle.sk_model.specs.Limits.{most_kept}
 
 -- a seat that has seen more
-pub post_sees : (n : ℕ) (m : Coarse) (owner : ℕ → ℕ) (j : ℕ) (seen seen' : List Entry) (sizes drained : List ℕ) (p : Post) → Begins seen seen' → PostOk n m owner j seen sizes drained p → PostOk n m owner j seen' sizes drained p
+pub post_sees : (n : ℕ) (m : Coarse) (owner : ℕ → ℕ) (j : ℕ) (seen seen' : List Entry) (sizes drained : List ℕ) (p : Post) → Begins seen seen' → KnowsPost n m owner j seen sizes drained p → KnowsPost n m owner j seen' sizes drained p
 post_sees n m owner j seen seen' sizes drained Guest b t = tt
 post_sees n m owner j seen seen' sizes drained (Root made) b t = t
 post_sees n m owner j seen seen' sizes drained (Updater i mine) b t = (t.0, t.1, t.2, begins_trans _ _ _ t.3 b, t.4, t.5)
 
-pub duty_sees : (n : ℕ) (m : Coarse) (left : Bool) (leader j : ℕ) (seen seen' : List Entry) (p : Post) (d : Duty) → (seen ≡ m.published → seen' ≡ m.published) → DutyOk n m left leader j seen p d → DutyOk n m left leader j seen' p d
+pub duty_sees : (n : ℕ) (m : Coarse) (left : Bool) (leader j : ℕ) (seen seen' : List Entry) (p : Post) (d : Duty) → (seen ≡ m.published → seen' ≡ m.published) → KnowsDuty n m left leader j seen p d → KnowsDuty n m left leader j seen' p d
 duty_sees n m left leader j seen seen' p Free e t = tt
 duty_sees n m left leader j seen seen' p (Leads stage its) e t = (t.0, t.1, t.2, t.3, e t.4)
 
 -- an updater's own step leaves what it knows as whoever propagates
 pub duty_same : (n i : ℕ) (m m' : Coarse) (left : Bool) (leader j : ℕ) (seen seen' : List Entry) (mine mine' : Mine) (p : Post) (d : Duty) → p ≡ Updater i mine → m'.turn ≡ m.turn → m'.stage ≡ m.stage → m'.published ≡ m.published → (seen ≡ m.published → seen' ≡ m.published)
-    → DutyOk n m left leader j seen p d → DutyOk n m' left leader j seen' (Updater i mine') d
+    → KnowsDuty n m left leader j seen p d → KnowsDuty n m' left leader j seen' (Updater i mine') d
 duty_same n i m m' left leader j seen seen' mine mine' p Free is turn stage published e t = tt
 duty_same n i m m' left leader j seen seen' mine mine' p (Leads stage its) is same_turn same_stage published e t = (t.0, same_turn ∙ t.1 ∙ ap (λ q. seat_in n q + 1) is, t.2 ∙ sym same_stage, t.3, e t.4 ∙ sym published)
 
@@ -59,7 +59,7 @@ pub none_drained : {P : Type 0} (l : List ℕ) (i : ℕ) → l ≡ [] → Contai
 none_drained l i e d = let c : Contains [] i = subst (λ q. Contains q i) e d in let no = c.1 in absurd (omega arith)
 
 -- whoever propagates has seen all
-pub duty_seen : (n : ℕ) (m : Coarse) (left : Bool) (leader j : ℕ) (seen : List Entry) (p : Post) (d : Duty) → leads d ≡ true → DutyOk n m left leader j seen p d → m.published ≡ seen
+pub duty_seen : (n : ℕ) (m : Coarse) (left : Bool) (leader j : ℕ) (seen : List Entry) (p : Post) (d : Duty) → leads d ≡ true → KnowsDuty n m left leader j seen p d → m.published ≡ seen
 duty_seen n m left leader j seen p Free leads t = absurd (true≢false (sym leads))
 duty_seen n m left leader j seen p (Leads stage its) leads t = sym t.4
 
@@ -74,7 +74,7 @@ pub same_first : {C T : Type 0} (i j : ℕ) (p q : Parcel T) (xs ys : List (ℕ 
 same_first i j p q xs ys e = (ap (parcel_or p) e, ap rest e)
 
 -- what is told of a parcel that was not picked
-told_rested : {T : Type 0} (k : Telling T) (name : List ℕ) (p : Parcel T) (handed : List ℕ) (given : List Entry) → is_picked handed (is_some p.told) ≡ false → ((t : T) → p.told ≡ Some t → (handed ≢ []) × TellsList k name t given) → ToldOk k name p handed given
+told_rested : {T : Type 0} (k : Telling T) (name : List ℕ) (p : Parcel T) (handed : List ℕ) (given : List Entry) → is_picked handed (is_some p.told) ≡ false → ((t : T) → p.told ≡ Some t → (handed ≢ []) × TellsList k name t given) → TellsGiven k name p handed given
 told_rested k name p [] given unpicked told = ((λ _. refl), told)
 told_rested k name p (x ∷ xs) given unpicked told = ((λ e. absurd (true≢false (sym (ap (λ t. not (is_some t)) e) ∙ unpicked))), told)
 
@@ -84,9 +84,9 @@ none_of (Some t) never = absurd (never t refl)
 
 module _ {C T : Type 0} (hint packed : List ℕ → List Entry → ℕ) (g : Sketching C) (k : Telling T) where
   abbrev Rule : State (Slot C T) View → Type 0
-  Rule = Kept hint packed g k
+  Rule = KeepsRule hint packed g k
 
-  lacks_own : (s : State (Slot C T) View) (r : Rule s) (j : ℕ) (v : View) (p : Post) → PostOk r.n r.machine r.owner j v.seen v.sizes v.drained p → LacksOwn r.machine.published (size_of v) p
+  lacks_own : (s : State (Slot C T) View) (r : Rule s) (j : ℕ) (v : View) (p : Post) → KnowsPost r.n r.machine r.owner j v.seen v.sizes v.drained p → LacksOwn r.machine.published (size_of v) p
   lacks_own s r j v Guest t = tt
   lacks_own s r j v (Root made) t = tt
   lacks_own s r j v (Updater i mine) t = subst (λ (y : ℕ × Mine). LacksAtMost y.1.handed (entries_by i r.machine.published) y.0) (λ a. (sym t.4 a, sym t.2 a)) (event.lacks (hint r.numbers) r.n r.machine i r.meets t.0)
@@ -126,7 +126,7 @@ module _ {C T : Type 0} (hint packed : List ℕ → List Entry → ℕ) (g : Ske
 
   pub looks : (slots id n : ℕ) (me : Sat C T) (i : ℕ) → slots ≡ n + 1 → me.0.live ≡ true → me.0.post ≡ Updater i (mine_of me.0) → size_of me.0 i ≢ 0 → Allows Rule slots id me (i + 1) (λ x. x) (looked k hint (step slots (i + 1) 0 0 none) me)
   looks slots id n me i size live is there s r deep at _ = let v : View = me.0 in let m = r.machine in let x : ℕ = get_or s.words (i + 1) 0 in let o = r.each_seat id v at live in
-      let mine : Mine = mine_of v in let own = subst (PostOk r.n m r.owner id v.seen v.sizes v.drained) is o.post_is in let inside : i < r.n = own.0 in let u = m.updaters i in let ok = r.meets.each i inside in let slot = r.each_slot i inside in
+      let mine : Mine = mine_of v in let own = subst (KnowsPost r.n m r.owner id v.seen v.sizes v.drained) is o.post_is in let inside : i < r.n = own.0 in let u = m.updaters i in let ok = r.meets.each i inside in let slot = r.each_slot i inside in
       let word : x ≡ u.word = r.words_are i inside in let b : size_of v i ≡ m.sizes i = own.4 in let admitted : m.sizes i ≢ 0 = λ z. there (b ∙ z) in
       let here : (j : ℕ) → i + 1 ≡ j + 1 → i ≡ j = λ j e. omega arith in
       dite (ℕ_discrete x 0)
@@ -141,7 +141,7 @@ module _ {C T : Type 0} (hint packed : List ℕ → List Entry → ℕ) (g : Ske
             λ _. record {
               view = refl;
               unready = ap (λ (y : Mine). y.ready) own.2 ∙ ok.closed_ready z;
-              closed = ⊎_elim (λ (known : is_open i v.steps ≡ true). absurd (subst (OpenOk m v.steps) is o.open_is known z)) (λ e. e) (cases_Bool (is_open i v.steps));
+              closed = ⊎_elim (λ (known : is_open i v.steps ≡ true). absurd (subst (KnowsOpen m v.steps) is o.open_is known z)) (λ e. e) (cases_Bool (is_open i v.steps));
               more = subst (λ (y : Mine). length (entries_by i y.base) < length y.handed) (sym own.2) (let a = ok.closed_more z in let c = event.entries_by_longer i u.mine.base u.given ok.base_is in omega arith);
             },
           ),
@@ -218,7 +218,7 @@ module _ {C T : Type 0} (hint packed : List ℕ → List Entry → ℕ) (g : Ske
               refl,
               (
                 p.2 ∙ ap (λ c. contents [] c) (room_some (m.sizes i) admitted ∙ sym b),
-                λ unpicked. subst (λ (y : List ℕ × List ℕ). ToldOk k y.0 p.0 y.1 base) (λ a. (sym o.sketch.name_is a, (ap (λ (y : Mine). y.handed) (sym own.2)) a)) (p.3 (ap (λ (y : Mine). y.picked) (sym own.2) ∙ unpicked)),
+                λ unpicked. subst (λ (y : List ℕ × List ℕ). TellsGiven k y.0 p.0 y.1 base) (λ a. (sym o.sketch.name_is a, (ap (λ (y : Mine). y.handed) (sym own.2)) a)) (p.3 (ap (λ (y : Mine). y.picked) (sym own.2) ∙ unpicked)),
               ),
             );
           },
@@ -230,7 +230,7 @@ module _ {C T : Type 0} (hint packed : List ℕ → List Entry → ℕ) (g : Ske
   pub rests : (slots id n : ℕ) (v : View) (i : ℕ) (p : Parcel T) (more : List (ℕ × Slot C T)) → slots ≡ n + 1 → v.live ≡ true → v.post ≡ Updater i (mine_of v) → (mine_of v).ready ≡ true → size_of v i ≢ 0 → p.buffer ≡ contents [] (size_of v i)
       → ((t : T) → p.told ≡ Some t → ((mine_of v).handed ≢ []) × TellsList k v.name t (mine_of v).base) → Allows Rule slots id (v, (i, full p) ∷ more) (i + 1) (λ x. x) (rested (step slots (i + 1) 0 0 none) (v, (i, full p) ∷ more))
   rests slots id n v i p more size live is ready there empty told s r deep at _ = let m = r.machine in let x : ℕ = get_or s.words (i + 1) 0 in let o = r.each_seat id v at live in
-      let mine : Mine = mine_of v in let own = subst (PostOk r.n m r.owner id v.seen v.sizes v.drained) is o.post_is in let inside : i < r.n = own.0 in let deep' = r.deep in let u = m.updaters i in let ok = r.meets.each i inside in
+      let mine : Mine = mine_of v in let own = subst (KnowsPost r.n m r.owner id v.seen v.sizes v.drained) is o.post_is in let inside : i < r.n = own.0 in let deep' = r.deep in let u = m.updaters i in let ok = r.meets.each i inside in
       let word : x ≡ u.word = r.words_are i inside in let b : size_of v i ≡ m.sizes i = own.4 in let admitted : m.sizes i ≢ 0 = λ z. there (b ∙ z) in
       let on : u.mine.ready ≡ true = ap (λ (y : Mine). y.ready) (sym own.2) ∙ ready in let open_word : u.word ≢ 0 = event.open_ready (hint r.numbers) (m.sizes i) m.published m.stage i u ok on in
       let gone : Bool = is_picked mine.handed (is_some p.told) in let u' : CoarseUpdater = record u { mine = rested_mine u.mine gone } in let ups : ℕ → CoarseUpdater = put m.updaters i u' in let m' : Coarse = record m { updaters = ups } in
@@ -275,7 +275,7 @@ module _ {C T : Type 0} (hint packed : List ℕ → List Entry → ℕ) (g : Ske
 
   pub admits : (slots id n : ℕ) (me : Sat C T) (i b : ℕ) → slots ≡ n + 1 → me.0.live ≡ true → me.0.post ≡ Updater i (mine_of me.0) → (mine_of me.0).picked ≡ false → size_of me.0 i ≡ 0 → 1 ≤ b → Allows Rule slots id me (i + 1) (λ x. x) (admitted hint b (step slots (i + 1) 0 0 none) me)
   admits slots id n me i b size live is unpicked vacant least s r deep at _ = let v : View = me.0 in let m = r.machine in let x : ℕ = get_or s.words (i + 1) 0 in let o = r.each_seat id v at live in
-      let mine : Mine = mine_of v in let own = subst (PostOk r.n m r.owner id v.seen v.sizes v.drained) is o.post_is in let inside : i < r.n = own.0 in let u = m.updaters i in let ok = r.meets.each i inside in let slot = r.each_slot i inside in
+      let mine : Mine = mine_of v in let own = subst (KnowsPost r.n m r.owner id v.seen v.sizes v.drained) is o.post_is in let inside : i < r.n = own.0 in let u = m.updaters i in let ok = r.meets.each i inside in let slot = r.each_slot i inside in
       let word : x ≡ u.word = r.words_are i inside in let zeroed : m.sizes i ≡ 0 = sym own.4 ∙ vacant in let long = o.sizes.sized in
       let open_word : u.word ≢ 0 = event.open_vacant (hint r.numbers) (m.sizes i) m.published m.stage i u ok zeroed in
       let nothing = ok.vacant zeroed in let given : u.given ≡ [] = r.vacant i inside zeroed in
@@ -338,7 +338,7 @@ module _ {C T : Type 0} (hint packed : List ℕ → List Entry → ℕ) (g : Ske
       → IsBatch (size_of v i) p.buffer.items → AreItems p.buffer.items → length (mine_of v).handed + length p.buffer.items ≤ most_kept
       → Allows Rule slots id (v, (i, full p) ∷ more) (i + 1) (λ _. 0) (λ _. handed (step slots (i + 1) 0 0 none) (v, (i, full p) ∷ more) 0)
   hands slots id n v i p more size live is ready there capacity batch items few s r deep at _ = let m = r.machine in let o = r.each_seat id v at live in
-      let mine : Mine = mine_of v in let own = subst (PostOk r.n m r.owner id v.seen v.sizes v.drained) is o.post_is in let inside : i < r.n = own.0 in let deep' = r.deep in let u = m.updaters i in let ok = r.meets.each i inside in
+      let mine : Mine = mine_of v in let own = subst (KnowsPost r.n m r.owner id v.seen v.sizes v.drained) is o.post_is in let inside : i < r.n = own.0 in let deep' = r.deep in let u = m.updaters i in let ok = r.meets.each i inside in
       let b : size_of v i ≡ m.sizes i = own.4 in let admitted : m.sizes i ≢ 0 = λ z. there (b ∙ z) in let xs : List ℕ = p.buffer.items in
       let on : u.mine.ready ≡ true = ap (λ (y : Mine). y.ready) (sym own.2) ∙ ready in let open_word : u.word ≢ 0 = event.open_ready (hint r.numbers) (m.sizes i) m.published m.stage i u ok on in
       let u' : CoarseUpdater = record { word = 0; given = u.given; waiting = xs; mine = handed_mine u.mine xs } in let ups : ℕ → CoarseUpdater = put m.updaters i u' in let m' : Coarse = record m { updaters = ups } in

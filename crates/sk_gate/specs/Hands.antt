@@ -12,8 +12,8 @@ use Rattle.sk_machine.specs.declared.views.Duty.TheVariants.{Free, Leads}
 use Rattle.sk_machine.specs.declared.views.View.{View}
 use Rattle.sk_gate.specs.declared.load.Trunk.{Trunk}
 use Rattle.sk_gate.specs.declared.load.Load.TheVariants as load
-use Rattle.sk_gate.specs.Slots.{Slot, full, trunk, contents, Sketching, Telling, TellsList, TrunkOk}
-use Rattle.sk_gate.specs.Views.{size_of, mine_of, stage_of}
+use Rattle.sk_gate.specs.Slots.{Slot, full, trunk, contents, Sketching, Telling, TellsList, IsTrunkOf}
+use Rattle.sk_gate.specs.Views.{size_of, mine_of, stage_in}
 use Rattle.sk_gate.specs.Plays.{Sat, is_picked, rested_mine}
 use Rattle.sk_model.specs.Width.{AreItems}
 use Rattle.sk_model.specs.Limits.{most_kept}
@@ -26,8 +26,8 @@ rotated zero hand = hand
 rotated (suc times) hand = turned (rotated times hand)
 
 -- a slot is in hand, with so many before it and behind it
-abbrev pub IsAt : {S : Type 0} → ℕ → ℕ → ℕ → List (ℕ × S) → Type 0
-IsAt {S} slot before after hand = (front : List (ℕ × S)) × (x : S) × (back : List (ℕ × S)) × (hand ≡ front ++ (slot, x) ∷ back) × (length front ≡ before) × (length back ≡ after)
+abbrev pub LiesAt : {S : Type 0} → ℕ → ℕ → ℕ → List (ℕ × S) → Type 0
+LiesAt {S} slot before after hand = (front : List (ℕ × S)) × (x : S) × (back : List (ℕ × S)) × (hand ≡ front ++ (slot, x) ∷ back) × (length front ≡ before) × (length back ≡ after)
 
 -- there it had the old value, and has the new one
 abbrev pub IsPut : {S : Type 0} → ℕ → ℕ → ℕ → List (ℕ × S) → S → S → List (ℕ × S) → Type 0
@@ -50,7 +50,7 @@ is_empty [] = true
 is_empty (x ∷ xs) = false
 
 -- a seat that may propagate
-pub record Standing : Type 0 where
+pub record SeatState : Type 0 where
   pub view : View
   pub table : TableId
   -- i of updater i, and of the heart how many updaters there are
@@ -62,7 +62,7 @@ pub record Standing : Type 0 where
   pub lifted : Bool
 
 -- what an updater's seat knows once it has given its slot back
-abbrev pub rested_of : Standing → View
+abbrev pub rested_of : SeatState → View
 rested_of s = record s.view { post = Updater s.number (rested_mine (mine_of s.view) (is_picked (mine_of s.view).handed s.own.told)) }
 
 -- its own slot after a look that loaded r
@@ -70,7 +70,7 @@ abbrev pub own_looked : ℕ → View → ℕ → Own → Own
 own_looked r v i own = if r == 0 then own else if (mine_of v).ready then own else record { items = []; capacity = size_of v i; told = not (is_empty (mine_of v).handed) }
 
 -- a token or a note
-pub record Reading : Type 0 where
+pub record TokenState : Type 0 where
   pub view : View
   pub table : TableId
 
@@ -103,8 +103,8 @@ module _ {C T : Type 0} where
   has_trunk ((i, Some (load.Trunk t)) ∷ more) = true
 
   -- front: how many of the slots are the propagator's, which come first, the trunk last of them
-  abbrev pub standing_of : View → TableId → ℕ → ℕ → List (ℕ × Slot C T) → Standing
-  standing_of v table number front hand = record {
+  abbrev pub seat_state : View → TableId → ℕ → ℕ → List (ℕ × Slot C T) → SeatState
+  seat_state v table number front hand = record {
     view = v;
     table = table;
     number = number;
@@ -118,7 +118,7 @@ module _ {C T : Type 0} where
 module _ (v : View) where
   -- a trunk that a seat with this view may lay, and finds
   abbrev pub IsTrunk : {C T : Type 0} → Sketching C → Trunk C T → Type 0
-  IsTrunk g t = TrunkOk g v.numbers v.name v.seen (stage_of v.duty) (size_of v) t
+  IsTrunk g t = IsTrunkOf g v.numbers v.name v.seen (stage_in v.duty) (size_of v) t
 
   -- of a parcel that an updater finds in its slot: what was handed over before has a told value, which tells its base
   abbrev pub TellsBase : {T : Type 0} → Telling T → Parcel T → Type 0
@@ -139,11 +139,11 @@ module _ (v : View) where
 
   -- the trunk's slot, of a table with n updaters
   abbrev pub TrunkHand : {C T : Type 0} → Sketching C → ℕ → Stage → List (ℕ × Slot C T) → Type 0
-  TrunkHand {C} {T} g n stage hand = (hand ≡ (n, None) ∷ []) ⊎ ((t : Trunk C T) × (hand ≡ (n, trunk t) ∷ []) × TrunkOk g v.numbers v.name v.seen stage (size_of v) t)
+  TrunkHand {C} {T} g n stage hand = (hand ≡ (n, None) ∷ []) ⊎ ((t : Trunk C T) × (hand ≡ (n, trunk t) ∷ []) × IsTrunkOf g v.numbers v.name v.seen stage (size_of v) t)
 
-  abbrev pub LeadsBy : {C T : Type 0} → Sketching C → Telling T → ℕ → Duty → List (ℕ × Slot C T) → List (ℕ × Slot C T) → Type 0
-  LeadsBy g k n Free first second = (first ≡ []) × (second ≡ [])
-  LeadsBy g k n (Leads stage left) first second = StageHand k stage left first × StageKnown stage left × TrunkHand g n stage second
+  abbrev pub DutyHand : {C T : Type 0} → Sketching C → Telling T → ℕ → Duty → List (ℕ × Slot C T) → List (ℕ × Slot C T) → Type 0
+  DutyHand g k n Free first second = (first ≡ []) × (second ≡ [])
+  DutyHand g k n (Leads stage left) first second = StageHand k stage left first × StageKnown stage left × TrunkHand g n stage second
 
   -- the parcel in its own slot: empty, as it was taken or picked, or full, to be handed over
   abbrev pub IsEmptyOwn : {T : Type 0} → Telling T → ℕ → Parcel T → Type 0
@@ -174,6 +174,6 @@ pub record Holds {C T : Type 0} (g : Sketching C) (k : Telling T) (heart : Bool)
   pub third : List (ℕ × Slot C T)
   pub hand : m.1 ≡ first ++ second ++ third
   pub counted : length first + length second ≡ front
-  pub leading : LeadsBy m.0 g k n m.0.duty first second
+  pub leading : DutyHand m.0 g k n m.0.duty first second
   pub own_is : own ≡ (mine_of m.0).ready
   pub owned : OwnHand m.0 k number own third

@@ -11,7 +11,7 @@ use Rattle.sk_machine.specs.declared.views.Post.{Post}
 use Rattle.sk_machine.specs.declared.views.Post.TheVariants.{Guest, Root, Updater}
 use Rattle.sk_machine.specs.declared.views.Duty.TheVariants.{Free, Leads}
 use Rattle.sk_machine.specs.declared.views.View.{View}
-use Rattle.sk_gate.specs.Views.{known_of, size_of, mine_of, leads, stage_of, left_of, batch_of, is_open}
+use Rattle.sk_gate.specs.Views.{known_of, size_of, mine_of, leads, stage_in, left_in, batch_of, is_open}
 
 -- ---- any seat
 
@@ -96,16 +96,16 @@ HandsAt v w i batch = w ≡ record v { steps = v.steps ++ Hand i ∷ []; post = 
 
 -- where a turn finds the propagator
 abbrev pub ResumesAt : View → View → Stage → Type 0
-ResumesAt v w Idle = (w.sizes ≡ v.sizes) × (left_of w.duty ≡ false)
-ResumesAt v w (Busy i batch) = (i < length v.sizes) × (w.sizes ≡ slice_set v.sizes i (size_of w i)) × (left_of w.duty ≡ true) × IsBatch (size_of w i) batch × (length w.seen + length batch ≤ most_entries) × (size_of v i ≢ 0 → size_of w i ≡ size_of v i)
+ResumesAt v w Idle = (w.sizes ≡ v.sizes) × (left_in w.duty ≡ false)
+ResumesAt v w (Busy i batch) = (i < length v.sizes) × (w.sizes ≡ slice_set v.sizes i (size_of w i)) × (left_in w.duty ≡ true) × IsBatch (size_of w i) batch × (length w.seen + length batch ≤ most_entries) × (size_of v i ≢ 0 → size_of w i ≡ size_of v i)
 ResumesAt v w (Published i) = ⊥
 
 -- a turn that found 0
 pub record TakesTurnAt (v w : View) : Type 0 where
-  pub view : w ≡ record v { seen = w.seen; steps = v.steps ++ Turn 0 ∷ []; duty = Leads (stage_of w.duty) (left_of w.duty); sizes = w.sizes }
+  pub view : w ≡ record v { seen = w.seen; steps = v.steps ++ Turn 0 ∷ []; duty = Leads (stage_in w.duty) (left_in w.duty); sizes = w.sizes }
   pub grows : Begins v.seen w.seen
   pub is_seen : IsSeen v w.seen
-  pub resumes : ResumesAt v w (stage_of w.duty)
+  pub resumes : ResumesAt v w (stage_in w.duty)
 
 -- a turn that found another seat's number
 pub record MissesTurnAt (v : View) (found : ℕ) (w : View) : Type 0 where

@@ -10,8 +10,8 @@ use Rattle.sk_machine.specs.declared.views.Post.TheVariants.{Updater}
 use Rattle.sk_machine.specs.declared.views.Duty.TheVariants.{Leads}
 use Rattle.sk_machine.specs.declared.views.View.{View}
 use Rattle.sk_gate.specs.declared.load.Trunk.{Trunk}
-use Rattle.sk_gate.specs.Slots.{Slot, full, trunk, contents, Sketching, Telling, ToldOk, TrunkOk}
-use Rattle.sk_gate.specs.Views.{size_of, mine_of, stage_of, batch_of}
+use Rattle.sk_gate.specs.Slots.{Slot, full, trunk, contents, Sketching, Telling, TellsGiven, IsTrunkOf}
+use Rattle.sk_gate.specs.Views.{size_of, mine_of, stage_in, batch_of}
 use Rattle.sk_gate.specs.Moves.{IsSeen, AsksAt, LooksAt, AdmitsAt, HandsAt, TurnsAt, YieldsAt, FindsAt, LeavesAt, PublishesAt, GivesBackAt}
 
 -- a seat: its view, and the slots that it has
@@ -20,7 +20,7 @@ Sat C T = Me (Slot C T) View
 
 -- the empty parcel that a look gives, of what was given back with the base
 abbrev pub IsRested : {T : Type 0} → Telling T → View → View → ℕ → Parcel T → Type 0
-IsRested k v w i p = (p.buffer ≡ contents [] (size_of v i)) × ((mine_of v).picked ≡ false → ToldOk k v.name p (mine_of v).handed (mine_of w).base)
+IsRested k v w i p = (p.buffer ≡ contents [] (size_of v i)) × ((mine_of v).picked ≡ false → TellsGiven k v.name p (mine_of v).handed (mine_of w).base)
 
 -- whether the told value was picked out of an empty parcel, which has one if something was handed over before
 abbrev pub is_picked : List ℕ → Bool → Bool
@@ -63,7 +63,7 @@ module _ {C T : Type 0} where
   -- a turn that found 0 gives the trunk
   abbrev pub turned : Sketching C → Step (Slot C T) → Sat C T → ℕ → Sat C T → Type 0
   turned g st m r m' = TurnsAt m.0 r m'.0 × (r ≢ 0 → m'.1 ≡ m.1)
-      × (r ≡ 0 → (n : ℕ) → st.word ≡ n + 1 → (t : Trunk C T) × (m'.1 ≡ (n, trunk t) ∷ m.1) × TrunkOk g m'.0.numbers m'.0.name m'.0.seen (stage_of m'.0.duty) (size_of m'.0) t)
+      × (r ≡ 0 → (n : ℕ) → st.word ≡ n + 1 → (t : Trunk C T) × (m'.1 ≡ (n, trunk t) ∷ m.1) × IsTrunkOf g m'.0.numbers m'.0.name m'.0.seen (stage_in m'.0.duty) (size_of m'.0) t)
 
   -- it gives the first slot back
   abbrev pub yielded : Step (Slot C T) → Sat C T → ℕ → Sat C T → Type 0

@@ -16,7 +16,7 @@ use Rattle.sk_machine.specs.declared.views.Duty.{Duty}
 use Rattle.sk_machine.specs.declared.views.Duty.TheVariants.{Free, Leads}
 use Rattle.sk_machine.specs.declared.views.View.{View}
 use Rattle.sk_gate.specs.declared.load.Trunk.{Trunk}
-use Rattle.sk_gate.specs.Slots.{Slot, full, trunk, word_of, turn_word, contents, room, Sketching, Telling, ToldOk, TrunkOk}
+use Rattle.sk_gate.specs.Slots.{Slot, full, trunk, word_of, turn_word, contents, room, Sketching, Telling, TellsGiven, IsTrunkOf}
 use Rattle.sk_gate.specs.Views.{known_of, given_of, seat_in, leads, is_busy, is_open, SpeaksFor}
 
 -- ---- slots
@@ -27,11 +27,11 @@ left_home true = some None
 left_home false = none
 
 -- what lies in the slot of updater i, for buffers of b items
-pub record SlotOk {C T : Type 0} (k : Telling T) (name : List ℕ) (b : ℕ) (stage : Stage) (left : Bool) (i : ℕ) (u : CoarseUpdater) (home : maybe.Option (maybe.Option (Slot C T))) : Type 0 where
+pub record IsSlot {C T : Type 0} (k : Telling T) (name : List ℕ) (b : ℕ) (stage : Stage) (left : Bool) (i : ℕ) (u : CoarseUpdater) (home : maybe.Option (maybe.Option (Slot C T))) : Type 0 where
   -- the updater has it
   pub ready : u.mine.ready ≡ true → home ≡ some none
   -- an empty parcel lies in it
-  pub resting : u.word ≢ 0 → u.mine.ready ≡ false → (p : Parcel T) × (home ≡ some (some (full p))) × (p.buffer ≡ contents [] (room b)) × (u.mine.picked ≡ false → ToldOk k name p u.mine.handed u.given)
+  pub resting : u.word ≢ 0 → u.mine.ready ≡ false → (p : Parcel T) × (home ≡ some (some (full p))) × (p.buffer ≡ contents [] (room b)) × (u.mine.picked ≡ false → TellsGiven k name p u.mine.handed u.given)
   -- a batch lies in it
   pub waiting : u.word ≡ 0 → ¬ At stage i → (p : Parcel T) × (home ≡ some (some (full p))) × (p.buffer ≡ contents u.waiting b)
   -- the propagator has it, or has left it
@@ -41,25 +41,25 @@ pub record SlotOk {C T : Type 0} (k : Telling T) (name : List ℕ) (b : ℕ) (st
 
 module _ (n : ℕ) (m : Coarse) (owner : ℕ → ℕ) (j : ℕ) (seen : List Entry) (sizes drained : List ℕ) where
   -- what the seat whose view stands at j knows of the updaters that it speaks for
-  abbrev pub PostOk : Post → Type 0
-  PostOk Guest = Unit {0}
-  PostOk (Root made) = (i : ℕ) → made ≤ i → i < n → (owner i ≡ j) × (blank_mine ≡ (m.updaters i).mine) × (slice_index sizes i ≡ m.sizes i)
-  PostOk (Updater i mine) = (i < n) × (owner i ≡ j) × (mine ≡ (m.updaters i).mine) × Begins mine.base seen × (slice_index sizes i ≡ m.sizes i) × (drained ≡ [])
+  abbrev pub KnowsPost : Post → Type 0
+  KnowsPost Guest = Unit {0}
+  KnowsPost (Root made) = (i : ℕ) → made ≤ i → i < n → (owner i ≡ j) × (blank_mine ≡ (m.updaters i).mine) × (slice_index sizes i ≡ m.sizes i)
+  KnowsPost (Updater i mine) = (i < n) × (owner i ≡ j) × (mine ≡ (m.updaters i).mine) × Begins mine.base seen × (slice_index sizes i ≡ m.sizes i) × (drained ≡ [])
 
 module _ (n : ℕ) (m : Coarse) (left : Bool) (leader j : ℕ) (seen : List Entry) (post : Post) where
   -- what it knows as the one that propagates
-  abbrev pub DutyOk : Duty → Type 0
-  DutyOk Free = Unit {0}
-  DutyOk (Leads stage its) = (leader ≡ j) × (m.turn ≡ seat_in n post + 1) × (stage ≡ m.stage) × (its ≡ left) × (seen ≡ m.published)
+  abbrev pub KnowsDuty : Duty → Type 0
+  KnowsDuty Free = Unit {0}
+  KnowsDuty (Leads stage its) = (leader ≡ j) × (m.turn ≡ seat_in n post + 1) × (stage ≡ m.stage) × (its ≡ left) × (seen ≡ m.published)
 
 -- what an updater's seat knows of its word by its own steps
-abbrev pub OpenOk : Coarse → List Move → Post → Type 0
-OpenOk m steps Guest = Unit {0}
-OpenOk m steps (Root made) = Unit {0}
-OpenOk m steps (Updater i mine) = is_open i steps ≡ true → (m.updaters i).word ≢ 0
+abbrev pub KnowsOpen : Coarse → List Move → Post → Type 0
+KnowsOpen m steps Guest = Unit {0}
+KnowsOpen m steps (Root made) = Unit {0}
+KnowsOpen m steps (Updater i mine) = is_open i steps ≡ true → (m.updaters i).word ≢ 0
 
 -- what it knows of an updater whose seat was joined into it
-pub record DrainedOk (n : ℕ) (m : Coarse) (owner : ℕ → ℕ) (j : ℕ) (known picked : List ℕ) (i : ℕ) : Type 0 where
+pub record KnowsTakenIn (n : ℕ) (m : Coarse) (owner : ℕ → ℕ) (j : ℕ) (known picked : List ℕ) (i : ℕ) : Type 0 where
   pub within : i < n
   pub own : owner i ≡ j
   pub all : known ≡ (m.updaters i).mine.handed
@@ -92,10 +92,10 @@ pub record Knows (n : ℕ) (numbers name : List ℕ) (m : Coarse) (left : Bool) 
   pub sketch : KnowsSketch numbers name v.numbers v.name v.names
   pub sizes : KnowsSizes n m.sizes v.sizes v.known
   pub lists : KnowsLists n m.published m.updaters v.seen v.heard v.known v.given
-  pub post_is : PostOk n m owner j v.seen v.sizes v.drained v.post
-  pub duty_is : DutyOk n m left leader j v.seen v.post v.duty
-  pub open_is : OpenOk m v.steps v.post
-  pub drained_is : (i : ℕ) → Contains v.drained i → DrainedOk n m owner j (known_of v i) v.picked i
+  pub post_is : KnowsPost n m owner j v.seen v.sizes v.drained v.post
+  pub duty_is : KnowsDuty n m left leader j v.seen v.post v.duty
+  pub open_is : KnowsOpen m v.steps v.post
+  pub drained_is : (i : ℕ) → Contains v.drained i → KnowsTakenIn n m owner j (known_of v i) v.picked i
 
 -- a view has this place, and says this
 abbrev pub Has : List View → ℕ → (View → Type 0) → Type 0
@@ -113,7 +113,7 @@ HasGiven i list v = (v.live ≡ true) × (given_of v i ≡ list)
 -- ---- the table
 
 -- hint, packed: the hint and the word of a list, for sketches with these numbers
-pub record Kept {C T : Type 0} (hint packed : List ℕ → List Entry → ℕ) (g : Sketching C) (k : Telling T) (s : State (Slot C T) View) : Type 0 where
+pub record KeepsRule {C T : Type 0} (hint packed : List ℕ → List Entry → ℕ) (g : Sketching C) (k : Telling T) (s : State (Slot C T) View) : Type 0 where
   -- how many updaters there are, and the fixed numbers and the name of the sketch
   pub n : ℕ
   pub numbers : List ℕ
@@ -135,8 +135,8 @@ pub record Kept {C T : Type 0} (hint packed : List ℕ → List Entry → ℕ) (
   pub meets : Meets (hint numbers) n machine
   -- nothing was ever given back to an updater that is not admitted
   pub vacant : (i : ℕ) → i < n → machine.sizes i ≡ 0 → (machine.updaters i).given ≡ []
-  pub each_slot : (i : ℕ) → i < n → SlotOk k name (machine.sizes i) machine.stage left i (machine.updaters i) (get_elem? s.homes i)
-  pub rests : machine.turn ≡ 0 → (t : Trunk C T) × (get_elem? s.homes n ≡ some (some (trunk t))) × TrunkOk g numbers name machine.published machine.stage machine.sizes t × (is_busy machine.stage ≡ true → left ≡ true)
+  pub each_slot : (i : ℕ) → i < n → IsSlot k name (machine.sizes i) machine.stage left i (machine.updaters i) (get_elem? s.homes i)
+  pub rests : machine.turn ≡ 0 → (t : Trunk C T) × (get_elem? s.homes n ≡ some (some (trunk t))) × IsTrunkOf g numbers name machine.published machine.stage machine.sizes t × (is_busy machine.stage ≡ true → left ≡ true)
   pub led : machine.turn ≢ 0 → (get_elem? s.homes n ≡ some none) × Has s.views leader IsLed
   pub seen : Has s.views seer (HasSeen machine.published)
   pub given : (i : ℕ) → i < n → Has s.views (giver i) (HasGiven i (machine.updaters i).given)

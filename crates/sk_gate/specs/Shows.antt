@@ -17,7 +17,7 @@ use Rattle.sk_machine.specs.declared.views.Duty.{Duty}
 use Rattle.sk_machine.specs.declared.views.Duty.TheVariants.{Free, Leads}
 use Rattle.sk_machine.specs.declared.views.View.{View}
 use Rattle.sk_gate.specs.declared.load.Trunk.{Trunk}
-use Rattle.sk_gate.specs.Slots.{Slot, full, trunk, word_of, turn_word, contents, room, Sketching, Telling, ToldOk, TrunkOk}
+use Rattle.sk_gate.specs.Slots.{Slot, full, trunk, word_of, turn_word, contents, room, Sketching, Telling, TellsGiven, IsTrunkOf}
 use Rattle.sk_gate.specs.Views.{known_of, given_of, size_of, mine_of, seat_in, leads, SpeaksFor}
 use Rattle.sk_gate.specs.Rule.{Has, HasSeen, IsLed, HasGiven}
 
@@ -52,12 +52,12 @@ pub record ShowsSlot {C T : Type 0} (k : Telling T) (name : List ℕ) (views : L
   -- with the items that the machine has there
   pub items : (p : Parcel T) → HasParcel home p → (u.home ≡ true) × (p.buffer ≡ contents u.slot (room u.size))
   -- and, where it was given back, with a told value exactly if something was handed over, of the list given with it
-  pub told : (p : Parcel T) → HasParcel home p → u.word ≢ 0 → ¬ IsPicked views i → ToldOk k name p u.handed u.given
+  pub told : (p : Parcel T) → HasParcel home p → u.word ≢ 0 → ¬ IsPicked views i → TellsGiven k name p u.handed u.given
 
 -- the trunk's slot: whoever holds the turn has it, or else the trunk lies in it, with a sketch of the published list
 pub record ShowsTrunk {C T : Type 0} (g : Sketching C) (numbers name : List ℕ) (f : Fine) (home : maybe.Option (maybe.Option (Slot C T))) : Type 0 where
   pub taken : f.turn ≢ 0 → home ≡ some none
-  pub lies : f.turn ≡ 0 → (t : Trunk C T) × (home ≡ some (some (trunk t))) × TrunkOk g numbers name f.published (coarse_of f).stage (coarse_of f).sizes t
+  pub lies : f.turn ≡ 0 → (t : Trunk C T) × (home ≡ some (some (trunk t))) × IsTrunkOf g numbers name f.published (coarse_of f).stage (coarse_of f).sizes t
 
 -- ---- seats
 
@@ -95,20 +95,20 @@ pub record ShowsView (numbers name : List ℕ) (f : Fine) (v : View) : Type 0 wh
   pub drained : (i : ℕ) → Contains v.drained i → KnowsDrained f (known_of v i) i
 
 -- a seat that was not taken in by another
-abbrev pub IsLive : List View → ℕ → View → Type 0
-IsLive views j v = IsView views j v × (v.live ≡ true)
+abbrev pub IsLiveSeat : List View → ℕ → View → Type 0
+IsLiveSeat views j v = IsView views j v × (v.live ≡ true)
 
 pub record ShowsSeats (numbers name : List ℕ) (f : Fine) (views : List View) : Type 0 where
-  pub each : (j : ℕ) (v : View) → IsLive views j v → ShowsView numbers name f v
+  pub each : (j : ℕ) (v : View) → IsLiveSeat views j v → ShowsView numbers name f v
   -- they are the machine's tokens
   pub made : f.made ≡ length views
   pub tokens : (j : ℕ) (v : View) → IsView views j v → f.tokens j ≡ token_of v
   -- one leads where the turn is held, and no two
   pub leader : f.turn ≢ 0 → (j : ℕ) × Has views j IsLed
-  pub one_leads : (a b : ℕ) (v w : View) → IsLive views a v → IsLive views b w → leads v.duty ≡ true → leads w.duty ≡ true → a ≡ b
+  pub one_leads : (a b : ℕ) (v w : View) → IsLiveSeat views a v → IsLiveSeat views b w → leads v.duty ≡ true → leads w.duty ≡ true → a ≡ b
   -- one speaks for each updater, and no two are of one updater
   pub spoken : (i : ℕ) → i < f.n → (j : ℕ) × Has views j (SpeaksFor i)
-  pub one_own : (i a b : ℕ) (v w : View) → IsLive views a v → IsLive views b w → v.post ≡ Updater i (mine_of v) → w.post ≡ Updater i (mine_of w) → a ≡ b
+  pub one_own : (i a b : ℕ) (v w : View) → IsLiveSeat views a v → IsLiveSeat views b w → v.post ≡ Updater i (mine_of v) → w.post ≡ Updater i (mine_of w) → a ≡ b
   -- what is published was seen, and what was given back was recorded
   pub seen : (j : ℕ) × Has views j (HasSeen f.published)
   pub given : (i : ℕ) → i < f.n → (j : ℕ) × Has views j (HasGiven i (f.updaters i).given)

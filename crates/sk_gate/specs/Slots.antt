@@ -58,18 +58,18 @@ abbrev pub TellsList : {T : Type 0} → Telling T → List ℕ → T → List En
 TellsList k name t list = k.tells → (k.told_name t ≡ name) × k.told_of t list
 
 -- a parcel that was given back with this list has a told value exactly where something was handed over before
-abbrev pub ToldOk : {T : Type 0} → Telling T → List ℕ → Parcel T → List ℕ → List Entry → Type 0
-ToldOk {T} k name p handed given = (p.told ≡ None → handed ≡ []) × ((t : T) → p.told ≡ Some t → (handed ≢ []) × TellsList k name t given)
+abbrev pub TellsGiven : {T : Type 0} → Telling T → List ℕ → Parcel T → List ℕ → List Entry → Type 0
+TellsGiven {T} k name p handed given = (p.told ≡ None → handed ≡ []) × ((t : T) → p.told ≡ Some t → (handed ≢ []) × TellsList k name t given)
 
 -- the batch that lies in the trunk, where the propagator is
-abbrev pub HeldOk : {T : Type 0} → Stage → (ℕ → ℕ) → Option (Held T) → Type 0
-HeldOk Idle sizes held = held ≡ None
-HeldOk {T} (Busy i batch) sizes held = (h : Held T) × (held ≡ Some h) × (h.i ≡ i) × (h.parcel.buffer ≡ contents batch (sizes i))
-HeldOk (Published i) sizes held = ⊥
+abbrev pub IsHeld : {T : Type 0} → Stage → (ℕ → ℕ) → Option (Held T) → Type 0
+IsHeld Idle sizes held = held ≡ None
+IsHeld {T} (Busy i batch) sizes held = (h : Held T) × (held ≡ Some h) × (h.i ≡ i) × (h.parcel.buffer ≡ contents batch (sizes i))
+IsHeld (Published i) sizes held = ⊥
 
 -- a trunk that has been laid, with a sketch of this list
-pub record TrunkOk {C T : Type 0} (g : Sketching C) (numbers name : List ℕ) (list : List Entry) (stage : Stage) (sizes : ℕ → ℕ) (t : Trunk C T) : Type 0 where
+pub record IsTrunkOf {C T : Type 0} (g : Sketching C) (numbers name : List ℕ) (list : List Entry) (stage : Stage) (sizes : ℕ → ℕ) (t : Trunk C T) : Type 0 where
   pub of_it : g.is_of t.global list
   pub numbers_are : g.numbers t.global ≡ numbers
   pub name_is : g.name t.global ≡ name
-  pub held_is : HeldOk stage sizes t.held
+  pub held_is : IsHeld stage sizes t.held

@@ -9,7 +9,7 @@ use Rattle.sk_machine.specs.declared.views.View.{View}
 use Rattle.sk_gate.specs.Slots.{word_of, turn_word}
 use Rattle.sk_gate.specs.Views.{first_view}
 use Rattle.sk_gate.specs.Plays.{Sat}
-use Rattle.sk_gate.specs.Hands.{no_own, Standing, Reading}
+use Rattle.sk_gate.specs.Hands.{no_own, SeatState, TokenState}
 
 -- of n updaters: the word and the hint of the empty list, and nobody has the turn
 pub record AreFirstWords (packed hint n : ℕ) (words : List ℕ) : Type 0 where
@@ -24,7 +24,7 @@ abbrev pub blank_view : List ℕ → List ℕ → List ℕ → Post → ℕ → 
 blank_view sizes numbers name post splits = record (first_view sizes numbers name) { post = post; steps = replicate splits Split }
 
 -- a seat that has no slot
-abbrev pub empty_handed : View → TableId → ℕ → Standing
+abbrev pub empty_handed : View → TableId → ℕ → SeatState
 empty_handed v table number = record { view = v; table = table; number = number; own = no_own; filled = false; lifted = false }
 
 -- such a view of the same sketch
@@ -36,11 +36,11 @@ abbrev pub IsBlank : {C T : Type 0} → View → Post → ℕ → Sat C T → Ty
 IsBlank v post splits m = m ≡ (blank_of v post splits, [])
 
 -- the seats of updaters, in number order
-abbrev pub AreNew : View → TableId → List Standing → Type 0
-AreNew v table updaters = (i : ℕ) (d : Standing) → i < length updaters → slice_index_or updaters i d ≡ empty_handed (blank_of v (Updater i blank_mine) (i + 1)) table i
+abbrev pub AreNew : View → TableId → List SeatState → Type 0
+AreNew v table updaters = (i : ℕ) (d : SeatState) → i < length updaters → slice_index_or updaters i d ≡ empty_handed (blank_of v (Updater i blank_mine) (i + 1)) table i
 
 -- the seats of one table with n updaters
-pub record IsMade (n : ℕ) (sizes numbers name : List ℕ) (heart : Standing) (updaters : List Standing) (token : Reading) : Type 0 where
+pub record IsMade (n : ℕ) (sizes numbers name : List ℕ) (heart : SeatState) (updaters : List SeatState) (token : TokenState) : Type 0 where
   pub heart_is : heart ≡ empty_handed (blank_view sizes numbers name (Root n) (n + 1)) heart.table n
   pub slots : heart.table.slots ≡ n + 1
   pub count : length updaters ≡ n

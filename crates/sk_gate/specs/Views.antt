@@ -53,13 +53,13 @@ abbrev pub leads : Duty → Bool
 leads Free = false
 leads (Leads stage left) = true
 
-abbrev pub stage_of : Duty → Stage
-stage_of Free = Idle
-stage_of (Leads stage left) = stage
+abbrev pub stage_in : Duty → Stage
+stage_in Free = Idle
+stage_in (Leads stage left) = stage
 
-abbrev pub left_of : Duty → Bool
-left_of Free = false
-left_of (Leads stage left) = left
+abbrev pub left_in : Duty → Bool
+left_in Free = false
+left_in (Leads stage left) = left
 
 abbrev pub batch_in : Stage → List ℕ
 batch_in Idle = []
@@ -68,7 +68,7 @@ batch_in (Published i) = []
 
 -- the batch that the propagator holds
 abbrev pub batch_of : View → List ℕ
-batch_of v = batch_in (stage_of v.duty)
+batch_of v = batch_in (stage_in v.duty)
 
 abbrev pub is_busy : Stage → Bool
 is_busy Idle = false
@@ -76,11 +76,11 @@ is_busy (Busy i batch) = true
 is_busy (Published i) = false
 
 -- the turn may be yielded: nothing is found, or the batch lies in the trunk, and its slot was left
-abbrev pub MayYield : Duty → Type 0
-MayYield Free = ⊥
-MayYield (Leads Idle left) = Unit {0}
-MayYield (Leads (Busy i batch) left) = left ≡ true
-MayYield (Leads (Published i) left) = ⊥
+abbrev pub IsAtRest : Duty → Type 0
+IsAtRest Free = ⊥
+IsAtRest (Leads Idle left) = Unit {0}
+IsAtRest (Leads (Busy i batch) left) = left ≡ true
+IsAtRest (Leads (Published i) left) = ⊥
 
 -- ---- lists of views
 
@@ -97,10 +97,10 @@ sizes_merged (x ∷ xs) [] = x ∷ xs
 sizes_merged (x ∷ xs) (y ∷ ys) = (if x == 0 then y else x) ∷ sizes_merged xs ys
 
 -- the room of the parcels of those that are admitted, and 0 for the others
-abbrev pub sizes_of : {T : Type 0} → ℕ → List (Parcel T) → List ℕ
-sizes_of admitted [] = []
-sizes_of zero (p ∷ ps) = 0 ∷ sizes_of zero ps
-sizes_of (suc admitted) (p ∷ ps) = p.buffer.capacity ∷ sizes_of admitted ps
+abbrev pub admitted_sizes : {T : Type 0} → ℕ → List (Parcel T) → List ℕ
+admitted_sizes admitted [] = []
+admitted_sizes zero (p ∷ ps) = 0 ∷ admitted_sizes zero ps
+admitted_sizes (suc admitted) (p ∷ ps) = p.buffer.capacity ∷ admitted_sizes admitted ps
 
 -- ---- steps
 

@@ -3,8 +3,8 @@ ghost use Rattle.std.specs.Prelude.{◌≡◌, ◌≢◌, ◌+◌, ◌≤◌, le
 ghost use Rattle.sk_machine.specs.Coarse.{most_entries};
 ghost use Rattle.sk_machine.specs.declared.views.Stage.TheVariants.{Idle, Busy};
 ghost use Rattle.sk_machine.specs.declared.views.Duty.TheVariants.{Leads};
-ghost use Rattle.sk_gate.specs.Slots.{contents, sketching, TrunkOk};
-ghost use Rattle.sk_gate.specs.Views.{size_of, batch_of, left_of};
+ghost use Rattle.sk_gate.specs.Slots.{contents, sketching, IsTrunkOf};
+ghost use Rattle.sk_gate.specs.Views.{size_of, batch_of, left_in};
 ghost use Rattle.sk_gate.specs.Hands.{IsTrunk};
 ghost use Rattle.sk_gate.specs.Merge.{MergesAt};
 ghost use Rattle.sk_gate.specs.Moves.{IsSeen};
@@ -26,10 +26,10 @@ pub fn merge_batch<C: Composable, R: Role, W: Wait>(
     mut parcel: Parcel<C::Told>,
 ) -> Result<u32, OutOfMemory>
     requires found { seat.old.view.duty
-        ≡ Leads (Busy i (batch_of seat.old.view)) (left_of seat.old.view.duty) }
+        ≡ Leads (Busy i (batch_of seat.old.view)) (left_in seat.old.view.duty) }
     requires taken { seat.old.filled ≡ false }
     requires lifted { seat.old.lifted ≡ true }
-    requires trunk { TrunkOk (sketching C.is_of C.numbers C.name)
+    requires trunk { IsTrunkOf (sketching C.is_of C.numbers C.name)
         seat.old.view.numbers seat.old.view.name seat.old.view.seen Idle (size_of seat.old.view) trunk.old }
     requires batch { parcel.buffer ≡ contents (batch_of seat.old.view) (size_of seat.old.view i) }
     requires few { length seat.old.view.seen + length (batch_of seat.old.view) ≤ most_entries }

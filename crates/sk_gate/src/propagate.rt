@@ -5,7 +5,7 @@ ghost use Rattle.sk_machine.specs.Coarse.{IsBatch, most_entries};
 ghost use Rattle.sk_machine.specs.declared.views.Stage.TheVariants.{Idle, Busy, Published};
 ghost use Rattle.sk_machine.specs.declared.views.Duty.TheVariants.{Leads};
 ghost use Rattle.sk_gate.specs.Slots.{contents, sketching, telling, TellsList};
-ghost use Rattle.sk_gate.specs.Views.{size_of, batch_of, stage_of, left_of, leads, MayYield};
+ghost use Rattle.sk_gate.specs.Views.{size_of, batch_of, stage_in, left_in, leads, IsAtRest};
 ghost use Rattle.sk_gate.specs.Hands.{IsTrunk, StageKnown};
 ghost use Rattle.sk_gate.specs.Moves.{IsSeen, AsksAt, TakesTurnAt, MissesTurnAt, YieldsAt, FindsAt, LeavesAt, PublishesAt, GivesBackAt};
 
@@ -44,7 +44,7 @@ impl<C: Composable, R: Role> Propagator<C, R> {
         requires laid { self.old.lifted ≡ false }
         ensures trunk { IsTrunk self.old.view (sketching C.is_of C.numbers C.name) result }
         ensures known { StageKnown self.old.view
-            (stage_of self.old.view.duty) (left_of self.old.view.duty) }
+            (stage_in self.old.view.duty) (left_in self.old.view.duty) }
         ensures seat { self.new ≡ record self.old { lifted = true } }
     {
         let own = u32::from(self.own);
@@ -87,7 +87,7 @@ impl<C: Composable, R: Role> Propagator<C, R> {
     /// One store of the word of the sketch, into which the batch was merged.
     pub fn publish(&mut self, i: u32, global: &C)
         requires found { self.old.view.duty
-            ≡ Leads (Busy i (batch_of self.old.view)) (left_of self.old.view.duty) }
+            ≡ Leads (Busy i (batch_of self.old.view)) (left_in self.old.view.duty) }
         requires taken { self.old.filled ≡ false }
         requires lifted { self.old.lifted ≡ true }
         requires merged { C.is_of global.now
@@ -168,7 +168,7 @@ impl<C: Composable, R: Role> Propagator<C, R> {
 
     /// One store of 0 in the turn. It gives the trunk back.
     pub fn yield_turn(&mut self)
-        requires led { MayYield self.old.view.duty }
+        requires led { IsAtRest self.old.view.duty }
         requires laid { self.old.lifted ≡ false }
         ensures told { YieldsAt self.old.view self.new.view }
         ensures seat { self.new ≡ record self.old { view = self.new.view } }

@@ -25,13 +25,13 @@ pub struct About<C: Composable> {
 
 impl<C: Composable> TableRule<Slot<C>, View, About<C>> for Gate<C> {
     ghost use Rattle.sk_gate.specs.Slots.{sketching, telling};
-    ghost use Rattle.sk_gate.specs.Rule.{Kept};
-    ghost use Rattle.sk_gate.specs.Views.{first_view, sizes_of};
+    ghost use Rattle.sk_gate.specs.Rule.{KeepsRule};
+    ghost use Rattle.sk_gate.specs.Views.{first_view, admitted_sizes};
 
-    ghost holds = { λ _. Kept C.hint_of C.packed_of
+    ghost holds = { λ _. KeepsRule C.hint_of C.packed_of
         (sketching C.is_of C.numbers C.name) (telling C.tells C.told_name C.told_of) };
 
-    ghost first = { λ about. first_view (sizes_of about.admitted about.parcels.value.items)
+    ghost first = { λ about. first_view (admitted_sizes about.admitted about.parcels.value.items)
         (C.numbers about.sketch.value) (C.name about.sketch.value) };
 }
 

@@ -1,6 +1,6 @@
 //! A seat that may propagate: an updater's or the heart's.
 ghost use Rattle.std.specs.Prelude.{◌≡◌, ◌≤◌};
-ghost use Rattle.sk_gate.specs.Hands.{rotated, IsAt, IsPut};
+ghost use Rattle.sk_gate.specs.Hands.{rotated, LiesAt, IsPut};
 
 use crate::rule::{Hub, Slot};
 use atomic_table::Seat;
@@ -55,12 +55,12 @@ impl<C: Composable, R: Role> Model for Propagator<C, R> {
     ghost use Rattle.std.specs.Prelude.{◌≡◌, ◌≤◌, ◌+◌};
     ghost use Rattle.std.specs.Arc.{arc_value};
     ghost use Rattle.sk_gate.specs.Slots.{sketching, telling};
-    ghost use Rattle.sk_gate.specs.Hands.{Standing, standing_of, Holds};
+    ghost use Rattle.sk_gate.specs.Hands.{SeatState, seat_state, Holds};
     ghost use Rattle.sk_model.specs.Limits.{most_updaters};
 
-    ghost Value = { Standing };
+    ghost Value = { SeatState };
 
-    ghost view = { λ s. standing_of s.seat.me.0 s.seat.table_id s.number s.front s.seat.me.1 };
+    ghost view = { λ s. seat_state s.seat.me.0 s.seat.table_id s.number s.front s.seat.me.1 };
 
     ghost invariant = { λ s. (s.seat.table_id ≡ (arc_value s.hub).shared.table_id)
         × (s.seat.table_id.words ≡ s.updaters + 2)
@@ -95,7 +95,7 @@ pub(crate) fn exchange<C: Composable>(
     new: Slot<C>,
 ) -> Slot<C>
     requires table { seat.old.table_id ≡ hub.now.shared.table_id }
-    requires placed { IsAt slot before after seat.old.me.1 }
+    requires placed { LiesAt slot before after seat.old.me.1 }
     requires few { after ≤ 2 }
     ensures table { seat.new.table_id ≡ seat.old.table_id }
     ensures id { seat.new.id ≡ seat.old.id }

@@ -4,7 +4,7 @@ ghost use Rattle.std.specs.Arc.{arc_value};
 ghost use Rattle.sk_machine.specs.Coarse.{blank_mine};
 ghost use Rattle.sk_machine.specs.declared.views.Post.TheVariants.{Guest, Root, Updater};
 ghost use Rattle.sk_gate.specs.Slots.{full, trunk};
-ghost use Rattle.sk_gate.specs.Views.{sizes_of};
+ghost use Rattle.sk_gate.specs.Views.{admitted_sizes};
 ghost use Rattle.sk_gate.specs.Starts.{AreFirstWords, blank_view, empty_handed, blank_of, IsBlank, AreNew, IsMade};
 ghost use Rattle.sk_model.specs.Limits.{most_updaters};
 
@@ -80,7 +80,7 @@ fn new_table<C: Composable>(
     ensures words { IfOk result (λ made. made.1.table_id.words ≡ n + 2) }
     ensures slots { IfOk result (λ made. made.1.table_id.slots ≡ n + 1) }
     ensures me { IfOk result (λ made. made.1.me
-        ≡ (blank_view (sizes_of admitted parcels.items) (C.numbers global) (C.name global) (Root 0) 0, [])) }
+        ≡ (blank_view (admitted_sizes admitted parcels.items) (C.numbers global) (C.name global) (Root 0) 0, [])) }
 {
     let words = first_words(alloc, n, &global)?;
     let about = About {
@@ -192,7 +192,7 @@ pub fn make<C: Composable>(
     requires rooms { All (λ p. 1 ≤ p.buffer.capacity) parcels.items }
     requires placeholders { All (λ p. p.buffer.capacity ≡ 1) (drop admitted parcels.items) }
     requires fresh { C.is_of global [] }
-    ensures { IfOk result (λ made. IsMade n (sizes_of admitted parcels.items)
+    ensures { IfOk result (λ made. IsMade n (admitted_sizes admitted parcels.items)
         (C.numbers global) (C.name global) made.heart made.updaters.items made.token) }
 {
     let (hub, mut seat) = new_table(alloc, n, admitted, global, parcels)?;

@@ -24,10 +24,10 @@ pub struct TokenSeat<C: Composable> {
 impl<C: Composable> Model for TokenSeat<C> {
     ghost use Rattle.std.specs.Prelude.{◌≡◌, ◌+◌, ◌≤◌};
     ghost use Rattle.std.specs.Arc.{arc_value};
-    ghost use Rattle.sk_gate.specs.Hands.{Reading};
+    ghost use Rattle.sk_gate.specs.Hands.{TokenState};
     ghost use Rattle.sk_gate.specs.Readers.{Reads};
 
-    ghost Value = { Reading };
+    ghost Value = { TokenState };
 
     ghost view = { λ s. record { view = s.seat.me.0; table = s.seat.table_id } };
 
@@ -44,10 +44,10 @@ pub struct NoteSeat<C: Composable> {
 }
 
 impl<C: Composable> Model for NoteSeat<C> {
-    ghost use Rattle.sk_gate.specs.Hands.{Reading};
+    ghost use Rattle.sk_gate.specs.Hands.{TokenState};
     ghost use Rattle.sk_gate.specs.Readers.{Reads};
 
-    ghost Value = { Reading };
+    ghost Value = { TokenState };
 
     ghost view = { λ s. record { view = s.seat.me.0; table = s.seat.table_id } };
 

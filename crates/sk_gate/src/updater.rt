@@ -4,7 +4,7 @@ ghost use Rattle.sk_machine.specs.Coarse.{IsBatch};
 ghost use Rattle.atomic_table.specs.Table.{Allows, step};
 ghost use mathlib.Core.Option.{none};
 ghost use Rattle.sk_gate.specs.Slots.{contents, sketching, telling};
-ghost use Rattle.sk_gate.specs.Rule.{Kept};
+ghost use Rattle.sk_gate.specs.Rule.{KeepsRule};
 ghost use Rattle.sk_gate.specs.Plays.{admitted};
 ghost use Rattle.sk_gate.specs.Views.{size_of, mine_of};
 ghost use Rattle.sk_gate.specs.Hands.{no_own, own_with, own_empty, own_looked, TellsBase};
@@ -31,7 +31,7 @@ fn admitted_look<C: Composable, K: Size>(
     requires size { K.size ≡ b }
     requires table { seat.old.table_id ≡ hub.now.shared.table_id }
     requires word { word < hub.now.shared.table_id.words }
-    requires may { Allows (Kept C.hint_of C.packed_of (sketching C.is_of C.numbers C.name)
+    requires may { Allows (KeepsRule C.hint_of C.packed_of (sketching C.is_of C.numbers C.name)
         (telling C.tells C.told_name C.told_of))
         hub.now.shared.table_id.slots seat.old.id seat.old.me word (λ n. n)
         (admitted C.hint_of b (step hub.now.shared.table_id.slots word 0 0 none) seat.old.me) }

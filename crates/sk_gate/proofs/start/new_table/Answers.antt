@@ -4,8 +4,8 @@ use Rattle.atomic_table.specs.Table.{opening}
 use Rattle.sk_compose.specs.declared.buffer.Parcel.{Parcel}
 use Rattle.sk_gate.specs.declared.load.Trunk.{Trunk}
 use Rattle.sk_gate.specs.Slots.{Slot, full, trunk, sketching, telling}
-use Rattle.sk_gate.specs.Rule.{Kept}
-use Rattle.sk_gate.specs.Views.{first_view, sizes_of}
+use Rattle.sk_gate.specs.Rule.{KeepsRule}
+use Rattle.sk_gate.specs.Views.{first_view, admitted_sizes}
 use Rattle.sk_gate.specs.Starts.{AreFirstWords}
 use Rattle.sk_gate.proofs.Seats.{starts}
 use Rattle.sk_gate.proofs.Elements.{all_at, dropped_at}
@@ -21,5 +21,5 @@ new-requires g c = let k = g.C.Composable in let gs = sketching k.is_of k.number
     (λ i l. first.updaters i (omega arith))
     (λ i p is. let e = all_at (λ (q : Parcel g.row.C-Told.Denot). (q.buffer.items ≡ []) × (q.told ≡ None)) ps i p c.requires.empty is in (e.0, e.1, all_at (λ (q : Parcel g.row.C-Told.Denot). 1 ≤ q.buffer.capacity) ps i p c.requires.rooms is, λ le. dropped_at (λ (q : Parcel g.row.C-Told.Denot). q.buffer.capacity ≡ 1) c.args.admitted ps i p c.requires.placeholders le is))
     c.requires.fresh refl in
-    subst (λ (x : List ℕ × List (Slot g.row.C.Denot g.row.C-Told.Denot) × List (Parcel g.row.C-Told.Denot) × g.row.C.Denot). Kept k.hint_of k.packed_of gs ts (opening x.0 x.1 (first_view (sizes_of c.args.admitted x.2) (k.numbers x.3) (k.name x.3))))
+    subst (λ (x : List ℕ × List (Slot g.row.C.Denot g.row.C-Told.Denot) × List (Parcel g.row.C-Told.Denot) × g.row.C.Denot). KeepsRule k.hint_of k.packed_of gs ts (opening x.0 x.1 (first_view (admitted_sizes c.args.admitted x.2) (k.numbers x.3) (k.name x.3))))
     (λ a. (sym words a, sym slots a, sym told a, sym about a)) base

@@ -1,7 +1,7 @@
 use Rattle.std.proofs.Common.{rules, ◌≡◌, ◌∙◌, true, [], length, ap, sym, subst}
 use Rattle.sk_gate.specs.Slots.{sketching, telling}
 use Rattle.sk_gate.specs.Views.{after_join}
-use Rattle.sk_gate.specs.Hands.{standing_of, rested_of, Holds}
+use Rattle.sk_gate.specs.Hands.{seat_state, rested_of, Holds}
 use Rattle.sk_gate.proofs.Seats.{joins_updater}
 use Rattle.sk_gate.proofs.Taken.{resting, gives_up, rested_says, same_join, taken_holds}
 use Rattle.sk_gate.proofs.heart.Propagator+C+OfHeart.join.Goals as goal
@@ -39,5 +39,5 @@ pub returns : goal.returns
 returns g c = let k = g.C.Composable in let gs = sketching k.is_of k.numbers k.name in let ts = telling k.tells k.told_name k.told_of in let f = c.other.inside in let i = c.other.invariant in let s = c.self.inside in
     let x = resting gs ts f.updaters f.number f.front f.own f.seat.me f.seat.table_id c.args.other i.4 c.other.view_is c.requires.free c.requires.ready c.requires.unswapped c.requires.picked in
     let e = c.load.ensures.2 f.number x.parcel [] i.4.post.0 x.hand in let t = c.join_seat.ensures in
-    let view = same_join s.seat.me.0 _ _ _ (standing_of f.seat.me.0 f.seat.table_id f.number f.front f.seat.me.1) c.args.other (ap (λ m. m.0) e) c.other.view_is x.shown ∙ (λ a. after_join (c.self.view_is a).view (rested_of c.args.other)) in
-    record { seat = (λ a. standing_of (t.2 a).0 (t.0 a) s.number s.front (t.2 a).1) ∙ λ a. record (c.self.view_is a) { view = view a } }
+    let view = same_join s.seat.me.0 _ _ _ (seat_state f.seat.me.0 f.seat.table_id f.number f.front f.seat.me.1) c.args.other (ap (λ m. m.0) e) c.other.view_is x.shown ∙ (λ a. after_join (c.self.view_is a).view (rested_of c.args.other)) in
+    record { seat = (λ a. seat_state (t.2 a).0 (t.0 a) s.number s.front (t.2 a).1) ∙ λ a. record (c.self.view_is a) { view = view a } }

@@ -2,7 +2,7 @@ use Rattle.std.proofs.Common.{rules, ◌++◌, ◌∙◌, ap, sym, subst, refl}
 use Rattle.sk_model.specs.Entries.{tagged}
 use Rattle.sk_machine.specs.declared.views.View.{View}
 use Rattle.sk_gate.specs.Slots.{sketching, telling}
-use Rattle.sk_gate.specs.Views.{batch_of, left_of}
+use Rattle.sk_gate.specs.Views.{batch_of, left_in}
 use Rattle.sk_gate.specs.Moves.{IsSeen, PublishesAt}
 use Rattle.sk_gate.proofs.Rounds.{publishes}
 use Rattle.sk_gate.proofs.Leading.{view_is, found_as, published_next}
@@ -12,7 +12,7 @@ pub store-requires : goal.store-requires
 store-requires g c = let k = g.C.Composable in let i = c.self.invariant in let see = sketching k.is_of k.numbers k.name in let tell = telling k.tells k.told_name k.told_of in let v = c.args.self.now.view in (
   search rules,
   search rules,
-  publishes k.hint_of k.packed_of see tell _ _ c.self.inside.updaters c.args.i _ _ (search rules) i.4.live (found_as see tell i.4 c.self.view_is c.args.i (λ y. left_of y.duty) c.requires.found)
+  publishes k.hint_of k.packed_of see tell _ _ c.self.inside.updaters c.args.i _ _ (search rules) i.4.live (found_as see tell i.4 c.self.view_is c.args.i (λ y. left_in y.duty) c.requires.found)
       (c.packed.ensures.value _ c.requires.merged ∙ ap (λ ns. k.packed_of ns (v.seen ++ tagged c.args.i (batch_of v))) c.requires.numbers ∙ ap (λ (y : View). k.packed_of y.numbers (y.seen ++ tagged c.args.i (batch_of y))) (sym (view_is see tell i.4 c.self.view_is))),
 )
 

@@ -1,10 +1,10 @@
 use Rattle.std.proofs.Common.{rules, ◌≢◌, ◌∙◌, subst, ap, sym, refl, true, false, inl, inr}
 use Rattle.sk_gate.specs.Slots.{sketching, telling}
 use Rattle.sk_gate.specs.Views.{size_of}
-use Rattle.sk_gate.specs.Hands.{own_looked, standing_of, Holds}
+use Rattle.sk_gate.specs.Hands.{own_looked, seat_state, Holds}
 use Rattle.sk_gate.proofs.Updaters.{looks}
 use Rattle.sk_gate.proofs.Own.{looked_holds, looked_takes, looked_shown}
-use Rattle.sk_gate.proofs.Standing.{own_shown}
+use Rattle.sk_gate.proofs.SeatState.{own_shown}
 use Rattle.sk_gate.proofs.updater.Propagator+C+OfUpdater.look.Goals as goal
 
 pub load-found-requires : goal.load-found-requires
@@ -40,6 +40,6 @@ invariant_of-self-else-found-ne0 g c = let k = g.C.Composable in let i = c.self.
 pub returns-then-not-self-clause-seat : goal.returns-then-not-self-clause-seat
 returns-then-not-self-clause-seat g c = let k = g.C.Composable in let i = c.self.invariant in let f = c.self.inside in let now = c.args.self.now in let there = subst (λ s. size_of s.view s.number ≢ 0) (sym c.self.view_is) c.requires.admitted in
     let e = c.load-found.ensures.2 f.number i.4.post.0 refl there in let t = c.turn.ensures in let table = t.0 ∙ c.load-found.ensures.0 in
-    (λ a. standing_of (t.2 a).0 (table a) f.number f.front (t.2 a).1)
+    (λ a. seat_state (t.2 a).0 (table a) f.number f.front (t.2 a).1)
     ∙ looked_shown (sketching k.is_of k.numbers k.name) (telling k.tells k.told_name k.told_of) k.hint_of f.updaters f.number f.front c.load-found.result f.own f.seat.me c.load-found.new.seat.me f.seat.table_id now i.4 c.self.view_is e.0 e.1 c.if-found-ne0.true c.if-not-self.true
     ∙ λ a. record now { view = (sym t.2 a).0; own = own_looked c.load-found.result now.view now.number now.own }

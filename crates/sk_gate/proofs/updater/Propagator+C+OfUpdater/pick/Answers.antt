@@ -2,7 +2,7 @@ use Rattle.std.proofs.Common.{rules, ◌≡◌, ◌≢◌, ◌∙◌, [], subst,
 use Rattle.sk_compose.specs.Buffers.{Contents}
 use Rattle.sk_gate.specs.Slots.{sketching, telling, TellsList}
 use Rattle.sk_gate.specs.Views.{size_of, mine_of}
-use Rattle.sk_gate.specs.Hands.{Standing, standing_of, Holds}
+use Rattle.sk_gate.specs.Hands.{SeatState, seat_state, Holds}
 use Rattle.sk_gate.proofs.Own.{own_placed, own_put, own_taken, put_own, exchanged_shown, some_is_not}
 use Rattle.sk_gate.proofs.updater.Propagator+C+OfUpdater.pick.Goals as goal
 
@@ -42,11 +42,11 @@ returns-clause-told g c = let k = g.C.Composable in let i = c.self.invariant in 
 pub returns-clause-tells : goal.returns-clause-tells
 returns-clause-tells g c = let k = g.C.Composable in let i = c.self.invariant in let on = i.4.own_is ∙ subst (λ s. (mine_of s.view).ready ≡ true) (sym c.self.view_is) c.requires.ready in
     let t = own_taken (sketching k.is_of k.numbers k.name) (telling k.tells k.told_name k.told_of) false _ _ _ _ _ _ _ _ _ c.parcel_in.result _ i.4 on c.self.view_is c.requires.unswapped c.exchange-picked.ensures.old c.parcel_in.ensures in
-    λ x is. subst (λ (s : Standing). ((mine_of s.view).handed ≢ []) × TellsList (telling k.tells k.told_name k.told_of) s.view.name x (mine_of s.view).base) c.self.view_is (t.1.1 x is)
+    λ x is. subst (λ (s : SeatState). ((mine_of s.view).handed ≢ []) × TellsList (telling k.tells k.told_name k.told_of) s.view.name x (mine_of s.view).base) c.self.view_is (t.1.1 x is)
 
 pub returns-clause-seat : goal.returns-clause-seat
 returns-clause-seat g c = let k = g.C.Composable in let i = c.self.invariant in let f = c.self.inside in let now = c.args.self.now in let on = i.4.own_is ∙ subst (λ s. (mine_of s.view).ready ≡ true) (sym c.self.view_is) c.requires.ready in let e = c.exchange-picked.ensures in
     let t = own_put (sketching k.is_of k.numbers k.name) (telling k.tells k.told_name k.told_of) false _ _ _ _ _ _ _ _ i.4 on e.old in
-    (λ a. standing_of c.exchange-picked.new.seat.me.0 (e.table a) f.number f.front c.exchange-picked.new.seat.me.1)
+    (λ a. seat_state c.exchange-picked.new.seat.me.0 (e.table a) f.number f.front c.exchange-picked.new.seat.me.1)
     ∙ exchanged_shown (sketching k.is_of k.numbers k.name) (telling k.tells k.told_name k.told_of) false f.updaters f.number f.front f.own f.seat.me c.exchange-picked.new.seat.me f.seat.table_id now c.args.empty i.4 c.self.view_is e.view t.4
     ∙ λ a. record now { own = record { items = (c.requires.empty a).items; capacity = (c.requires.empty a).capacity; told = is_some (c.requires.told a) } }
