@@ -1,9 +1,7 @@
 //! The shared table of a hub: its rule, its steps, and the seats that take them.
 #![tactic(auto)]
 
-mod ask;
 mod heart;
-mod late;
 pub mod laws;
 mod load;
 mod merge;
@@ -11,13 +9,11 @@ mod plays;
 mod propagate;
 mod rule;
 mod seat;
-mod slots;
 mod start;
 mod token;
 mod updater;
 
-pub use late::first_batch;
-pub use load::{Held, Load, Trunk};
+pub use load::{Held, Trunk};
 pub use merge::merge_batch;
 pub use seat::{HeartSeat, OfHeart, OfUpdater, Propagator, Role, UpdaterSeat};
 pub use sk_model::OutOfMemory;

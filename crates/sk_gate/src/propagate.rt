@@ -9,10 +9,9 @@ ghost use Rattle.sk_gate.specs.Views.{size_of, batch_of, stage_in, left_in, lead
 ghost use Rattle.sk_gate.specs.Hands.{IsTrunk, StageKnown};
 ghost use Rattle.sk_gate.specs.Moves.{IsSeen, AsksAt, TakesTurnAt, MissesTurnAt, YieldsAt, FindsAt, LeavesAt, PublishesAt, GivesBackAt};
 
-use crate::load::{Load, Trunk};
+use crate::load::{Load, Trunk, parcel_in, trunk_in};
 use crate::plays::{Ask, Find, GiveBack, Leave, Publish, Turn, Yield};
 use crate::seat::{Propagator, Role, exchange};
-use crate::slots::{parcel_in, trunk_in};
 use sk_compose::{Composable, Parcel};
 
 impl<C: Composable, R: Role> Propagator<C, R> {

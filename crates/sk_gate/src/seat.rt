@@ -1,7 +1,9 @@
 //! A seat that may propagate: an updater's or the heart's.
 ghost use Rattle.std.specs.Prelude.{◌≡◌, ◌≤◌};
+ghost use Rattle.sk_gate.specs.Moves.{AsksAt};
 ghost use Rattle.sk_gate.specs.Hands.{rotated, LiesAt, IsPut};
 
+use crate::plays::Ask;
 use crate::rule::{Hub, Slot};
 use atomic_table::Seat;
 use sk_compose::Composable;
@@ -73,6 +75,17 @@ impl<C: Composable, R: Role> Model for Propagator<C, R> {
 pub type UpdaterSeat<C> = Propagator<C, OfUpdater>;
 
 pub type HeartSeat<C> = Propagator<C, OfHeart>;
+
+impl<C: Composable, R: Role> Propagator<C, R> {
+    /// One load of the published word. It may come between any two other calls.
+    pub fn ask(&mut self) -> u64
+        ensures told { AsksAt C.packed_of self.old.view result self.new.view }
+        ensures seat { self.new ≡ record self.old { view = self.new.view } }
+    {
+        let hub = &self.hub;
+        hub.shared.load::<Ask<C>>(&mut self.seat, 0)
+    }
+}
 
 // The first slots go behind the others, one at a time.
 pub(crate) fn rotate<C: Composable>(seat: &mut Seat<Slot<C>, View>, times: u32)

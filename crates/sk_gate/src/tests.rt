@@ -1,5 +1,7 @@
-ghost use Rattle.std.specs.Prelude.{◌≡◌, ◌<◌, [], ◌∷◌, false, length, None, IfOk};
-ghost use Rattle.sk_machine.specs.Coarse.{blank_mine};
+ghost use Rattle.std.specs.Prelude.{◌≡◌, ◌<◌, ◌≤◌, [], ◌∷◌, false, length, None, IfOk};
+ghost use Rattle.sk_machine.specs.Coarse.{blank_mine, IsBatch};
+ghost use Rattle.sk_model.specs.Limits.{most_size};
+ghost use Rattle.sk_gate.specs.Slots.{contents};
 ghost use Rattle.sk_machine.specs.declared.views.Post.TheVariants.{Guest, Root, Updater};
 ghost use Rattle.sk_gate.specs.Views.{size_of, mine_of, leads};
 ghost use Rattle.sk_gate.specs.Hands.{no_own};
@@ -211,6 +213,32 @@ fn a_batch_crosses_threads(rt: HostRuntime) -> Result<(), Fail> {
     Ok(())
 }
 
+// Admits an updater, with buffers of b items, and hands over its first batch. Gives the empty parcel that lay in its
+// slot by then.
+fn admit_and_hand<C: Composable>(
+    seat: &mut UpdaterSeat<C>,
+    b: u32,
+    empty: Parcel<C::Told>,
+    full: Parcel<C::Told>,
+) -> Parcel<C::Told>
+    requires vacant { size_of seat.old.view seat.old.number ≡ 0 }
+    requires most { b ≤ most_size }
+    requires empty { empty.buffer ≡ contents [] b }
+    requires told { empty.told ≡ None }
+    requires batch { IsBatch b full.buffer.items }
+    requires capacity { full.buffer.capacity ≡ b }
+    ensures handed { (mine_of seat.new.view).handed ≡ full.buffer.items }
+    ensures size { size_of seat.new.view seat.new.number ≡ b }
+    ensures given { seat.new.own ≡ no_own }
+    ensures spare { result.buffer ≡ contents [] b }
+{
+    seat.admit(b);
+    seat.pick(empty);
+    let spare = seat.swap(full);
+    seat.hand();
+    spare
+}
+
 #[test]
 #[tactic(auto, unfolding(sk_model::specs::Entries::items_of_entries))]
 fn a_late_updater_hands_a_batch_over(rt: HostRuntime) -> Result<(), Fail> {
@@ -222,7 +250,7 @@ fn a_late_updater_hands_a_batch_over(rt: HostRuntime) -> Result<(), Fail> {
         mut token,
     } = make(alloc, 1, 0, Theta::new(alloc, 2)?, placeholders)?;
     let mut updater = updaters.remove(0);
-    first_batch(&mut updater, 1, parcel(alloc)?, full_parcel(alloc, 5)?);
+    admit_and_hand(&mut updater, 1, parcel(alloc)?, full_parcel(alloc, 5)?);
     assert_eq!(rt; unpack(token.ask()).count, 0);
     assert_eq!(rt; serve(&rt, &mut heart), 1);
     assert_eq!(rt; unpack(token.ask()).count, 1);

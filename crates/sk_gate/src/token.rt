@@ -1,11 +1,10 @@
 //! Tokens and notes: seats that ask, and meet.
-ghost use Rattle.std.specs.Prelude.{◌≡◌, false, IfOk, IfErr};
-ghost use Rattle.sk_gate.specs.Views.{leads, after_split, copy_of, after_join};
+ghost use Rattle.std.specs.Prelude.{◌≡◌, IfOk, IfErr};
+ghost use Rattle.sk_gate.specs.Views.{after_split, copy_of, after_join};
 ghost use Rattle.sk_gate.specs.Moves.{AsksAt};
 
 use crate::plays::{Ask, Copying, TakingIn};
 use crate::rule::{Hub, Slot};
-use crate::seat::{OfUpdater, Propagator};
 use atomic_table::Seat;
 use sk_compose::Composable;
 use sk_machine::views::View;
@@ -86,18 +85,5 @@ impl<C: Composable> TokenSeat<C> {
         let NoteSeat { seat } = other;
         let hub = &self.hub;
         hub.shared.join_seat::<TakingIn>(&mut self.seat, seat);
-    }
-}
-
-impl<C: Composable> Propagator<C, OfUpdater> {
-    /// A note: what the updater has seen, and what it handed over.
-    pub fn split(&mut self) -> NoteSeat<C>
-        requires free { leads self.old.view.duty ≡ false }
-        ensures seat { self.new ≡ record self.old { view = after_split self.old.view } }
-        ensures note { result ≡ record { view = copy_of self.old.view; table = self.old.table } }
-    {
-        let hub = &self.hub;
-        let seat = hub.shared.split_seat::<Copying>(&mut self.seat);
-        NoteSeat { seat }
     }
 }

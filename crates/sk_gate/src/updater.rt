@@ -6,16 +6,16 @@ ghost use mathlib.Core.Option.{none};
 ghost use Rattle.sk_gate.specs.Slots.{contents, sketching, telling};
 ghost use Rattle.sk_gate.specs.Rule.{KeepsRule};
 ghost use Rattle.sk_gate.specs.Plays.{admitted};
-ghost use Rattle.sk_gate.specs.Views.{size_of, mine_of};
+ghost use Rattle.sk_gate.specs.Views.{size_of, mine_of, leads, after_split, copy_of};
 ghost use Rattle.sk_gate.specs.Hands.{no_own, own_with, own_empty, own_looked, TellsBase};
 ghost use Rattle.sk_gate.specs.Moves.{LooksAt, AdmitsAt, HandsAt};
 ghost use Rattle.sk_model.specs.Limits.{most_size, most_kept};
 
-use crate::load::Load;
-use crate::plays::{Admit, Hand, Look, Rest, Size};
+use crate::load::{Load, parcel_in};
+use crate::plays::{Admit, Copying, Hand, Look, Size};
 use crate::rule::{Hub, Slot};
 use crate::seat::{OfUpdater, Propagator, exchange, rotate};
-use crate::slots::parcel_in;
+use crate::token::NoteSeat;
 use atomic_table::Seat;
 use sk_compose::{Composable, Parcel};
 use sk_machine::views::View;
@@ -131,5 +131,16 @@ impl<C: Composable> Propagator<C, OfUpdater> {
         self.seat.turn();
         self.own = true;
         hint
+    }
+
+    /// A note: what the updater has seen, and what it handed over.
+    pub fn split(&mut self) -> NoteSeat<C>
+        requires free { leads self.old.view.duty ≡ false }
+        ensures seat { self.new ≡ record self.old { view = after_split self.old.view } }
+        ensures note { result ≡ record { view = copy_of self.old.view; table = self.old.table } }
+    {
+        let hub = &self.hub;
+        let seat = hub.shared.split_seat::<Copying>(&mut self.seat);
+        NoteSeat { seat }
     }
 }

@@ -2,7 +2,7 @@ use Rattle.std.proofs.Common.{◌∙◌, [], ap, subst, sym}
 use Rattle.sk_machine.specs.Coarse.{IsBatch}
 use Rattle.sk_gate.specs.Slots.{contents}
 use Rattle.sk_gate.specs.Views.{size_of}
-use Rattle.sk_gate.proofs.late.first_batch.Goals as goal
+use Rattle.sk_gate.proofs.tests.admit_and_hand.Goals as goal
 
 pub pick-requires-clause-empty : goal.pick-requires-clause-empty
 pick-requires-clause-empty g c = let e = c.admit.ensures in let size = ap (λ s. size_of c.admit.new.self.view s.number) e.seat ∙ e.told.size in c.requires.empty ∙ ap (λ z. contents [] z) (sym size)

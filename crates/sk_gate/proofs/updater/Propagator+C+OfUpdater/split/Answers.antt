@@ -2,7 +2,7 @@ use Rattle.std.proofs.Common.{rules, false, sym, subst}
 use Rattle.sk_gate.specs.Slots.{sketching, telling}
 use Rattle.sk_gate.specs.Hands.{Holds}
 use Rattle.sk_gate.proofs.Seats.{copies, split_holds}
-use Rattle.sk_gate.proofs.token.Propagator+C+OfUpdater.split.Goals as goal
+use Rattle.sk_gate.proofs.updater.Propagator+C+OfUpdater.split.Goals as goal
 
 pub split_seat-seat-requires : goal.split_seat-seat-requires
 split_seat-seat-requires g c = let k = g.C.Composable in
