@@ -1,8 +1,13 @@
 -- An updater whose seat was vacant.
-use Rattle.std.proofs.Common.{◌≡◌, ℕ, ◌+◌, ◌<◌, ◌≤◌, List, [], ◌∷◌, ◌++◌, length, Bool, not, Option, Some, None, subst, sym, ap, refl, ◌∙◌, length-set, arith}
+use Rattle.std.proofs.Common.{◌≡◌, ℕ, ◌+◌, ◌<◌, ◌≤◌, List, [], ◌∷◌, ◌++◌, length, All, Bool, not, Option, Some, None, subst, sym, ap, refl, ◌∙◌, length-set, arith}
+use Rattle.std.proofs.lemmas.List.Elements.{All-nil}
 use Rattle.std.specs.Prelude.{slice_set}
 use Rattle.atomic_table.specs.Seated.{TableId}
-use Rattle.sk_model.specs.Entries.{Entry}
+use Rattle.sk_model.specs.Entries.{Entry, entries_by}
+use Rattle.sk_model.specs.Missing.{Begins}
+use Rattle.sk_model.specs.Width.{IsItem, AreItems}
+use Rattle.sk_model.proofs.Missing.{begins_nil}
+use Rattle.sk_machine.specs.Coarse.{IsEntry}
 use Rattle.sk_compose.specs.Buffers.{Contents}
 use Rattle.sk_machine.specs.declared.views.Move.TheVariants.{Look}
 use Rattle.sk_machine.specs.declared.views.Post.TheVariants.{Updater}
@@ -10,9 +15,10 @@ use Rattle.sk_gate.specs.Slots.{contents, Telling}
 use Rattle.sk_gate.specs.Views.{size_of, mine_of}
 use Rattle.sk_gate.specs.Moves.{AdmitsAt, looked_mine}
 use Rattle.sk_gate.specs.Hands.{own_empty, is_empty, Standing}
-use Rattle.sk_hub.specs.Updaters.{IsFree, IsUpdater, state_of}
+use Rattle.sk_hub.specs.Updaters.{IsFree, IsViewOf, IsUpdater, state_of}
 use Rattle.sk_hub.specs.Hearts.{IsVacant, AreVacant, heart_of}
 use Rattle.sk_hub.specs.Drains.{IsNew}
+use Rattle.sk_hub.proofs.Views.{none_by}
 use Rattle.sk_model.specs.Limits.{most_updaters}
 
 -- the first of such seats
@@ -40,10 +46,18 @@ module _ {T : Type 0} (hint_of : List ℕ → List Entry → ℕ) (k : Telling T
       let free : IsFree x = record { duty = vacant.free.duty; filled = vacant.free.filled; lifted = vacant.free.lifted } in
       let own : x.own ≡ record { items = []; capacity = b; told = not (is_empty (mine_of s.view).handed) } = λ e. record { items = []; capacity = b; told = not (is_empty (sym none e)) } in
       let filled : Some fill ≡ Some (contents fill.items b) = λ e. Some ((empty ∙ λ d. contents (sym items d) b) e) in
+      let view : IsViewOf number x.view = record {
+        post = λ e. Updater (vacant.number_is e) (looked_mine (mine_of s.view) []);
+        entries = subst (All (IsEntry (length x.view.sizes))) (sym vacant.seen) (All-nil (IsEntry (length x.view.sizes)));
+        own = subst (λ l. Begins l (mine_of s.view).handed) (sym (ap (entries_by number) vacant.seen ∙ none_by number)) (begins_nil (mine_of s.view).handed);
+        based = begins_nil s.view.seen;
+        settled = λ _. none_by number ∙ sym none;
+        items = subst AreItems (sym none) (All-nil IsItem);
+      } in
       let few_kept : 0 ≡ length ((mine_of s.view).handed ++ fill.items) = λ e. length (sym none e ++ sym items e) in
       let is : IsUpdater hint_of k x number n b (Some fill) None word 0 0 = record {
         number_is = vacant.number_is;
-        post = λ e. Updater (vacant.number_is e) (looked_mine (mine_of s.view) []);
+        view = view;
         free = free;
         own = own;
         within = within;
@@ -73,6 +87,8 @@ module _ {T : Type 0} (hint_of : List ℕ → List Entry → ℕ) (k : Telling T
         base = refl;
         seen = vacant.seen;
         known = vacant.known;
+        steps = λ e. vacant.steps e ++ Look (vacant.number_is e) word ∷ [];
+        ready = refl;
         hint_is = admits.hint_is ∙ ap (λ z. hint_of z []) vacant.numbers_are;
         numbers = vacant.numbers_are;
         news = refl;

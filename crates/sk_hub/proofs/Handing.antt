@@ -1,12 +1,15 @@
 -- A look that renewed, and a hand.
-use Rattle.std.proofs.Common.{◌≡◌, ℕ, List, [], ◌∷◌, ◌++◌, subst, sym, ap, ◌∙◌, append_assoc}
-use Rattle.sk_model.specs.Entries.{Entry}
+use Rattle.std.proofs.Common.{◌≡◌, ℕ, ◌-◌, List, [], ◌∷◌, ◌++◌, length, take, subst, sym, ap, ◌∙◌, append_assoc, length-append, arith}
+use Rattle.std.proofs.lemmas.List.{take_at}
+use Rattle.sk_model.specs.Entries.{Entry, entries_by}
 use Rattle.sk_model.specs.Missing.{Begins, longer}
 use Rattle.sk_machine.specs.declared.views.Move.TheVariants.{Look, Hand}
 use Rattle.sk_machine.specs.declared.views.Post.TheVariants.{Updater}
 use Rattle.sk_machine.specs.declared.views.View.{View}
 use Rattle.sk_gate.specs.Views.{mine_of}
+use Rattle.sk_gate.specs.Slots.{Telling, TellsList}
 use Rattle.sk_gate.specs.Moves.{RenewsAt, HandsAt, looked_mine, handed_mine}
+use Rattle.sk_hub.specs.Updaters.{TellsItems}
 
 module _ (hint : List ℕ → List Entry → ℕ) (v w x y : View) (word i : ℕ) (batch : List ℕ) (renews : RenewsAt hint v word w i) (same : x ≡ w) (hands : HandsAt x y i batch) where
   base_is : (mine_of w).base ≡ (mine_of y).base
@@ -21,3 +24,14 @@ module _ (hint : List ℕ → List Entry → ℕ) (v w x y : View) (word i : ℕ
       hands
       ∙ (λ e. record (looked e) { steps = (looked e).steps ++ Hand i ∷ []; post = Updater i (handed_mine (mine_of (looked e)) batch) })
       ∙ (λ e. record v { seen = longer v.seen (base_is e); steps = append_assoc v.steps (Look i word ∷ []) (Hand i ∷ []) e; post = Updater i (handed_mine (looked_mine (mine_of v) (base_is e)) batch) })
+
+  -- the told value that came with the empty parcel is of all that was handed over before
+  pub handed_tells : {T : Type 0} (k : Telling T) (count : ℕ) (t : T) → count ≡ length batch → TellsList k w.name t (mine_of w).base → TellsItems k y.name i (take (length (mine_of y).handed - count) (mine_of y).handed) t
+  handed_tells k count t count_is told =
+      let before : List ℕ = (mine_of v).handed in
+      let name : w.name ≡ y.name = sym (ap (λ z. z.name) hands ∙ ap (λ z. z.name) same) in
+      let handed : (mine_of y).handed ≡ before ++ batch = ap (λ z. (mine_of z).handed) hands ∙ ap (λ z. (mine_of z).handed ++ batch) (same ∙ renews.view) in
+      let some : length before ≡ length (before ++ batch) - length batch = omega (arith, length-append before batch) in
+      let front : before ≡ take (length (before ++ batch) - length batch) (before ++ batch) = sym (take_at before batch (length (before ++ batch) - length batch) some) in
+      let its : entries_by i (mine_of w).base ≡ take (length (mine_of y).handed - count) (mine_of y).handed = renews.all ∙ front ∙ (λ e. take (length (sym handed e) - sym count_is e) (sym handed e)) in
+      ((mine_of w).base, its, subst (λ n. TellsList k n t (mine_of w).base) name told)

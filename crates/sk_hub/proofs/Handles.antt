@@ -1,16 +1,24 @@
 -- What is true of an updater and of the heart stays true where their seats know no more.
-use Rattle.std.proofs.Common.{◌≡◌, ◌≢◌, ℕ, ◌<◌, ◌≤◌, List, length, map, get_or, set, Bool, false, Option, Some, None, is_some, subst, sym, ap, ◌∙◌, arith, length-set, get_or-set_same, get_or-set_other}
-use Rattle.std.proofs.lemmas.List.{map-set}
+use Rattle.std.proofs.Common.{◌≡◌, ◌≢◌, ℕ, ◌+◌, ◌<◌, ◌≤◌, List, [], ◌∷◌, ◌++◌, All, length, map, get_or, set, Bool, false, Option, Some, None, is_some, subst, sym, ap, refl, ◌∙◌, arith, length-set, get_or-set_same, get_or-set_other}
+use Rattle.std.proofs.lemmas.List.{map-set, length-map}
 use mathlib.Core.Logic.{dite}
 use native.Mathlib.Decide.{ℕ_discrete}
+use Rattle.std.proofs.lemmas.List.Elements.{All-append}
 use Rattle.sk_model.specs.Entries.{Entry}
+use Rattle.sk_model.specs.Width.{IsItem, AreItems}
+use Rattle.sk_model.specs.Limits.{most_size, most_updaters, most_kept, IsFrom}
 use Rattle.sk_compose.specs.Buffers.{Contents}
 use Rattle.sk_gate.specs.Slots.{Telling}
-use Rattle.sk_gate.specs.Views.{size_of}
+use Rattle.sk_machine.specs.Coarse.{IsEntry}
+use Rattle.sk_machine.specs.declared.views.Move.TheVariants.{Ask}
+use Rattle.sk_gate.specs.Views.{size_of, mine_of}
+use Rattle.sk_gate.specs.Moves.{AsksAt}
 use Rattle.sk_gate.specs.Hands.{Standing}
-use Rattle.sk_hub.specs.Updaters.{IsFree, IsUpdater}
-use Rattle.sk_hub.specs.Hearts.{heart_of, IsHeart}
+use Rattle.sk_hub.specs.Updaters.{IsFree, IsViewOf, IsUpdater, IsWholeUpdater, items_in, state_of}
+use Rattle.sk_hub.specs.Hearts.{heart_of, IsHeart, IsWholeHeart}
 use Rattle.sk_hub.specs.Rounds.{KnowsAsMuch}
+use Rattle.sk_hub.proofs.Views.{seen_again, view_knows}
+use Rattle.sk_hub.proofs.Steps.{asks_knows}
 
 -- the seat with what it knows now, written out
 known_more : (s s' : Standing) → s' ≡ record s { view = s'.view } → KnowsAsMuch s.view s'.view → record s { view = record s.view { seen = s'.view.seen; steps = s'.view.steps; given = s'.view.given; sizes = s'.view.sizes } } ≡ s'
@@ -23,9 +31,10 @@ updater_stays hint_of k s s' number updaters size fill told hint taken last leas
     let there : size_of s.view number ≢ 0 = omega arith in
     let x : Standing = record s { view = record s.view { seen = s'.view.seen; steps = s'.view.steps; given = s'.view.given; sizes = s'.view.sizes } } in
     let free : IsFree x = record { duty = i.free.duty; filled = i.free.filled; lifted = i.free.lifted } in
+    let i_view : IsViewOf number x.view = subst (IsViewOf number) knows.view (view_knows number s.view s'.view knows i.view) in
     let as_before : IsUpdater hint_of k x number updaters size fill told hint taken last = record {
       number_is = i.number_is;
-      post = i.post;
+      view = i_view;
       free = free;
       own = i.own;
       within = i.within;
@@ -41,6 +50,33 @@ updater_stays hint_of k s s' number updaters size fill told hint taken last leas
     } in
     subst (λ z. IsUpdater hint_of k z number updaters size fill told hint taken last) (known_more s s' stays knows) as_before
 
+-- an ask of its seat
+pub updater_asks : {T : Type 0} (hint_of packed : List ℕ → List Entry → ℕ) (k : Telling T) (s s' : Standing) (word number updaters size : ℕ) (fill : Option Contents) (told : Option T) (hint taken last : ℕ) → s' ≡ record s { view = s'.view } → AsksAt packed s.view word s'.view
+    → IsUpdater hint_of k s number updaters size fill told hint taken last → IsUpdater hint_of k s' number updaters size fill told hint taken last
+updater_asks hint_of packed k s s' word number updaters size fill told hint taken last stays asks i =
+    let seen = s'.view.seen in
+    let x : Standing = record s { view = record s.view { seen = seen; steps = s.view.steps ++ Ask word ∷ [] } } in
+    let same : x ≡ s' = (λ a. record s { view = sym asks.view a }) ∙ sym stays in
+    let free : IsFree x = record { duty = i.free.duty; filled = i.free.filled; lifted = i.free.lifted } in
+    let i_view : IsViewOf number x.view = subst (IsViewOf number) asks.view (view_knows number s.view s'.view (asks_knows packed s.view s'.view word asks) i.view) in
+    let is : IsUpdater hint_of k x number updaters size fill told hint taken last = record {
+      number_is = i.number_is;
+      view = i_view;
+      free = free;
+      own = i.own;
+      within = i.within;
+      few = i.few;
+      slots = i.slots;
+      sized = i.sized;
+      size_is = i.size_is;
+      fill_is = i.fill_is;
+      hint_is = i.hint_is;
+      taken_is = i.taken_is;
+      most = i.most;
+      told_is = i.told_is;
+    } in
+    subst (λ z. IsUpdater hint_of k z number updaters size fill told hint taken last) same is
+
 pub heart_stays : {T : Type 0} (k : Telling T) (s s' : Standing) (vacant : List Standing) (told : List (Option T)) (updaters admitted : ℕ) → s' ≡ record s { view = s'.view } → KnowsAsMuch s.view s'.view
     → IsHeart k s vacant told updaters admitted → IsHeart k s' vacant told updaters admitted
 heart_stays k s s' vacant told updaters admitted stays knows i =
@@ -52,12 +88,42 @@ heart_stays k s s' vacant told updaters admitted stays knows i =
       slots = i.slots;
       sized = knows.sized ∙ i.sized;
       known_sized = i.known_sized;
+      sees = seen_again s'.view x.view s'.view.seen (sym (ap (λ v. v.post) knows.view)) refl (knows.sees i.sees);
       told_sized = i.told_sized;
       all = i.all;
       vacant_are = i.vacant_are;
       told_is = i.told_is;
     } in
     subst (λ z. IsHeart k z vacant told updaters admitted) (known_more s s' stays knows) as_before
+
+-- ---- what is true of every handle
+
+pub updater_whole : {T : Type 0} (hint_of : List ℕ → List Entry → ℕ) (k : Telling T) (s : Standing) (number updaters size : ℕ) (items : List ℕ) (fill : Option Contents) (told : Option T) (hint taken last : ℕ) (eager : Bool)
+    → items ≡ items_in fill → IsFrom 1 most_size size → length items ≤ size → AreItems items → IsUpdater hint_of k s number updaters size fill told hint taken last → IsWholeUpdater hint_of (state_of s number size fill told hint last eager)
+updater_whole hint_of k s number updaters size items fill told hint taken last eager is sizes room are i =
+    let all : AreItems ((mine_of s.view).handed ++ items_in fill) = subst (λ l. AreItems ((mine_of s.view).handed ++ l)) is (All-append IsItem (mine_of s.view).handed items i.view.items are) in
+    record {
+      view = i.view;
+      within = subst (λ n. number < n) (sym i.sized) i.within;
+      few = subst (λ n. n ≤ most_updaters) (sym i.sized) i.few;
+      slots = i.slots ∙ ap (λ n. n + 1) (sym i.sized);
+      size_known = i.size_is;
+      size = sizes;
+      fill = subst (λ l. length l ≤ size) is room;
+      items = all;
+      most = subst (λ n. n ≤ most_kept) i.taken_is i.most;
+      hint_is = i.hint_is;
+    }
+
+pub heart_whole : {T : Type 0} (k : Telling T) (s : Standing) (vacant : List Standing) (told : List (Option T)) (updaters admitted : ℕ) (eager : Bool) → IsHeart k s vacant told updaters admitted → IsWholeHeart (heart_of s updaters admitted told eager)
+heart_whole k s vacant told updaters admitted eager i = record {
+  few = i.few;
+  within = let all = i.all in omega arith;
+  slots = i.slots;
+  sized = i.sized;
+  news = length-map told (λ t. is_some t) ∙ i.told_sized;
+  entries = subst (λ n. All (IsEntry n) s.view.seen) i.sized i.sees.entries;
+}
 
 -- ---- told values
 
@@ -70,6 +136,7 @@ told_given {T} k s vacant told updaters admitted i o within none h = record {
   slots = h.slots;
   sized = h.sized;
   known_sized = h.known_sized;
+  sees = h.sees;
   told_sized = length-set told i o ∙ h.told_sized;
   all = h.all;
   vacant_are = h.vacant_are;

@@ -5,7 +5,7 @@ use Rattle.sk_model.specs.Missing.{LacksAtMost}
 use Rattle.sk_compose.specs.Buffers.{Contents}
 use Rattle.sk_machine.specs.declared.views.Post.TheVariants.{Updater}
 use Rattle.sk_gate.specs.Views.{size_of, mine_of}
-use Rattle.sk_gate.specs.Moves.{AsksAt, LacksOwn}
+use Rattle.sk_gate.specs.Moves.{AsksAt, LacksOwn, SeesOwn}
 use Rattle.sk_gate.specs.Hands.{Standing}
 use Rattle.sk_hub.specs.Updaters.{UpdaterState, items_in, state_of}
 use Rattle.sk_hub.specs.Replies.{IsOwnReply}
@@ -27,6 +27,8 @@ own_reply packed s s' number size fill told hint last eager now word post size_i
     let few_in : length u.fill ≤ u.size = subst (λ (u : UpdaterState). length u.fill ≤ u.size) (sym shown) few in
     let reply : IsOwnReply packed u word u' = record {
       grows = asked.grows;
+      entries = asked.is_seen.entries;
+      own = subst (SeesOwn seen) post asked.is_seen.own;
       value = asked.value;
       lacks_handed = lacks;
       lacks_kept = lacks_with_fill mine.handed (items_in fill) (entries_by number seen) size few_in lacks;

@@ -1,3 +1,4 @@
+pub mod Views
 pub mod Knowledge
 pub mod Kept
 pub mod Steps

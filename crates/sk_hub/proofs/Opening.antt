@@ -1,16 +1,19 @@
 -- A hub whose updaters are all to be admitted, and one updater more that is admitted.
-use Rattle.std.proofs.Common.{◌≡◌, ◌⊎◌, inl, inr, ℕ, zero, suc, ◌+◌, ◌<◌, ◌≤◌, List, [], ◌∷◌, ◌++◌, length, replicate, map, get_or, Bool, false, Option, Some, None, is_some, subst, sym, ap, refl, ◌∙◌, arith, length-append}
+use Rattle.std.proofs.Common.{◌≡◌, ◌⊎◌, inl, inr, ℕ, zero, suc, ◌+◌, ◌<◌, ◌≤◌, List, [], ◌∷◌, ◌++◌, length, replicate, map, get_or, Bool, false, Option, Some, None, is_some, subst, sym, ap, refl, ◌∙◌, arith, length-append, add-one}
 use Rattle.std.proofs.lemmas.List.{length-replicate}
+use Rattle.std.proofs.lemmas.List.Elements.{All-nil}
 use Rattle.std.specs.Prelude.{slice_get, slice_index, slice_index_or}
 use Rattle.atomic_table.specs.Seated.{TableId}
 use Rattle.sk_model.specs.Entries.{Entry}
 use Rattle.sk_compose.specs.declared.buffer.Parcel.{Parcel}
-use Rattle.sk_machine.specs.Coarse.{blank_mine}
-use Rattle.sk_machine.specs.declared.views.Post.TheVariants.{Updater}
+use Rattle.sk_machine.specs.Coarse.{blank_mine, IsEntry}
+use Rattle.sk_machine.specs.declared.views.Move.TheVariants.{Split}
+use Rattle.sk_machine.specs.declared.views.Post.TheVariants.{Root, Updater}
 use Rattle.sk_machine.specs.declared.views.View.{View}
 use Rattle.sk_gate.specs.Slots.{Telling}
 use Rattle.sk_gate.specs.Views.{known_of, size_of, sizes_of}
-use Rattle.sk_gate.specs.Starts.{empty_handed, blank_of, IsMade}
+use Rattle.sk_gate.specs.Starts.{empty_handed, blank_of, blank_view, IsMade}
+use Rattle.sk_gate.specs.Moves.{IsSeen}
 use Rattle.sk_gate.specs.Hands.{Standing, Reading}
 use Rattle.sk_hub.specs.Updaters.{IsFree, UpdaterState}
 use Rattle.sk_hub.specs.Hearts.{HeartState, heart_of, IsVacant, AreVacant, IsHeart}
@@ -55,6 +58,7 @@ new_is_vacant n v table i sized none =
       post = refl;
       sized = sized;
       size = none;
+      steps = ap (λ n. replicate n Split) (add-one i);
       seen = refl;
       known = λ j. same_at (length v.sizes) j [];
       numbers_are = refl;
@@ -85,12 +89,15 @@ module _ {T : Type 0} (k : Telling T) (n : ℕ) (sizes numbers name : List ℕ) 
       let no_size : (i : ℕ) → size_of heart.view i ≡ 0 = λ i. ap (λ s. size_of s.view i) h ∙ ap (λ l. slice_index l i) none ∙ same_at n i 0 in
       let free : IsFree heart = record { duty = ap (λ s. s.view.duty) h; filled = ap (λ s. s.filled) h; lifted = ap (λ s. s.lifted) h } in
       let count : length updaters ≡ n = made.count in
+      let first : View = blank_view sizes numbers name (Root n) (n + 1) in
+      let nothing_seen : IsSeen first [] = record { entries = All-nil (IsEntry (length first.sizes)); own = tt } in
       record {
         free = free;
         few = few;
         slots = made.slots;
         sized = sizes_are;
         known_sized = ap (λ s. length s.view.known) h ∙ length-replicate (length sizes) [] ∙ sized;
+        sees = subst (λ s. IsSeen s.view s.view.seen) (sym h) nothing_seen;
         told_sized = ap (λ l. length l) told_is ∙ length-replicate n None;
         all = omega arith;
         vacant_are = new_are_vacant n heart.view heart.table 0 updaters sizes_are no_size
@@ -101,6 +108,9 @@ module _ {T : Type 0} (k : Telling T) (n : ℕ) (sizes numbers name : List ℕ) 
   pub is_new_heart : IsNewHeart n numbers name eager (heart_of heart n 0 told eager)
   is_new_heart = let h = made.heart_is in record {
     updaters = refl;
+    slots = made.slots;
+    sized = ap (λ s. length s.view.sizes) h ∙ sized;
+    steps = ap (λ s. s.view.steps) h;
     seen = ap (λ s. s.view.seen) h;
     known = λ i. ap (λ s. known_of s.view i) h ∙ same_at (length sizes) i [];
     drained = ap (λ s. s.view.drained) h;
@@ -113,6 +123,9 @@ module _ {T : Type 0} (k : Telling T) (n : ℕ) (sizes numbers name : List ℕ) 
   pub is_new_token : IsNewToken (heart_of heart n 0 told eager) token
   is_new_token = let h = made.heart_is in let t = made.token_is in record {
     table = ap (λ r. r.table) t;
+    sized = ap (λ r. length r.view.sizes) t ∙ sized;
+    sizes = λ i. ap (λ r. size_of r.view i) t ∙ ap (λ l. slice_index l i) none ∙ same_at n i 0;
+    steps = ap (λ r. r.view.steps) t ∙ sym (ap (λ s. s.view.steps) h);
     seen = ap (λ r. r.view.seen) t;
     known = λ i. ap (λ r. known_of r.view i) t ∙ same_at (length sizes) i [];
     numbers_are = ap (λ r. r.view.numbers) t ∙ sym (ap (λ s. s.view.numbers) h);
@@ -126,6 +139,24 @@ with_more h admitted = record h { admitted = admitted }
 
 pub one_more : (h now next : HeartState) (admitted : ℕ) → next ≡ record now { admitted = now.admitted + 1 } → now ≡ with_more h admitted → next ≡ with_more h (admitted + 1)
 one_more h now next admitted more stays = more ∙ λ a. record (stays a) { admitted = (stays a).admitted + 1 }
+
+-- the heart stays new
+pub new_heart_more : (n : ℕ) (numbers name : List ℕ) (eager : Bool) (h now : HeartState) (admitted : ℕ) → now ≡ with_more h admitted → IsNewHeart n numbers name eager h → IsNewHeart n numbers name eager now
+new_heart_more n numbers name eager h now admitted stays i =
+    let more : IsNewHeart n numbers name eager (with_more h admitted) = record {
+      updaters = i.updaters;
+      slots = i.slots;
+      sized = i.sized;
+      steps = i.steps;
+      seen = i.seen;
+      known = i.known;
+      drained = i.drained;
+      news = i.news;
+      numbers_are = i.numbers_are;
+      name_is = i.name_is;
+      eager_is = i.eager_is;
+    } in
+    subst (IsNewHeart n numbers name eager) (sym stays) more
 
 module _ (hint_of : List ℕ → List Entry → ℕ) where
   -- an updater is new of a hub however many are admitted
@@ -142,6 +173,8 @@ module _ (hint_of : List ℕ → List Entry → ℕ) where
         base = i.base;
         seen = i.seen;
         known = i.known;
+        steps = i.steps;
+        ready = i.ready;
         hint_is = i.hint_is;
         numbers = i.numbers;
         news = i.news;

@@ -7,17 +7,18 @@ use Rattle.sk_model.specs.Entries.{Entry, tagged}
 use Rattle.sk_model.specs.Missing.{Begins}
 use Rattle.sk_model.proofs.Missing.{begins_trans, begins_refl}
 use Rattle.sk_machine.specs.declared.views.Move.{Move}
-use Rattle.sk_machine.specs.declared.views.Move.TheVariants.{Find, Publish, GiveBack, Turn, Yield}
+use Rattle.sk_machine.specs.declared.views.Move.TheVariants.{Find, Publish, GiveBack, Ask, Turn, Yield}
 use Rattle.sk_machine.specs.declared.views.Stage.{Stage}
 use Rattle.sk_machine.specs.declared.views.Stage.TheVariants.{Idle, Busy, Published}
 use Rattle.sk_machine.specs.declared.views.Duty.{Duty}
 use Rattle.sk_machine.specs.declared.views.Duty.TheVariants.{Free}
 use Rattle.sk_machine.specs.declared.views.View.{View}
 use Rattle.sk_gate.specs.Views.{size_of, batch_of, stage_of}
-use Rattle.sk_gate.specs.Moves.{AsksAt, FindsBatchAt, LeavesAt, ResumesAt, TakesTurnAt, YieldsAt}
+use Rattle.sk_gate.specs.Moves.{IsSeen, AsksAt, FindsBatchAt, LeavesAt, ResumesAt, TakesTurnAt, YieldsAt}
 use Rattle.sk_gate.specs.Merge.{MergesAt}
-use Rattle.sk_hub.specs.Rounds.{Advances, TakesTurn, KnowsAsMuch, PublishesBatch, FindsNothing, FindsBatch, FinishesHeld, FindsInVain, ServesOne, ServesEach, Serves, ServesNothing, ServesBatch, Refuses, RefusesFound}
+use Rattle.sk_hub.specs.Rounds.{Advances, TakesTurn, KnowsAsMuch, PublishesBatch, FinishesHeld, FindsInVain, ServesOne, ServesEach, Serves, ServesNothing, ServesBatch, Refuses, RefusesFound}
 use Rattle.sk_hub.specs.Turns.{RefusesAfter}
+use Rattle.sk_hub.proofs.Views.{seen_again}
 
 -- a step that changes no more than what a propagator's may
 only_these : (v w : View) (seen : List Entry) (steps : List Move) (duty : Duty) (given : List (List Entry)) (sizes : List ℕ) → w ≡ record v { seen = seen; steps = steps; duty = duty; given = given; sizes = sizes }
@@ -30,14 +31,19 @@ advances_trans u v w xs ys a b = record {
       ∙ (λ d. let x : View = a.view d in record x { seen = w.seen; steps = x.steps ++ ys; duty = w.duty; given = w.given; sizes = w.sizes })
       ∙ ap (λ l. record u { seen = w.seen; steps = l; duty = w.duty; given = w.given; sizes = w.sizes }) (append_assoc u.steps xs ys);
   grows = begins_trans _ _ _ a.grows b.grows;
+  sees = λ s. b.sees (a.sees s);
   sized = b.sized ∙ a.sized;
   sizes_stay = λ i known. let same = a.sizes_stay i known in b.sizes_stay i (subst (λ z. z ≢ 0) (sym same) known) ∙ same;
 }
 
+-- where it sees no more
+pub seen_stays : (v w : View) → w.seen ≡ v.seen → w.post ≡ v.post → length w.sizes ≡ length v.sizes → IsSeen v v.seen → IsSeen w w.seen
+seen_stays v w same post sized s = seen_again v w w.seen post sized (subst (IsSeen v) (sym same) s)
+
 -- a batch was merged: its publish, and the give_back of a hint that is not 0
-publishes_batch : (hint packed : List ℕ → List Entry → ℕ) (v w : View) (i count : ℕ) → count ≡ length (batch_of v) → MergesAt hint packed v w i → hint w.numbers w.seen ≢ 0
+publishes_batch : (hint packed : List ℕ → List Entry → ℕ) (v w : View) (i count : ℕ) → count ≡ length (batch_of v) → MergesAt hint packed v w i → IsSeen v w.seen → hint w.numbers w.seen ≢ 0
     → (steps : List Move) × PublishesBatch i count steps × Advances v steps w
-publishes_batch hint packed v w i count count_is m lower =
+publishes_batch hint packed v w i count count_is m seen lower =
     let list : List Entry = v.seen ++ tagged i (batch_of v) in
     let word : ℕ = packed v.numbers list in
     let told : ℕ = hint v.numbers list in
@@ -47,15 +53,16 @@ publishes_batch hint packed v w i count count_is m lower =
     let advances : Advances v steps w = record {
       view = only_these v w _ _ _ _ _ m;
       grows = (tagged i (batch_of v), ap (λ x. x.seen) m);
+      sees = λ _. seen_again v w w.seen (ap (λ x. x.post) m) (ap (λ x. length x.sizes) m) seen;
       sized = ap (λ x. length x.sizes) m;
       sizes_stay = λ j _. ap (λ x. size_of x j) m;
     } in
     (steps, (word, told, lower', is), advances)
 
-pub publishes_if : {E : Type 0} (hint packed : List ℕ → List Entry → ℕ) (v w : View) (i : ℕ) (r : Result ℕ E) → IfOk r (λ count. count ≡ length (batch_of v)) → IfOk r (λ _. MergesAt hint packed v w i) → IfOk r (λ _. hint w.numbers w.seen ≢ 0)
+pub publishes_if : {E : Type 0} (hint packed : List ℕ → List Entry → ℕ) (v w : View) (i : ℕ) (r : Result ℕ E) → IfOk r (λ count. count ≡ length (batch_of v)) → IfOk r (λ _. MergesAt hint packed v w i) → IfOk r (λ _. IsSeen v w.seen) → IfOk r (λ _. hint w.numbers w.seen ≢ 0)
     → IfOk r (λ count. (steps : List Move) × PublishesBatch i count steps × Advances v steps w)
-publishes_if hint packed v w i (Ok count) count_is m lower = publishes_batch hint packed v w i count count_is m lower
-publishes_if hint packed v w i (Err e) count_is m lower = tt
+publishes_if hint packed v w i (Ok count) count_is m seen lower = publishes_batch hint packed v w i count count_is m seen lower
+publishes_if hint packed v w i (Err e) count_is m seen lower = tt
 
 -- a size that was learnt leaves those that were known
 sizes_learnt : (sizes : List ℕ) (i b : ℕ) → i < length sizes → (slice_index sizes i ≢ 0 → b ≡ slice_index sizes i) → (j : ℕ) → slice_index sizes j ≢ 0 → slice_index (set sizes i b) j ≡ slice_index sizes j
@@ -70,6 +77,7 @@ finds_batch v w i within f =
     let learnt : w.sizes ≡ set v.sizes i (size_of w i) = ap (λ x. x.sizes) e in record {
       view = only_these v w _ _ _ _ _ e;
       grows = subst (Begins v.seen) (sym (ap (λ x. x.seen) e)) (begins_refl v.seen);
+      sees = seen_stays v w (ap (λ x. x.seen) e) (ap (λ x. x.post) e) (ap length learnt ∙ length-set v.sizes i (size_of w i));
       sized = ap length learnt ∙ length-set v.sizes i (size_of w i);
       sizes_stay = λ j known. ap (λ z. slice_index z j) learnt ∙ sizes_learnt v.sizes i (size_of w i) within f.same j known;
     }
@@ -79,6 +87,7 @@ pub finds_nothing : (v w : View) (i word : ℕ) → w ≡ record v { steps = v.s
 finds_nothing v w i word e = record {
   view = only_these v w _ _ _ _ _ e;
   grows = subst (Begins v.seen) (sym (ap (λ x. x.seen) e)) (begins_refl v.seen);
+  sees = seen_stays v w (ap (λ x. x.seen) e) (ap (λ x. x.post) e) (ap (λ x. length x.sizes) e);
   sized = ap (λ x. length x.sizes) e;
   sizes_stay = λ j _. ap (λ x. size_of x j) e;
 }
@@ -97,6 +106,7 @@ advances_none : (v : View) → Advances v [] v
 advances_none v = record {
   view = ap (λ l. record v { steps = l }) (sym (append-nil v.steps));
   grows = begins_refl v.seen;
+  sees = λ s. s;
   sized = refl;
   sizes_stay = λ j _. refl;
 }
@@ -124,6 +134,7 @@ starts : (v w : View) → TakesTurnAt v w → Advances v (Turn 0 ∷ []) w
 starts v w t = let sizes = sizes_resumed v w (stage_of w.duty) t.resumes in record {
   view = only_these v w _ _ _ _ _ t.view;
   grows = t.grows;
+  sees = λ _. seen_again v w w.seen (ap (λ x. x.post) t.view) sizes.0 t.is_seen;
   sized = sizes.0;
   sizes_stay = sizes.1;
 }
@@ -132,6 +143,7 @@ ends : (v w : View) → YieldsAt v w → Advances v (Yield ∷ []) w
 ends v w e = record {
   view = only_these v w _ _ _ _ _ e;
   grows = subst (Begins v.seen) (sym (ap (λ x. x.seen) e)) (begins_refl v.seen);
+  sees = seen_stays v w (ap (λ x. x.seen) e) (ap (λ x. x.post) e) (ap (λ x. length x.sizes) e);
   sized = ap (λ x. length x.sizes) e;
   sizes_stay = λ j _. ap (λ x. size_of x j) e;
 }
@@ -140,6 +152,7 @@ leaves : (v w : View) (i : ℕ) → LeavesAt v w i → Advances v (Find i 0 ∷ 
 leaves v w i e = record {
   view = only_these v w _ _ _ _ _ e;
   grows = subst (Begins v.seen) (sym (ap (λ x. x.seen) e)) (begins_refl v.seen);
+  sees = seen_stays v w (ap (λ x. x.seen) e) (ap (λ x. x.post) e) (ap (λ x. length x.sizes) e);
   sized = ap (λ x. length x.sizes) e;
   sizes_stay = λ j _. ap (λ x. size_of x j) e;
 }
@@ -197,6 +210,8 @@ pub knows_by : (v w : View) (steps : List Move) → TakesTurn v steps w → Know
 knows_by v w steps t = let a = t.advances in record {
   view = a.view ∙ λ d. record v { seen = w.seen; steps = (sym a.view d).steps; duty = ((ap (λ x. x.duty) (sym a.view) ∙ t.duty) d); given = w.given; sizes = w.sizes };
   grows = a.grows;
+  later = (Turn 0 ∷ steps ++ Yield ∷ [], ap (λ x. x.steps) a.view);
+  sees = a.sees;
   sized = a.sized;
   sizes_stay = a.sizes_stay;
 }
@@ -212,46 +227,16 @@ pub asks_knows : (packed : List ℕ → List Entry → ℕ) (v w : View) (word :
 asks_knows packed v w word a = record {
   view = a.view ∙ λ d. let x : View = sym a.view d in record v { seen = w.seen; steps = x.steps; given = x.given; sizes = x.sizes };
   grows = a.grows;
+  later = (Ask word ∷ [], ap (λ x. x.steps) a.view);
+  sees = λ _. seen_again v w w.seen (ap (λ x. x.post) a.view) (ap (λ x. length x.sizes) a.view) a.is_seen;
   sized = ap (λ x. length x.sizes) a.view;
   sizes_stay = λ j _. ap (λ x. size_of x j) a.view;
 }
 
 -- ---- one updater alone
 
-only_one : (i found : ℕ) (steps : List Move) → ServesEach i 1 found steps → ServesOne i found steps
-unfolding ServesEach
-only_one i found steps (before, now, earlier, later, count, is, (none, empty), one) =
-    let same : now ≡ found = omega arith in
-    let place : i + 0 ≡ i = omega arith in
-    let rest : later ≡ steps = sym (is ∙ ap (λ l. l ++ later) empty) in
-    subst (λ z. ServesOne z found steps) place (subst (λ z. ServesOne (i + 0) z steps) same (subst (λ l. ServesOne (i + 0) now l) rest one))
-
-found_none : (i found : ℕ) (steps : List Move) → found ≡ 0 → ServesOne i found steps → FindsNothing i steps
-found_none i found steps zero_found (inl n) = n.1
-found_none i found steps zero_found (inr b) = let some : 0 < found = b.2 in absurd (omega arith)
-
-found_some : (i found : ℕ) (steps : List Move) → found ≢ 0 → ServesOne i found steps → FindsBatch i found steps
-found_some i found steps more (inl n) = absurd (more n.0)
-found_some i found steps more (inr b) = b
-
 pub serves_nothing : (v w : View) (i held found : ℕ) → found ≡ 0 → Serves v i 1 held found w → ServesNothing v i w
-serves_nothing v w i held found none s = record {
-  held = held;
-  finishing = s.finishing;
-  finding = s.finding;
-  finishes = s.finishes;
-  finds = found_none i found s.finding none (only_one i found s.finding s.finds);
-  turn = s.turn;
-}
+serves_nothing v w i held found none s = (held, subst (λ z. Serves v i 1 held z w) none s)
 
 pub serves_batch : (v w : View) (i held found : ℕ) → found ≢ 0 → Serves v i 1 held found w → ServesBatch v i (held + found) w
-serves_batch v w i held found some s = record {
-  held = held;
-  found = found;
-  finishing = s.finishing;
-  finding = s.finding;
-  count_is = refl;
-  finishes = s.finishes;
-  finds = found_some i found s.finding some (only_one i found s.finding s.finds);
-  turn = s.turn;
-}
+serves_batch v w i held found some s = (held, found, omega arith, refl, s)

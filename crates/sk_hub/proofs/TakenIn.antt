@@ -1,5 +1,5 @@
 -- An updater's seat is taken in, and the heart asks.
-use Rattle.std.proofs.Common.{◌≡◌, ◌≢◌, ℕ, ◌<◌, List, [], ◌∷◌, ◌++◌, ◌+◌, arith, length, map, get_or, set, Bool, true, false, not, if◌then◌else◌, Option, Some, None, is_some, subst, sym, ap, refl, ◌∙◌, append-nil, length-set, get_or-set_same, get_or-set_other}
+use Rattle.std.proofs.Common.{◌≡◌, ◌≢◌, ℕ, ◌<◌, List, [], ◌∷◌, ◌++◌, ◌+◌, arith, length, map, get_or, set, All, Bool, true, false, not, if◌then◌else◌, Option, Some, None, is_some, subst, sym, ap, refl, ◌∙◌, append-nil, append_assoc, length-set, get_or-set_same, get_or-set_other}
 use Rattle.std.specs.Prelude.{Contains}
 use Rattle.std.proofs.lemmas.List.{map-set}
 use Rattle.std.proofs.lemmas.List.Elements.{Contains-push}
@@ -7,22 +7,25 @@ use mathlib.Core.Logic.{dite}
 use native.Mathlib.Decide.{ℕ_discrete}
 use Rattle.sk_model.specs.Entries.{Entry, entries_by}
 use Rattle.sk_model.specs.Missing.{Begins}
+use Rattle.sk_model.proofs.Missing.{begins_trans}
+use Rattle.sk_machine.specs.Coarse.{IsEntry}
 use Rattle.sk_compose.specs.Buffers.{Contents}
 use Rattle.sk_compose.specs.declared.buffer.Parcel.{Parcel}
 use Rattle.sk_machine.specs.declared.views.Mine.{Mine}
-use Rattle.sk_machine.specs.declared.views.Move.TheVariants.{Ask}
+use Rattle.sk_machine.specs.declared.views.Move.TheVariants.{Ask, Join}
 use Rattle.sk_machine.specs.declared.views.Post.TheVariants.{Updater}
 use Rattle.sk_machine.specs.declared.views.Duty.TheVariants.{Free}
 use Rattle.sk_machine.specs.declared.views.View.{View}
 use Rattle.sk_gate.specs.Slots.{Telling}
 use Rattle.sk_gate.specs.Views.{known_of, mine_of, size_of, after_join}
-use Rattle.sk_gate.specs.Moves.{AsksAt}
+use Rattle.sk_gate.specs.Moves.{AsksAt, IsSeen}
 use Rattle.sk_gate.specs.Plays.{is_picked, rested_mine}
 use Rattle.sk_gate.specs.Hands.{no_own, own_empty, is_empty, rested_of, Standing, TellsBase}
 use Rattle.sk_gate.proofs.Merged.{sizes_length}
 use Rattle.sk_hub.specs.Updaters.{IsFree, IsUpdater, TellsItems, state_of, items_in}
 use Rattle.sk_hub.specs.Hearts.{IsHeart, heart_of}
 use Rattle.sk_hub.specs.Drains.{IsDrained}
+use Rattle.sk_hub.proofs.Views.{seen_again}
 use Rattle.sk_hub.proofs.Knowledge.{hears_own, hears_other}
 
 -- the heart's view after both, and the updater's mine
@@ -35,7 +38,7 @@ asked_view v seen word = record v { seen = seen; steps = v.steps ++ Ask word ∷
 module _ {T : Type 0} (hint_of packed : List ℕ → List Entry → ℕ) (k : Telling T) (hs us us' hj ha : Standing) (word : ℕ) (vacant : List Standing) (told : List (Option T)) (n admitted number updaters size : ℕ) (fill : Option Contents) (ut : Option T) (hint taken last : ℕ) (p : Parcel T)
     (h : IsHeart k hs vacant told n admitted) (u : IsUpdater hint_of k us number updaters size fill ut hint taken last) (picks : us' ≡ record us { own = own_empty (size_of us.view us.number) }) (tells : TellsBase us.view k p) (some : is_some p.told ≡ us.own.told)
     (joins : hj ≡ record hs { view = after_join hs.view (rested_of us') }) (asks : AsksAt packed hj.view word ha.view) (stays : ha ≡ record hj { view = ha.view })
-    (ready : (mine_of us.view).ready ≡ true) (all : entries_by number (mine_of us.view).base ≡ (mine_of us.view).handed) (empty : items_in fill ≡ []) (table : us.table ≡ hs.table) where
+    (ready : (mine_of us.view).ready ≡ true) (empty : items_in fill ≡ []) (table : us.table ≡ hs.table) where
   -- one table has one number of updaters
   same_count : updaters ≡ n
   same_count =
@@ -43,6 +46,9 @@ module _ {T : Type 0} (hint_of packed : List ℕ → List Entry → ℕ) (k : Te
       let here : hs.table.slots ≡ n + 1 = h.slots in
       let same : us.table.slots ≡ hs.table.slots = ap (λ t. t.slots) table in
       omega arith
+
+  all : entries_by number (mine_of us.view).base ≡ (mine_of us.view).handed
+  all = u.view.settled ready
 
   within : number < n
   within = subst (λ z. number < z) same_count u.within
@@ -79,6 +85,10 @@ module _ {T : Type 0} (hint_of packed : List ℕ → List Entry → ℕ) (k : Te
       let before = h.told_is i t (sym (get_or-set_other told number i p.told None ne) ∙ there) in
       (subst (λ z. z ≢ []) (sym here) before.0, subst (λ z. TellsItems k hs.view.name i z t) (sym here) before.1))
 
+  -- it sees what the hub's updaters handed over
+  sees_then : IsSeen (asked_view (joined_view hs.view us.view number) ha.view.seen word) ha.view.seen
+  sees_then = seen_again hj.view (asked_view (joined_view hs.view us.view number) ha.view.seen word) ha.view.seen (sym (ap (λ v. v.post) joined_is)) (sym (ap (λ v. length v.sizes) joined_is)) asks.is_seen
+
   pub heart_then : IsHeart k ha vacant (set told number p.told) n admitted
   heart_then =
       let x : Standing = record hs { view = asked_view (joined_view hs.view us.view number) ha.view.seen word } in
@@ -90,12 +100,16 @@ module _ {T : Type 0} (hint_of packed : List ℕ → List Entry → ℕ) (k : Te
         slots = h.slots;
         sized = sizes_length n hs.view.sizes us.view.sizes h.sized sized;
         known_sized = long;
+        sees = sees_then;
         told_sized = length-set told number p.told ∙ h.told_sized;
         all = h.all;
         vacant_are = h.vacant_are;
         told_is = told_then x.view.known long refl;
       } in
       subst (λ z. IsHeart k z vacant (set told number p.told) n admitted) heart_is is
+
+  pub steps_then : ha.view.steps ≡ hs.view.steps ++ Join ∷ Ask word ∷ []
+  steps_then = ap (λ v. v.steps) view_is ∙ append_assoc hs.view.steps (Join ∷ []) (Ask word ∷ [])
 
   -- the heart has seen all that it had seen before
   pub seen_then : Begins hs.view.seen ha.view.seen
@@ -124,6 +138,8 @@ module _ {T : Type 0} (hint_of packed : List ℕ → List Entry → ℕ) (k : Te
       record {
         seen = asks.drained number in_it ∙ known_is ∙ sym kept_is;
         hears = hears_then;
+        base = begins_trans _ _ _ u.view.based hears_then;
+        entries = subst (λ z. All (IsEntry z) ha.view.seen) (ap (λ v. length v.sizes) joined_is ∙ sizes_length n hs.view.sizes us.view.sizes h.sized sized) asks.is_seen.entries;
         known = ap (λ z. known_of z number) view_is ∙ get_or-set_same hs.view.known number mine.handed [] wide ∙ sym kept_is;
         others = λ i ne. ap (λ z. known_of z i) view_is ∙ get_or-set_other hs.view.known number i mine.handed [] ne;
         drained = ap (λ z. z.drained) view_is;

@@ -1,16 +1,22 @@
 -- What it means that an updater was drained, and that one was admitted.
-use Rattle.std.specs.Prelude.{◌≡◌, ◌≢◌, ℕ, ◌<◌, List, [], ◌∷◌, ◌++◌, length, not, true, false, slice_set}
+use Rattle.std.specs.Prelude.{◌≡◌, ◌≢◌, ℕ, suc, ◌<◌, List, [], ◌∷◌, ◌++◌, length, replicate, All, not, true, false, slice_set}
 use Rattle.sk_model.specs.Entries.{Entry, entries_by}
 use Rattle.sk_model.specs.Missing.{Begins}
+use Rattle.sk_machine.specs.Coarse.{IsEntry}
+use Rattle.sk_machine.specs.declared.views.Move.TheVariants.{Look, Ask, Split, Join}
+use Rattle.sk_machine.specs.declared.views.View.{View}
 use Rattle.sk_gate.specs.Views.{known_of, mine_of}
 use Rattle.sk_gate.specs.Hands.{is_empty}
-use Rattle.sk_hub.specs.Updaters.{UpdaterState, handed_of, base_of, kept_of}
+use Rattle.sk_hub.specs.Updaters.{UpdaterState, handed_of, base_of, kept_of, HoldsTold}
 use Rattle.sk_hub.specs.Hearts.{HeartState}
+use Rattle.sk_hub.specs.Rounds.{Refuses, TriesTimes}
 
 -- the published list has exactly what the updater kept, and the heart knows it; it has seen what the updater had
 pub record IsDrained (h : HeartState) (u : UpdaterState) (h' : HeartState) : Type 0 where
   pub seen : entries_by u.number h'.view.seen ≡ kept_of u
   pub hears : Begins u.view.seen h'.view.seen
+  pub base : Begins (base_of u) h'.view.seen
+  pub entries : All (IsEntry h.updaters) h'.view.seen
   pub known : known_of h'.view u.number ≡ kept_of u
   pub others : (i : ℕ) → i ≢ u.number → known_of h'.view i ≡ known_of h.view i
   pub drained : h'.view.drained ≡ h.view.drained ++ u.number ∷ []
@@ -19,11 +25,25 @@ pub record IsDrained (h : HeartState) (u : UpdaterState) (h' : HeartState) : Typ
   pub numbers : h'.view.numbers ≡ h.view.numbers
   pub name : h'.view.name ≡ h.view.name
 
--- nothing is in its buffer, and all that it handed over is in its base
+-- it served this updater, or waited, then took its seat in, and asked
+pub record ServesAndTakesIn (i : ℕ) (v w : View) : Type 0 where
+  pub times : ℕ
+  pub before : View
+  pub tries : TriesTimes i times v before
+  pub word : ℕ
+  pub steps : w.steps ≡ before.steps ++ Join ∷ Ask word ∷ []
+
+-- it served updater i, or waited, until a batch was refused
+pub record TriesInVain (i : ℕ) (v w : View) : Type 0 where
+  pub times : ℕ
+  pub before : View
+  pub tries : TriesTimes i times v before
+  pub refuses : Refuses before i 1 w
+
+-- nothing is in its buffer, and its last look renewed its base, which has all that it handed over
 pub record IsSettled (u : UpdaterState) : Type 0 where
   pub fill : u.fill ≡ []
   pub ready : (mine_of u.view).ready ≡ true
-  pub all : entries_by u.number (base_of u) ≡ handed_of u
 
 -- what an updater came back with, after want of memory
 pub record ComesBack (u u' : UpdaterState) : Type 0 where
@@ -35,8 +55,10 @@ pub record ComesBack (u u' : UpdaterState) : Type 0 where
   pub size : u'.size ≡ u.size
   pub table : u'.table ≡ u.table
   pub name : u'.view.name ≡ u.view.name
+  pub numbers : u'.view.numbers ≡ u.view.numbers
   pub sizes : u'.view.sizes ≡ u.view.sizes
   pub eager : u'.eager ≡ u.eager
+  pub told : HoldsTold u u'
 
 -- an updater of the heart's table that has seen and kept nothing
 pub record IsNew (hint_of : List ℕ → List Entry → ℕ) (number size : ℕ) (h : HeartState) (u : UpdaterState) : Type 0 where
@@ -50,6 +72,8 @@ pub record IsNew (hint_of : List ℕ → List Entry → ℕ) (number size : ℕ)
   pub base : base_of u ≡ []
   pub seen : u.view.seen ≡ []
   pub known : (i : ℕ) → known_of u.view i ≡ []
+  pub steps : u.view.steps ≡ replicate (suc number) Split ++ Look number u.hint ∷ []
+  pub ready : (mine_of u.view).ready ≡ true
   pub hint_is : u.hint ≡ hint_of h.view.numbers []
   pub numbers : u.view.numbers ≡ h.view.numbers
   pub news : u.news ≡ false

@@ -1,7 +1,8 @@
 -- What an ask is worth (the r-relaxation of Rinberg and others, PPoPP 2020, told for each updater).
-use Rattle.std.specs.Prelude.{◌≡◌, ◌≢◌, ℕ, ◌*◌, List, [], ◌∷◌, ◌++◌, Contains}
+use Rattle.std.specs.Prelude.{◌≡◌, ◌≢◌, ℕ, ◌*◌, List, [], ◌∷◌, ◌++◌, length, All, Contains}
 use Rattle.sk_model.specs.Entries.{Entry, entries_by}
 use Rattle.sk_model.specs.Missing.{Begins, LacksAtMost}
+use Rattle.sk_machine.specs.Coarse.{IsEntry}
 use Rattle.sk_machine.specs.declared.views.Move.TheVariants.{Ask}
 use Rattle.sk_machine.specs.declared.views.View.{View}
 use Rattle.sk_gate.specs.Views.{known_of, size_of}
@@ -11,6 +12,8 @@ use Rattle.sk_hub.specs.Updaters.{UpdaterState, handed_of, kept_of}
 -- handed over at most one buffer
 pub record IsRelaxedReply (packed_of : List ℕ → List Entry → ℕ) (v : View) (word : ℕ) (w : View) : Type 0 where
   pub grows : Begins v.seen w.seen
+  -- they are items of the table's updaters
+  pub entries : All (IsEntry (length v.sizes)) w.seen
   pub value : word ≡ packed_of v.numbers w.seen
   pub lacks : (i : ℕ) → known_of v i ≢ [] → LacksAtMost (known_of v i) (entries_by i w.seen) (size_of v i)
   pub stays : w ≡ record v { seen = w.seen; steps = v.steps ++ Ask word ∷ [] }
@@ -18,6 +21,9 @@ pub record IsRelaxedReply (packed_of : List ℕ → List Entry → ℕ) (v : Vie
 -- an updater's own reply lacks of what it handed over at most one buffer, and of what it kept at most two
 pub record IsOwnReply (packed_of : List ℕ → List Entry → ℕ) (u : UpdaterState) (word : ℕ) (u' : UpdaterState) : Type 0 where
   pub grows : Begins u.view.seen u'.view.seen
+  pub entries : All (IsEntry (length u.view.sizes)) u'.view.seen
+  -- of its own it sees only such as it handed over
+  pub own : Begins (entries_by u.number u'.view.seen) (handed_of u)
   pub value : word ≡ packed_of u.view.numbers u'.view.seen
   pub lacks_handed : LacksAtMost (handed_of u) (entries_by u.number u'.view.seen) u.size
   pub lacks_kept : LacksAtMost (kept_of u) (entries_by u.number u'.view.seen) (2 * u.size)

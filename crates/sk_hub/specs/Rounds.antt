@@ -5,6 +5,7 @@ use Rattle.sk_machine.specs.declared.views.Move.{Move}
 use Rattle.sk_machine.specs.declared.views.Move.TheVariants.{Find, Publish, GiveBack, Turn, Yield}
 use Rattle.sk_machine.specs.declared.views.View.{View}
 use Rattle.sk_gate.specs.Views.{size_of}
+use Rattle.sk_gate.specs.Moves.{IsSeen}
 
 -- ---- steps
 
@@ -42,6 +43,7 @@ FindsInVain i = Find i 0 ∷ Find i 0 ∷ []
 pub record Advances (v : View) (steps : List Move) (w : View) : Type 0 where
   pub view : w ≡ record v { seen = w.seen; steps = v.steps ++ steps; duty = w.duty; given = w.given; sizes = w.sizes }
   pub grows : Begins v.seen w.seen
+  pub sees : IsSeen v v.seen → IsSeen w w.seen
   pub sized : length w.sizes ≡ length v.sizes
   pub sizes_stay : (i : ℕ) → size_of v i ≢ 0 → size_of w i ≡ size_of v i
 
@@ -50,10 +52,12 @@ pub record TakesTurn (v : View) (steps : List Move) (w : View) : Type 0 where
   pub advances : Advances v (Turn 0 ∷ steps ++ Yield ∷ []) w
   pub duty : w.duty ≡ v.duty
 
--- a seat that propagated knows no more of updaters, and has seen as much or more
+-- a seat that may have propagated knows no more of updaters, and has seen as much or more
 pub record KnowsAsMuch (v w : View) : Type 0 where
   pub view : w ≡ record v { seen = w.seen; steps = w.steps; given = w.given; sizes = w.sizes }
   pub grows : Begins v.seen w.seen
+  pub later : Begins v.steps w.steps
+  pub sees : IsSeen v v.seen → IsSeen w w.seen
   pub sized : length w.sizes ≡ length v.sizes
   pub sizes_stay : (i : ℕ) → size_of v i ≢ 0 → size_of w i ≡ size_of v i
 
@@ -77,24 +81,12 @@ abbrev pub Sweeps : View → ℕ → ℕ → View → Type 0
 Sweeps v n count w = (held : ℕ) × (found : ℕ) × (count ≡ held + found) × Serves v 0 n held found w
 
 -- nothing waited at updater i; a batch that was held is published
-pub record ServesNothing (v : View) (i : ℕ) (w : View) : Type 0 where
-  pub held : ℕ
-  pub finishing : List Move
-  pub finding : List Move
-  pub finishes : FinishesHeld held finishing
-  pub finds : FindsNothing i finding
-  pub turn : TakesTurn v (finishing ++ finding) w
+abbrev pub ServesNothing : View → ℕ → View → Type 0
+ServesNothing v i w = (held : ℕ) × Serves v i 1 held 0 w
 
 -- a batch waited at updater i; so many items were published, with those of a batch that was held
-pub record ServesBatch (v : View) (i count : ℕ) (w : View) : Type 0 where
-  pub held : ℕ
-  pub found : ℕ
-  pub finishing : List Move
-  pub finding : List Move
-  pub count_is : count ≡ held + found
-  pub finishes : FinishesHeld held finishing
-  pub finds : FindsBatch i found finding
-  pub turn : TakesTurn v (finishing ++ finding) w
+abbrev pub ServesBatch : View → ℕ → ℕ → View → Type 0
+ServesBatch v i count w = (held : ℕ) × (found : ℕ) × (0 < found) × (count ≡ held + found) × Serves v i 1 held found w
 
 -- no memory was found for a batch that one of these n updaters had handed over; those before it were served
 pub record RefusesFound (v : View) (from n : ℕ) (w : View) : Type 0 where
@@ -111,3 +103,14 @@ pub record RefusesFound (v : View) (from n : ℕ) (w : View) : Type 0 where
 -- no memory was found: for the batch that was held, and none was served, or for one that was found. It is held now
 abbrev pub Refuses : View → ℕ → ℕ → View → Type 0
 Refuses v from n w = TakesTurn v [] w ⊎ RefusesFound v from n w
+
+-- ---- calls that try again
+
+-- updater i was served, or the turn was found with another seat
+abbrev pub TriesToServe : ℕ → View → View → Type 0
+TriesToServe i v w = ((held : ℕ) × (found : ℕ) × Serves v i 1 held found w) ⊎ ((other : ℕ) × IsElsewhere v other w)
+
+-- so it was tried, so many times
+unfoldable pub TriesTimes : ℕ → ℕ → View → View → Type 0
+TriesTimes i zero v w = w ≡ v
+TriesTimes i (suc times) v w = (x : View) × TriesTimes i times v x × TriesToServe i x w

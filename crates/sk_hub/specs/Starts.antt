@@ -1,7 +1,8 @@
 -- A hub at its start.
-use Rattle.std.specs.Prelude.{◌≡◌, ℕ, List, [], false, Bool, slice_index, slice_get, Some, replicate}
+use Rattle.std.specs.Prelude.{◌≡◌, ℕ, ◌+◌, List, [], length, false, Bool, slice_index, slice_get, Some, replicate}
 use Rattle.sk_model.specs.Entries.{Entry}
-use Rattle.sk_gate.specs.Views.{known_of}
+use Rattle.sk_machine.specs.declared.views.Move.TheVariants.{Split}
+use Rattle.sk_gate.specs.Views.{known_of, size_of}
 use Rattle.sk_gate.specs.Hands.{Reading}
 use Rattle.sk_hub.specs.Updaters.{UpdaterState}
 use Rattle.sk_hub.specs.Hearts.{HeartState}
@@ -10,6 +11,9 @@ use Rattle.sk_hub.specs.Drains.{IsNew}
 -- nothing is seen, known or drained
 pub record IsNewHeart (n : ℕ) (numbers name : List ℕ) (eager : Bool) (h : HeartState) : Type 0 where
   pub updaters : h.updaters ≡ n
+  pub slots : h.table.slots ≡ n + 1
+  pub sized : length h.view.sizes ≡ n
+  pub steps : h.view.steps ≡ replicate (n + 1) Split
   pub seen : h.view.seen ≡ []
   pub known : (i : ℕ) → known_of h.view i ≡ []
   pub drained : h.view.drained ≡ []
@@ -20,6 +24,9 @@ pub record IsNewHeart (n : ℕ) (numbers name : List ℕ) (eager : Bool) (h : He
 
 pub record IsNewToken (h : HeartState) (t : Reading) : Type 0 where
   pub table : t.table ≡ h.table
+  pub sized : length t.view.sizes ≡ h.updaters
+  pub sizes : (i : ℕ) → size_of t.view i ≡ 0
+  pub steps : t.view.steps ≡ h.view.steps
   pub seen : t.view.seen ≡ []
   pub known : (i : ℕ) → known_of t.view i ≡ []
   pub numbers_are : t.view.numbers ≡ h.view.numbers

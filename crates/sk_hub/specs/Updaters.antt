@@ -1,10 +1,13 @@
 -- What contracts see of an updater, what is true of each, and what its looks lead to.
-use Rattle.std.specs.Prelude.{◌≡◌, ◌≢◌, ◌⊎◌, ℕ, ◌+◌, ◌-◌, ◌<◌, ◌≤◌, ◌==◌, if◌then◌else◌, List, [], ◌∷◌, ◌++◌, length, take, Bool, true, false, not, ◌&&◌, ◌||◌, Option, Some, None, is_some}
+use Rattle.std.specs.Prelude.{◌≡◌, ◌≢◌, ◌⊎◌, ℕ, ◌+◌, ◌-◌, ◌<◌, ◌≤◌, ◌==◌, if◌then◌else◌, List, [], ◌∷◌, ◌++◌, length, take, All, Bool, true, false, not, ◌&&◌, ◌||◌, Option, Some, None, is_some}
 use Rattle.std.specs.Bool.{MatchBool}
 use Rattle.atomic_table.specs.Seated.{TableId}
 use Rattle.sk_model.specs.Entries.{Entry, entries_by}
 use Rattle.sk_model.specs.Missing.{Begins, longer}
+use Rattle.sk_model.specs.Width.{AreItems}
+use Rattle.sk_model.specs.Limits.{most_size, most_updaters, most_kept, IsFrom}
 use Rattle.sk_compose.specs.Buffers.{Contents}
+use Rattle.sk_machine.specs.Coarse.{IsEntry}
 use Rattle.sk_machine.specs.declared.views.Mine.{Mine}
 use Rattle.sk_machine.specs.declared.views.Move.TheVariants.{Look, Hand}
 use Rattle.sk_machine.specs.declared.views.Post.TheVariants.{Updater}
@@ -14,7 +17,6 @@ use Rattle.sk_gate.specs.Slots.{contents, Telling, TellsList}
 use Rattle.sk_gate.specs.Views.{size_of, mine_of, is_open}
 use Rattle.sk_gate.specs.Moves.{looked_mine, handed_mine}
 use Rattle.sk_gate.specs.Hands.{Own, no_own, is_empty, Standing}
-use Rattle.sk_model.specs.Limits.{most_updaters, most_kept}
 
 pub record UpdaterState : Type 0 where
   -- what its seat knows, and of which table it is
@@ -52,6 +54,36 @@ earlier_of u = take (length (handed_of u) - u.last) (handed_of u)
 
 -- ---- what is true of every updater
 
+-- the view of updater i: what it has seen are items of the table's updaters, of its own only such as it handed over;
+-- its base is the beginning of that, and after a look that renewed the base has all that it handed over
+pub record IsViewOf (i : ℕ) (v : View) : Type 0 where
+  pub post : v.post ≡ Updater i (mine_of v)
+  pub entries : All (IsEntry (length v.sizes)) v.seen
+  pub own : Begins (entries_by i v.seen) (mine_of v).handed
+  pub based : Begins (mine_of v).base v.seen
+  pub settled : (mine_of v).ready ≡ true → entries_by i (mine_of v).base ≡ (mine_of v).handed
+  pub items : AreItems (mine_of v).handed
+
+-- whatever was called before
+pub record IsWholeUpdater (hint_of : List ℕ → List Entry → ℕ) (u : UpdaterState) : Type 0 where
+  pub view : IsViewOf u.number u.view
+  -- it knows of all updaters of its table that there are, and of itself how large its buffers are
+  pub within : u.number < length u.view.sizes
+  pub few : length u.view.sizes ≤ most_updaters
+  pub slots : u.table.slots ≡ length u.view.sizes + 1
+  pub size_known : size_of u.view u.number ≡ u.size
+  pub size : IsFrom 1 most_size u.size
+  pub fill : length u.fill ≤ u.size
+  pub items : AreItems (kept_of u)
+  pub most : length (kept_of u) ≤ most_kept
+  pub hint_is : u.hint ≡ hint_of u.view.numbers (base_of u)
+
+-- it holds a told value where it did, and no hand came since; or where something was handed over before its last hand
+abbrev pub HoldsTold : UpdaterState → UpdaterState → Type 0
+HoldsTold u u' = ((u'.news ≡ u.news) × (handed_of u' ≡ handed_of u) × (u'.last ≡ u.last)) ⊎ (u'.news ≡ not (is_empty (earlier_of u')))
+
+-- ---- what the fields of every updater hold
+
 -- the fill buffer; there is none while its items lie in the slot
 abbrev pub items_in : Option Contents → List ℕ
 items_in None = []
@@ -76,7 +108,7 @@ pub record IsFree (s : Standing) : Type 0 where
 
 pub record IsUpdater {T : Type 0} (hint_of : List ℕ → List Entry → ℕ) (k : Telling T) (s : Standing) (number updaters size : ℕ) (fill : Option Contents) (told : Option T) (hint taken last : ℕ) : Type 0 where
   pub number_is : s.number ≡ number
-  pub post : s.view.post ≡ Updater number (mine_of s.view)
+  pub view : IsViewOf number s.view
   pub free : IsFree s
   pub own : s.own ≡ own_at_rest size (mine_of s.view)
   pub within : number < updaters
@@ -99,13 +131,16 @@ pub record LooksInVain (u u' : UpdaterState) : Type 0 where
   pub closed : is_open u.number u.view.steps ≡ false
   pub more : length (entries_by u.number (base_of u)) < length (handed_of u)
 
--- a number other than 0 was loaded: it is the hint of the new base, which has all that was handed over
+-- a number other than 0 was loaded: it is the hint of the new base, which has all that was handed over, and so has
+-- what is seen
 pub record IsRenewed (hint_of : List ℕ → List Entry → ℕ) (u u' : UpdaterState) : Type 0 where
   pub lower : u'.hint ≢ 0
   pub hint_is : u'.hint ≡ hint_of u.view.numbers (base_of u')
   pub grows : Begins (base_of u) (base_of u')
   pub sees : Begins u.view.seen u'.view.seen
+  pub based : Begins (base_of u') u'.view.seen
   pub all : entries_by u.number (base_of u') ≡ handed_of u
+  pub sees_all : entries_by u.number u'.view.seen ≡ handed_of u
 
 -- a look that renewed the hint
 pub record Renews (hint_of : List ℕ → List Entry → ℕ) (u u' : UpdaterState) : Type 0 where

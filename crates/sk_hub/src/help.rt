@@ -1,7 +1,7 @@
 //! An updater that propagates itself.
 ghost use Rattle.std.specs.Prelude.{◌≡◌, ℕ, length, true, IsTrue};
 ghost use Rattle.sk_gate.specs.Views.{is_open};
-ghost use Rattle.sk_hub.specs.Rounds.{Sweeps, Refuses, IsElsewhere};
+ghost use Rattle.sk_hub.specs.Rounds.{Sweeps, Refuses, IsElsewhere, KnowsAsMuch};
 
 use crate::answers::Help;
 use crate::round::{Done, Stopped, propagate};
@@ -18,6 +18,7 @@ impl<C: Composable> Updater<C> {
         ensures elsewhere { (other : ℕ) → result ≡ Help.Elsewhere other → IsElsewhere self.old.view other self.new.view }
         ensures refused { result ≡ Help.OutOfMemory → Refuses self.old.view 0 (length self.old.view.sizes) self.new.view }
         ensures cause { result ≡ Help.OutOfMemory → IsTrue C.TAKES_MEMORY }
+        ensures knows { KnowsAsMuch self.old.view self.new.view }
         ensures stays { self.new ≡ record self.old { view = self.new.view } }
     {
         // It tells the proof that the size is not 0.

@@ -1,5 +1,5 @@
 //! Updaters that come late.
-ghost use Rattle.std.specs.Prelude.{◌≡◌, ◌+◌, ◌≤◌};
+ghost use Rattle.std.specs.Prelude.{◌≡◌, ◌↔◌, ◌+◌, ◌≤◌};
 ghost use Rattle.sk_hub.specs.Drains.{IsNew};
 ghost use Rattle.sk_model.specs.Limits.{most_size};
 
@@ -14,7 +14,7 @@ impl<C: Composable> Heart<C> {
     pub fn admit(&mut self, alloc: Global, b: u32) -> Admit<C>
         requires least { 1 ≤ b }
         requires most { b ≤ most_size }
-        ensures full { result ≡ Admit.Full → self.old.admitted ≡ self.old.updaters }
+        ensures full { (result ≡ Admit.Full) ↔ (self.old.admitted ≡ self.old.updaters) }
         ensures admitted { (u : _) → result ≡ Admit.Admitted u → IsNew C.hint_of self.old.admitted b self.old u }
         ensures count { (u : _) → result ≡ Admit.Admitted u → self.new ≡ record self.old { admitted = self.old.admitted + 1 } }
         ensures unchanged { result ≡ Admit.Full → self.new ≡ self.old }

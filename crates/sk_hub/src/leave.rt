@@ -1,9 +1,10 @@
 //! Updaters that leave: the heart takes them in.
-ghost use Rattle.std.specs.Prelude.{◌≡◌, [], IsTrue};
+ghost use Rattle.std.specs.Prelude.{◌≡◌, ℕ, [], ◌∷◌, ◌++◌, IsTrue};
 ghost use Rattle.std.specs.Bool.{OnTrue, OnFalse};
 ghost use Rattle.sk_model.specs.Missing.{Begins};
-ghost use Rattle.sk_hub.specs.Rounds.{KnowsAsMuch};
-ghost use Rattle.sk_hub.specs.Drains.{IsDrained, ComesBack, IsSettled};
+ghost use Rattle.sk_machine.specs.declared.views.Move.TheVariants.{Ask, Join};
+ghost use Rattle.sk_hub.specs.Rounds.{KnowsAsMuch, Refuses, TriesToServe, TriesTimes};
+ghost use Rattle.sk_hub.specs.Drains.{IsDrained, ServesAndTakesIn, TriesInVain, ComesBack, IsSettled};
 
 use crate::answers::{Drain, Flush, Serve, Settle};
 use crate::heart::Heart;
@@ -18,8 +19,12 @@ impl<C: Composable> Heart<C> {
     pub fn drain<R: Wait>(&mut self, rt: &R, u: Updater<C>) -> Drain<C>
         requires table { u.table ≡ self.old.table }
         ensures drained { result ≡ Drain.Drained → IsDrained self.old u self.new }
+        ensures served { result ≡ Drain.Drained → ServesAndTakesIn u.number self.old.view self.new.view }
         ensures seen { Begins self.old.view.seen self.new.view.seen }
-        ensures refused { (u' : _) → result ≡ Drain.OutOfMemory u' → ComesBack u u' }
+
+        // A batch that is refused is held, as after `serve`.
+        ensures refused { (u' : _) → result ≡ Drain.OutOfMemory u' → TriesInVain u.number self.old.view self.new.view }
+        ensures back { (u' : _) → result ≡ Drain.OutOfMemory u' → ComesBack u u' }
         ensures stays { (u' : _) → result ≡ Drain.OutOfMemory u' → self.new ≡ record self.old { view = self.new.view } }
         ensures known { (u' : _) → result ≡ Drain.OutOfMemory u' → KnowsAsMuch self.old.view self.new.view }
         ensures cause { (u' : _) → result ≡ Drain.OutOfMemory u' → IsTrue C.TAKES_MEMORY }
@@ -38,6 +43,8 @@ impl<C: Composable> Heart<C> {
     // Serves an updater, unless memory is wanting. Where another seat propagates it waits a moment.
     fn serve_for<R: Wait>(&mut self, rt: &R, u: &Updater<C>, backoff: &Backoff) -> bool
         requires table { u.now.table ≡ self.old.table }
+        ensures tries { OnTrue result (TriesToServe u.now.number self.old.view self.new.view) }
+        ensures refused { OnFalse result (Refuses self.old.view u.now.number 1 self.new.view) }
         ensures known { KnowsAsMuch self.old.view self.new.view }
         ensures cause { OnFalse result (IsTrue C.TAKES_MEMORY) }
         ensures stays { self.new ≡ record self.old { view = self.new.view } }
@@ -60,6 +67,8 @@ impl<C: Composable> Heart<C> {
         requires table { u.old.table ≡ self.old.table }
         ensures back { ComesBack u.old u.new }
         ensures empty { OnTrue result (u.new.fill ≡ []) }
+        ensures tries { OnTrue result ((times : ℕ) × TriesTimes u.old.number times self.old.view self.new.view) }
+        ensures refused { OnFalse result (TriesInVain u.old.number self.old.view self.new.view) }
         ensures known { KnowsAsMuch self.old.view self.new.view }
         ensures cause { OnFalse result (IsTrue C.TAKES_MEMORY) }
         ensures stays { self.new ≡ record self.old { view = self.new.view } }
@@ -83,6 +92,8 @@ impl<C: Composable> Heart<C> {
         requires empty { u.old.fill ≡ [] }
         ensures back { ComesBack u.old u.new }
         ensures settled { OnTrue result (IsSettled u.new) }
+        ensures tries { OnTrue result ((times : ℕ) × TriesTimes u.old.number times self.old.view self.new.view) }
+        ensures refused { OnFalse result (TriesInVain u.old.number self.old.view self.new.view) }
         ensures known { KnowsAsMuch self.old.view self.new.view }
         ensures cause { OnFalse result (IsTrue C.TAKES_MEMORY) }
         ensures stays { self.new ≡ record self.old { view = self.new.view } }
@@ -105,6 +116,7 @@ impl<C: Composable> Heart<C> {
         requires table { u.table ≡ self.old.table }
         requires settled { IsSettled u }
         ensures drained { IsDrained self.old u self.new }
+        ensures steps { (word : ℕ) × (self.new.view.steps ≡ self.old.view.steps ++ Join ∷ Ask word ∷ []) }
         ensures seen { Begins self.old.view.seen self.new.view.seen }
     {
         let Updater {

@@ -4,7 +4,7 @@ ghost use Rattle.sk_gate.specs.Slots.{telling};
 ghost use Rattle.sk_gate.specs.Views.{known_of};
 ghost use Rattle.sk_hub.specs.Updaters.{TellsItems};
 ghost use Rattle.sk_hub.specs.Replies.{IsRelaxedReply, HasDrained};
-ghost use Rattle.sk_hub.specs.Rounds.{Sweeps, ServesNothing, ServesBatch, Refuses, IsElsewhere};
+ghost use Rattle.sk_hub.specs.Rounds.{Sweeps, ServesNothing, ServesBatch, Refuses, IsElsewhere, KnowsAsMuch};
 
 use crate::answers::{Serve, Sweep};
 use crate::heart::Heart;
@@ -22,6 +22,7 @@ impl<C: Composable> Heart<C> {
         ensures elsewhere { (other : ℕ) → result ≡ Serve.Elsewhere other → IsElsewhere self.old.view other self.new.view }
         ensures refused { result ≡ Serve.OutOfMemory → Refuses self.old.view i 1 self.new.view }
         ensures cause { result ≡ Serve.OutOfMemory → IsTrue C.TAKES_MEMORY }
+        ensures knows { KnowsAsMuch self.old.view self.new.view }
         ensures stays { self.new ≡ record self.old { view = self.new.view } }
     {
         let done = match propagate(rt, &mut self.seat, i, 1) {
@@ -41,6 +42,7 @@ impl<C: Composable> Heart<C> {
         ensures elsewhere { (other : ℕ) → result ≡ Sweep.Elsewhere other → IsElsewhere self.old.view other self.new.view }
         ensures refused { result ≡ Sweep.OutOfMemory → Refuses self.old.view 0 self.old.updaters self.new.view }
         ensures cause { result ≡ Sweep.OutOfMemory → IsTrue C.TAKES_MEMORY }
+        ensures knows { KnowsAsMuch self.old.view self.new.view }
         ensures stays { self.new ≡ record self.old { view = self.new.view } }
     {
         match propagate(rt, &mut self.seat, 0, self.updaters) {
