@@ -1,12 +1,29 @@
 -- What an ask is worth (the r-relaxation of Rinberg and others, PPoPP 2020, told for each updater).
-use Rattle.std.specs.Prelude.{◌≡◌, ◌≢◌, ℕ, ◌*◌, List, [], ◌∷◌, ◌++◌, length, All, Contains}
+use Rattle.std.specs.Prelude.{◌≡◌, ◌≢◌, ℕ, ◌+◌, ◌*◌, ◌==◌, if◌then◌else◌, List, [], ◌∷◌, ◌++◌, length, All, Contains}
 use Rattle.sk_model.specs.Entries.{Entry, entries_by}
 use Rattle.sk_model.specs.Missing.{Begins, LacksAtMost}
 use Rattle.sk_machine.specs.Coarse.{IsEntry}
 use Rattle.sk_machine.specs.declared.views.Move.TheVariants.{Ask}
+use Rattle.sk_machine.specs.declared.views.Post.TheVariants.{Guest}
+use Rattle.sk_machine.specs.declared.views.Duty.TheVariants.{Free}
 use Rattle.sk_machine.specs.declared.views.View.{View}
 use Rattle.sk_gate.specs.Views.{known_of, size_of}
+use Rattle.sk_gate.specs.Hands.{Reading}
 use Rattle.sk_hub.specs.Updaters.{UpdaterState, handed_of, kept_of}
+
+-- ---- a token or a note
+
+-- of the updaters of its table it knows how many there are
+pub record IsReading (r : Reading) : Type 0 where
+  pub post : r.view.post ≡ Guest
+  pub duty : r.view.duty ≡ Free
+  pub slots : r.table.slots ≡ length r.view.sizes + 1
+
+-- a size that is known, of two that are 0 where they are not known
+abbrev pub known_size : ℕ → ℕ → ℕ
+known_size first second = if first == 0 then second else first
+
+-- ---- replies
 
 -- the word is that of one list, which begins with all that was seen, and lacks of what each updater is known to have
 -- handed over at most one buffer

@@ -1,6 +1,7 @@
 //! What an updater asks, and the notes that it gives.
-ghost use Rattle.std.specs.Prelude.{◌≡◌};
-ghost use Rattle.sk_gate.specs.Views.{after_split, copy_of};
+ghost use Rattle.std.specs.Prelude.{◌≡◌, ◌≢◌, ℕ, []};
+ghost use Rattle.sk_gate.specs.Views.{known_of, size_of, after_split, copy_of};
+ghost use Rattle.sk_hub.specs.Updaters.{handed_of};
 ghost use Rattle.sk_hub.specs.Replies.{IsOwnReply};
 
 use crate::token::Note;
@@ -22,6 +23,12 @@ impl<C: Composable> Updater<C> {
         ensures stays { self.new ≡ record self.old { view = after_split self.old.view } }
         ensures note { result ≡ record { view = copy_of self.old.view; table = self.old.table } }
         ensures seen { result.view.seen ≡ self.old.view.seen }
+
+        // It knows what this updater handed over and how large its buffers are, and that of no other.
+        ensures known { known_of result.view self.old.number ≡ handed_of self.old }
+        ensures others { (i : ℕ) → i ≢ self.old.number → known_of result.view i ≡ [] }
+        ensures size { size_of result.view self.old.number ≡ self.old.size }
+        ensures sizes { (i : ℕ) → i ≢ self.old.number → size_of result.view i ≡ 0 }
     {
         Note {
             seat: self.seat.split(),

@@ -1,16 +1,21 @@
 //! What an updater tells of itself, without a step.
 ghost use Rattle.std.specs.Prelude.{◌≡◌, ◌≤◌, ◌&&◌, length, false, is_some, Some};
 ghost use Rattle.sk_gate.specs.Slots.{telling};
-ghost use Rattle.sk_hub.specs.Updaters.{base_of, kept_of, earlier_of, TellsItems};
+ghost use Rattle.sk_hub.specs.Updaters.{base_of, kept_of, earlier_of, TellsItems, IsWholeUpdater};
 ghost use Rattle.sk_model.specs.Limits.{most_size, most_kept};
 
 use crate::updater::Updater;
 use sk_compose::Composable;
 
 impl<C: Composable> Updater<C> {
+    /// Its number in the hub. This call also tells what is true of every updater.
     pub fn number(&self) -> u32
-        ensures { result ≡ self.now.number }
+        ensures value { result ≡ self.now.number }
+        ensures whole { IsWholeUpdater C.hint_of self.now }
     {
+        if let Some(fill) = &self.fill {
+            let _count = fill.len();
+        }
         self.number
     }
 

@@ -3,6 +3,7 @@ ghost use Rattle.std.specs.Prelude.{◌≡◌, ◌≢◌, ℕ, ◌<◌, ◌≤�
 ghost use Rattle.sk_gate.specs.Slots.{telling};
 ghost use Rattle.sk_gate.specs.Views.{known_of};
 ghost use Rattle.sk_hub.specs.Updaters.{TellsItems};
+ghost use Rattle.sk_hub.specs.Hearts.{IsWholeHeart};
 ghost use Rattle.sk_hub.specs.Replies.{IsRelaxedReply, HasDrained};
 ghost use Rattle.sk_hub.specs.Rounds.{Sweeps, ServesNothing, ServesBatch, Refuses, IsElsewhere, KnowsAsMuch};
 
@@ -61,10 +62,10 @@ impl<C: Composable> Heart<C> {
         self.seat.ask()
     }
 
-    /// How many updaters were admitted.
+    /// How many updaters were admitted. This call also tells what is true of every heart.
     pub fn admitted(&self) -> u32
         ensures value { result ≡ self.now.admitted }
-        ensures most { result ≤ self.now.updaters }
+        ensures whole { IsWholeHeart self.now }
     {
         self.admitted
     }

@@ -1,8 +1,8 @@
 //! Tokens, which ask, and the notes that they meet.
-ghost use Rattle.std.specs.Prelude.{◌≡◌, ℕ, IfOk, IfErr};
+ghost use Rattle.std.specs.Prelude.{◌≡◌, ℕ, length, IfOk, IfErr};
 ghost use Rattle.sk_model.specs.Missing.{Begins, longer};
-ghost use Rattle.sk_gate.specs.Views.{known_of, after_split, after_join};
-ghost use Rattle.sk_hub.specs.Replies.{IsRelaxedReply};
+ghost use Rattle.sk_gate.specs.Views.{known_of, size_of, after_split, after_join};
+ghost use Rattle.sk_hub.specs.Replies.{IsRelaxedReply, known_size};
 
 use sk_compose::Composable;
 use sk_gate::{NoteSeat, TokenSeat};
@@ -16,16 +16,14 @@ pub struct Token<C: Composable> {
 }
 
 impl<C: Composable> Model for Token<C> {
-    ghost use Rattle.std.specs.Prelude.{◌≡◌};
-    ghost use Rattle.sk_machine.specs.declared.views.Post.TheVariants.{Guest};
-    ghost use Rattle.sk_machine.specs.declared.views.Duty.TheVariants.{Free};
     ghost use Rattle.sk_gate.specs.Hands.{Reading};
+    ghost use Rattle.sk_hub.specs.Replies.{IsReading};
 
     ghost Value = { Reading };
 
     ghost view = { λ t. t.seat };
 
-    ghost invariant = { λ t. (t.seat.view.post ≡ Guest) × (t.seat.view.duty ≡ Free) };
+    ghost invariant = { λ t. IsReading t.seat };
 }
 
 /// What an updater had seen and had handed over.
@@ -35,15 +33,14 @@ pub struct Note<C: Composable> {
 }
 
 impl<C: Composable> Model for Note<C> {
-    ghost use Rattle.std.specs.Prelude.{◌≡◌};
-    ghost use Rattle.sk_machine.specs.declared.views.Post.TheVariants.{Guest};
     ghost use Rattle.sk_gate.specs.Hands.{Reading};
+    ghost use Rattle.sk_hub.specs.Replies.{IsReading};
 
     ghost Value = { Reading };
 
     ghost view = { λ n. n.seat };
 
-    ghost invariant = { λ n. n.seat.view.post ≡ Guest };
+    ghost invariant = { λ n. IsReading n.seat };
 }
 
 impl<C: Composable> Token<C> {
@@ -60,6 +57,8 @@ impl<C: Composable> Token<C> {
         requires table { note.table ≡ self.old.table }
         ensures reply { (word : ℕ) × IsRelaxedReply C.packed_of (after_join self.old.view note.view) word self.new.view }
         ensures known { (i : ℕ) → known_of self.new.view i ≡ longer (known_of self.old.view i) (known_of note.view i) }
+        ensures sized { length self.new.view.sizes ≡ length self.old.view.sizes }
+        ensures sizes { (i : ℕ) → size_of self.new.view i ≡ known_size (size_of self.old.view i) (size_of note.view i) }
         ensures seen { Begins self.old.view.seen self.new.view.seen }
         ensures heard { Begins note.view.seen self.new.view.seen }
         ensures table { self.new.table ≡ self.old.table }

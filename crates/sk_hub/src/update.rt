@@ -1,7 +1,7 @@
 //! How an updater keeps items, and hands them over.
 ghost use Rattle.std.specs.Prelude.{◌≡◌, ◌≢◌, ◌↔◌, ◌⊎◌, ◌<◌, ◌++◌, ◌∷◌, [], length, true, false};
 ghost use Rattle.std.specs.Bool.{OnTrue, OnFalse};
-ghost use Rattle.sk_hub.specs.Updaters.{handed_of, kept_of, with_item, LooksInVain, Renews, HandsOver, Keeps, HandsWith};
+ghost use Rattle.sk_hub.specs.Updaters.{handed_of, base_of, kept_of, with_item, LooksInVain, Renews, HandsOver, Keeps, HandsWith};
 ghost use Rattle.sk_model.specs.Width.{IsItem};
 ghost use Rattle.sk_model.specs.Limits.{most_kept};
 
@@ -16,6 +16,7 @@ impl<C: Composable> Updater<C> {
         requires item { IsItem item }
         requires room { length (kept_of self.old) < most_kept }
         ensures filtered { (result ≡ Update.Filtered) ↔ (C.keeps_of self.old.hint item ≡ false) }
+        ensures idle { result ≡ Update.Filtered → C.keeps_of (C.hint_of self.old.view.numbers (base_of self.old)) item ≡ false }
         ensures unchanged { result ≡ Update.Filtered → self.new ≡ self.old }
         ensures full { result ≡ Update.Busy → length self.old.fill ≡ self.old.size }
         ensures busy { result ≡ Update.Busy → LooksInVain self.old self.new }
