@@ -14,7 +14,7 @@ use Rattle.sk_machine.specs.declared.views.Post.TheVariants.{Updater}
 use Rattle.sk_gate.specs.Slots.{contents, Telling}
 use Rattle.sk_gate.specs.Views.{size_of, mine_of}
 use Rattle.sk_gate.specs.Moves.{AdmitsAt, looked_mine}
-use Rattle.sk_gate.specs.Hands.{own_empty, is_empty, Standing}
+use Rattle.sk_gate.specs.Hands.{own_empty, is_empty, SeatState}
 use Rattle.sk_hub.specs.Updaters.{IsFree, IsViewOf, IsUpdater, state_of}
 use Rattle.sk_hub.specs.Hearts.{IsVacant, AreVacant, heart_of}
 use Rattle.sk_hub.specs.Drains.{IsNew}
@@ -22,14 +22,14 @@ use Rattle.sk_hub.proofs.Views.{none_by}
 use Rattle.sk_model.specs.Limits.{most_updaters}
 
 -- the first of such seats
-pub first_vacant : (n : ℕ) (table : TableId) (numbers name : List ℕ) (number : ℕ) (seats more : List Standing) (s : Standing) → seats ≡ s ∷ more → AreVacant n table numbers name number seats → IsVacant n table numbers name number s
+pub first_vacant : (n : ℕ) (table : TableId) (numbers name : List ℕ) (number : ℕ) (seats more : List SeatState) (s : SeatState) → seats ≡ s ∷ more → AreVacant n table numbers name number seats → IsVacant n table numbers name number s
 first_vacant n table numbers name number seats more s is vacant = let all : AreVacant n table numbers name number (s ∷ more) = subst (λ l. AreVacant n table numbers name number l) is vacant in all.0
 
 -- the seat as it was admitted, with an empty parcel in its slot
-abbrev seat_admitted : Standing → ℕ → ℕ → Standing
+abbrev seat_admitted : SeatState → ℕ → ℕ → SeatState
 seat_admitted s word b = record s { view = record s.view { steps = s.view.steps ++ Look s.number word ∷ []; post = Updater s.number (looked_mine (mine_of s.view) []); sizes = slice_set s.view.sizes s.number b }; own = own_empty b }
 
-module _ {T : Type 0} (hint_of : List ℕ → List Entry → ℕ) (k : Telling T) (hs s a p : Standing) (n number b word : ℕ) (fill : Contents) (vacant : IsVacant n hs.table hs.view.numbers hs.view.name number s) (admits : AdmitsAt hint_of s.view word a.view s.number b)
+module _ {T : Type 0} (hint_of : List ℕ → List Entry → ℕ) (k : Telling T) (hs s a p : SeatState) (n number b word : ℕ) (fill : Contents) (vacant : IsVacant n hs.table hs.view.numbers hs.view.name number s) (admits : AdmitsAt hint_of s.view word a.view s.number b)
     (takes : a ≡ record s { view = a.view; own = own_empty 1 }) (picks : p ≡ record a { own = own_empty (size_of a.view a.number) }) (within : number < n) (empty : fill ≡ contents [] b) where
   is_admitted : seat_admitted s word b ≡ p
   is_admitted =
@@ -41,7 +41,7 @@ module _ {T : Type 0} (hint_of : List ℕ → List Entry → ℕ) (k : Telling T
 
   pub admitted_is : n ≤ most_updaters → hs.table.slots ≡ n + 1 → IsUpdater hint_of k p number n b (Some fill) None word 0 0
   admitted_is few slots =
-      let x : Standing = seat_admitted s word b in let none = admits.none in
+      let x : SeatState = seat_admitted s word b in let none = admits.none in
       let size : size_of x.view s.number ≡ b = ap (λ w. size_of w s.number) (sym admits.view) ∙ admits.size in
       let free : IsFree x = record { duty = vacant.free.duty; filled = vacant.free.filled; lifted = vacant.free.lifted } in
       let own : x.own ≡ record { items = []; capacity = b; told = not (is_empty (mine_of s.view).handed) } = λ e. record { items = []; capacity = b; told = not (is_empty (sym none e)) } in
@@ -75,7 +75,7 @@ module _ {T : Type 0} (hint_of : List ℕ → List Entry → ℕ) (k : Telling T
 
   pub admitted_new : (admitted : ℕ) (told : List (Option T)) (eager : Bool) → IsNew hint_of number b (heart_of hs n admitted told eager) (state_of {T = T} p number b (Some fill) None word 0 eager)
   admitted_new admitted told eager =
-      let x : Standing = seat_admitted s word b in let h = heart_of hs n admitted told eager in
+      let x : SeatState = seat_admitted s word b in let h = heart_of hs n admitted told eager in
       let new : IsNew hint_of number b h (state_of {T = T} x number b (Some fill) None word 0 eager) = record {
         number_is = refl;
         size_is = refl;

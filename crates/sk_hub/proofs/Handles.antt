@@ -13,7 +13,7 @@ use Rattle.sk_machine.specs.Coarse.{IsEntry}
 use Rattle.sk_machine.specs.declared.views.Move.TheVariants.{Ask}
 use Rattle.sk_gate.specs.Views.{size_of, mine_of}
 use Rattle.sk_gate.specs.Moves.{AsksAt}
-use Rattle.sk_gate.specs.Hands.{Standing}
+use Rattle.sk_gate.specs.Hands.{SeatState}
 use Rattle.sk_hub.specs.Updaters.{IsFree, IsViewOf, IsUpdater, IsWholeUpdater, items_in, state_of}
 use Rattle.sk_hub.specs.Hearts.{heart_of, IsHeart, IsWholeHeart}
 use Rattle.sk_hub.specs.Rounds.{KnowsAsMuch}
@@ -21,15 +21,15 @@ use Rattle.sk_hub.proofs.Views.{seen_again, view_knows}
 use Rattle.sk_hub.proofs.Steps.{asks_knows}
 
 -- the seat with what it knows now, written out
-known_more : (s s' : Standing) → s' ≡ record s { view = s'.view } → KnowsAsMuch s.view s'.view → record s { view = record s.view { seen = s'.view.seen; steps = s'.view.steps; given = s'.view.given; sizes = s'.view.sizes } } ≡ s'
+known_more : (s s' : SeatState) → s' ≡ record s { view = s'.view } → KnowsAsMuch s.view s'.view → record s { view = record s.view { seen = s'.view.seen; steps = s'.view.steps; given = s'.view.given; sizes = s'.view.sizes } } ≡ s'
 known_more s s' stays knows = (λ a. record s { view = sym knows.view a }) ∙ sym stays
 
-pub updater_stays : {T : Type 0} (hint_of : List ℕ → List Entry → ℕ) (k : Telling T) (s s' : Standing) (number updaters size : ℕ) (fill : Option Contents) (told : Option T) (hint taken last : ℕ) → 1 ≤ size → s' ≡ record s { view = s'.view } → KnowsAsMuch s.view s'.view
+pub updater_stays : {T : Type 0} (hint_of : List ℕ → List Entry → ℕ) (k : Telling T) (s s' : SeatState) (number updaters size : ℕ) (fill : Option Contents) (told : Option T) (hint taken last : ℕ) → 1 ≤ size → s' ≡ record s { view = s'.view } → KnowsAsMuch s.view s'.view
     → IsUpdater hint_of k s number updaters size fill told hint taken last → IsUpdater hint_of k s' number updaters size fill told hint taken last
 updater_stays hint_of k s s' number updaters size fill told hint taken last least stays knows i =
     let is : size_of s.view number ≡ size = i.size_is in
     let there : size_of s.view number ≢ 0 = omega arith in
-    let x : Standing = record s { view = record s.view { seen = s'.view.seen; steps = s'.view.steps; given = s'.view.given; sizes = s'.view.sizes } } in
+    let x : SeatState = record s { view = record s.view { seen = s'.view.seen; steps = s'.view.steps; given = s'.view.given; sizes = s'.view.sizes } } in
     let free : IsFree x = record { duty = i.free.duty; filled = i.free.filled; lifted = i.free.lifted } in
     let i_view : IsViewOf number x.view = subst (IsViewOf number) knows.view (view_knows number s.view s'.view knows i.view) in
     let as_before : IsUpdater hint_of k x number updaters size fill told hint taken last = record {
@@ -51,11 +51,11 @@ updater_stays hint_of k s s' number updaters size fill told hint taken last leas
     subst (λ z. IsUpdater hint_of k z number updaters size fill told hint taken last) (known_more s s' stays knows) as_before
 
 -- an ask of its seat
-pub updater_asks : {T : Type 0} (hint_of packed : List ℕ → List Entry → ℕ) (k : Telling T) (s s' : Standing) (word number updaters size : ℕ) (fill : Option Contents) (told : Option T) (hint taken last : ℕ) → s' ≡ record s { view = s'.view } → AsksAt packed s.view word s'.view
+pub updater_asks : {T : Type 0} (hint_of packed : List ℕ → List Entry → ℕ) (k : Telling T) (s s' : SeatState) (word number updaters size : ℕ) (fill : Option Contents) (told : Option T) (hint taken last : ℕ) → s' ≡ record s { view = s'.view } → AsksAt packed s.view word s'.view
     → IsUpdater hint_of k s number updaters size fill told hint taken last → IsUpdater hint_of k s' number updaters size fill told hint taken last
 updater_asks hint_of packed k s s' word number updaters size fill told hint taken last stays asks i =
     let seen = s'.view.seen in
-    let x : Standing = record s { view = record s.view { seen = seen; steps = s.view.steps ++ Ask word ∷ [] } } in
+    let x : SeatState = record s { view = record s.view { seen = seen; steps = s.view.steps ++ Ask word ∷ [] } } in
     let same : x ≡ s' = (λ a. record s { view = sym asks.view a }) ∙ sym stays in
     let free : IsFree x = record { duty = i.free.duty; filled = i.free.filled; lifted = i.free.lifted } in
     let i_view : IsViewOf number x.view = subst (IsViewOf number) asks.view (view_knows number s.view s'.view (asks_knows packed s.view s'.view word asks) i.view) in
@@ -77,10 +77,10 @@ updater_asks hint_of packed k s s' word number updaters size fill told hint take
     } in
     subst (λ z. IsUpdater hint_of k z number updaters size fill told hint taken last) same is
 
-pub heart_stays : {T : Type 0} (k : Telling T) (s s' : Standing) (vacant : List Standing) (told : List (Option T)) (updaters admitted : ℕ) → s' ≡ record s { view = s'.view } → KnowsAsMuch s.view s'.view
+pub heart_stays : {T : Type 0} (k : Telling T) (s s' : SeatState) (vacant : List SeatState) (told : List (Option T)) (updaters admitted : ℕ) → s' ≡ record s { view = s'.view } → KnowsAsMuch s.view s'.view
     → IsHeart k s vacant told updaters admitted → IsHeart k s' vacant told updaters admitted
 heart_stays k s s' vacant told updaters admitted stays knows i =
-    let x : Standing = record s { view = record s.view { seen = s'.view.seen; steps = s'.view.steps; given = s'.view.given; sizes = s'.view.sizes } } in
+    let x : SeatState = record s { view = record s.view { seen = s'.view.seen; steps = s'.view.steps; given = s'.view.given; sizes = s'.view.sizes } } in
     let free : IsFree x = record { duty = i.free.duty; filled = i.free.filled; lifted = i.free.lifted } in
     let as_before : IsHeart k x vacant told updaters admitted = record {
       free = free;
@@ -98,7 +98,7 @@ heart_stays k s s' vacant told updaters admitted stays knows i =
 
 -- ---- what is true of every handle
 
-pub updater_whole : {T : Type 0} (hint_of : List ℕ → List Entry → ℕ) (k : Telling T) (s : Standing) (number updaters size : ℕ) (items : List ℕ) (fill : Option Contents) (told : Option T) (hint taken last : ℕ) (eager : Bool)
+pub updater_whole : {T : Type 0} (hint_of : List ℕ → List Entry → ℕ) (k : Telling T) (s : SeatState) (number updaters size : ℕ) (items : List ℕ) (fill : Option Contents) (told : Option T) (hint taken last : ℕ) (eager : Bool)
     → items ≡ items_in fill → IsFrom 1 most_size size → length items ≤ size → AreItems items → IsUpdater hint_of k s number updaters size fill told hint taken last → IsWholeUpdater hint_of (state_of s number size fill told hint last eager)
 updater_whole hint_of k s number updaters size items fill told hint taken last eager is sizes room are i =
     let all : AreItems ((mine_of s.view).handed ++ items_in fill) = subst (λ l. AreItems ((mine_of s.view).handed ++ l)) is (All-append IsItem (mine_of s.view).handed items i.view.items are) in
@@ -115,7 +115,7 @@ updater_whole hint_of k s number updaters size items fill told hint taken last e
       hint_is = i.hint_is;
     }
 
-pub heart_whole : {T : Type 0} (k : Telling T) (s : Standing) (vacant : List Standing) (told : List (Option T)) (updaters admitted : ℕ) (eager : Bool) → IsHeart k s vacant told updaters admitted → IsWholeHeart (heart_of s updaters admitted told eager)
+pub heart_whole : {T : Type 0} (k : Telling T) (s : SeatState) (vacant : List SeatState) (told : List (Option T)) (updaters admitted : ℕ) (eager : Bool) → IsHeart k s vacant told updaters admitted → IsWholeHeart (heart_of s updaters admitted told eager)
 heart_whole k s vacant told updaters admitted eager i = record {
   few = i.few;
   within = let all = i.all in omega arith;
@@ -128,7 +128,7 @@ heart_whole k s vacant told updaters admitted eager i = record {
 -- ---- told values
 
 -- the told value of updater i was given out
-pub told_given : {T : Type 0} (k : Telling T) (s : Standing) (vacant : List Standing) (told : List (Option T)) (updaters admitted i : ℕ) (o : Option T) → i < length told → o ≡ None
+pub told_given : {T : Type 0} (k : Telling T) (s : SeatState) (vacant : List SeatState) (told : List (Option T)) (updaters admitted i : ℕ) (o : Option T) → i < length told → o ≡ None
     → IsHeart k s vacant told updaters admitted → IsHeart k s vacant (set told i o) updaters admitted
 told_given {T} k s vacant told updaters admitted i o within none h = record {
   free = h.free;
@@ -146,7 +146,7 @@ told_given {T} k s vacant told updaters admitted i o within none h = record {
 }
 
 -- that updater's told value is not held any more
-pub news_given : {T : Type 0} (s : Standing) (updaters admitted : ℕ) (told : List (Option T)) (eager : Bool) (i : ℕ) (o : Option T) → o ≡ None
+pub news_given : {T : Type 0} (s : SeatState) (updaters admitted : ℕ) (told : List (Option T)) (eager : Bool) (i : ℕ) (o : Option T) → o ≡ None
     → heart_of s updaters admitted (set told i o) eager ≡ record (heart_of s updaters admitted told eager) { news = set (map (λ t. is_some t) told) i false }
 news_given {T} s updaters admitted told eager i o none =
     let held : Option T → Bool = λ t. is_some t in

@@ -9,7 +9,7 @@ use Rattle.atomic_table.specs.Seated.{TableId}
 use Rattle.sk_machine.specs.declared.views.View.{View}
 use Rattle.sk_gate.specs.Views.{merged, sizes_merged, known_with, known_of, size_of, mine_of, blanks, told_on, sizes_on, copy_of, after_join}
 use Rattle.sk_gate.specs.Moves.{AsksAt}
-use Rattle.sk_gate.specs.Hands.{Reading}
+use Rattle.sk_gate.specs.Hands.{TokenState}
 use Rattle.sk_gate.proofs.Merged.{blank_at, blanks_length, sizes_either, sizes_length}
 use Rattle.sk_gate.proofs.Copies.{only_here, only_else, copied_length}
 use Rattle.sk_hub.specs.Replies.{IsReading, known_size}
@@ -71,7 +71,7 @@ module _ (v : View) (i : ℕ) (post : v.post ≡ Updater i (mine_of v)) where
 
 -- ---- a token that met a note, and asked
 
-module _ (packed : List ℕ → List Entry → ℕ) (t n j a : Reading) (word : ℕ) (token : IsReading t) (note : IsReading n) (table : n.table ≡ t.table) (joins : j ≡ record t { view = after_join t.view n.view }) (asks : AsksAt packed j.view word a.view) (stays : a.table ≡ j.table) where
+module _ (packed : List ℕ → List Entry → ℕ) (t n j a : TokenState) (word : ℕ) (token : IsReading t) (note : IsReading n) (table : n.table ≡ t.table) (joins : j ≡ record t { view = after_join t.view n.view }) (asks : AsksAt packed j.view word a.view) (stays : a.table ≡ j.table) where
   same_count : length n.view.sizes ≡ length t.view.sizes
   same_count =
       let here : t.table.slots ≡ length t.view.sizes + 1 = token.slots in

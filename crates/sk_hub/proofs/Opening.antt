@@ -11,10 +11,10 @@ use Rattle.sk_machine.specs.declared.views.Move.TheVariants.{Split}
 use Rattle.sk_machine.specs.declared.views.Post.TheVariants.{Root, Updater}
 use Rattle.sk_machine.specs.declared.views.View.{View}
 use Rattle.sk_gate.specs.Slots.{Telling}
-use Rattle.sk_gate.specs.Views.{known_of, size_of, sizes_of}
+use Rattle.sk_gate.specs.Views.{known_of, size_of, admitted_sizes}
 use Rattle.sk_gate.specs.Starts.{empty_handed, blank_of, blank_view, IsMade}
 use Rattle.sk_gate.specs.Moves.{IsSeen}
-use Rattle.sk_gate.specs.Hands.{Standing, Reading}
+use Rattle.sk_gate.specs.Hands.{SeatState, TokenState}
 use Rattle.sk_hub.specs.Updaters.{IsFree, UpdaterState}
 use Rattle.sk_hub.specs.Hearts.{HeartState, heart_of, IsVacant, AreVacant, IsHeart}
 use Rattle.sk_hub.specs.Drains.{IsNew}
@@ -32,11 +32,11 @@ none_held : (T : Type 0) (n : ℕ) → map (λ (t : Option T). is_some t) (repli
 none_held T zero = refl
 none_held T (suc n) = ap (λ l. false ∷ l) (none_held T n)
 
-all_zero : {T : Type 0} (parcels : List (Parcel T)) → sizes_of 0 parcels ≡ replicate (length parcels) 0
+all_zero : {T : Type 0} (parcels : List (Parcel T)) → admitted_sizes 0 parcels ≡ replicate (length parcels) 0
 all_zero [] = refl
 all_zero (p ∷ ps) = ap (λ l. 0 ∷ l) (all_zero ps)
 
-pub no_sizes : {T : Type 0} (n : ℕ) (parcels : List (Parcel T)) → length parcels ≡ n → sizes_of 0 parcels ≡ replicate n 0
+pub no_sizes : {T : Type 0} (n : ℕ) (parcels : List (Parcel T)) → length parcels ≡ n → admitted_sizes 0 parcels ≡ replicate n 0
 no_sizes n parcels count = all_zero parcels ∙ ap (λ z. replicate z 0) count
 
 pub one_longer : {A : Type 0} (xs more : List A) (x : A) (n : ℕ) → more ≡ xs ++ x ∷ [] → length xs ≡ n → length more ≡ n + 1
@@ -44,7 +44,7 @@ one_longer xs more x n is count = ap (λ l. length l) is ∙ length-append xs (x
 
 -- ---- seats that are vacant
 
-abbrev new_seat : View → TableId → ℕ → Standing
+abbrev new_seat : View → TableId → ℕ → SeatState
 new_seat v table i = empty_handed (blank_of v (Updater i blank_mine) (i + 1)) table i
 
 new_is_vacant : (n : ℕ) (v : View) (table : TableId) (i : ℕ) → length v.sizes ≡ n → size_of v i ≡ 0 → IsVacant n table v.numbers v.name i (new_seat v table i)
@@ -66,8 +66,8 @@ new_is_vacant n v table i sized none =
     }
 
 -- such seats from this number on
-new_are_vacant : (n : ℕ) (v : View) (table : TableId) (from : ℕ) (seats : List Standing) → length v.sizes ≡ n → ((i : ℕ) → size_of v i ≡ 0)
-    → ((i k : ℕ) (d : Standing) → i < length seats → k ≡ from + i → slice_index_or seats i d ≡ new_seat v table k) → AreVacant n table v.numbers v.name from seats
+new_are_vacant : (n : ℕ) (v : View) (table : TableId) (from : ℕ) (seats : List SeatState) → length v.sizes ≡ n → ((i : ℕ) → size_of v i ≡ 0)
+    → ((i k : ℕ) (d : SeatState) → i < length seats → k ≡ from + i → slice_index_or seats i d ≡ new_seat v table k) → AreVacant n table v.numbers v.name from seats
 new_are_vacant n v table from [] sized none are = tt
 new_are_vacant n v table from (s ∷ more) sized none are =
     let first : s ≡ new_seat v table from = are 0 from s (omega arith) (omega arith) in (
@@ -77,7 +77,7 @@ new_are_vacant n v table from (s ∷ more) sized none are =
 
 -- ---- the handles
 
-module _ {T : Type 0} (k : Telling T) (n : ℕ) (sizes numbers name : List ℕ) (heart : Standing) (updaters : List Standing) (token : Reading) (told : List (Option T)) (eager : Bool)
+module _ {T : Type 0} (k : Telling T) (n : ℕ) (sizes numbers name : List ℕ) (heart : SeatState) (updaters : List SeatState) (token : TokenState) (told : List (Option T)) (eager : Bool)
     (made : IsMade n sizes numbers name heart updaters token) (none : sizes ≡ replicate n 0) (told_is : told ≡ replicate n None) where
   sized : length sizes ≡ n
   sized = ap (λ l. length l) none ∙ length-replicate n 0

@@ -13,7 +13,7 @@ use Rattle.sk_machine.specs.declared.views.Stage.TheVariants.{Idle, Busy, Publis
 use Rattle.sk_machine.specs.declared.views.Duty.{Duty}
 use Rattle.sk_machine.specs.declared.views.Duty.TheVariants.{Free}
 use Rattle.sk_machine.specs.declared.views.View.{View}
-use Rattle.sk_gate.specs.Views.{size_of, batch_of, stage_of}
+use Rattle.sk_gate.specs.Views.{size_of, batch_of, stage_in}
 use Rattle.sk_gate.specs.Moves.{IsSeen, AsksAt, FindsBatchAt, LeavesAt, ResumesAt, TakesTurnAt, YieldsAt}
 use Rattle.sk_gate.specs.Merge.{MergesAt}
 use Rattle.sk_hub.specs.Rounds.{Advances, TakesTurn, KnowsAsMuch, PublishesBatch, FinishesHeld, FindsInVain, ServesOne, ServesEach, Serves, ServesNothing, ServesBatch, Refuses, RefusesFound}
@@ -131,7 +131,7 @@ sizes_resumed v w (Busy i batch) r = (ap length r.1 ∙ length-set v.sizes i (si
 sizes_resumed v w (Published i) r = absurd r
 
 starts : (v w : View) → TakesTurnAt v w → Advances v (Turn 0 ∷ []) w
-starts v w t = let sizes = sizes_resumed v w (stage_of w.duty) t.resumes in record {
+starts v w t = let sizes = sizes_resumed v w (stage_in w.duty) t.resumes in record {
   view = only_these v w _ _ _ _ _ t.view;
   grows = t.grows;
   sees = λ _. seen_again v w w.seen (ap (λ x. x.post) t.view) sizes.0 t.is_seen;

@@ -20,7 +20,7 @@ use Rattle.sk_gate.specs.Slots.{Telling}
 use Rattle.sk_gate.specs.Views.{known_of, mine_of, size_of, after_join}
 use Rattle.sk_gate.specs.Moves.{AsksAt, IsSeen}
 use Rattle.sk_gate.specs.Plays.{is_picked, rested_mine}
-use Rattle.sk_gate.specs.Hands.{no_own, own_empty, is_empty, rested_of, Standing, TellsBase}
+use Rattle.sk_gate.specs.Hands.{no_own, own_empty, is_empty, rested_of, SeatState, TellsBase}
 use Rattle.sk_gate.proofs.Merged.{sizes_length}
 use Rattle.sk_hub.specs.Updaters.{IsFree, IsUpdater, TellsItems, state_of, items_in}
 use Rattle.sk_hub.specs.Hearts.{IsHeart, heart_of}
@@ -35,7 +35,7 @@ joined_view v w number = after_join (record v { duty = Free }) (record w { post 
 abbrev asked_view : View → List Entry → ℕ → View
 asked_view v seen word = record v { seen = seen; steps = v.steps ++ Ask word ∷ [] }
 
-module _ {T : Type 0} (hint_of packed : List ℕ → List Entry → ℕ) (k : Telling T) (hs us us' hj ha : Standing) (word : ℕ) (vacant : List Standing) (told : List (Option T)) (n admitted number updaters size : ℕ) (fill : Option Contents) (ut : Option T) (hint taken last : ℕ) (p : Parcel T)
+module _ {T : Type 0} (hint_of packed : List ℕ → List Entry → ℕ) (k : Telling T) (hs us us' hj ha : SeatState) (word : ℕ) (vacant : List SeatState) (told : List (Option T)) (n admitted number updaters size : ℕ) (fill : Option Contents) (ut : Option T) (hint taken last : ℕ) (p : Parcel T)
     (h : IsHeart k hs vacant told n admitted) (u : IsUpdater hint_of k us number updaters size fill ut hint taken last) (picks : us' ≡ record us { own = own_empty (size_of us.view us.number) }) (tells : TellsBase us.view k p) (some : is_some p.told ≡ us.own.told)
     (joins : hj ≡ record hs { view = after_join hs.view (rested_of us') }) (asks : AsksAt packed hj.view word ha.view) (stays : ha ≡ record hj { view = ha.view })
     (ready : (mine_of us.view).ready ≡ true) (empty : items_in fill ≡ []) (table : us.table ≡ hs.table) where
@@ -91,7 +91,7 @@ module _ {T : Type 0} (hint_of packed : List ℕ → List Entry → ℕ) (k : Te
 
   pub heart_then : IsHeart k ha vacant (set told number p.told) n admitted
   heart_then =
-      let x : Standing = record hs { view = asked_view (joined_view hs.view us.view number) ha.view.seen word } in
+      let x : SeatState = record hs { view = asked_view (joined_view hs.view us.view number) ha.view.seen word } in
       let free : IsFree x = record { duty = refl; filled = h.free.filled; lifted = h.free.lifted } in
       let long : length x.view.known ≡ n = length-set hs.view.known number (mine_of us.view).handed ∙ h.known_sized in
       let is : IsHeart k x vacant (set told number p.told) n admitted = record {
@@ -128,7 +128,7 @@ module _ {T : Type 0} (hint_of packed : List ℕ → List Entry → ℕ) (k : Te
   pub drained_then : (eager ueager : Bool) → IsDrained (heart_of hs n admitted told eager) (state_of us number size fill ut hint last ueager) (heart_of ha n admitted (set told number p.told) eager)
   drained_then eager ueager =
       let mine : Mine = mine_of us.view in
-      let x : Standing = record hs { view = asked_view (joined_view hs.view us.view number) ha.view.seen word } in
+      let x : SeatState = record hs { view = asked_view (joined_view hs.view us.view number) ha.view.seen word } in
       let wide : number < length hs.view.known = subst (λ z. number < z) (sym h.known_sized) within in
       let known_is : known_of hj.view number ≡ mine.handed = ap (λ z. known_of z number) joined_is ∙ get_or-set_same hs.view.known number mine.handed [] wide in
       let in_it : Contains hj.view.drained number = subst (λ z. Contains z.drained number) (sym joined_is) (Contains-push hs.view.drained number) in

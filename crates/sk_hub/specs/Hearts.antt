@@ -8,7 +8,7 @@ use Rattle.sk_machine.specs.declared.views.View.{View}
 use Rattle.sk_gate.specs.Slots.{Telling}
 use Rattle.sk_gate.specs.Views.{known_of, size_of}
 use Rattle.sk_gate.specs.Moves.{IsSeen}
-use Rattle.sk_gate.specs.Hands.{no_own, Standing}
+use Rattle.sk_gate.specs.Hands.{no_own, SeatState}
 use Rattle.sk_hub.specs.Updaters.{IsFree, TellsItems}
 use Rattle.sk_model.specs.Limits.{most_updaters}
 
@@ -24,7 +24,7 @@ pub record HeartState : Type 0 where
   -- the shape is eager
   pub eager : Bool
 
-abbrev pub heart_of : {T : Type 0} → Standing → ℕ → ℕ → List (Option T) → Bool → HeartState
+abbrev pub heart_of : {T : Type 0} → SeatState → ℕ → ℕ → List (Option T) → Bool → HeartState
 heart_of s updaters admitted told eager = record { view = s.view; table = s.table; updaters = updaters; admitted = admitted; news = map (λ t. is_some t) told; eager = eager }
 
 -- what is true of every heart
@@ -40,7 +40,7 @@ pub record IsWholeHeart (h : HeartState) : Type 0 where
 -- ---- what its fields hold
 
 -- the seat of an updater, of n, that was not admitted: it has seen and handed over nothing
-pub record IsVacant (n : ℕ) (table : TableId) (numbers name : List ℕ) (number : ℕ) (s : Standing) : Type 0 where
+pub record IsVacant (n : ℕ) (table : TableId) (numbers name : List ℕ) (number : ℕ) (s : SeatState) : Type 0 where
   pub number_is : s.number ≡ number
   pub table_is : s.table ≡ table
   pub free : IsFree s
@@ -55,11 +55,11 @@ pub record IsVacant (n : ℕ) (table : TableId) (numbers name : List ℕ) (numbe
   pub name_is : s.view.name ≡ name
 
 -- such seats, from this number on
-abbrev pub AreVacant : ℕ → TableId → List ℕ → List ℕ → ℕ → List Standing → Type 0
+abbrev pub AreVacant : ℕ → TableId → List ℕ → List ℕ → ℕ → List SeatState → Type 0
 AreVacant n table numbers name number [] = Unit {0}
 AreVacant n table numbers name number (s ∷ more) = IsVacant n table numbers name number s × AreVacant n table numbers name (suc number) more
 
-pub record IsHeart {T : Type 0} (k : Telling T) (s : Standing) (vacant : List Standing) (told : List (Option T)) (updaters admitted : ℕ) : Type 0 where
+pub record IsHeart {T : Type 0} (k : Telling T) (s : SeatState) (vacant : List SeatState) (told : List (Option T)) (updaters admitted : ℕ) : Type 0 where
   pub free : IsFree s
   pub few : updaters ≤ most_updaters
   pub slots : s.table.slots ≡ updaters + 1

@@ -8,13 +8,13 @@ use Rattle.sk_machine.specs.declared.views.Post.TheVariants.{Guest}
 use Rattle.sk_machine.specs.declared.views.Duty.TheVariants.{Free}
 use Rattle.sk_machine.specs.declared.views.View.{View}
 use Rattle.sk_gate.specs.Views.{known_of, size_of}
-use Rattle.sk_gate.specs.Hands.{Reading}
+use Rattle.sk_gate.specs.Hands.{TokenState}
 use Rattle.sk_hub.specs.Updaters.{UpdaterState, handed_of, kept_of}
 
 -- ---- a token or a note
 
 -- of the updaters of its table it knows how many there are
-pub record IsReading (r : Reading) : Type 0 where
+pub record IsReading (r : TokenState) : Type 0 where
   pub post : r.view.post ≡ Guest
   pub duty : r.view.duty ≡ Free
   pub slots : r.table.slots ≡ length r.view.sizes + 1

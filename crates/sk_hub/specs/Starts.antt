@@ -3,7 +3,7 @@ use Rattle.std.specs.Prelude.{◌≡◌, ℕ, ◌+◌, List, [], length, false, 
 use Rattle.sk_model.specs.Entries.{Entry}
 use Rattle.sk_machine.specs.declared.views.Move.TheVariants.{Split}
 use Rattle.sk_gate.specs.Views.{known_of, size_of}
-use Rattle.sk_gate.specs.Hands.{Reading}
+use Rattle.sk_gate.specs.Hands.{TokenState}
 use Rattle.sk_hub.specs.Updaters.{UpdaterState}
 use Rattle.sk_hub.specs.Hearts.{HeartState}
 use Rattle.sk_hub.specs.Drains.{IsNew}
@@ -22,7 +22,7 @@ pub record IsNewHeart (n : ℕ) (numbers name : List ℕ) (eager : Bool) (h : He
   pub name_is : h.view.name ≡ name
   pub eager_is : h.eager ≡ eager
 
-pub record IsNewToken (h : HeartState) (t : Reading) : Type 0 where
+pub record IsNewToken (h : HeartState) (t : TokenState) : Type 0 where
   pub table : t.table ≡ h.table
   pub sized : length t.view.sizes ≡ h.updaters
   pub sizes : (i : ℕ) → size_of t.view i ≡ 0

@@ -8,21 +8,17 @@ use Rattle.sk_machine.specs.declared.views.Stage.TheVariants.{Idle, Busy, Publis
 use Rattle.sk_machine.specs.declared.views.Duty.TheVariants.{Leads}
 use Rattle.sk_machine.specs.declared.views.View.{View}
 use Rattle.sk_gate.specs.declared.load.Trunk.{Trunk}
-use Rattle.sk_gate.specs.Slots.{Sketching, TrunkOk}
-use Rattle.sk_gate.specs.Views.{size_of, stage_of, left_of, batch_of}
-use Rattle.sk_gate.specs.Hands.{Standing}
+use Rattle.sk_gate.specs.Slots.{Sketching, IsTrunkOf}
+use Rattle.sk_gate.specs.Views.{size_of, stage_in, left_in, batch_of}
+use Rattle.sk_gate.specs.Hands.{SeatState, IsTrunk}
 use Rattle.sk_hub.specs.Rounds.{ServesEach, Advances}
 
--- the trunk in hand is as it may be laid
-abbrev pub HasTrunk : {C T : Type 0} → Sketching C → Standing → Trunk C T → Type 0
-HasTrunk g s t = TrunkOk g s.view.numbers s.view.name s.view.seen (stage_of s.view.duty) (size_of s.view) t
-
 -- nothing is found and nothing held
-pub record IsLifted {C T : Type 0} (g : Sketching C) (s : Standing) (t : Trunk C T) : Type 0 where
+pub record IsLifted {C T : Type 0} (g : Sketching C) (s : SeatState) (t : Trunk C T) : Type 0 where
   pub duty : s.view.duty ≡ Leads Idle false
   pub filled : s.filled ≡ false
   pub lifted : s.lifted ≡ true
-  pub trunk : TrunkOk g s.view.numbers s.view.name s.view.seen Idle (size_of s.view) t
+  pub trunk : IsTrunkOf g s.view.numbers s.view.name s.view.seen Idle (size_of s.view) t
 
 -- nothing is held, or a batch, whose slot was left
 abbrev pub MayResume : View → Stage → Bool → Type 0
@@ -31,19 +27,19 @@ MayResume v (Busy i batch) left = (left ≡ true) × IsBatch (size_of v i) batch
 MayResume v (Published i) left = ⊥
 
 -- as the turn was taken
-pub record IsResumed {C T : Type 0} (g : Sketching C) (s : Standing) (t : Trunk C T) : Type 0 where
-  pub duty : s.view.duty ≡ Leads (stage_of s.view.duty) (left_of s.view.duty)
-  pub resumes : MayResume s.view (stage_of s.view.duty) (left_of s.view.duty)
+pub record IsResumed {C T : Type 0} (g : Sketching C) (s : SeatState) (t : Trunk C T) : Type 0 where
+  pub duty : s.view.duty ≡ Leads (stage_in s.view.duty) (left_in s.view.duty)
+  pub resumes : MayResume s.view (stage_in s.view.duty) (left_in s.view.duty)
   pub filled : s.filled ≡ false
   pub lifted : s.lifted ≡ true
-  pub trunk : HasTrunk g s t
+  pub trunk : IsTrunk s.view g t
 
 -- the batch of updater i was found and refused, and is held
-pub record IsRefused {C T : Type 0} (g : Sketching C) (i : ℕ) (s : Standing) (t : Trunk C T) : Type 0 where
+pub record IsRefused {C T : Type 0} (g : Sketching C) (i : ℕ) (s : SeatState) (t : Trunk C T) : Type 0 where
   pub duty : s.view.duty ≡ Leads (Busy i (batch_of s.view)) false
   pub filled : s.filled ≡ false
   pub lifted : s.lifted ≡ true
-  pub trunk : HasTrunk g s t
+  pub trunk : IsTrunk s.view g t
 
 -- the updaters before this one were served
 pub record RefusesAfter (v : View) (from n i : ℕ) (w : View) : Type 0 where

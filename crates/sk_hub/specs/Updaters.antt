@@ -16,7 +16,7 @@ use Rattle.sk_machine.specs.declared.views.View.{View}
 use Rattle.sk_gate.specs.Slots.{contents, Telling, TellsList}
 use Rattle.sk_gate.specs.Views.{size_of, mine_of, is_open}
 use Rattle.sk_gate.specs.Moves.{looked_mine, handed_mine}
-use Rattle.sk_gate.specs.Hands.{Own, no_own, is_empty, Standing}
+use Rattle.sk_gate.specs.Hands.{Own, no_own, is_empty, SeatState}
 
 pub record UpdaterState : Type 0 where
   -- what its seat knows, and of which table it is
@@ -89,7 +89,7 @@ abbrev pub items_in : Option Contents → List ℕ
 items_in None = []
 items_in (Some buffer) = buffer.items
 
-abbrev pub state_of : {T : Type 0} → Standing → ℕ → ℕ → Option Contents → Option T → ℕ → ℕ → Bool → UpdaterState
+abbrev pub state_of : {T : Type 0} → SeatState → ℕ → ℕ → Option Contents → Option T → ℕ → ℕ → Bool → UpdaterState
 state_of s number size fill told hint last eager = record { view = s.view; table = s.table; number = number; size = size; fill = items_in fill; hint = hint; news = is_some told; last = last; eager = eager }
 
 -- its own slot between two calls: an empty parcel while it has the slot, with a told value if it handed something over
@@ -101,12 +101,12 @@ abbrev pub TellsItems : {T : Type 0} → Telling T → List ℕ → ℕ → List
 TellsItems k name i items t = (list : List Entry) × (entries_by i list ≡ items) × TellsList k name t list
 
 -- a seat that neither propagates nor has anything of the propagator
-pub record IsFree (s : Standing) : Type 0 where
+pub record IsFree (s : SeatState) : Type 0 where
   pub duty : s.view.duty ≡ Free
   pub filled : s.filled ≡ false
   pub lifted : s.lifted ≡ false
 
-pub record IsUpdater {T : Type 0} (hint_of : List ℕ → List Entry → ℕ) (k : Telling T) (s : Standing) (number updaters size : ℕ) (fill : Option Contents) (told : Option T) (hint taken last : ℕ) : Type 0 where
+pub record IsUpdater {T : Type 0} (hint_of : List ℕ → List Entry → ℕ) (k : Telling T) (s : SeatState) (number updaters size : ℕ) (fill : Option Contents) (told : Option T) (hint taken last : ℕ) : Type 0 where
   pub number_is : s.number ≡ number
   pub view : IsViewOf number s.view
   pub free : IsFree s

@@ -5,11 +5,12 @@ ghost use Rattle.sk_machine.specs.declared.views.Move.{Move};
 ghost use Rattle.sk_machine.specs.declared.views.Move.TheVariants.{Find};
 ghost use Rattle.sk_machine.specs.declared.views.Stage.TheVariants.{Idle, Busy};
 ghost use Rattle.sk_machine.specs.declared.views.Duty.TheVariants.{Leads};
-ghost use Rattle.sk_gate.specs.Slots.{contents, sketching, TrunkOk};
-ghost use Rattle.sk_gate.specs.Views.{size_of, batch_of, left_of};
+ghost use Rattle.sk_gate.specs.Slots.{contents, sketching, IsTrunkOf};
+ghost use Rattle.sk_gate.specs.Views.{size_of, batch_of, left_in};
+ghost use Rattle.sk_gate.specs.Hands.{IsTrunk};
 ghost use Rattle.sk_hub.specs.Updaters.{IsFree};
 ghost use Rattle.sk_hub.specs.Rounds.{PublishesBatch, FinishesHeld, ServesOne, ServesEach, Advances, KnowsAsMuch, IsElsewhere, Serves, Refuses};
-ghost use Rattle.sk_hub.specs.Turns.{HasTrunk, IsLifted, IsResumed, IsRefused, RefusesAfter};
+ghost use Rattle.sk_hub.specs.Turns.{IsLifted, IsResumed, IsRefused, RefusesAfter};
 ghost use Rattle.sk_model.specs.Limits.{most_size, most_updaters};
 
 use sk_compose::{Composable, Parcel};
@@ -38,19 +39,19 @@ fn publish_batch<C: Composable, P: Role, R: Wait>(
     i: u32,
     parcel: Parcel<C::Told>,
 ) -> Result<u32, OutOfMemory>
-    requires busy { seat.old.view.duty ≡ Leads (Busy i (batch_of seat.old.view)) (left_of seat.old.view.duty) }
+    requires busy { seat.old.view.duty ≡ Leads (Busy i (batch_of seat.old.view)) (left_in seat.old.view.duty) }
     requires taken { seat.old.filled ≡ false }
     requires lifted { seat.old.lifted ≡ true }
     requires batch { parcel.buffer ≡ contents (batch_of seat.old.view) (size_of seat.old.view i) }
     requires some { 0 < length (batch_of seat.old.view) }
     requires few { length seat.old.view.seen + length (batch_of seat.old.view) ≤ most_entries }
-    requires trunk { TrunkOk (sketching C.is_of C.numbers C.name) seat.old.view.numbers seat.old.view.name seat.old.view.seen Idle (size_of seat.old.view) trunk.old }
+    requires trunk { IsTrunkOf (sketching C.is_of C.numbers C.name) seat.old.view.numbers seat.old.view.name seat.old.view.seen Idle (size_of seat.old.view) trunk.old }
     ensures steps { IfOk result (λ count. (steps : List Move) × PublishesBatch i count steps × Advances seat.old.view steps seat.new.view) }
     ensures some { IfOk result (λ count. 0 < count) }
     ensures few { IfOk result (λ count. count ≤ most_size) }
     ensures idle { IfOk result (λ _. IsLifted (sketching C.is_of C.numbers C.name) seat.new trunk.new) }
     ensures refused { IfErr result (λ _. seat.new ≡ seat.old) }
-    ensures held { IfErr result (λ _. HasTrunk (sketching C.is_of C.numbers C.name) seat.old trunk.new) }
+    ensures held { IfErr result (λ _. IsTrunk seat.old.view (sketching C.is_of C.numbers C.name) trunk.new) }
     ensures cause { IfErr result (λ _. IsTrue C.TAKES_MEMORY) }
     ensures seat { seat.new ≡ record seat.old { view = seat.new.view } }
 {

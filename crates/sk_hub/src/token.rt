@@ -16,10 +16,10 @@ pub struct Token<C: Composable> {
 }
 
 impl<C: Composable> Model for Token<C> {
-    ghost use Rattle.sk_gate.specs.Hands.{Reading};
+    ghost use Rattle.sk_gate.specs.Hands.{TokenState};
     ghost use Rattle.sk_hub.specs.Replies.{IsReading};
 
-    ghost Value = { Reading };
+    ghost Value = { TokenState };
 
     ghost view = { λ t. t.seat };
 
@@ -33,10 +33,10 @@ pub struct Note<C: Composable> {
 }
 
 impl<C: Composable> Model for Note<C> {
-    ghost use Rattle.sk_gate.specs.Hands.{Reading};
+    ghost use Rattle.sk_gate.specs.Hands.{TokenState};
     ghost use Rattle.sk_hub.specs.Replies.{IsReading};
 
-    ghost Value = { Reading };
+    ghost Value = { TokenState };
 
     ghost view = { λ n. n.seat };
 
