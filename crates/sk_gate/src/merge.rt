@@ -6,7 +6,7 @@ ghost use Rattle.sk_machine.specs.declared.views.Duty.TheVariants.{Leads};
 ghost use Rattle.sk_gate.specs.Slots.{contents, sketching, IsTrunkOf};
 ghost use Rattle.sk_gate.specs.Views.{size_of, batch_of, left_in};
 ghost use Rattle.sk_gate.specs.Hands.{IsTrunk};
-ghost use Rattle.sk_gate.specs.Merge.{MergesAt};
+ghost use Rattle.sk_gate.specs.Merge.{CarriesBatch, MergesAt};
 ghost use Rattle.sk_gate.specs.Moves.{IsSeen};
 ghost use Rattle.sk_model.specs.Limits.{most_size};
 
@@ -25,14 +25,7 @@ pub fn merge_batch<C: Composable, R: Role, W: Wait>(
     i: u32,
     mut parcel: Parcel<C::Told>,
 ) -> Result<u32, OutOfMemory>
-    requires found { seat.old.view.duty
-        ≡ Leads (Busy i (batch_of seat.old.view)) (left_in seat.old.view.duty) }
-    requires taken { seat.old.filled ≡ false }
-    requires lifted { seat.old.lifted ≡ true }
-    requires trunk { IsTrunkOf (sketching C.is_of C.numbers C.name)
-        seat.old.view.numbers seat.old.view.name seat.old.view.seen Idle (size_of seat.old.view) trunk.old }
-    requires batch { parcel.buffer ≡ contents (batch_of seat.old.view) (size_of seat.old.view i) }
-    requires few { length seat.old.view.seen + length (batch_of seat.old.view) ≤ most_entries }
+    requires carries { CarriesBatch (sketching C.is_of C.numbers C.name) seat.old i trunk.old parcel }
     ensures count { IfOk result (λ n. n ≡ length (batch_of seat.old.view)) }
     ensures most { IfOk result (λ n. n ≤ most_size) }
     ensures merged { IfOk result (λ _. MergesAt C.hint_of C.packed_of seat.old.view seat.new.view i) }
