@@ -8,6 +8,7 @@ ghost use Rattle.sk_machine.specs.declared.views.Duty.TheVariants.{Leads};
 ghost use Rattle.sk_gate.specs.Slots.{contents, sketching, IsTrunkOf};
 ghost use Rattle.sk_gate.specs.Views.{size_of, batch_of, left_in};
 ghost use Rattle.sk_gate.specs.Hands.{IsTrunk};
+ghost use Rattle.sk_gate.specs.Merge.{CarriesBatch};
 ghost use Rattle.sk_hub.specs.Updaters.{IsFree};
 ghost use Rattle.sk_hub.specs.Rounds.{PublishesBatch, FinishesHeld, ServesOne, ServesEach, Advances, KnowsAsMuch, IsElsewhere, Serves, Refuses};
 ghost use Rattle.sk_hub.specs.Turns.{IsLifted, IsResumed, IsRefused, RefusesAfter};
@@ -39,13 +40,8 @@ fn publish_batch<C: Composable, P: Role, R: Wait>(
     i: u32,
     parcel: Parcel<C::Told>,
 ) -> Result<u32, OutOfMemory>
-    requires busy { seat.old.view.duty ≡ Leads (Busy i (batch_of seat.old.view)) (left_in seat.old.view.duty) }
-    requires taken { seat.old.filled ≡ false }
-    requires lifted { seat.old.lifted ≡ true }
-    requires batch { parcel.buffer ≡ contents (batch_of seat.old.view) (size_of seat.old.view i) }
+    requires carries { CarriesBatch (sketching C.is_of C.numbers C.name) seat.old i trunk.old parcel }
     requires some { 0 < length (batch_of seat.old.view) }
-    requires few { length seat.old.view.seen + length (batch_of seat.old.view) ≤ most_entries }
-    requires trunk { IsTrunkOf (sketching C.is_of C.numbers C.name) seat.old.view.numbers seat.old.view.name seat.old.view.seen Idle (size_of seat.old.view) trunk.old }
     ensures steps { IfOk result (λ count. (steps : List Move) × PublishesBatch i count steps × Advances seat.old.view steps seat.new.view) }
     ensures some { IfOk result (λ count. 0 < count) }
     ensures few { IfOk result (λ count. count ≤ most_size) }
