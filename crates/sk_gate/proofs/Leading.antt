@@ -22,7 +22,7 @@ use Rattle.sk_gate.specs.declared.load.Load.TheVariants as load
 use Rattle.sk_gate.specs.declared.load.Trunk.{Trunk}
 use Rattle.sk_gate.specs.Slots.{Slot, full, trunk, contents, Sketching, Telling, TellsList, IsTrunkOf}
 use Rattle.sk_gate.specs.Views.{size_of, mine_in, seat_in, leads, stage_in, left_in, batch_of, IsAtRest}
-use Rattle.sk_gate.specs.Moves.{ResumesAt, TakesTurnAt, MissesTurnAt, YieldsAt, FindsBatchAt, FindsAt, LeavesAt, PublishesAt, GivesBackAt}
+use Rattle.sk_gate.specs.Moves.{MayResume, LearnsSize, TakesTurnAt, MissesTurnAt, YieldsAt, FindsBatchAt, FindsAt, LeavesAt, PublishesAt, GivesBackAt}
 use Rattle.sk_gate.specs.Plays.{Sat, gave_back, left_it, yielded}
 use Rattle.sk_gate.specs.Rule.{KeepsRule}
 use Rattle.sk_gate.specs.Hands.{has_parcel, LiesAt, IsPut, SeatState, seat_state, StageHand, StageKnown, TrunkHand, DutyHand, OwnHand, IsPost, Holds}
@@ -118,24 +118,24 @@ module _ {C T : Type 0} where
   yields_none k v (Published i) left first may t = absurd may
 
 -- a turn finds the slot of the stage at home
-resumed_hand : (C : Type 0) {T : Type 0} (k : Telling T) (v w : View) (stage : Stage) (left : Bool) → ResumesAt v w stage → left ≡ left_in w.duty → StageHand w {C = C} k stage left []
-resumed_hand C k v w Idle left t is = refl
-resumed_hand C k v w (Busy i batch) left t is = subst (λ b. StageHand w {C = C} k (Busy i batch) b []) (sym (is ∙ t.2)) refl
-resumed_hand C k v w (Published i) left t is = absurd t
+resumed_hand : (C : Type 0) {T : Type 0} (k : Telling T) (w : View) (stage : Stage) (left : Bool) → MayResume w stage left → StageHand w {C = C} k stage left []
+resumed_hand C k w Idle left t = refl
+resumed_hand C k w (Busy i batch) left t = subst (λ b. StageHand w {C = C} k (Busy i batch) b []) (sym t.0) refl
+resumed_hand C k w (Published i) left t = absurd t
 
-resumed_known : (v w : View) (stage : Stage) (left : Bool) → length w.sizes ≡ length v.sizes → ResumesAt v w stage → StageKnown w stage left
-resumed_known v w Idle left long t = tt
-resumed_known v w (Busy i batch) left long t = (subst (λ z. i < z) (sym long) t.0, (λ z. let least = t.3.0 in let most = t.3.1 in omega arith), t.3, t.4)
-resumed_known v w (Published i) left long t = absurd t
+resumed_known : (v w : View) (stage : Stage) (left : Bool) → length w.sizes ≡ length v.sizes → MayResume w stage left → LearnsSize v w stage → StageKnown w stage left
+resumed_known v w Idle left long t learns = tt
+resumed_known v w (Busy i batch) left long t learns = (subst (λ z. i < z) (sym long) learns.0, (λ z. let least = t.1.0 in let most = t.1.1 in omega arith), t.1, t.2)
+resumed_known v w (Published i) left long t learns = absurd t
 
-resumed_own : (v w : View) (stage : Stage) (i : ℕ) → ResumesAt v w stage → (length w.sizes ≡ length v.sizes) × (size_of v i ≢ 0 → size_of w i ≡ size_of v i)
-resumed_own v w Idle i t = (ap length t.0, λ _. ap (λ l. slice_index l i) t.0)
-resumed_own v w (Busy j batch) i t = (ap length t.1 ∙ length-set v.sizes j (size_of w j), λ there. ap (λ l. slice_index l i) t.1 ∙ sized_own v.sizes j (size_of w j) i t.0 t.5 there)
+resumed_own : (v w : View) (stage : Stage) (i : ℕ) → LearnsSize v w stage → (length w.sizes ≡ length v.sizes) × (size_of v i ≢ 0 → size_of w i ≡ size_of v i)
+resumed_own v w Idle i t = (ap length t, λ _. ap (λ l. slice_index l i) t)
+resumed_own v w (Busy j batch) i t = (ap length t.1 ∙ length-set v.sizes j (size_of w j), λ there. ap (λ l. slice_index l i) t.1 ∙ sized_own v.sizes j (size_of w j) i t.0 t.2 there)
 resumed_own v w (Published j) i t = absurd t
 
 -- a turn keeps how many sizes there are
 pub taken_sizes : (v w : View) → TakesTurnAt v w → length w.sizes ≡ length v.sizes
-taken_sizes v w told = (resumed_own v w (stage_in w.duty) 0 told.resumes).0
+taken_sizes v w told = (resumed_own v w (stage_in w.duty) 0 told.learns).0
 
 -- ---- over each call
 
@@ -216,12 +216,12 @@ module _ {C T : Type 0} (g : Sketching C) (k : Telling T) {heart : Bool} {n numb
       let stage : Stage = stage_in w.duty in
       let left : Bool = left_in w.duty in
       let is = told.view in
-      let sizes = resumed_own m.0 w stage number told.resumes in
+      let sizes = resumed_own m.0 w stage number told.learns in
       let whole : m.1 ≡ h.third = h.hand ∙ (λ a. none-there.0 a ++ none-there.1 a ++ h.third) in
       next m' table' 1 w [] ((n, trunk t) ∷ []) old.filled old.lifted tables
       (record { live = ap (λ (y : View). y.live) is; post = ap (λ (y : View). y.post) is; name = ap (λ (y : View). y.name) is; long = sizes.0; size = sizes.1 })
       refl
-      (subst (λ d. DutyHand w g k n d [] ((n, trunk t) ∷ [])) (sym (ap (λ (y : View). y.duty) is)) (resumed_hand C k m.0 w stage left told.resumes refl, resumed_known m.0 w stage left sizes.0 told.resumes, inr (t, refl, laid)))
+      (subst (λ d. DutyHand w g k n d [] ((n, trunk t) ∷ [])) (sym (ap (λ (y : View). y.duty) is)) (resumed_hand C k w stage left told.resumes, resumed_known m.0 w stage left sizes.0 told.resumes told.learns, inr (t, refl, laid)))
       (hand ∙ ap (λ l. (n, trunk t) ∷ l) whole) refl (ap has_parcel (sym none-there.0) ∙ filled_is) (ap is_lifted (sym none-there.1) ∙ lifted_is)
 
   pub missed_next : (m' : Sat C T) (table' : TableId) (found : ℕ) → leads old.view.duty ≡ false → table' ≡ table → MissesTurnAt m.0 found m'.0 → m'.1 ≡ m.1 → Next m' table' front m'.0 old.filled old.lifted

@@ -22,7 +22,7 @@ use Rattle.sk_gate.specs.declared.load.Held.{Held}
 use Rattle.sk_gate.specs.Slots.{Slot, trunk, contents, Sketching, Telling, IsHeld, IsTrunkOf}
 use Rattle.sk_gate.specs.Views.{known_of, size_of, seat_in, leads, stage_in, left_in, is_busy, IsAtRest, SpeaksFor}
 use Rattle.sk_gate.specs.Rule.{left_home, IsSlot, KnowsDuty, KnowsSizes, Knows, HasSeen, IsLed, HasGiven, KeepsRule}
-use Rattle.sk_gate.specs.Moves.{ResumesAt}
+use Rattle.sk_gate.specs.Moves.{MayResume, LearnsSize}
 use Rattle.sk_gate.specs.Plays.{Sat, turned, yielded}
 use Rattle.sk_gate.specs.Hands.{StageKnown}
 use Rattle.sk_gate.proofs.Opened.{open_neutral}
@@ -193,7 +193,8 @@ module _ {C T : Type 0} (hint packed : List ℕ → List Entry → ℕ) (g : Ske
               view = refl;
               grows = o.lists.seen_is;
               is_seen = published_seen (hint r.numbers) r.n m r.owner id v o.sizes.sized r.meets o.post_is;
-              resumes = subst (ResumesAt v w) (sym idle) (refl, refl);
+              resumes = subst (λ y. MayResume w y false) (sym idle) refl;
+              learns = subst (LearnsSize v w) (sym idle) refl;
             }),
             (λ ne. absurd (ne zero)),
           ),
@@ -226,14 +227,9 @@ module _ {C T : Type 0} (hint packed : List ℕ → List Entry → ℕ) (g : Ske
               view = refl;
               grows = o.lists.seen_is;
               is_seen = published_seen (hint r.numbers) r.n m r.owner id v o.sizes.sized r.meets o.post_is;
-              resumes = subst (ResumesAt v w) (sym busy.2) (
-                wide_i,
-                (λ a. set v.sizes i (sym size_now a)),
-                refl,
-                subst (λ c. IsBatch c batch) (sym size_now) behind.0,
-                event.entries_are_few (hint r.numbers) r.n m i batch r.meets (omega arith) busy.2,
-                (λ e. size_now ∙ sym (o.sizes.sizes_are i e)),
-              );
+              resumes = subst (λ y. MayResume w y true) (sym busy.2)
+                  (refl, subst (λ c. IsBatch c batch) (sym size_now) behind.0, event.entries_are_few (hint r.numbers) r.n m i batch r.meets (omega arith) busy.2);
+              learns = subst (LearnsSize v w) (sym busy.2) (wide_i, (λ a. set v.sizes i (sym size_now a)), (λ e. size_now ∙ sym (o.sizes.sizes_are i e)));
             }),
             (λ ne. absurd (ne zero)),
           ),

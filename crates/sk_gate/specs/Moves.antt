@@ -1,5 +1,5 @@
 -- What each call on a word tells: the view before, the number loaded or stored, and the view after.
-use Rattle.std.specs.Prelude.{◌≡◌, ◌≢◌, ℕ, ◌+◌, ◌<◌, ◌≤◌, List, [], ◌∷◌, ◌++◌, length, true, false, All, Contains, slice_set}
+use Rattle.std.specs.Prelude.{◌≡◌, ◌≢◌, ℕ, ◌+◌, ◌<◌, ◌≤◌, List, [], ◌∷◌, ◌++◌, length, Bool, true, false, All, Contains, slice_set}
 use Rattle.sk_model.specs.Entries.{Entry, entries_by, tagged}
 use Rattle.sk_model.specs.Missing.{Begins, LacksAtMost, longer}
 use Rattle.sk_machine.specs.Coarse.{most_entries, IsEntry, IsBatch}
@@ -94,18 +94,25 @@ HandsAt v w i batch = w ≡ record v { steps = v.steps ++ Hand i ∷ []; post = 
 
 -- ---- whoever propagates
 
--- where a turn finds the propagator
-abbrev pub ResumesAt : View → View → Stage → Type 0
-ResumesAt v w Idle = (w.sizes ≡ v.sizes) × (left_in w.duty ≡ false)
-ResumesAt v w (Busy i batch) = (i < length v.sizes) × (w.sizes ≡ slice_set v.sizes i (size_of w i)) × (left_in w.duty ≡ true) × IsBatch (size_of w i) batch × (length w.seen + length batch ≤ most_entries) × (size_of v i ≢ 0 → size_of w i ≡ size_of v i)
-ResumesAt v w (Published i) = ⊥
+-- where a turn may find the propagator: nothing is held, or a batch, whose slot was left
+abbrev pub MayResume : View → Stage → Bool → Type 0
+MayResume v Idle left = left ≡ false
+MayResume v (Busy i batch) left = (left ≡ true) × IsBatch (size_of v i) batch × (length v.seen + length batch ≤ most_entries)
+MayResume v (Published i) left = ⊥
+
+-- it tells how large the buffers are of the updater that the batch is of
+abbrev pub LearnsSize : View → View → Stage → Type 0
+LearnsSize v w Idle = w.sizes ≡ v.sizes
+LearnsSize v w (Busy i batch) = (i < length v.sizes) × (w.sizes ≡ slice_set v.sizes i (size_of w i)) × (size_of v i ≢ 0 → size_of w i ≡ size_of v i)
+LearnsSize v w (Published i) = ⊥
 
 -- a turn that found 0
 pub record TakesTurnAt (v w : View) : Type 0 where
   pub view : w ≡ record v { seen = w.seen; steps = v.steps ++ Turn 0 ∷ []; duty = Leads (stage_in w.duty) (left_in w.duty); sizes = w.sizes }
   pub grows : Begins v.seen w.seen
   pub is_seen : IsSeen v w.seen
-  pub resumes : ResumesAt v w (stage_in w.duty)
+  pub resumes : MayResume w (stage_in w.duty) (left_in w.duty)
+  pub learns : LearnsSize v w (stage_in w.duty)
 
 -- a turn that found another seat's number
 pub record MissesTurnAt (v : View) (found : ℕ) (w : View) : Type 0 where
