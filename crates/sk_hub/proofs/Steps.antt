@@ -14,7 +14,7 @@ use Rattle.sk_machine.specs.declared.views.Duty.{Duty}
 use Rattle.sk_machine.specs.declared.views.Duty.TheVariants.{Free}
 use Rattle.sk_machine.specs.declared.views.View.{View}
 use Rattle.sk_gate.specs.Views.{size_of, batch_of, stage_in}
-use Rattle.sk_gate.specs.Moves.{IsSeen, AsksAt, FindsBatchAt, LeavesAt, ResumesAt, TakesTurnAt, YieldsAt}
+use Rattle.sk_gate.specs.Moves.{IsSeen, AsksAt, FindsBatchAt, LeavesAt, LearnsSize, TakesTurnAt, YieldsAt}
 use Rattle.sk_gate.specs.Merge.{MergesAt}
 use Rattle.sk_hub.specs.Rounds.{Advances, TakesTurn, KnowsAsMuch, PublishesBatch, FinishesHeld, FindsInVain, ServesOne, ServesEach, Serves, ServesNothing, ServesBatch, Refuses, RefusesFound}
 use Rattle.sk_hub.specs.Turns.{RefusesAfter}
@@ -125,13 +125,13 @@ serves_more u v w from served count more (before, serves, advances) (now, one, f
 
 -- ---- a turn
 
-sizes_resumed : (v w : View) (stage : Stage) → ResumesAt v w stage → (length w.sizes ≡ length v.sizes) × ((j : ℕ) → size_of v j ≢ 0 → size_of w j ≡ size_of v j)
-sizes_resumed v w Idle r = (ap length r.0, λ j _. ap (λ z. slice_index z j) r.0)
-sizes_resumed v w (Busy i batch) r = (ap length r.1 ∙ length-set v.sizes i (size_of w i), λ j known. ap (λ z. slice_index z j) r.1 ∙ sizes_learnt v.sizes i (size_of w i) r.0 r.5 j known)
+sizes_resumed : (v w : View) (stage : Stage) → LearnsSize v w stage → (length w.sizes ≡ length v.sizes) × ((j : ℕ) → size_of v j ≢ 0 → size_of w j ≡ size_of v j)
+sizes_resumed v w Idle r = (ap length r, λ j _. ap (λ z. slice_index z j) r)
+sizes_resumed v w (Busy i batch) r = (ap length r.1 ∙ length-set v.sizes i (size_of w i), λ j known. ap (λ z. slice_index z j) r.1 ∙ sizes_learnt v.sizes i (size_of w i) r.0 r.2 j known)
 sizes_resumed v w (Published i) r = absurd r
 
 starts : (v w : View) → TakesTurnAt v w → Advances v (Turn 0 ∷ []) w
-starts v w t = let sizes = sizes_resumed v w (stage_in w.duty) t.resumes in record {
+starts v w t = let sizes = sizes_resumed v w (stage_in w.duty) t.learns in record {
   view = only_these v w _ _ _ _ _ t.view;
   grows = t.grows;
   sees = λ _. seen_again v w w.seen (ap (λ x. x.post) t.view) sizes.0 t.is_seen;

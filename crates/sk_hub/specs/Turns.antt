@@ -1,16 +1,15 @@
 -- Where a seat is that has the turn and has lifted the trunk.
-use Rattle.std.specs.Prelude.{◌≡◌, ℕ, ◌+◌, ◌<◌, ◌≤◌, List, ◌∷◌, [], ◌++◌, length, Bool, true, false}
-use Rattle.sk_machine.specs.Coarse.{most_entries, IsBatch}
+use Rattle.std.specs.Prelude.{◌≡◌, ℕ, ◌+◌, ◌<◌, List, ◌∷◌, [], ◌++◌, true, false}
 use Rattle.sk_machine.specs.declared.views.Move.{Move}
 use Rattle.sk_machine.specs.declared.views.Move.TheVariants.{Find}
-use Rattle.sk_machine.specs.declared.views.Stage.{Stage}
-use Rattle.sk_machine.specs.declared.views.Stage.TheVariants.{Idle, Busy, Published}
+use Rattle.sk_machine.specs.declared.views.Stage.TheVariants.{Idle, Busy}
 use Rattle.sk_machine.specs.declared.views.Duty.TheVariants.{Leads}
 use Rattle.sk_machine.specs.declared.views.View.{View}
 use Rattle.sk_gate.specs.declared.load.Trunk.{Trunk}
 use Rattle.sk_gate.specs.Slots.{Sketching, IsTrunkOf}
 use Rattle.sk_gate.specs.Views.{size_of, stage_in, left_in, batch_of}
 use Rattle.sk_gate.specs.Hands.{SeatState, IsTrunk}
+use Rattle.sk_gate.specs.Moves.{MayResume}
 use Rattle.sk_hub.specs.Rounds.{ServesEach, Advances}
 
 -- nothing is found and nothing held
@@ -19,12 +18,6 @@ pub record IsLifted {C T : Type 0} (g : Sketching C) (s : SeatState) (t : Trunk 
   pub filled : s.filled ≡ false
   pub lifted : s.lifted ≡ true
   pub trunk : IsTrunkOf g s.view.numbers s.view.name s.view.seen Idle (size_of s.view) t
-
--- nothing is held, or a batch, whose slot was left
-abbrev pub MayResume : View → Stage → Bool → Type 0
-MayResume v Idle left = left ≡ false
-MayResume v (Busy i batch) left = (left ≡ true) × IsBatch (size_of v i) batch × (length v.seen + length batch ≤ most_entries)
-MayResume v (Published i) left = ⊥
 
 -- as the turn was taken
 pub record IsResumed {C T : Type 0} (g : Sketching C) (s : SeatState) (t : Trunk C T) : Type 0 where

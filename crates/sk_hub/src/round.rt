@@ -1,12 +1,9 @@
 //! Rounds of whoever propagates.
 ghost use Rattle.std.specs.Prelude.{◌≡◌, ℕ, ◌+◌, ◌*◌, ◌<◌, ◌≤◌, ◌^◌, ◌++◌, ◌∷◌, [], List, length, true, false, IsTrue, IfOk, IfErr};
-ghost use Rattle.sk_machine.specs.Coarse.{most_entries};
 ghost use Rattle.sk_machine.specs.declared.views.Move.{Move};
 ghost use Rattle.sk_machine.specs.declared.views.Move.TheVariants.{Find};
-ghost use Rattle.sk_machine.specs.declared.views.Stage.TheVariants.{Idle, Busy};
-ghost use Rattle.sk_machine.specs.declared.views.Duty.TheVariants.{Leads};
-ghost use Rattle.sk_gate.specs.Slots.{contents, sketching, IsTrunkOf};
-ghost use Rattle.sk_gate.specs.Views.{size_of, batch_of, left_in};
+ghost use Rattle.sk_gate.specs.Slots.{sketching};
+ghost use Rattle.sk_gate.specs.Views.{batch_of};
 ghost use Rattle.sk_gate.specs.Hands.{IsTrunk};
 ghost use Rattle.sk_gate.specs.Merge.{CarriesBatch};
 ghost use Rattle.sk_hub.specs.Updaters.{IsFree};
