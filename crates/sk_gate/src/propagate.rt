@@ -5,8 +5,8 @@ ghost use Rattle.sk_machine.specs.Coarse.{IsBatch, most_entries};
 ghost use Rattle.sk_machine.specs.declared.views.Stage.TheVariants.{Idle, Busy, Published};
 ghost use Rattle.sk_machine.specs.declared.views.Duty.TheVariants.{Leads};
 ghost use Rattle.sk_gate.specs.Slots.{contents, sketching, telling, TellsList};
-ghost use Rattle.sk_gate.specs.Views.{size_of, batch_of, stage_in, left_in, leads, IsAtRest};
-ghost use Rattle.sk_gate.specs.Hands.{IsTrunk, StageKnown};
+ghost use Rattle.sk_gate.specs.Views.{size_of, batch_of, left_in, leads, IsAtRest};
+ghost use Rattle.sk_gate.specs.Hands.{IsTrunk};
 ghost use Rattle.sk_gate.specs.Moves.{IsSeen, AsksAt, TakesTurnAt, MissesTurnAt, YieldsAt, FindsAt, LeavesAt, PublishesAt, GivesBackAt};
 
 use crate::load::{Load, Trunk, parcel_in, trunk_in};
@@ -42,8 +42,6 @@ impl<C: Composable, R: Role> Propagator<C, R> {
         requires led { leads self.old.view.duty ≡ true }
         requires laid { self.old.lifted ≡ false }
         ensures trunk { IsTrunk self.old.view (sketching C.is_of C.numbers C.name) result }
-        ensures known { StageKnown self.old.view
-            (stage_in self.old.view.duty) (left_in self.old.view.duty) }
         ensures seat { self.new ≡ record self.old { lifted = true } }
     {
         let own = u32::from(self.own);
