@@ -145,7 +145,7 @@ module _ (v : View) where
   DutyHand g k n Free first second = (first ≡ []) × (second ≡ [])
   DutyHand g k n (Leads stage left) first second = StageHand k stage left first × StageKnown stage left × TrunkHand g n stage second
 
-  -- the parcel in its own slot: empty, as it was taken or picked, or full, to be handed over
+  -- a parcel that may lie in its own slot: empty, as it was taken or picked, or full, to be handed over
   abbrev pub IsEmptyOwn : {T : Type 0} → Telling T → ℕ → Parcel T → Type 0
   IsEmptyOwn k i p = (p.buffer.items ≡ []) × TellsBase k p
       × ((p.buffer.capacity ≡ size_of v i) ⊎ ((p.buffer.capacity ≡ 1) × (p.told ≡ None) × ((mine_of v).handed ≡ [])))
@@ -153,9 +153,12 @@ module _ (v : View) where
   abbrev pub IsFullOwn : {T : Type 0} → ℕ → Parcel T → Type 0
   IsFullOwn i p = IsBatch (size_of v i) p.buffer.items × AreItems p.buffer.items × (length (mine_of v).handed + length p.buffer.items ≤ most_kept) × (p.buffer.capacity ≡ size_of v i)
 
+  abbrev pub MayLie : {T : Type 0} → Telling T → ℕ → Parcel T → Type 0
+  MayLie k i p = IsEmptyOwn k i p ⊎ IsFullOwn i p
+
   abbrev pub OwnHand : {C T : Type 0} → Telling T → ℕ → Bool → List (ℕ × Slot C T) → Type 0
   OwnHand k i false hand = hand ≡ []
-  OwnHand {C} {T} k i true hand = (p : Parcel T) × (hand ≡ (i, full p) ∷ []) × (IsEmptyOwn k i p ⊎ IsFullOwn i p) × (size_of v i ≢ 0)
+  OwnHand {C} {T} k i true hand = (p : Parcel T) × (hand ≡ (i, full p) ∷ []) × MayLie k i p × (size_of v i ≢ 0)
 
   -- whose seat it is, of n updaters
   abbrev pub IsPost : Bool → ℕ → ℕ → Type 0

@@ -7,7 +7,7 @@ ghost use Rattle.sk_gate.specs.Slots.{contents, sketching, telling};
 ghost use Rattle.sk_gate.specs.Rule.{KeepsRule};
 ghost use Rattle.sk_gate.specs.Plays.{admitted};
 ghost use Rattle.sk_gate.specs.Views.{size_of, mine_of, leads, after_split, copy_of};
-ghost use Rattle.sk_gate.specs.Hands.{no_own, own_with, own_empty, own_looked, TellsBase};
+ghost use Rattle.sk_gate.specs.Hands.{no_own, own_with, own_empty, own_looked, TellsBase, MayLie};
 ghost use Rattle.sk_gate.specs.Moves.{LooksAt, AdmitsAt, HandsAt};
 ghost use Rattle.sk_model.specs.Limits.{most_size, most_kept};
 
@@ -64,6 +64,23 @@ impl<C: Composable> Propagator<C, OfUpdater> {
         found
     }
 
+    // Lays a parcel into the own slot, for the empty one that lies there.
+    fn exchange_own(&mut self, parcel: Parcel<C::Told>) -> Parcel<C::Told>
+        requires ready { (mine_of self.old.view).ready ≡ true }
+        requires unswapped { self.old.own.items ≡ [] }
+        requires fits { MayLie self.old.view
+            (telling C.tells C.told_name C.told_of) self.old.number parcel }
+        ensures empty { result.buffer ≡ contents [] self.old.own.capacity }
+        ensures told { is_some result.told ≡ self.old.own.told }
+        ensures tells { TellsBase self.old.view (telling C.tells C.told_name C.told_of) result }
+        ensures seat { self.new ≡ record self.old { own = own_with parcel } }
+    {
+        let slot = self.number as usize;
+        let parcel = Some(Load::Parcel(parcel));
+        let empty = exchange(&self.hub, &mut self.seat, slot, self.front, 0, parcel);
+        parcel_in(empty)
+    }
+
     /// Lays a full parcel into the slot, for the empty one.
     pub fn swap(&mut self, full: Parcel<C::Told>) -> Parcel<C::Told>
         requires ready { (mine_of self.old.view).ready ≡ true }
@@ -80,10 +97,7 @@ impl<C: Composable> Propagator<C, OfUpdater> {
     {
         // It tells the proof that they are items.
         let _count = full.buffer.len();
-        let slot = self.number as usize;
-        let full = Some(Load::Parcel(full));
-        let empty = exchange(&self.hub, &mut self.seat, slot, self.front, 0, full);
-        parcel_in(empty)
+        self.exchange_own(full)
     }
 
     /// One store of 0 in the own word. It hands over the items that lie in the slot.
@@ -111,10 +125,7 @@ impl<C: Composable> Propagator<C, OfUpdater> {
         ensures seat { self.new
             ≡ record self.old { own = own_empty (size_of self.old.view self.old.number) } }
     {
-        let slot = self.number as usize;
-        let empty = Some(Load::Parcel(empty));
-        let picked = exchange(&self.hub, &mut self.seat, slot, self.front, 0, empty);
-        parcel_in(picked)
+        self.exchange_own(empty)
     }
 
     /// One load of the own word, by which the updater is admitted, with buffers of b items. It gives the hint
