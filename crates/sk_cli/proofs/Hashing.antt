@@ -1,12 +1,11 @@
 -- Hashes as text.
-use Rattle.std.proofs.Common.{◌≡◌, ℕ, zero, suc, ◌+◌, ◌-◌, ◌<◌, ◌/◌, ◌%◌, List, [], ◌∷◌, ◌++◌, length, drop, set, flat_map, refl, sym, ap, ◌∙◌, arith, append_assoc, append-nil}
+use Rattle.std.proofs.Common.{◌≡◌, ℕ, zero, suc, ◌+◌, ◌<◌, ◌/◌, ◌%◌, List, [], ◌∷◌, ◌++◌, length, drop, set, flat_map, refl, sym, ap, ◌∙◌, arith, append_assoc, append-nil}
 use Rattle.std.proofs.lemmas.Grind.{flat_map-append}
 use Rattle.sk_model.specs.Murmur.{hash_of}
 use Rattle.sk_model.specs.Lines.{filled}
 use Rattle.sk_model.proofs.Lines.{filled_append, filled_of_one, filled_of_empty}
-use Rattle.sk_cli.specs.declared.command.Command.TheVariants.{Hash}
-use Rattle.sk_cli.specs.Hash.{hex, hex_digit, hash_line, hash_text}
-use Rattle.sk_cli.specs.Due.{IsDueBefore}
+use Rattle.sk_cli.specs.declared.commands.hash.HashPlan.{HashPlan}
+use Rattle.sk_cli.specs.commands.Hash.{hex, hex_digit, hash_line, hash_text, hashing}
 use Rattle.sk_cli.proofs.Endings.{none_within}
 use Rattle.sk_cli.proofs.Reading.{ByLines}
 
@@ -57,8 +56,8 @@ unfolding hash_text filled
 no_hash_text seed = refl
 
 -- `hash` examines line by line
-pub hash_by_lines : (seed : ℕ) → ByLines (Hash seed) (λ lines due. due ≡ hash_text seed lines)
-hash_by_lines seed = record { reads_it = refl; so_far = λ taken due within is. (within, is); before = λ n text due within is. (n, within, is); long = λ n text due long is. (long, is) }
+pub hash_by_lines : (plan : HashPlan) → ByLines (hashing plan) (λ lines due. due ≡ hash_text plan.seed lines)
+hash_by_lines plan = record { reads_it = refl; so_far = λ taken due within is. (within, is); before = λ n text due within is. (n, within, is); long = λ n text due long is. (long, is) }
 
-pub no_hash_yet : (seed : ℕ) (text : List ℕ) → IsDueBefore (Hash seed) text (hash_text seed [])
-no_hash_yet seed text = (0, none_within, refl)
+pub no_hash_yet : (plan : HashPlan) (text : List ℕ) → (hashing plan).IsDueBefore text (hash_text plan.seed [])
+no_hash_yet plan text = (0, none_within, refl)

@@ -2,6 +2,7 @@ pub mod Counting
 pub mod Endings
 pub mod Fronts
 pub mod Hashing
+pub mod Moves
 pub mod OptionLaws
 pub mod Reading
 pub mod Replaying

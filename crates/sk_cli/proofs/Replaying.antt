@@ -4,7 +4,6 @@ use Rattle.std.proofs.lemmas.Grind.{flat_map-append}
 use Rattle.std.proofs.lemmas.List.{map-append}
 use Rattle.std.specs.Io.KnownBytes.{Appends, Consumes, IsAtEnd}
 use Rattle.std.proofs.KnownBytes.{Appends-nil, Consumes-trans}
-use Rattle.sk_model.specs.Causes.{AppendsFront}
 use Rattle.sk_model.specs.Missing.{Begins}
 use Rattle.sk_model.specs.Lines.{lines_of, AreWithin}
 use Rattle.sk_machine.specs.Fine.{Fine}
@@ -15,12 +14,11 @@ use Rattle.sk_core.specs.declared.event.Answer.{Answer}
 use Rattle.sk_core.proofs.Runs.{run_more, run_empty}
 use Rattle.sk_read.specs.Reading.{Reading, GivesNone}
 use Rattle.sk_read.proofs.ItemLaws.{told_by, with_rest, has_begun, read_whole}
-use Rattle.sk_cli.specs.declared.command.Command.TheVariants.{Replay}
-use Rattle.sk_cli.specs.Replay.{start_of, IsPlay, Played, answer_line, answers_text, IsAnswered, IsNoMore}
-use Rattle.sk_cli.specs.Due.{IsDueBefore, IsBadLine, IsBadEvent, Writes}
-use Rattle.sk_cli.specs.Run.{Streams, Refuses, EndsWithin}
+use Rattle.sk_cli.specs.commands.Replay.{start_of, IsPlay, Played, answer_line, answers_text, IsAnswered, IsNoMore, IsBadLine, replaying}
+use Rattle.sk_cli.specs.Outside.{Streams}
+use Rattle.sk_cli.specs.Run.{Writes, IsRefused, EndsWithin}
+use Rattle.sk_cli.specs.declared.fault.Fault.TheVariants as fault
 use Rattle.sk_cli.proofs.Endings.{none_within}
-use Rattle.sk_cli.proofs.Fronts.{front_behind}
 use Rattle.sk_cli.proofs.Reading.{ByLines, Reads, within_given, first_are, cut_short}
 use Rattle.sk_model.specs.Limits.{line_limit}
 
@@ -63,10 +61,10 @@ pub answered : (k : ℕ) (first : List ℕ) (lines : List (List ℕ)) (answers :
 answered k first lines answers reached played = (k, answers, reached, played, refl)
 
 -- `replay` examines line by line
-pub replay_by_lines : ByLines Replay IsAnswered
+pub replay_by_lines : ByLines replaying IsAnswered
 replay_by_lines = record { reads_it = refl; so_far = λ taken due within is. (within, is); before = λ n text due within is. (n, within, is); long = λ n text due long is. (long, is) }
 
-pub no_answer_yet : (text : List ℕ) → IsDueBefore Replay text []
+pub no_answer_yet : (text : List ℕ) → replaying.IsDueBefore text []
 no_answer_yet text = (0, none_within, refl)
 
 -- ---- refusals
@@ -94,10 +92,10 @@ bad_line n given line lines is within bad begins =
 
 -- a line that is refused, behind those that were played
 pub refuses : (a b : Streams) (most n : ℕ) (r : Reading) (given : List (List ℕ)) (line due taken : List ℕ) → Reads r a.left b.left most (given ++ line ∷ []) taken → n ≡ length given + 1 →
-    IsAnswered given due → Appends a.written b.written due → IsNoMore given line → Refuses Replay (IsBadEvent Replay n) a b
+    IsAnswered given due → Appends a.written b.written due → IsNoMore given line → IsRefused replaying (fault.BadEvent n) a b
 refuses a b most n r given line due taken read is so_far written bad =
-    told_by a.left b.left taken (λ (text : List ℕ). Writes (IsBadEvent Replay n text) a.written b.written) read.consumed
-    (with_rest b.left (λ (rest : List ℕ). Begins (given ++ line ∷ []) (lines_of (taken ++ rest))) (λ (rest : List ℕ). Writes (IsBadEvent Replay n (taken ++ rest)) a.written b.written)
+    told_by a.left b.left taken (λ (text : List ℕ). Writes (replaying.Refuses (fault.BadEvent n) text) a.written b.written) read.consumed
+    (with_rest b.left (λ (rest : List ℕ). Begins (given ++ line ∷ []) (lines_of (taken ++ rest))) (λ (rest : List ℕ). Writes (replaying.Refuses (fault.BadEvent n) (taken ++ rest)) a.written b.written)
     (λ rest begins.
     let found = bad_line n given line (lines_of (taken ++ rest)) is (within_given r a.left b.left most (given ++ line ∷ []) taken read) bad begins in
     (due, (found.0, subst (λ (l : List (List ℕ)). IsAnswered l due) (sym found.1) so_far), written))
@@ -109,20 +107,19 @@ no_first_line = refl
 
 -- a text of no line
 pub refuses_nothing : (a b : Streams) (most : ℕ) (r s : Reading) (now : Option (List ℕ)) → Reads r a.left now most [] [] → (more : List ℕ) × Consumes now b.left more × GivesNone r s more → s.ended ≡ true →
-    ((r.ended ≡ true → IsAtEnd now) → s.ended ≡ true → IsAtEnd b.left) → b.written ≡ a.written → Refuses Replay (IsBadEvent Replay 1) a b
+    ((r.ended ≡ true → IsAtEnd now) → s.ended ≡ true → IsAtEnd b.left) → b.written ≡ a.written → IsRefused replaying (fault.BadEvent 1) a b
 refuses_nothing a b most r s now read none ended end same =
     let all = none.2 [] [] read.has in
     let bad : IsBadLine 1 [] = record { from = omega arith; to = omega arith; within = none_within; bad = no_first_line } in
     let nothing : Appends a.written b.written [] = subst (λ (w : Option (List ℕ)). Appends a.written w []) (sym same) (Appends-nil a.written) in
-    read_whole a.left b.left none.0 (λ (text : List ℕ). Writes (IsBadEvent Replay 1 text) a.written b.written) (Consumes-trans a.left now b.left [] none.0 read.consumed none.1) (end read.end ended)
+    read_whole a.left b.left none.0 (λ (text : List ℕ). Writes (replaying.Refuses (fault.BadEvent 1) text) a.written b.written) (Consumes-trans a.left now b.left [] none.0 read.consumed none.1) (end read.end ended)
     ([], subst (λ (lines : List (List ℕ)). IsBadLine 1 lines × IsAnswered (take 0 lines) []) (sym all.0) (bad, refl), nothing)
 
--- a line that was played, and whose answer was not written whole
-pub answer_cut_short : (a b : Streams) (most k : ℕ) (r : Reading) (first : List ℕ) (lines : List (List ℕ)) (answers : List Answer) (from to : Fine) (line taken : List ℕ) (said : Answer) (mid : Option (List ℕ)) →
-    Played k first lines answers from → IsPlay line k from said to → Reads r a.left b.left most (first ∷ (lines ++ line ∷ [])) taken → Appends a.written mid (answers_text answers) →
-    AppendsFront mid b.written (answer_line said) → EndsWithin Replay a b
-answer_cut_short a b most k r first lines answers from to line taken said mid played play read written front =
-    cut_short Replay IsAnswered replay_by_lines most a b r (first ∷ (lines ++ line ∷ [])) (answers_text (answers ++ said ∷ [])) taken read
-    (answered k first (lines ++ line ∷ []) (answers ++ said ∷ []) to (played_more k first lines answers from line said to played play))
-    (subst (λ (l : List ℕ). AppendsFront a.written b.written l) (sym (answers_more answers said))
-    (front_behind a.written mid b.written (answers_text answers) (answer_line said) written front))
+-- a line that was played, and whose answer was written in part or not at all
+module _ (a b : Streams) (most k : ℕ) (r : Reading) (first : List ℕ) (lines : List (List ℕ)) (answers : List Answer) (from to : Fine) (line taken : List ℕ) (said : Answer) (played : Played k first lines answers from)
+    (play : IsPlay line k from said to) (read : Reads r a.left b.left most (first ∷ (lines ++ line ∷ [])) taken) where
+  pub answer_cut_short : (Fronts : Option (List ℕ) → Option (List ℕ) → List ℕ → Type 0) → Fronts a.written b.written (answers_text answers ++ answer_line said) → EndsWithin Fronts replaying a b
+  answer_cut_short Fronts front =
+      cut_short replaying IsAnswered replay_by_lines most a b Fronts r (first ∷ (lines ++ line ∷ [])) (answers_text (answers ++ said ∷ [])) taken read
+      (answered k first (lines ++ line ∷ []) (answers ++ said ∷ []) to (played_more k first lines answers from line said to played play))
+      (subst (λ (l : List ℕ). Fronts a.written b.written l) (sym (answers_more answers said)) front)

@@ -2,14 +2,11 @@
 #![tactic(auto)]
 
 mod command;
-mod count;
+mod commands;
 mod execute;
 mod fault;
-mod hash;
-mod help;
 mod options;
 mod program;
-mod replay;
 mod write;
 
 pub use program::run;
