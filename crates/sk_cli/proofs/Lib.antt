@@ -1,4 +1,5 @@
 pub mod Counting
+pub mod Deciding
 pub mod Endings
 pub mod Fronts
 pub mod Hashing
@@ -7,3 +8,4 @@ pub mod OptionLaws
 pub mod Reading
 pub mod Replaying
 pub mod Reporting
+pub mod Schedules

@@ -1,5 +1,5 @@
 -- What a command does with the text that it reads.
-use Rattle.std.specs.Prelude.{ℕ, Bool, List}
+use Rattle.std.specs.Prelude.{◌≡◌, ℕ, Bool, List}
 use Rattle.sk_cli.specs.declared.fault.Fault.{Fault}
 
 pub record Behaviour : Type 1 where
@@ -15,3 +15,9 @@ pub record Behaviour : Type 1 where
   pub IsDueBefore : List ℕ → List ℕ → Type 0
   -- a text is refused by this fault, and this is due for what stands before that place
   pub Refuses : Fault → List ℕ → List ℕ → Type 0
+
+-- a text is either due one text or refused in one way, behind one text that is due
+pub record IsDecided (b : Behaviour) : Type 0 where
+  pub due : (text due other : List ℕ) → b.IsDue text due → b.IsDue text other → due ≡ other
+  pub refused : (f g : Fault) (text due other : List ℕ) → b.Refuses f text due → b.Refuses g text other → (f ≡ g) × (due ≡ other)
+  pub apart : (f : Fault) (text due other : List ℕ) → b.IsDue text due → b.Refuses f text other → ⊥

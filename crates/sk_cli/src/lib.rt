@@ -5,6 +5,7 @@ mod command;
 mod commands;
 mod execute;
 mod fault;
+pub mod laws;
 mod options;
 mod program;
 mod write;
