@@ -1,15 +1,14 @@
 -- Each command decides of a text: one text is due for it, or it is refused in one way.
-use Rattle.std.proofs.Common.{◌≡◌, ◌⊎◌, inl, inr, ℕ, suc, ◌+◌, ◌-◌, ◌<◌, ◌≤◌, max, List, [], ◌∷◌, ◌++◌, length, take, drop, get_or, All, refl, sym, ap, ◌∙◌, subst, arith, length-take}
+use Rattle.std.proofs.Common.{◌≡◌, ◌⊎◌, inl, inr, ℕ, suc, ◌-◌, ◌<◌, ◌≤◌, List, [], ◌∷◌, ◌++◌, length, take, drop, get_or, sym, ap, ◌∙◌, subst, arith, length-take}
 use Rattle.std.proofs.lemmas.List.{get_or-take, take-take, take-append-drop, take_all}
 use Rattle.std.proofs.Math.Seq.{drop-cons}
 use Rattle.std.proofs.lemmas.Bool.{cases_lt}
 use Rattle.sk_model.specs.Limits.{line_limit}
-use Rattle.sk_model.specs.Lines.{lines_of, AreWithin, IsFirstLong}
-use Rattle.sk_cli.specs.Behaviour.{Behaviour, IsDecided}
+use Rattle.sk_model.specs.Lines.{lines_of, AreWithin}
+use Rattle.sk_cli.specs.Behaviour.{IsDecided}
 use Rattle.sk_cli.specs.Lines.{IsLongLine, line_at}
 use Rattle.sk_cli.specs.commands.About.{about}
 use Rattle.sk_cli.specs.commands.Hash.{hash_text, hashing}
-use Rattle.sk_cli.specs.commands.Hash as hash
 use Rattle.sk_cli.specs.commands.Replay.{IsAnswered, IsBadLine, replaying}
 use Rattle.sk_cli.specs.commands.Replay as replay
 use Rattle.sk_cli.specs.declared.commands.hash.HashPlan.{HashPlan}

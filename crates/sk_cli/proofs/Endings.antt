@@ -1,29 +1,15 @@
 -- How a command ends.
-use Rattle.std.proofs.Common.{◌≡◌, ◌⊎◌, inr, ℕ, List, [], Option, Some, None, Result, Ok, Err, OnOk, OnErr, IfErr, IsErrAnd, sym, subst, arith}
-use Rattle.std.specs.Option.{IfSome}
-use Rattle.std.proofs.KnownBytes.{Appends-nil}
+use Rattle.std.proofs.Common.{◌≡◌, inl, inr, ℕ, ◌≤◌, List, [], ◌++◌, length, Option, Result, Ok, Err, OnOk, OnErr, IfErr, IsErrAnd, refl, sym, subst, arith}
+use Rattle.std.specs.Io.KnownBytes.{Consumes}
+use Rattle.std.proofs.KnownBytes.{Appends-nil, Consumes-nil}
 use Rattle.sk_model.specs.Causes.{AppendsFront}
-use Rattle.sk_model.specs.Lines.{AreWithin}
 use Rattle.sk_model.specs.Limits.{line_limit}
+use Rattle.sk_model.specs.Lines.{AreWithin}
 use Rattle.sk_cli.specs.Behaviour.{Behaviour}
+use Rattle.sk_cli.specs.Outside.{Streams}
+use Rattle.sk_cli.specs.Run.{Finishes, GivesUp, Ends, Executes}
 use Rattle.sk_cli.specs.declared.fault.Fault.{Fault}
 use Rattle.sk_cli.specs.declared.fault.Fault.TheVariants as fault
-use Rattle.sk_cli.specs.Outside.{Streams}
-use Rattle.sk_cli.specs.Run.{text_for, Finishes, Ends, EndsWithin, Executes}
-
--- what holds of every text holds of one that is told
-pub all_told : (told : Option (List ℕ)) (P : List ℕ → Type 0) → ((text : List ℕ) → P text) → IfSome told P
-all_told None P all = tt
-all_told (Some text) P all = all text
-
--- what follows of a text that is told
-pub told_then : (told : Option (List ℕ)) (P Q : List ℕ → Type 0) → ((text : List ℕ) → P text → Q text) → IfSome told P → IfSome told Q
-told_then None P Q follows holds = tt
-told_then (Some text) P Q follows holds = follows text holds
-
-pub told_both : (told : Option (List ℕ)) (P Q : List ℕ → Type 0) → IfSome told P → IfSome told Q → IfSome told (λ (text : List ℕ). P text × Q text)
-told_both None P Q one other = tt
-told_both (Some text) P Q one other = (one, other)
 
 -- a command that was given a fault ends by it
 pub ends_by : (how : Behaviour) (most : ℕ) (a b : Streams) (r : Result (Unit {0}) Fault) (f : Fault) → IsErrAnd r (λ (e : Fault). e ≡ f) → Ends how most a b f → Executes how most a b r
@@ -47,8 +33,17 @@ front_of_any old text = (0, omega arith, Appends-nil old)
 pub none_within : AreWithin line_limit []
 none_within = λ k d below. absurd (omega arith)
 
--- a command that has read nothing and written nothing
-pub nothing_yet : (how : Behaviour) (a b : Streams) (due : List ℕ) → b.written ≡ a.written → ((text : List ℕ) → how.IsDueBefore text due) → EndsWithin AppendsFront how a b
-nothing_yet how a b due same is =
-    all_told (text_for how a.left) (λ (text : List ℕ). (due : List ℕ) × (how.IsDue text due ⊎ how.IsDueBefore text due) × AppendsFront a.written b.written due)
-    (λ text. (due, inr (is text), subst (λ (w : Option (List ℕ)). AppendsFront a.written w due) (sym same) (front_of_any a.written due)))
+-- a command that has written nothing, of which nothing or little is due
+pub nothing_more : (how : Behaviour) (most : ℕ) (a b : Streams) (taken due : List ℕ) → Consumes a.left b.left taken → length taken ≤ most → b.written ≡ a.written → ((text : List ℕ) → how.IsDueBefore text due) → GivesUp how most a b
+nothing_more how most a b taken due consumed size same is = record {
+  taken = taken;
+  due = due;
+  consumed = consumed;
+  size = size;
+  is_due = inr (inl (λ later. is (taken ++ later)));
+  written = subst (λ (w : Option (List ℕ)). AppendsFront a.written w due) (sym same) (front_of_any a.written due);
+}
+
+-- it has read nothing either
+pub nothing_yet : (how : Behaviour) (most : ℕ) (a : Streams) (due : List ℕ) → ((text : List ℕ) → how.IsDueBefore text due) → GivesUp how most a a
+nothing_yet how most a due is = nothing_more how most a a [] due (Consumes-nil a.left) (omega arith) refl is

@@ -57,7 +57,7 @@ no_hash_text seed = refl
 
 -- `hash` examines line by line
 pub hash_by_lines : (plan : HashPlan) → ByLines (hashing plan) (λ lines due. due ≡ hash_text plan.seed lines)
-hash_by_lines plan = record { reads_it = refl; so_far = λ taken due within is. (within, is); before = λ n text due within is. (n, within, is); long = λ n text due long is. (long, is) }
+hash_by_lines plan = record { reads_it = refl; so_far = λ taken due within is. (within, is); before = λ n text due within is. (n, within, is); long = λ n text due long is. (long, is); front = λ lines rest due is. (hash_text plan.seed lines, refl) }
 
 pub no_hash_yet : (plan : HashPlan) (text : List ℕ) → (hashing plan).IsDueBefore text (hash_text plan.seed [])
 no_hash_yet plan text = (0, none_within, refl)

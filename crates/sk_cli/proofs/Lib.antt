@@ -9,3 +9,4 @@ pub mod Reading
 pub mod Replaying
 pub mod Reporting
 pub mod Schedules
+pub mod Telling

@@ -3,11 +3,11 @@ use Rattle.std.proofs.Common.{◌≡◌, ℕ, List, [], ◌∷◌, ◌++◌, map
 use Rattle.std.specs.Option.{IfSome}
 use Rattle.sk_machine.specs.Fine.{Fine}
 use Rattle.sk_core.specs.Events.{IsEnabled, after}
-use Rattle.sk_core.specs.Runs.{IsStep, IsRun}
+use Rattle.sk_core.specs.Runs.{MeetsAll, IsRun}
 use Rattle.sk_core.specs.Texts.{event_of}
 use Rattle.sk_core.specs.declared.event.Event.{Event}
 use Rattle.sk_core.specs.declared.event.Answer.{Answer}
-use Rattle.sk_cli.specs.commands.Replay.{start_of, Played, IsAnswered, IsNoMore, IsNoPlay, answers_text}
+use Rattle.sk_cli.specs.commands.Replay.{IsAnswered, IsNoMore, answers_text}
 
 -- the machine after these events
 reached_by : ℕ → List Event → Fine → Fine
@@ -139,3 +139,51 @@ answered_once (first ∷ lines) due other one two =
     let run : IsRun two.0 two.3.events one.1 two.3.start one.2 =
     subst (λ (k : ℕ). IsRun k two.3.events one.1 two.3.start one.2) same_k (subst (λ (f : Fine). IsRun one.0 two.3.events one.1 f one.2) same_start (subst (λ (es : List Event). IsRun one.0 es one.1 one.3.start one.2) same_events one.3.run)) in
     one.4 ∙ ap answers_text (answers_are two.0 two.3.events one.1 two.1 two.3.start one.2 two.2 run two.3.run) ∙ sym two.4
+
+-- ---- a schedule that was answered was answered up to each of its lines
+
+record Splits (lines : List (List ℕ)) (events : List Event) : Type 0 where
+  front : List Event
+  back : List Event
+  joined : events ≡ front ++ back
+  named : map event_of lines ≡ map (λ (e : Event). Some e) front
+
+splits : (lines rest : List (List ℕ)) (events : List Event) → map event_of (lines ++ rest) ≡ map (λ (e : Event). Some e) events → Splits lines events
+splits [] rest events named = record { front = []; back = events; joined = refl; named = refl }
+splits (l ∷ lines) rest [] named = absurd (not_none (event_of l) (map event_of (lines ++ rest)) named)
+splits (l ∷ lines) rest (e ∷ events) named =
+    let head = head_is (event_of l) (Some e) (map event_of (lines ++ rest)) (map (λ (x : Event). Some x) events) named in
+    let more = splits lines rest events (tail_is (event_of l) (Some e) (map event_of (lines ++ rest)) (map (λ (x : Event). Some x) events) named) in
+    record {
+      front = e ∷ more.front;
+      back = more.back;
+      joined = ap (λ (l : List Event). e ∷ l) more.joined;
+      named = ap (λ (o : Option Event). o ∷ map event_of lines) head ∙ ap (λ (l : List (Option Event)). Some e ∷ l) more.named;
+    }
+
+record Runs (k : ℕ) (es : List Event) (from : Fine) : Type 0 where
+  answers : List Answer
+  to : Fine
+  run : IsRun k es answers from to
+  invariant : MeetsAll k to
+
+front_runs : (k : ℕ) (es fs : List Event) (answers : List Answer) (from to : Fine) → IsRun k (es ++ fs) answers from to → MeetsAll k to → Runs k es from
+unfolding IsRun
+front_runs k [] [] [] from to run invariant = record { answers = []; to = from; run = refl; invariant = subst (MeetsAll k) run invariant }
+front_runs k [] [] (a ∷ answers) from to run invariant = absurd run
+front_runs k [] (f ∷ fs) [] from to run invariant = absurd run
+front_runs k [] (f ∷ fs) (a ∷ answers) from to run invariant = record { answers = []; to = from; run = refl; invariant = run.0.invariant }
+front_runs k (e ∷ es) fs [] from to run invariant = absurd run
+front_runs k (e ∷ es) fs (a ∷ answers) from to run invariant =
+    let more = front_runs k es fs answers (after k e from) to run.1 invariant in
+    record { answers = a ∷ more.answers; to = more.to; run = (run.0, more.run); invariant = more.invariant }
+
+pub answered_front : (lines rest : List (List ℕ)) (due : List ℕ) → IsAnswered (lines ++ rest) due → (front : List ℕ) × IsAnswered lines front
+answered_front [] rest due answered = ([], refl)
+answered_front (first ∷ lines) rest due answered =
+    let played = answered.3 in
+    let split = splits lines rest played.events played.named in
+    let run = front_runs answered.0 split.front split.back answered.1 played.start answered.2 (subst (λ (es : List Event). IsRun answered.0 es answered.1 played.start answered.2) split.joined played.run) played.invariant in (
+      answers_text run.answers,
+      (answered.0, run.answers, run.to, record { start = played.start; events = split.front; named_start = played.named_start; named = split.named; run = run.run; invariant = run.invariant }, refl),
+    )

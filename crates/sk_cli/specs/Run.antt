@@ -1,10 +1,11 @@
 -- How a run goes: what it reads and writes, and why it ends.
-use Rattle.std.specs.Prelude.{◌≡◌, ◌≢◌, ◌⊎◌, ℕ, ◌<◌, List, [], length, if◌then◌else◌, true, Option, None, Some, IfSome, Result, MatchResult}
+use Rattle.std.specs.Prelude.{◌≡◌, ◌≢◌, ◌⊎◌, ℕ, ◌<◌, ◌≤◌, List, ◌++◌, length, true, Option, None, Some, Result, MatchResult}
 use Rattle.std.specs.Bool.{OnTrue}
 use Rattle.std.specs.Io.KnownBytes.{Appends, Consumes, IsAtEnd}
 use Rattle.sk_model.specs.Causes.{Rose, HasCauseIn, AppendsFront, AppendsPart}
 use Rattle.sk_io.specs.Files.{told_file}
 use Rattle.sk_io.specs.declared.stream.Sink as sink
+use Rattle.sk_read.specs.Reads.{piece_limit, IsSettled}
 use Rattle.sk_cli.specs.Behaviour.{Behaviour}
 use Rattle.sk_cli.specs.Options.{Word}
 use Rattle.sk_cli.specs.Outside.{Streams, Outside, over_input, over_file}
@@ -14,43 +15,78 @@ use Rattle.sk_cli.specs.declared.fault.Fault.TheVariants.{OutOfMemory, Usage, Re
 
 -- ---- one command over a source and a sink
 
--- the text that a command reads, of what its source tells
-abbrev pub text_for : Behaviour → Option (List ℕ) → Option (List ℕ)
-text_for b left = if b.reads then left else Some []
-
--- a text that is due was written
-abbrev pub Writes : (List ℕ → Type 0) → Option (List ℕ) → Option (List ℕ) → Type 0
-Writes IsDue old new = (due : List ℕ) × IsDue due × Appends old new due
-
--- the source was read to its end, nothing of its text is refused, and the whole text that is due was written
+-- this text was taken, which is all that the source had and fewer bytes than may be, nothing of it is refused, and
+-- the whole text that is due for it was written
 pub record Finishes (b : Behaviour) (most : ℕ) (old new : Streams) : Type 0 where
-  pub output : IfSome (text_for b old.left) (λ text. Writes (b.IsDue text) old.written new.written)
+  pub text : List ℕ
+  pub due : List ℕ
+  pub consumed : Consumes old.left new.left text
   pub end : OnTrue b.reads (IsAtEnd new.left)
-  pub size : OnTrue b.reads (IfSome old.left (λ text. length text < most))
+  pub size : OnTrue b.reads (length text < most)
+  pub is_due : b.IsDue text due
+  pub written : Appends old.written new.written due
 
--- these bytes were taken, nothing of them is refused so far, and what is due for what has ended in them was written
-pub record Stops (b : Behaviour) (old new : Streams) (taken : List ℕ) : Type 0 where
+-- so many bytes were taken, nothing of them is refused so far, and what is due for what has ended in them was written
+pub record Stops (b : Behaviour) (IsSize : ℕ → Type 0) (old new : Streams) : Type 0 where
+  pub taken : List ℕ
+  pub due : List ℕ
   pub reads : b.reads ≡ true
   pub consumed : Consumes old.left new.left taken
-  pub written : Writes (b.IsDueSoFar taken) old.written new.written
+  pub size : IsSize (length taken)
+  pub is_due : b.IsDueSoFar taken due
+  pub written : Appends old.written new.written due
 
--- of a text that is due for all that is read, or for a first part of it, a front was written
-abbrev pub EndsWithin : (Option (List ℕ) → Option (List ℕ) → List ℕ → Type 0) → Behaviour → Streams → Streams → Type 0
-EndsWithin Fronts b old new = IfSome (text_for b old.left) (λ text. (due : List ℕ) × (b.IsDue text due ⊎ b.IsDueBefore text due) × Fronts old.written new.written due)
+-- of the bytes taken, nothing is refused so far in those before the last read
+pub record IsInTime (b : Behaviour) (taken : List ℕ) : Type 0 where
+  pub front : List ℕ
+  pub piece : List ℕ
+  pub due : List ℕ
+  pub joined : taken ≡ front ++ piece
+  pub size : length piece ≤ piece_limit
+  pub so_far : b.IsDueSoFar front due
 
--- the text is refused by this fault, and what is due for what stands before that place was written
-abbrev pub IsRefused : Behaviour → Fault → Streams → Streams → Type 0
-IsRefused b fault old new = IfSome (text_for b old.left) (λ text. Writes (b.Refuses fault text) old.written new.written)
+-- each text that begins with the bytes taken is refused by this fault, at most one read after the place, and what is
+-- due for what stands before that place was written
+pub record Refuses (b : Behaviour) (most : ℕ) (fault : Fault) (old new : Streams) : Type 0 where
+  pub taken : List ℕ
+  pub due : List ℕ
+  pub consumed : Consumes old.left new.left taken
+  pub size : length taken ≤ most
+  pub in_time : IsInTime b taken
+  pub refused : IsSettled (λ text. b.Refuses fault text due) new.left taken
+  pub written : Appends old.written new.written due
+
+-- what may be due behind these bytes: what is due for the text, where the source has ended, or before it has
+abbrev pub IsDueBehind : Behaviour → Option (List ℕ) → List ℕ → List ℕ → Type 0
+IsDueBehind b left taken due = (IsAtEnd left × b.IsDue taken due) ⊎ (OnTrue b.reads (IsInTime b taken) × IsSettled (λ text. b.IsDueBefore text due) left taken)
+
+-- of what is due behind the bytes taken a part was written, and not all
+pub record BreaksOff (b : Behaviour) (most : ℕ) (old new : Streams) : Type 0 where
+  pub taken : List ℕ
+  pub due : List ℕ
+  pub consumed : Consumes old.left new.left taken
+  pub size : length taken ≤ most
+  pub is_due : IsDueBehind b new.left taken due
+  pub written : AppendsPart old.written new.written due
+
+-- of what is due for the bytes taken, or for a first part of each text that begins with them, a front was written
+pub record GivesUp (b : Behaviour) (most : ℕ) (old new : Streams) : Type 0 where
+  pub taken : List ℕ
+  pub due : List ℕ
+  pub consumed : Consumes old.left new.left taken
+  pub size : length taken ≤ most
+  pub is_due : (IsAtEnd new.left × b.IsDue taken due) ⊎ IsSettled (λ text. b.IsDueBefore text due) new.left taken
+  pub written : AppendsFront old.written new.written due
 
 -- where a command may end by a fault
 abbrev pub Ends : Behaviour → ℕ → Streams → Streams → Fault → Type 0
-Ends b most old new OutOfMemory = EndsWithin AppendsFront b old new
+Ends b most old new OutOfMemory = GivesUp b most old new
 Ends b most old new Usage = ⊥
-Ends b most old new ReadFault = (taken : List ℕ) × Stops b old new taken × (length taken < most)
-Ends b most old new WriteFault = EndsWithin AppendsPart b old new
+Ends b most old new ReadFault = Stops b (λ size. size < most) old new
+Ends b most old new WriteFault = BreaksOff b most old new
 Ends b most old new OpenFault = ⊥
-Ends b most old new TooMuch = (taken : List ℕ) × Stops b old new taken × (length taken ≡ most)
-Ends b most old new other = IsRefused b other old new
+Ends b most old new TooMuch = Stops b (λ size. size ≡ most) old new
+Ends b most old new refusal = Refuses b most refusal old new
 
 -- how a command went
 abbrev pub Executes : Behaviour → ℕ → Streams → Streams → Result (Unit {0}) Fault → Type 0

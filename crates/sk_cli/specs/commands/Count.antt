@@ -1,12 +1,14 @@
 -- What `count` is asked, and what it does.
-use Rattle.std.specs.Prelude.{◌≡◌, ℕ, ◌<◌, true, List, [], ◌++◌, codes, decimal, if◌then◌else◌, Option, Some, option_and_then, option_map}
+use Rattle.std.specs.Prelude.{◌≡◌, ℕ, ◌<◌, ◌≤◌, ◌-◌, true, List, [], ◌++◌, length, take, All, codes, decimal, if◌then◌else◌, Option, Some, IsNone, option_and_then, option_map}
 use Rattle.sk_model.specs.Limits.{least_k, most_k, IsFrom}
 use Rattle.sk_model.specs.Sketch.{estimate_of}
 use Rattle.sk_read.specs.declared.kind.Kind.{Kind}
 use Rattle.sk_read.specs.declared.kind.Kind.TheVariants as kind
-use Rattle.sk_read.specs.Items.{items_by}
-use Rattle.sk_read.specs.Units.{units_of, IsReadable, IsReadableSoFar, IsLongUnit, IsBadUnit, IsUnevenUnit}
+use Rattle.sk_read.specs.Items.{items_by, item_of, IsGood}
+use Rattle.sk_read.specs.Units.{units_by, units_of, complete_units_of, IsSound, IsSoundUpTo, IsSoundSoFar, IsLongBehind, IsUnevenBehind}
+use Rattle.sk_read.specs.declared.units.Units.{Units}
 use Rattle.sk_cli.specs.Behaviour.{Behaviour}
+use Rattle.sk_cli.specs.Lines.{line_at}
 use Rattle.sk_cli.specs.Options.{Given, value_behind, is_given, number_in, seed_by}
 use Rattle.sk_cli.specs.declared.options.Name.TheVariants as name
 use Rattle.sk_cli.specs.declared.commands.count.CountPlan.{CountPlan}
@@ -39,16 +41,40 @@ IsWithin plan = IsFrom least_k most_k plan.k
 abbrev pub estimate_line : ℕ × ℕ → List ℕ
 estimate_line estimate = codes "estimate " ++ decimal estimate.0 ++ codes "/" ++ decimal estimate.1 ++ codes "\n"
 
+-- what is counted: the lines, or the fields in a column of the records
+abbrev pub counted : CountPlan → Units
+counted plan = units_by plan.column
+
 -- the estimate of a text's items
 abbrev pub estimate_text : CountPlan → List ℕ → List ℕ
-estimate_text plan text = estimate_line (estimate_of plan.k (items_by plan.kind (units_of plan.column text)))
+estimate_text plan text = estimate_line (estimate_of plan.k (items_by plan.kind (units_of (counted plan) text)))
 
--- the first line of a text that is refused, or the first record, is refused by this fault
+-- no line or field of a text is refused: none is too long, and each is an item or empty
+abbrev pub IsReadable : CountPlan → List ℕ → Type 0
+IsReadable plan text = IsSound (counted plan) text × All (IsGood plan.kind) (units_of (counted plan) text)
+
+-- none of these bytes of a text that may go on is refused so far
+abbrev pub IsReadableSoFar : CountPlan → List ℕ → Type 0
+IsReadableSoFar plan taken = IsSoundSoFar (counted plan) taken × All (IsGood plan.kind) (complete_units_of (counted plan) taken)
+
+-- each line or field before number n, counted from 1, is an item or empty
+abbrev pub AreGoodBefore : CountPlan → ℕ → List ℕ → Type 0
+AreGoodBefore plan n text = (1 ≤ n) × All (IsGood plan.kind) (take (n - 1) (units_of (counted plan) text))
+
+-- number n is the first line or field of a text that is refused, as no item
+pub record IsBadUnit (plan : CountPlan) (n : ℕ) (text : List ℕ) : Type 0 where
+  pub before : AreGoodBefore plan n text
+  pub sound : IsSoundUpTo (counted plan) n text
+  pub to : n ≤ length (units_of (counted plan) text)
+  pub filled : 0 < length (line_at n (units_of (counted plan) text))
+  pub bad : IsNone (item_of plan.kind (line_at n (units_of (counted plan) text)))
+
+-- the first line or record of a text that is refused is refused by this fault
 abbrev pub IsRefusedBy : CountPlan → Fault → List ℕ → Type 0
-IsRefusedBy plan (LongLine n) text = IsLongUnit plan.kind plan.column n text
-IsRefusedBy plan (BadItem n) text = (plan.column ≡ 0) × IsBadUnit plan.kind plan.column n text
-IsRefusedBy plan (BadField n) text = (0 < plan.column) × IsBadUnit plan.kind plan.column n text
-IsRefusedBy plan (BadCsv n) text = IsUnevenUnit plan.kind plan.column n text
+IsRefusedBy plan (LongLine n) text = AreGoodBefore plan n text × IsLongBehind (counted plan) (n - 1) text
+IsRefusedBy plan (BadItem n) text = (plan.column ≡ 0) × IsBadUnit plan n text
+IsRefusedBy plan (BadField n) text = (0 < plan.column) × IsBadUnit plan n text
+IsRefusedBy plan (BadCsv n) text = AreGoodBefore plan n text × IsUnevenBehind (counted plan) (n - 1) text
 IsRefusedBy plan other text = ⊥
 
 -- it reads all, and then writes the estimate
@@ -56,8 +82,8 @@ abbrev pub counting : CountPlan → Behaviour
 counting plan = record {
   reads = true;
   writes_last = true;
-  IsDue = λ text due. IsReadable plan.kind plan.column text × (due ≡ estimate_text plan text);
-  IsDueSoFar = λ taken due. IsReadableSoFar plan.kind plan.column taken × (due ≡ []);
+  IsDue = λ text due. IsReadable plan text × (due ≡ estimate_text plan text);
+  IsDueSoFar = λ taken due. IsReadableSoFar plan taken × (due ≡ []);
   IsDueBefore = λ text due. due ≡ [];
   Refuses = λ fault text due. IsRefusedBy plan fault text × (due ≡ []);
 }

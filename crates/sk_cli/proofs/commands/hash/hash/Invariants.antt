@@ -9,10 +9,10 @@ abbrev pub invariant-line : goal.invariant-line
 invariant-line g l = record {
   given : List (List ℕ);
   taken : List ℕ;
-  read : Reads l.reader (g.S.Source.left l.initial.source) (g.S.Source.left l.source) l.most given taken;
+  reads : Reads l.reader (g.S.Source.left l.initial.source) (g.S.Source.left l.source) l.most given taken;
   written : Appends (g.O.Sink.written l.initial.out) (g.O.Sink.written l.out) (hash_text l.plan.seed given);
-  reads : g.S.Source.faults l.source ≡ g.S.Source.faults l.initial.source;
-  writes : g.O.Sink.faults l.out ≡ g.O.Sink.faults l.initial.out;
+  read_count : g.S.Source.faults l.source ≡ g.S.Source.faults l.initial.source;
+  write_count : g.O.Sink.faults l.out ≡ g.O.Sink.faults l.initial.out;
   stays : g.S.Source.stands_on l.source ≡ g.S.Source.stands_on l.initial.source;
 }
 

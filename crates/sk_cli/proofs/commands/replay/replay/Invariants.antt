@@ -13,11 +13,11 @@ invariant-line g l = record {
   events : List (List ℕ);
   answers : List Answer;
   taken : List ℕ;
-  read : Reads l.reader (g.S.Source.left l.fn.source) (g.S.Source.left l.source) l.most (first ∷ events) taken;
+  reads : Reads l.reader (g.S.Source.left l.fn.source) (g.S.Source.left l.source) l.most (first ∷ events) taken;
   played : Played l.state.k first events answers (machine_of l.state);
   written : Appends (g.O.Sink.written l.fn.out) (g.O.Sink.written l.out) (answers_text answers);
-  reads : g.S.Source.faults l.source ≡ g.S.Source.faults l.fn.source;
-  writes : g.O.Sink.faults l.out ≡ g.O.Sink.faults l.fn.out;
+  read_count : g.S.Source.faults l.source ≡ g.S.Source.faults l.fn.source;
+  write_count : g.O.Sink.faults l.out ≡ g.O.Sink.faults l.fn.out;
   stays : g.S.Source.stands_on l.source ≡ g.S.Source.stands_on l.fn.source;
 }
 
