@@ -10,10 +10,10 @@ use Rattle.sk_model.specs.Missing.{Begins}
 use Rattle.sk_read.specs.Items.{IsGood, item_of, Gave, Missed}
 use Rattle.sk_read.specs.Reads.{IsInTime as IsReadInTime, ReadsAll, ReadsSome, BreaksOff as ReadingBreaksOff, Ends as ReadingEnds}
 use Rattle.sk_read.specs.Units.{units_of, complete_units_of, IsSoundUpTo, IsLongBehind, IsUnevenBehind}
-use Rattle.sk_read.specs.declared.items.Fault.{Fault as ReadingFault}
-use Rattle.sk_read.specs.declared.items.Fault.TheVariants as reading
+use Rattle.sk_read.specs.declared.fault.Fault.{Fault as ReadingFault}
+use Rattle.sk_read.specs.declared.fault.Fault.TheVariants as reading
 use Rattle.sk_read.proofs.ItemLaws.{front_is}
-use Rattle.sk_read.proofs.ReadLaws.{settled_so}
+use Rattle.sk_read.proofs.LineEnds.{settled_so}
 use Rattle.sk_cli.specs.commands.Count.{counted, estimate_text, counting, AreGoodBefore, IsBadUnit}
 use Rattle.sk_cli.specs.declared.commands.count.CountPlan.{CountPlan}
 use Rattle.sk_cli.specs.Fault.{fault_by, bad_unit}

@@ -1,8 +1,8 @@
 -- Which count a fault moves.
 use Rattle.std.proofs.Common.{◌≡◌, ℕ, zero, suc, Result, Ok, Err, IfErr, IsErrAnd, refl, sym, ap, ◌∙◌, subst}
 use Rattle.sk_model.specs.Causes.{Rose, HasCause, HasCauseIn}
-use Rattle.sk_read.specs.declared.items.Fault.{Fault as ReadingFault}
-use Rattle.sk_read.specs.declared.items.Fault.TheVariants as reading
+use Rattle.sk_read.specs.declared.fault.Fault.{Fault as ReadingFault}
+use Rattle.sk_read.specs.declared.fault.Fault.TheVariants as reading
 use Rattle.sk_read.specs.declared.reader.LineFault.{LineFault}
 use Rattle.sk_read.specs.declared.reader.LineFault.TheVariants as stop
 use Rattle.sk_cli.specs.declared.fault.Fault.{Fault}

@@ -14,7 +14,7 @@ use Rattle.sk_read.specs.declared.reader.LineFault.{LineFault}
 use Rattle.sk_read.specs.declared.reader.LineFault.TheVariants as stop
 use Rattle.sk_read.specs.declared.units.Units.TheVariants.{Lines}
 use Rattle.sk_read.proofs.ItemLaws.{front_is}
-use Rattle.sk_read.proofs.ReadLaws.{settled_so}
+use Rattle.sk_read.proofs.LineEnds.{settled_so}
 use Rattle.sk_read.proofs.Readings.{given_settled}
 use Rattle.sk_cli.specs.Behaviour.{Behaviour}
 use Rattle.sk_cli.specs.Fault.{fault_by_line}

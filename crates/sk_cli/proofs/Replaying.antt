@@ -17,7 +17,7 @@ use Rattle.sk_core.proofs.Runs.{run_more, run_empty}
 use Rattle.sk_read.specs.Reading.{Reading}
 use Rattle.sk_read.specs.Reads.{IsInTime as IsReadInTime}
 use Rattle.sk_read.specs.declared.units.Units.TheVariants.{Lines}
-use Rattle.sk_read.proofs.ReadLaws.{settled_so}
+use Rattle.sk_read.proofs.LineEnds.{settled_so}
 use Rattle.sk_read.proofs.Readings.{given_settled, in_time_more}
 use Rattle.sk_cli.specs.commands.Replay.{start_of, IsPlay, Played, answer_line, answers_text, IsAnswered, IsNoMore, IsBadLine, replaying}
 use Rattle.sk_cli.specs.Outside.{Streams}

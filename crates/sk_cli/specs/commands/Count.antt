@@ -1,7 +1,8 @@
 -- What `count` is asked, and what it does.
-use Rattle.std.specs.Prelude.{◌≡◌, ℕ, ◌<◌, ◌≤◌, ◌-◌, true, List, [], ◌++◌, length, take, All, codes, decimal, if◌then◌else◌, Option, Some, IsNone, option_and_then, option_map}
+use Rattle.std.specs.Prelude.{◌≡◌, ℕ, ◌<◌, ◌≤◌, ◌-◌, true, List, [], length, take, All, if◌then◌else◌, Option, Some, IsNone, option_and_then, option_map}
 use Rattle.sk_model.specs.Limits.{least_k, most_k, IsFrom}
 use Rattle.sk_model.specs.Sketch.{estimate_of}
+use Rattle.sk_lines.specs.Fractions.{estimate_line}
 use Rattle.sk_read.specs.declared.kind.Kind.{Kind}
 use Rattle.sk_read.specs.declared.kind.Kind.TheVariants as kind
 use Rattle.sk_read.specs.Items.{items_by, item_of, IsGood}
@@ -37,15 +38,11 @@ IsWithin plan = IsFrom least_k most_k plan.k
 
 -- ---- what it does
 
--- the line of an estimate, a numerator and a denominator
-abbrev pub estimate_line : ℕ × ℕ → List ℕ
-estimate_line estimate = codes "estimate " ++ decimal estimate.0 ++ codes "/" ++ decimal estimate.1 ++ codes "\n"
-
 -- what is counted: the lines, or the fields in a column of the records
 abbrev pub counted : CountPlan → Units
 counted plan = units_by plan.column
 
--- the estimate of a text's items
+-- the line of the estimate of a text's items
 abbrev pub estimate_text : CountPlan → List ℕ → List ℕ
 estimate_text plan text = estimate_line (estimate_of plan.k (items_by plan.kind (units_of (counted plan) text)))
 

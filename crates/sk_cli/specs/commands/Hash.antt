@@ -1,8 +1,9 @@
 -- What `hash` is asked, and what it does.
-use Rattle.std.specs.Prelude.{◌≡◌, ℕ, zero, suc, ◌+◌, ◌-◌, ◌/◌, ◌%◌, nat_lt, true, false, if◌then◌else◌, flat_map, List, [], ◌∷◌, ◌++◌, take, Option, option_map}
+use Rattle.std.specs.Prelude.{◌≡◌, ℕ, ◌-◌, true, false, flat_map, List, take, Option, option_map}
 use Rattle.sk_model.specs.Limits.{line_limit}
 use Rattle.sk_model.specs.Lines.{lines_of, open_lines_of, AreWithin, filled}
 use Rattle.sk_model.specs.Murmur.{hash_of}
+use Rattle.sk_lines.specs.Hashes.{hash_line}
 use Rattle.sk_read.specs.Items.{complete_lines_of}
 use Rattle.sk_cli.specs.Behaviour.{Behaviour}
 use Rattle.sk_cli.specs.Lines.{IsLongLine}
@@ -14,19 +15,6 @@ use Rattle.sk_cli.specs.declared.fault.Fault.TheVariants.{LongLine}
 -- the plan that options spell
 abbrev pub plan_by : List Given → Option HashPlan
 plan_by given = option_map (λ seed. record { seed = seed }) (seed_by given)
-
--- a hexadecimal digit, lower case
-abbrev pub hex_digit : ℕ → ℕ
-hex_digit digit = if nat_lt digit 10 then 48 + digit else 87 + digit
-
--- the last digits of a number in base 16, so many
-unfoldable pub hex : ℕ → ℕ → List ℕ
-hex zero n = []
-hex (suc width) n = hex width (n / 16) ++ hex_digit (n % 16) ∷ []
-
--- the line of a hash
-abbrev pub hash_line : ℕ → List ℕ
-hash_line hash = hex 12 hash ++ 10 ∷ []
 
 -- the hash of each line that is not empty, a line each
 unfoldable pub hash_text : ℕ → List (List ℕ) → List ℕ

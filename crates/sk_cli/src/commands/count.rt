@@ -1,19 +1,20 @@
 // The command that estimates how many distinct items there are.
-ghost use Rattle.std.specs.Prelude.{◌≡◌, ◌≢◌, ◌≤◌, Ok, Err, IfOk, IfErr, IfSome, MatchResult, string_bytes};
+ghost use Rattle.std.specs.Prelude.{◌≡◌, ◌≢◌, ◌≤◌, Ok, Err, IfErr, IfSome, MatchResult};
 ghost use Rattle.sk_model.specs.Limits.{source_limit};
 ghost use Rattle.sk_cli.specs.Fault.{fault_by};
 ghost use Rattle.sk_cli.specs.Outside.{streams_of};
 ghost use Rattle.sk_cli.specs.Run.{Executes, HasCauses};
-ghost use Rattle.sk_cli.specs.commands.Count.{plan_by, column_by, IsWithin, estimate_line, counting};
+ghost use Rattle.sk_cli.specs.commands.Count.{plan_by, column_by, IsWithin, counting};
 
 use crate::fault::Fault;
 use crate::options::{Name, Options};
 use crate::write::write_text;
 use sk_heap::HeapTheta;
 use sk_io::{Sink, Source};
+use sk_lines::put_estimate_line;
 use sk_model::limits::{LEAST_K, MOST_K};
 use sk_read::{Fault as ReadingFault, Intake, Kind, read_items};
-use std::alloc::{AllocError, Global};
+use std::alloc::Global;
 
 /// What is counted, and by how many hashes.
 #[derive(Clone, Copy, Debug, PartialEq, Eq)]
@@ -55,13 +56,6 @@ fn column_in(options: &Options<'_>) -> Option<u32>
     }
 }
 
-// The line of an estimate.
-fn line_of(alloc: Global, n: u64, d: u64) -> Result<String, AllocError>
-    ensures { IfOk result (λ line. string_bytes line ≡ estimate_line (n, d)) }
-{
-    format!(in alloc; "estimate {n}/{d}\n")
-}
-
 // The answer of a reading, with its fault as one of the program.
 fn answer_of(column: u32, read: Result<u64, ReadingFault>) -> Result<u64, Fault>
     ensures { MatchResult read (λ n. result ≡ Ok n) (λ fault. result ≡ Err (fault_by column fault)) }
@@ -94,6 +88,7 @@ pub fn count<S: Source, O: Sink>(
     };
     answer_of(plan.column, read_items(alloc, &intake, source, &mut sketch))?;
     let (n, d) = sketch.fraction();
-    let line = line_of(alloc, n, d)?;
-    write_text(out, line.as_bytes())
+    let mut line = [0u8; 64];
+    let len = put_estimate_line(&mut line, n, d);
+    write_text(out, &line[..len])
 }

@@ -1,17 +1,18 @@
 // The command that writes the hash of each line.
-ghost use Rattle.std.specs.Prelude.{◌≡◌, ◌≤◌, ◌<◌, ◌∷◌, [], OnOk, OnErr, IfErr};
+ghost use Rattle.std.specs.Prelude.{◌≡◌, ◌≤◌, ◌∷◌, [], OnOk, OnErr, IfErr};
 ghost use Rattle.std.specs.Io.KnownBytes.{Appends};
 ghost use Rattle.sk_model.specs.Causes.{HasCause, AppendsPart};
 ghost use Rattle.sk_model.specs.Limits.{source_limit};
 ghost use Rattle.sk_cli.specs.Outside.{streams_of};
 ghost use Rattle.sk_cli.specs.Run.{Executes, HasCauses};
-ghost use Rattle.sk_cli.specs.commands.Hash.{plan_by, hash_line, hash_text, hex_digit, hashing};
+ghost use Rattle.sk_cli.specs.commands.Hash.{plan_by, hash_text, hashing};
 
 use crate::fault::Fault;
 use crate::options::Options;
 use crate::write::write_text;
 use sk_hash::hash48;
 use sk_io::{Sink, Source};
+use sk_lines::hash_line;
 use sk_read::LineReader;
 use std::alloc::Global;
 
@@ -32,37 +33,6 @@ impl HashPlan {
     }
 }
 
-// A hash has so many digits.
-const DIGITS: usize = 12;
-
-const LINE_LEN: usize = 13;
-
-fn hex_digit(digit: u8) -> u8
-    requires { digit < 16 }
-    ensures { result ≡ hex_digit digit }
-{
-    if digit < 10 {
-        b'0' + digit
-    } else {
-        b'a' - 10 + digit
-    }
-}
-
-// The line of a hash: its digits in base 16, and LF.
-fn line_of(hash: u64) -> [u8; LINE_LEN]
-    ensures { result ≡ hash_line hash }
-{
-    let mut line = [b'\n'; LINE_LEN];
-    let mut place = DIGITS;
-    let mut rest = hash;
-    'digit: while place > 0 {
-        place -= 1;
-        line[place] = hex_digit((rest % 16) as u8);
-        rest /= 16;
-    }
-    line
-}
-
 // Writes the hash of a line, if it is not empty.
 fn put_hash<O: Sink>(seed: u32, line: &[u8], out: &mut O) -> Result<(), Fault>
     ensures ok { OnOk result (Appends (O.written out.old) (O.written out.new) (hash_text seed (line.now ∷ []))) }
@@ -73,7 +43,7 @@ fn put_hash<O: Sink>(seed: u32, line: &[u8], out: &mut O) -> Result<(), Fault>
     if line.is_empty() {
         return Ok(());
     }
-    write_text(out, &line_of(hash48(seed, line)))
+    write_text(out, &hash_line(hash48(seed, line)))
 }
 
 /// Writes the hash of each line that is not empty, before the next line is examined.

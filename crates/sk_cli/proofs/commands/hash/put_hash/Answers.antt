@@ -2,7 +2,8 @@ use Rattle.std.proofs.Common.{◌≡◌, ◌<◌, ◌∷◌, [], ℕ, List, leng
 use Rattle.std.specs.Io.KnownBytes.{Appends}
 use Rattle.std.proofs.KnownBytes.{Appends-nil}
 use Rattle.sk_model.specs.Causes.{AppendsPart}
-use Rattle.sk_cli.specs.commands.Hash.{hash_line, hash_text}
+use Rattle.sk_lines.specs.Hashes.{hash_line}
+use Rattle.sk_cli.specs.commands.Hash.{hash_text}
 use Rattle.sk_cli.proofs.Hashing.{hash_text_one, hash_text_empty}
 use Rattle.sk_cli.proofs.commands.hash.put_hash.Goals as goal
 
@@ -14,15 +15,15 @@ returns-then-is_empty-clause-ok g c =
 pub returns-clause-ok : goal.returns-clause-ok
 returns-clause-ok g c =
     let some : 0 < length c.args.line.now = search rules in
-    let text : c.line_of.result ≡ hash_text c.args.seed (c.args.line.now ∷ []) =
-    c.line_of.ensures ∙ ap (λ (h : ℕ). hash_line h) c.hash48.ensures.value ∙ sym (hash_text_one c.args.seed c.args.line.now some) in
-    let wrote : OnOk c.write_text.result (Appends (g.O.Sink.written c.args.out.now) (g.O.Sink.written c.write_text.new.out) c.line_of.result) = search rules in
+    let text : c.hash_line.result ≡ hash_text c.args.seed (c.args.line.now ∷ []) =
+    c.hash_line.ensures ∙ ap (λ (h : ℕ). hash_line h) c.hash48.ensures.value ∙ sym (hash_text_one c.args.seed c.args.line.now some) in
+    let wrote : OnOk c.write_text.result (Appends (g.O.Sink.written c.args.out.now) (g.O.Sink.written c.write_text.new.out) c.hash_line.result) = search rules in
     subst (λ (l : List ℕ). OnOk c.write_text.result (Appends (g.O.Sink.written c.args.out.now) (g.O.Sink.written c.write_text.new.out) l)) text wrote
 
 pub returns-clause-part : goal.returns-clause-part
 returns-clause-part g c =
     let some : 0 < length c.args.line.now = search rules in
-    let text : c.line_of.result ≡ hash_text c.args.seed (c.args.line.now ∷ []) =
-    c.line_of.ensures ∙ ap (λ (h : ℕ). hash_line h) c.hash48.ensures.value ∙ sym (hash_text_one c.args.seed c.args.line.now some) in
-    let wrote : OnErr c.write_text.result (AppendsPart (g.O.Sink.written c.args.out.now) (g.O.Sink.written c.write_text.new.out) c.line_of.result) = search rules in
+    let text : c.hash_line.result ≡ hash_text c.args.seed (c.args.line.now ∷ []) =
+    c.hash_line.ensures ∙ ap (λ (h : ℕ). hash_line h) c.hash48.ensures.value ∙ sym (hash_text_one c.args.seed c.args.line.now some) in
+    let wrote : OnErr c.write_text.result (AppendsPart (g.O.Sink.written c.args.out.now) (g.O.Sink.written c.write_text.new.out) c.hash_line.result) = search rules in
     subst (λ (l : List ℕ). OnErr c.write_text.result (AppendsPart (g.O.Sink.written c.args.out.now) (g.O.Sink.written c.write_text.new.out) l)) text wrote
