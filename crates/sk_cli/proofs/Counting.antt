@@ -1,30 +1,37 @@
 -- How `count` goes.
-use Rattle.std.proofs.Common.{◌≡◌, ◌⊎◌, ℕ, zero, suc, ◌<◌, List, [], length, Option, Result, Ok, Err, OnOk, OnErr, IfErr, inl, refl, sym, subst, arith}
-use Rattle.std.specs.Option.{IfSome}
+use Rattle.std.proofs.Common.{◌≡◌, inl, ℕ, zero, suc, ◌+◌, ◌-◌, ◌<◌, List, [], ◌∷◌, ◌++◌, length, take, get_or, All, IsNone, Option, Result, Ok, Err, OnOk, OnErr, IfErr, refl, sym, ap, ◌∙◌, subst, arith, append_assoc, length-append}
 use Rattle.std.specs.Result.{MatchResult}
-use Rattle.std.specs.Io.KnownBytes.{Appends, Consumes, IsAtEnd}
+use Rattle.std.specs.Io.KnownBytes.{Appends}
 use Rattle.std.proofs.KnownBytes.{Appends-nil}
-use Rattle.sk_model.specs.Causes.{Rose, AppendsFront}
-use Rattle.sk_model.specs.Sketch.{estimate_of}
-use Rattle.sk_read.specs.declared.kind.Kind.{Kind}
-use Rattle.sk_read.specs.declared.items.Fault.{Fault as ReadingFault}
-use Rattle.sk_read.specs.declared.items.Fault.TheVariants as reading
-use Rattle.sk_read.specs.Items.{items_by}
-use Rattle.sk_read.specs.Units.{units_of, IsReadable, IsReadableSoFar, IsLongUnit, IsBadUnit, IsUnevenUnit}
+use Rattle.std.proofs.Math.Seq.{get_or-append_seam}
+use Rattle.std.proofs.lemmas.List.{get_or_append_left}
+use Rattle.sk_model.specs.Causes.{AppendsPart}
+use Rattle.sk_model.specs.Missing.{Begins}
+use Rattle.sk_read.specs.Items.{IsGood, item_of, Gave, Missed}
+use Rattle.sk_read.specs.Reads.{IsInTime as IsReadInTime, ReadsAll, ReadsSome, BreaksOff as ReadingBreaksOff, Ends as ReadingEnds}
+use Rattle.sk_read.specs.Units.{units_of, complete_units_of, IsSoundUpTo, IsLongBehind, IsUnevenBehind}
+use Rattle.sk_read.specs.declared.fault.Fault.{Fault as ReadingFault}
+use Rattle.sk_read.specs.declared.fault.Fault.TheVariants as reading
+use Rattle.sk_read.proofs.ItemLaws.{front_is}
+use Rattle.sk_read.proofs.LineEnds.{settled_so}
+use Rattle.sk_cli.specs.commands.Count.{counted, estimate_text, counting, AreGoodBefore, IsBadUnit}
+use Rattle.sk_cli.specs.declared.commands.count.CountPlan.{CountPlan}
+use Rattle.sk_cli.specs.Fault.{fault_by, bad_unit}
+use Rattle.sk_cli.specs.Outside.{Streams}
+use Rattle.sk_cli.specs.Run.{Finishes, Stops, IsInTime, Refuses, GivesUp, Ends, Executes}
 use Rattle.sk_cli.specs.declared.fault.Fault.{Fault}
 use Rattle.sk_cli.specs.declared.fault.Fault.TheVariants as fault
-use Rattle.sk_cli.specs.declared.command.Command.TheVariants.{Count}
-use Rattle.sk_cli.specs.Count.{estimate_line}
-use Rattle.sk_cli.specs.Due.{IsDue, IsDueBefore, IsLong, IsBadItem, IsBadField, IsUneven, Writes, WritesFront}
-use Rattle.sk_cli.specs.Fault.{fault_by, bad_unit}
-use Rattle.sk_cli.specs.Run.{Streams, Stops, Finishes, Ends, EndsWithin, Executes}
-use Rattle.sk_cli.proofs.Endings.{told_then, told_both, nothing_yet, ends_writing, on_ok_then, on_err_both}
+use Rattle.sk_cli.proofs.Endings.{ends_writing, nothing_more, nothing_yet, on_ok_then}
+use Rattle.sk_cli.proofs.Fronts.{on_err_then}
 
-pub no_count_yet : (k : ℕ) (kind : Kind) (column : ℕ) (a b : Streams) → b.written ≡ a.written → EndsWithin (Count k kind column) a b
-no_count_yet k kind column a b same = nothing_yet (Count k kind column) a b [] same (λ text. refl)
+pub no_count_yet : (plan : CountPlan) (most : ℕ) (a : Streams) → GivesUp (counting plan) most a a
+no_count_yet plan most a = nothing_yet (counting plan) most a [] (λ text. refl)
 
 abbrev counted_or : Fault → Result ℕ Fault
 counted_or f = Err f
+
+abbrev went_well : ℕ → Result ℕ Fault
+went_well n = Ok n
 
 -- the fault of reading that a command's fault was made of
 pub made_of : (column : ℕ) (r : Result ℕ ReadingFault) (f : Fault) → MatchResult r (λ (x : ℕ). counted_or f ≡ Ok x) (λ (e : ReadingFault). counted_or f ≡ Err (fault_by column e)) →
@@ -38,58 +45,106 @@ made_of column (Err e) f made = (e, refl, one_fault f (fault_by column e) made)
     one_fault : (f e : Fault) → counted_or f ≡ Err e → f ≡ e
     one_fault f e same = cc
 
--- what was found of a text, without who took its items
-pub without_items : (left : Option (List ℕ)) (P Q : List ℕ → Type 0) → IfSome left (λ (text : List ℕ). P text × Q text) → IfSome left P
-without_items left P Q holds = told_then left (λ (text : List ℕ). P text × Q text) P (λ text both. both.0) holds
+-- the number of units, where a command's reading went well
+pub read_of : (column n : ℕ) (r : Result ℕ ReadingFault) → MatchResult r (λ (x : ℕ). went_well n ≡ Ok x) (λ (e : ReadingFault). went_well n ≡ Err (fault_by column e)) → (m : ℕ) × (r ≡ Ok m)
+read_of column n (Ok x) made = (x, refl)
+read_of column n (Err e) made = absurd (differ n (fault_by column e) made)
+  where
+    differ : (n : ℕ) (f : Fault) → went_well n ≡ Err f → ⊥
+    differ n f same = cc
 
--- why the reading ended
-pub record Ended (kind : Kind) (column most : ℕ) (left rest : Option (List ℕ)) (before now : ℕ) (f : ReadingFault) : Type 0 where
-  pub long_line : (n : ℕ) → f ≡ reading.LongLine n → IfSome left (λ (text : List ℕ). IsLongUnit kind column n text)
-  pub bad_item : (n : ℕ) → f ≡ reading.BadItem n → IfSome left (λ (text : List ℕ). IsBadUnit kind column n text)
-  pub bad_csv : (n : ℕ) → f ≡ reading.BadCsv n → IfSome left (λ (text : List ℕ). IsUnevenUnit kind column n text)
-  pub read_fault : f ≡ reading.ReadFault → Rose before now
-  pub read_fault_at : f ≡ reading.ReadFault → (taken : List ℕ) × Consumes left rest taken × (length taken < most) × IsReadableSoFar kind column taken
-  pub too_much : f ≡ reading.TooMuch → (taken : List ℕ) × Consumes left rest taken × (length taken ≡ most) × IsReadableSoFar kind column taken
+pub one_number : (m n : ℕ) → m ∷ [] ≡ n ∷ [] → m ≡ n
+one_number m n is = cc
 
-module _ (k : ℕ) (kind : Kind) (column : ℕ) (most : ℕ) (a b : Streams) (same : b.written ≡ a.written) where
+-- the first of some units, each good
+all_front : (P : List ℕ → Type 0) (front given : List (List ℕ)) → Begins front given → All P given → All P front
+all_front P front given begins all = λ k d below.
+    subst P (get_or_append_left front begins.0 d k below) (subst (λ (l : List (List ℕ)). P (get_or l k d)) begins.1 (all k d (omega (arith, ap length begins.1, length-append front begins.0, below))))
+
+module _ (plan : CountPlan) (most : ℕ) (a b : Streams) (same : b.written ≡ a.written) where
   nothing : Appends a.written b.written []
   nothing = subst (λ (w : Option (List ℕ)). Appends a.written w []) (sym same) (Appends-nil a.written)
 
-  stops : (taken : List ℕ) → Consumes a.left b.left taken → IsReadableSoFar kind column taken → Stops (Count k kind column) a b taken
-  stops taken consumed good = record { consumed = consumed; written = ([], (good, refl), nothing) }
+  in_time : (given : List (List ℕ)) (taken : List ℕ) → IsReadInTime (counted plan) given taken → All (IsGood plan.kind) given → IsInTime (counting plan) taken
+  in_time given taken is good = record {
+    front = is.front;
+    piece = is.piece;
+    due = [];
+    joined = is.joined;
+    size = is.size;
+    so_far = ((is.sound, all_front (IsGood plan.kind) (complete_units_of (counted plan) is.front) given is.earlier good), refl);
+  }
+
+  -- the first units of a text are those that were given
+  good_before : (n : ℕ) (text : List ℕ) (given : List (List ℕ)) → n ≡ length given + 1 → All (IsGood plan.kind) given → Begins given (units_of (counted plan) text) → AreGoodBefore plan n text
+  good_before n text given is good begins =
+      let front : take (n - 1) (units_of (counted plan) text) ≡ given = ap (λ (m : ℕ). take m (units_of (counted plan) text)) (omega (arith, is)) ∙ front_is given (units_of (counted plan) text) begins in
+      (omega (arith, is), subst (All (IsGood plan.kind)) (sym front) good)
+
+  -- a text that is refused, behind the units given
+  refused : (f : Fault) (Known : List (List ℕ) → Type 0) (Comes : List (List ℕ) → List ℕ → Type 0) → (off : ReadingBreaksOff (counted plan) most Known Comes a.left b.left) → All (IsGood plan.kind) off.given →
+      ((text : List ℕ) → Begins off.given (units_of (counted plan) text) → Comes off.given text → (counting plan).Refuses f text []) → Refuses (counting plan) most f a b
+  refused f Known Comes off good is = record {
+    taken = off.taken;
+    due = [];
+    consumed = off.consumed;
+    size = off.size;
+    in_time = in_time off.given off.taken off.in_time good;
+    refused = settled_so (λ (text : List ℕ). Begins off.given (units_of (counted plan) text) × Comes off.given text) (λ (text : List ℕ). (counting plan).Refuses f text []) b.left off.taken (λ text found. is text found.0 found.1) off.comes;
+    written = nothing;
+  }
+
+  bad_at : (n : ℕ) (given : List (List ℕ)) (unit text : List ℕ) → n ≡ length given + 1 → All (IsGood plan.kind) given → (filled : 0 < length unit) → IsNone (item_of plan.kind unit) →
+      Begins (given ++ unit ∷ []) (units_of (counted plan) text) → IsSoundUpTo (counted plan) n text → IsBadUnit plan n text
+  bad_at n given unit text is good filled bad begins sound =
+      let units = units_of (counted plan) text in
+      let behind : units ≡ given ++ unit ∷ begins.0 = begins.1 ∙ append_assoc given (unit ∷ []) begins.0 in
+      let place : n - 1 ≡ length given = omega (arith, is) in
+      let here : get_or units (n - 1) [] ≡ unit = ap (λ (m : ℕ). get_or units m []) place ∙ ap (λ (l : List (List ℕ)). get_or l (length given) []) behind ∙ get_or-append_seam given unit begins.0 [] in
+      record {
+        before = good_before n text given is good (unit ∷ begins.0, behind);
+        sound = sound;
+        to = omega (arith, ap length behind, length-append given (unit ∷ begins.0), is);
+        filled = subst (λ (l : List ℕ). 0 < length l) (sym here) filled;
+        bad = subst (λ (l : List ℕ). IsNone (item_of plan.kind l)) (sym here) bad;
+      }
+
+  stops : (IsSize : ℕ → Type 0) (Stands : List ℕ → Type 0) → ReadsSome (counted plan) IsSize (Gave plan.kind Stands) a.left b.left → Stops (counting plan) IsSize a b
+  stops IsSize Stands some = record { taken = some.taken; due = []; reads = refl; consumed = some.consumed; size = some.size; is_due = ((some.sound, some.gave.0), refl); written = nothing }
 
   -- a count that ends while it reads has written nothing
-  pub counting_ended : (f : ReadingFault) → Ended kind column most a.left b.left a.read_faults b.read_faults f → Ends (Count k kind column) most a b (fault_by column f)
-  counting_ended reading.OutOfMemory ended = no_count_yet k kind column a b same
-  counting_ended reading.ReadFault ended =
-      let at = ended.read_fault_at refl in
-      (ended.read_fault refl, (at.0, stops at.0 at.1 at.3, at.2))
-  counting_ended (reading.LongLine n) ended =
-      told_then a.left (λ (text : List ℕ). IsLongUnit kind column n text) (λ (text : List ℕ). Writes (IsLong (Count k kind column) n text) a.written b.written) (λ text at. ([], (at, refl), nothing)) (ended.long_line n refl)
-  counting_ended (reading.BadItem n) ended = bad column refl
+  pub counting_ended : (Stands : List ℕ → Type 0) (f : ReadingFault) → ReadingEnds (counted plan) most (Gave plan.kind Stands) (Missed plan.kind Stands) a.left b.left f → Ends (counting plan) most a b (fault_by plan.column f)
+  counting_ended Stands reading.OutOfMemory off = nothing_more (counting plan) most a b off.taken [] off.consumed off.size same (λ text. refl)
+  counting_ended Stands reading.ReadFault some = stops (λ size. size < most) Stands some
+  counting_ended Stands reading.TooMuch some = stops (λ size. size ≡ most) Stands some
+  counting_ended Stands (reading.LongLine n) off =
+      refused (fault.LongLine n) (Gave plan.kind Stands) (λ given text. (n ≡ length given + 1) × IsLongBehind (counted plan) (length given) text) off off.known.0
+      (λ text begins comes. ((good_before n text off.given comes.0 off.known.0 begins, subst (λ (m : ℕ). IsLongBehind (counted plan) m text) (omega (arith, comes.0)) comes.1), refl))
+  counting_ended Stands (reading.BadCsv n) off =
+      refused (fault.BadCsv n) (Gave plan.kind Stands) (λ given text. (n ≡ length given + 1) × IsUnevenBehind (counted plan) (length given) text) off off.known.0
+      (λ text begins comes. ((good_before n text off.given comes.0 off.known.0 begins, subst (λ (m : ℕ). IsUnevenBehind (counted plan) m text) (omega (arith, comes.0)) comes.1), refl))
+  counting_ended Stands (reading.BadItem n) missed = bad plan.column refl
     where
-      bad : (c : ℕ) → column ≡ c → Ends (Count k kind column) most a b (bad_unit c n)
-      bad zero is =
-          told_then a.left (λ (text : List ℕ). IsBadUnit kind column n text) (λ (text : List ℕ). Writes (IsBadItem (Count k kind column) n text) a.written b.written) (λ text at. ([], (is, at, refl), nothing)) (ended.bad_item n refl)
-      bad (suc c) is =
-          let some : 0 < column = omega (arith, is) in
-          told_then a.left (λ (text : List ℕ). IsBadUnit kind column n text) (λ (text : List ℕ). Writes (IsBadField (Count k kind column) n text) a.written b.written) (λ text at. ([], (some, at, refl), nothing)) (ended.bad_item n refl)
-  counting_ended (reading.BadCsv n) ended =
-      told_then a.left (λ (text : List ℕ). IsUnevenUnit kind column n text) (λ (text : List ℕ). Writes (IsUneven (Count k kind column) n text) a.written b.written) (λ text at. ([], (at, refl), nothing)) (ended.bad_csv n refl)
-  counting_ended reading.TooMuch ended =
-      let at = ended.too_much refl in
-      (at.0, stops at.0 at.1 at.3, at.2)
+      unit : List ℕ
+      unit = missed.0
+
+      off : ReadingBreaksOff (counted plan) most (λ given. Missed plan.kind Stands given unit) (λ given text. (n ≡ length given + 1) × Begins (given ++ unit ∷ []) (units_of (counted plan) text) × IsSoundUpTo (counted plan) n text) a.left b.left
+      off = missed.1
+
+      is_bad : (text : List ℕ) → (n ≡ length off.given + 1) × Begins (off.given ++ unit ∷ []) (units_of (counted plan) text) × IsSoundUpTo (counted plan) n text → IsBadUnit plan n text
+      is_bad text comes = bad_at n off.given unit text comes.0 off.known.0.0 off.known.1 off.known.2 comes.1 comes.2
+
+      bad : (c : ℕ) → plan.column ≡ c → Ends (counting plan) most a b (bad_unit c n)
+      bad zero is = refused (fault.BadItem n) (λ given. Missed plan.kind Stands given unit) _ off off.known.0.0 (λ text begins comes. ((is, is_bad text comes), refl))
+      bad (suc c) is = refused (fault.BadField n) (λ given. Missed plan.kind Stands given unit) _ off off.known.0.0 (λ text begins comes. ((omega (arith, is), is_bad text comes), refl))
 
 -- the estimate is written once the source has ended
-pub counted : (k : ℕ) (kind : Kind) (column : ℕ) (most : ℕ) (a b : Streams) (line : List ℕ) (r : Result (Unit {0}) Fault) →
-    IsAtEnd b.left → IfSome a.left (λ (text : List ℕ). IsReadable kind column text) → IfSome a.left (λ (text : List ℕ). length text < most) →
-    IfSome a.left (λ (text : List ℕ). line ≡ estimate_line (estimate_of k (items_by kind (units_of column text)))) →
-    OnOk r (Appends a.written b.written line) → OnErr r (AppendsFront a.written b.written line) → OnErr r (Rose a.write_faults b.write_faults) → IfErr r (λ (f : Fault). f ≡ fault.WriteFault) →
-    Executes (Count k kind column) most a b r
-counted k kind column most a b line r end good size is ok front rose only =
-    let whole = told_both a.left (λ (text : List ℕ). IsReadable kind column text) (λ (text : List ℕ). line ≡ estimate_line (estimate_of k (items_by kind (units_of column text)))) good is in
-    ends_writing (Count k kind column) most a b r
-    (on_ok_then r (Appends a.written b.written line) (Finishes (Count k kind column) most a b)
-    (λ appended. record { output = told_then a.left _ (λ (text : List ℕ). Writes (IsDue (Count k kind column) text) a.written b.written) (λ text due. (line, due, appended)) whole; end = end; size = size }) ok)
-    (on_err_both r (AppendsFront a.written b.written line) (Rose a.write_faults b.write_faults) (Ends (Count k kind column) most a b fault.WriteFault)
-    (λ front rose. (rose, told_then a.left _ (λ (text : List ℕ). WritesFront (λ d. IsDue (Count k kind column) text d ⊎ IsDueBefore (Count k kind column) text d) a.written b.written) (λ text due. (line, inl due, front)) whole)) front rose) only
+pub estimated : (plan : CountPlan) (most n : ℕ) (Stands : List ℕ → Type 0) (a b : Streams) (line : List ℕ) (r : Result (Unit {0}) Fault) → (all : ReadsAll (counted plan) most n (Gave plan.kind Stands) a.left b.left) →
+    line ≡ estimate_text plan all.taken → OnOk r (Appends a.written b.written line) → OnErr r (AppendsPart a.written b.written line) → IfErr r (λ (f : Fault). f ≡ fault.WriteFault) → Executes (counting plan) most a b r
+estimated plan most n Stands a b line r all is ok part only =
+    let readable : (counting plan).IsDue all.taken line = ((all.sound, all.gave.0), is) in
+    ends_writing (counting plan) most a b r
+    (on_ok_then r (Appends a.written b.written line) (Finishes (counting plan) most a b)
+    (λ appended. record { text = all.taken; due = line; consumed = all.consumed; end = all.end; size = all.size; is_due = readable; written = appended }) ok)
+    (on_err_then r (AppendsPart a.written b.written line) (Ends (counting plan) most a b fault.WriteFault)
+    (λ part. record { taken = all.taken; due = line; consumed = all.consumed; size = omega (arith, all.size); is_due = inl (all.end, readable); written = part }) part) only

@@ -3,13 +3,12 @@ use Rattle.std.proofs.Common.{◌≡◌, ℕ, suc, ◌+◌, List, [], ◌∷◌,
 use Rattle.std.proofs.lemmas.List.{take-append-le}
 use Rattle.std.specs.Io.KnownBytes.{Appends}
 use Rattle.std.proofs.KnownBytes.{Appends-trans}
-use Rattle.sk_model.specs.Causes.{AppendsFront}
-use Rattle.sk_model.specs.Missing.{longer}
+use Rattle.sk_model.specs.Causes.{AppendsFront, AppendsPart}
 
--- a front of a text is one of a longer text
-pub front_longer : (a b : Option (List ℕ)) (xs ys : List ℕ) → AppendsFront a b xs → AppendsFront a b (xs ++ ys)
-front_longer a b xs ys front =
-    (front.0, omega (arith, front.1, length-append xs ys), subst (Appends a b) (sym (take-append-le front.0 xs ys front.1)) front.2)
+-- a part of a text is one of a longer text
+pub part_longer : (a b : Option (List ℕ)) (xs ys : List ℕ) → AppendsPart a b xs → AppendsPart a b (xs ++ ys)
+part_longer a b xs ys part =
+    (part.0, omega (arith, part.1, length-append xs ys), subst (Appends a b) (sym (take-append-le part.0 xs ys (omega (arith, part.1)))) part.2)
 
 take_behind : (xs ys : List ℕ) (n : ℕ) → take (length xs + n) (xs ++ ys) ≡ xs ++ take n ys
 take_behind [] ys n =
@@ -25,6 +24,14 @@ front_behind a b c xs ys whole front = (
   length xs + front.0,
   omega (arith, front.1, length-append xs ys),
   subst (Appends a c) (sym (take_behind xs ys front.0)) (Appends-trans a b c xs (take front.0 ys) whole front.2),
+)
+
+-- a text, and then a part of another
+pub part_behind : (a b c : Option (List ℕ)) (xs ys : List ℕ) → Appends a b xs → AppendsPart b c ys → AppendsPart a c (xs ++ ys)
+part_behind a b c xs ys whole part = (
+  length xs + part.0,
+  omega (arith, part.1, length-append xs ys),
+  subst (Appends a c) (sym (take_behind xs ys part.0)) (Appends-trans a b c xs (take part.0 ys) whole part.2),
 )
 
 -- what holds anyhow holds of an error

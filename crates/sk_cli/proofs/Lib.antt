@@ -1,8 +1,12 @@
 pub mod Counting
+pub mod Deciding
 pub mod Endings
 pub mod Fronts
 pub mod Hashing
+pub mod Moves
 pub mod OptionLaws
 pub mod Reading
 pub mod Replaying
 pub mod Reporting
+pub mod Schedules
+pub mod Telling

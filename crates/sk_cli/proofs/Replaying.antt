@@ -1,28 +1,31 @@
 -- How `replay` goes.
-use Rattle.std.proofs.Common.{◌≡◌, ℕ, ◌+◌, ◌-◌, true, List, [], ◌∷◌, ◌++◌, length, take, map, flat_map, get_or, Option, Some, None, refl, sym, ap, ◌∙◌, subst, arith, append-nil, append_assoc, length-append}
+use Rattle.std.proofs.Common.{◌≡◌, inr, ℕ, ◌+◌, ◌-◌, List, [], ◌∷◌, ◌++◌, length, take, map, flat_map, get_or, Option, Some, None, Ok, false, refl, sym, ap, ◌∙◌, subst, arith, append-nil, append_assoc, length-append}
 use Rattle.std.proofs.lemmas.Grind.{flat_map-append}
 use Rattle.std.proofs.lemmas.List.{map-append}
-use Rattle.std.specs.Io.KnownBytes.{Appends, Consumes, IsAtEnd}
-use Rattle.std.proofs.KnownBytes.{Appends-nil, Consumes-trans}
-use Rattle.sk_model.specs.Causes.{AppendsFront}
-use Rattle.sk_model.specs.Missing.{Begins}
+use Rattle.std.specs.Io.KnownBytes.{Appends}
+use Rattle.std.proofs.KnownBytes.{Appends-nil}
+use Rattle.sk_model.specs.Causes.{AppendsFront, AppendsPart}
+use Rattle.sk_model.specs.Limits.{line_limit}
 use Rattle.sk_model.specs.Lines.{lines_of, AreWithin}
+use Rattle.sk_model.specs.Missing.{Begins}
 use Rattle.sk_machine.specs.Fine.{Fine}
 use Rattle.sk_core.specs.Runs.{MeetsAll, IsRun}
 use Rattle.sk_core.specs.Texts.{event_of, fields_of}
 use Rattle.sk_core.specs.declared.event.Event.{Event}
 use Rattle.sk_core.specs.declared.event.Answer.{Answer}
 use Rattle.sk_core.proofs.Runs.{run_more, run_empty}
-use Rattle.sk_read.specs.Reading.{Reading, GivesNone}
-use Rattle.sk_read.proofs.ItemLaws.{told_by, with_rest, has_begun, read_whole}
-use Rattle.sk_cli.specs.declared.command.Command.TheVariants.{Replay}
-use Rattle.sk_cli.specs.Replay.{start_of, IsPlay, Played, answer_line, answers_text, IsAnswered, IsNoMore}
-use Rattle.sk_cli.specs.Due.{IsDueBefore, IsBadLine, IsBadEvent, Writes}
-use Rattle.sk_cli.specs.Run.{Streams, Refuses, EndsWithin}
+use Rattle.sk_read.specs.Reading.{Reading}
+use Rattle.sk_read.specs.Reads.{IsInTime as IsReadInTime}
+use Rattle.sk_read.specs.declared.units.Units.TheVariants.{Lines}
+use Rattle.sk_read.proofs.LineEnds.{settled_so}
+use Rattle.sk_read.proofs.Readings.{given_settled, in_time_more}
+use Rattle.sk_cli.specs.commands.Replay.{start_of, IsPlay, Played, answer_line, answers_text, IsAnswered, IsNoMore, IsBadLine, replaying}
+use Rattle.sk_cli.specs.Outside.{Streams}
+use Rattle.sk_cli.specs.Run.{Refuses, BreaksOff, GivesUp}
+use Rattle.sk_cli.specs.declared.fault.Fault.TheVariants as fault
 use Rattle.sk_cli.proofs.Endings.{none_within}
-use Rattle.sk_cli.proofs.Fronts.{front_behind}
-use Rattle.sk_cli.proofs.Reading.{ByLines, Reads, within_given, first_are, cut_short}
-use Rattle.sk_model.specs.Limits.{line_limit}
+use Rattle.sk_cli.proofs.Reading.{ByLines, Reads, Went, within_given, first_are, in_time, cut_short, gives_up}
+use Rattle.sk_cli.proofs.Schedules.{answered_front}
 
 pub answers_more : (answers : List Answer) (a : Answer) → answers_text (answers ++ a ∷ []) ≡ answers_text answers ++ answer_line a
 unfolding answers_text
@@ -63,10 +66,10 @@ pub answered : (k : ℕ) (first : List ℕ) (lines : List (List ℕ)) (answers :
 answered k first lines answers reached played = (k, answers, reached, played, refl)
 
 -- `replay` examines line by line
-pub replay_by_lines : ByLines Replay IsAnswered
-replay_by_lines = record { reads_it = refl; so_far = λ taken due within is. (within, is); before = λ n text due within is. (n, within, is); long = λ n text due long is. (long, is) }
+pub replay_by_lines : ByLines replaying IsAnswered
+replay_by_lines = record { reads_it = refl; so_far = λ taken due within is. (within, is); before = λ n text due within is. (n, within, is); long = λ n text due long is. (long, is); front = answered_front }
 
-pub no_answer_yet : (text : List ℕ) → IsDueBefore Replay text []
+pub no_answer_yet : (text : List ℕ) → replaying.IsDueBefore text []
 no_answer_yet text = (0, none_within, refl)
 
 -- ---- refusals
@@ -93,36 +96,53 @@ bad_line n given line lines is within bad begins =
     )
 
 -- a line that is refused, behind those that were played
-pub refuses : (a b : Streams) (most n : ℕ) (r : Reading) (given : List (List ℕ)) (line due taken : List ℕ) → Reads r a.left b.left most (given ++ line ∷ []) taken → n ≡ length given + 1 →
-    IsAnswered given due → Appends a.written b.written due → IsNoMore given line → Refuses Replay (IsBadEvent Replay n) a b
-refuses a b most n r given line due taken read is so_far written bad =
-    told_by a.left b.left taken (λ (text : List ℕ). Writes (IsBadEvent Replay n text) a.written b.written) read.consumed
-    (with_rest b.left (λ (rest : List ℕ). Begins (given ++ line ∷ []) (lines_of (taken ++ rest))) (λ (rest : List ℕ). Writes (IsBadEvent Replay n (taken ++ rest)) a.written b.written)
-    (λ rest begins.
-    let found = bad_line n given line (lines_of (taken ++ rest)) is (within_given r a.left b.left most (given ++ line ∷ []) taken read) bad begins in
-    (due, (found.0, subst (λ (l : List (List ℕ)). IsAnswered l due) (sym found.1) so_far), written))
-    (has_begun r (given ++ line ∷ []) taken b.left read.has read.end))
+pub refuses : (a b : Streams) (most n : ℕ) (r : Reading) (given : List (List ℕ)) (line due taken : List ℕ) → Reads r a.left b.left most (given ++ line ∷ []) taken → IsReadInTime Lines given taken → n ≡ length given + 1 →
+    IsAnswered given due → Appends a.written b.written due → IsNoMore given line → Refuses replaying most (fault.BadEvent n) a b
+refuses a b most n r given line due taken reads time is so_far written bad = record {
+  taken = taken;
+  due = due;
+  consumed = reads.consumed;
+  size = omega (arith, reads.read.has.count, reads.read.bound, reads.most_is);
+  in_time = in_time replaying IsAnswered replay_by_lines most a b given due taken time so_far;
+  refused = settled_so (λ (text : List ℕ). Begins (given ++ line ∷ []) (lines_of text)) (λ (text : List ℕ). replaying.Refuses (fault.BadEvent n) text due) b.left taken
+      (λ text begins.
+      let found = bad_line n given line (lines_of text) is (within_given r a.left b.left most (given ++ line ∷ []) taken reads) bad begins in
+      (found.0, subst (λ (l : List (List ℕ)). IsAnswered l due) (sym found.1) so_far))
+      (given_settled r b.left (given ++ line ∷ []) taken reads.read);
+  written = written;
+}
 
 no_first_line : start_of [] ≡ None
 unfolding fields_of
 no_first_line = refl
 
 -- a text of no line
-pub refuses_nothing : (a b : Streams) (most : ℕ) (r s : Reading) (now : Option (List ℕ)) → Reads r a.left now most [] [] → (more : List ℕ) × Consumes now b.left more × GivesNone r s more → s.ended ≡ true →
-    ((r.ended ≡ true → IsAtEnd now) → s.ended ≡ true → IsAtEnd b.left) → b.written ≡ a.written → Refuses Replay (IsBadEvent Replay 1) a b
-refuses_nothing a b most r s now read none ended end same =
-    let all = none.2 [] [] read.has in
+pub refuses_nothing : (a b : Streams) (most : ℕ) (r : Reading) → (on : Went r a.left b.left most [] (Ok false)) → b.written ≡ a.written → Refuses replaying most (fault.BadEvent 1) a b
+refuses_nothing a b most r on same =
+    let read = on.goes.0 in
     let bad : IsBadLine 1 [] = record { from = omega arith; to = omega arith; within = none_within; bad = no_first_line } in
-    let nothing : Appends a.written b.written [] = subst (λ (w : Option (List ℕ)). Appends a.written w []) (sym same) (Appends-nil a.written) in
-    read_whole a.left b.left none.0 (λ (text : List ℕ). Writes (IsBadEvent Replay 1 text) a.written b.written) (Consumes-trans a.left now b.left [] none.0 read.consumed none.1) (end read.end ended)
-    ([], subst (λ (lines : List (List ℕ)). IsBadLine 1 lines × IsAnswered (take 0 lines) []) (sym all.0) (bad, refl), nothing)
+    record {
+      taken = on.taken;
+      due = [];
+      consumed = on.consumed;
+      size = omega (arith, read.has.count, read.bound, on.most_is);
+      in_time = in_time replaying IsAnswered replay_by_lines most a b [] [] on.taken read.in_time refl;
+      refused = inr (read.end on.goes.1, subst (λ (lines : List (List ℕ)). IsBadLine 1 lines × IsAnswered (take 0 lines) []) (sym (read.has.whole on.goes.1)) (bad, refl));
+      written = subst (λ (w : Option (List ℕ)). Appends a.written w []) (sym same) (Appends-nil a.written);
+    }
 
--- a line that was played, and whose answer was not written whole
-pub answer_cut_short : (a b : Streams) (most k : ℕ) (r : Reading) (first : List ℕ) (lines : List (List ℕ)) (answers : List Answer) (from to : Fine) (line taken : List ℕ) (said : Answer) (mid : Option (List ℕ)) →
-    Played k first lines answers from → IsPlay line k from said to → Reads r a.left b.left most (first ∷ (lines ++ line ∷ [])) taken → Appends a.written mid (answers_text answers) →
-    AppendsFront mid b.written (answer_line said) → EndsWithin Replay a b
-answer_cut_short a b most k r first lines answers from to line taken said mid played play read written front =
-    cut_short Replay IsAnswered replay_by_lines most a b r (first ∷ (lines ++ line ∷ [])) (answers_text (answers ++ said ∷ [])) taken read
-    (answered k first (lines ++ line ∷ []) (answers ++ said ∷ []) to (played_more k first lines answers from line said to played play))
-    (subst (λ (l : List ℕ). AppendsFront a.written b.written l) (sym (answers_more answers said))
-    (front_behind a.written mid b.written (answers_text answers) (answer_line said) written front))
+-- a line that was played, and whose answer was written in part or not at all
+module _ (a b : Streams) (most k : ℕ) (r : Reading) (first : List ℕ) (lines : List (List ℕ)) (answers : List Answer) (from to : Fine) (line taken : List ℕ) (said : Answer) (played : Played k first lines answers from)
+    (play : IsPlay line k from said to) (reads : Reads r a.left b.left most (first ∷ (lines ++ line ∷ [])) taken) where
+  due_is : IsAnswered (first ∷ (lines ++ line ∷ [])) (answers_text (answers ++ said ∷ []))
+  due_is = answered k first (lines ++ line ∷ []) (answers ++ said ∷ []) to (played_more k first lines answers from line said to played play)
+
+  pub answer_cut_short : IsReadInTime Lines (first ∷ lines) taken → AppendsPart a.written b.written (answers_text answers ++ answer_line said) → BreaksOff replaying most a b
+  answer_cut_short time part =
+      cut_short replaying IsAnswered replay_by_lines most a b r (first ∷ (lines ++ line ∷ [])) (answers_text (answers ++ said ∷ [])) taken reads (in_time_more Lines (first ∷ lines) line taken time) due_is
+      (subst (λ (l : List ℕ). AppendsPart a.written b.written l) (sym (answers_more answers said)) part)
+
+  pub answer_given_up : AppendsFront a.written b.written (answers_text answers ++ answer_line said) → GivesUp replaying most a b
+  answer_given_up front =
+      gives_up replaying IsAnswered replay_by_lines most a b r (first ∷ (lines ++ line ∷ [])) (answers_text (answers ++ said ∷ [])) taken reads due_is
+      (subst (λ (l : List ℕ). AppendsFront a.written b.written l) (sym (answers_more answers said)) front)

@@ -1,21 +1,16 @@
 -- What standard error is told, and where the words are no command.
-use Rattle.std.proofs.Common.{◌≡◌, ℕ, List, length, Option, Some, None, Result, Ok, Err, OnOk, OnErr, refl, sym, subst, arith}
-use Rattle.std.specs.Option.{MatchOption}
-use Rattle.std.proofs.lemmas.List.{take_all}
+use Rattle.std.proofs.Common.{◌≡◌, ◌⊎◌, inl, inr, ℕ, List, Option, Some, None, Result, Ok, Err, OnOk, OnErr, refl, subst}
+use Rattle.std.specs.Option.{IfSome, MatchOption}
 use Rattle.std.specs.Io.KnownBytes.{Appends}
-use Rattle.sk_model.specs.Causes.{HasCause, AppendsFront}
+use Rattle.sk_model.specs.Causes.{Rose, HasCause, AppendsPart}
 use Rattle.sk_io.specs.declared.stream.Failed.{Failed}
 use Rattle.sk_cli.specs.declared.fault.Fault.TheVariants as fault
 use Rattle.sk_cli.specs.Command.{Asked}
-use Rattle.sk_cli.specs.Run.{Reports}
 
-pub reported : (r : Result (Unit {0}) Failed) (old new : Option (List ℕ)) (before now : ℕ) (text : List ℕ) → OnOk r (Appends old new text) → OnErr r (AppendsFront old new text) → HasCause before now r →
-    Reports old new before now text
-reported (Ok x) old new before now text ok front cause = record {
-  front = (length text, omega arith, subst (λ (l : List ℕ). Appends old new l) (sym (take_all (length text) text (omega arith))) ok);
-  whole = λ stays. ok;
-}
-reported (Err e) old new before now text ok front cause = record { front = front; whole = λ stays. absurd (stays cause.failed) }
+pub reported : (r : Result (Unit {0}) Failed) (old new : Option (List ℕ)) (before now : ℕ) (text : List ℕ) → OnOk r (Appends old new text) → OnErr r (AppendsPart old new text) → HasCause before now r →
+    (Appends old new text × (now ≡ before)) ⊎ (AppendsPart old new text × Rose before now)
+reported (Ok x) old new before now text ok part cause = inl (ok, cause.steady)
+reported (Err e) old new before now text ok part cause = inr (part, cause.failed)
 
 pub no_request : (asked : Option Asked) (P : Asked → Type 0) → None ≡ asked → MatchOption asked (fault.Usage ≡ fault.Usage) P
 no_request None P is = refl
@@ -23,3 +18,7 @@ no_request (Some a) P is = absurd (differ a is)
   where
     differ : (a : Asked) → None ≡ Some a → ⊥
     differ a is = cc
+
+-- a fact of what the words ask for
+pub of_request : (asked : Option Asked) (a : Asked) (P : Asked → Type 0) → Some a ≡ asked → P a → IfSome asked P
+of_request asked a P is holds = subst (λ (o : Option Asked). IfSome o P) is holds

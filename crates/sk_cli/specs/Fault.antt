@@ -1,7 +1,7 @@
 -- Statuses, and what standard error gets.
 use Rattle.std.specs.Prelude.{ℕ, zero, suc, List, ◌++◌, codes, decimal}
-use Rattle.sk_read.specs.declared.items.Fault.{Fault as ReadingFault}
-use Rattle.sk_read.specs.declared.items.Fault.TheVariants as reading
+use Rattle.sk_read.specs.declared.fault.Fault.{Fault as ReadingFault}
+use Rattle.sk_read.specs.declared.fault.Fault.TheVariants as reading
 use Rattle.sk_read.specs.declared.reader.LineFault.{LineFault}
 use Rattle.sk_read.specs.declared.reader.LineFault.TheVariants as stop
 use Rattle.sk_cli.specs.declared.fault.Fault.{Fault}

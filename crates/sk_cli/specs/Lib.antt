@@ -1,8 +1,8 @@
+pub mod Behaviour
 pub mod Command
-pub mod Count
-pub mod Due
 pub mod Fault
-pub mod Hash
+pub mod Lines
 pub mod Options
-pub mod Replay
+pub mod Outside
 pub mod Run
+pub mod commands

@@ -1,5 +1,5 @@
 -- The options behind a command.
-use Rattle.std.specs.Prelude.{ℕ, ◌+◌, nat_le, Bool, true, false, ◌&&◌, List, [], ◌∷◌, map, codes, if◌then◌else◌, Option, Some, None, is_some, option_map, option_and_then, unwrap_or, is_none, ◌==◌, bytes_eq, string_bytes}
+use Rattle.std.specs.Prelude.{ℕ, ◌+◌, ◌-◌, ◌^◌, nat_le, Bool, true, false, ◌&&◌, List, [], ◌∷◌, map, codes, if◌then◌else◌, Option, Some, None, is_some, option_map, option_and_then, unwrap_or, is_none, ◌==◌, bytes_eq, string_bytes}
 use Rattle.std.specs.declared.string.String.{String}
 use Rattle.std.specs.declared.alloc.Global.{Global}
 use Rattle.sk_model.specs.Numbers.{number_of}
@@ -105,3 +105,17 @@ is_given name given = is_some (value_behind name given)
 abbrev pub number_in : ℕ → ℕ → ℕ → Option Word → Option ℕ
 number_in low high default None = Some default
 number_in low high default (Some word) = option_and_then (λ n. if nat_le low n then Some n else None) (number_of (high + 1) word)
+
+-- the seed of the hash
+abbrev pub seed_by : List Given → Option ℕ
+seed_by given = number_in 0 (2 ^ 32 - 1) 0 (value_behind Seed given)
+
+-- a name of a file is any word that is not empty
+abbrev pub name_by : Option Word → Option (Option Word)
+name_by None = Some None
+name_by (Some []) = None
+name_by (Some (byte ∷ bytes)) = Some (Some (byte ∷ bytes))
+
+-- the name of the file that is read in place of the standard input, if there is one
+abbrev pub file_by : List Given → Option (Option Word)
+file_by given = name_by (value_behind File given)

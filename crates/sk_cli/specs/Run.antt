@@ -1,119 +1,140 @@
 -- How a run goes: what it reads and writes, and why it ends.
-use Rattle.std.specs.Prelude.{◌≡◌, ◌⊎◌, ℕ, ◌<◌, List, length, Option, None, Some, IfSome, Result, MatchResult}
+use Rattle.std.specs.Prelude.{◌≡◌, ◌≢◌, ◌⊎◌, ℕ, ◌<◌, ◌≤◌, List, ◌++◌, length, true, Option, None, Some, Result, MatchResult}
 use Rattle.std.specs.Bool.{OnTrue}
 use Rattle.std.specs.Io.KnownBytes.{Appends, Consumes, IsAtEnd}
-use Rattle.sk_model.specs.Causes.{Rose, AppendsFront}
+use Rattle.sk_model.specs.Causes.{Rose, HasCauseIn, AppendsFront, AppendsPart}
 use Rattle.sk_io.specs.Files.{told_file}
+use Rattle.sk_io.specs.declared.stream.Sink as sink
+use Rattle.sk_read.specs.Reads.{piece_limit, IsSettled}
+use Rattle.sk_cli.specs.Behaviour.{Behaviour}
 use Rattle.sk_cli.specs.Options.{Word}
-use Rattle.sk_cli.specs.Command.{Asked}
-use Rattle.sk_cli.specs.Due.{reads, text_for, IsDue, IsDueSoFar, IsDueBefore, IsLong, IsBadItem, IsBadField, IsBadEvent, IsUneven, Writes, WritesFront}
-use Rattle.sk_cli.specs.declared.command.Command.{Command}
+use Rattle.sk_cli.specs.Outside.{Streams, Outside, over_input, over_file}
+use Rattle.sk_cli.specs.Command.{Asked, behaviour_of}
 use Rattle.sk_cli.specs.declared.fault.Fault.{Fault}
-use Rattle.sk_cli.specs.declared.fault.Fault.TheVariants.{OutOfMemory, Usage, ReadFault, WriteFault, LongLine, BadItem, BadField, BadEvent, OpenFault, BadCsv, TooMuch}
-
--- a source and a sink: the bytes that are left and those that were written, where they tell them, and their counts
--- of faults
-pub record Streams : Type 0 where
-  pub left : Option (List ℕ)
-  pub read_faults : ℕ
-  pub written : Option (List ℕ)
-  pub write_faults : ℕ
-
-abbrev pub streams : Option (List ℕ) → ℕ → Option (List ℕ) → ℕ → Streams
-streams left read_faults written write_faults = record { left = left; read_faults = read_faults; written = written; write_faults = write_faults }
+use Rattle.sk_cli.specs.declared.fault.Fault.TheVariants.{OutOfMemory, Usage, ReadFault, WriteFault, OpenFault, TooMuch}
 
 -- ---- one command over a source and a sink
 
--- the source was read to its end, none of its lines is refused, and the whole text that is due was written
-pub record Finishes (command : Command) (most : ℕ) (old new : Streams) : Type 0 where
-  pub output : IfSome (text_for command old.left) (λ text. Writes (IsDue command text) old.written new.written)
-  pub end : OnTrue (reads command) (IsAtEnd new.left)
-  pub size : OnTrue (reads command) (IfSome old.left (λ text. length text < most))
+-- this text was taken, which is all that the source had and fewer bytes than may be, nothing of it is refused, and
+-- the whole text that is due for it was written
+pub record Finishes (b : Behaviour) (most : ℕ) (old new : Streams) : Type 0 where
+  pub text : List ℕ
+  pub due : List ℕ
+  pub consumed : Consumes old.left new.left text
+  pub end : OnTrue b.reads (IsAtEnd new.left)
+  pub size : OnTrue b.reads (length text < most)
+  pub is_due : b.IsDue text due
+  pub written : Appends old.written new.written due
 
--- these bytes were taken, none of their lines is refused, and what is due for those that have ended was written
-pub record Stops (command : Command) (old new : Streams) (taken : List ℕ) : Type 0 where
+-- so many bytes were taken, nothing of them is refused so far, and what is due for what has ended in them was written
+pub record Stops (b : Behaviour) (IsSize : ℕ → Type 0) (old new : Streams) : Type 0 where
+  pub taken : List ℕ
+  pub due : List ℕ
+  pub reads : b.reads ≡ true
   pub consumed : Consumes old.left new.left taken
-  pub written : Writes (IsDueSoFar command taken) old.written new.written
+  pub size : IsSize (length taken)
+  pub is_due : b.IsDueSoFar taken due
+  pub written : Appends old.written new.written due
 
--- a front was written of a text that is due for all that is read, or for its first lines
-abbrev pub EndsWithin : Command → Streams → Streams → Type 0
-EndsWithin command old new = IfSome (text_for command old.left) (λ text. WritesFront (λ due. IsDue command text due ⊎ IsDueBefore command text due) old.written new.written)
+-- of the bytes taken, nothing is refused so far in those before the last read
+pub record IsInTime (b : Behaviour) (taken : List ℕ) : Type 0 where
+  pub front : List ℕ
+  pub piece : List ℕ
+  pub due : List ℕ
+  pub joined : taken ≡ front ++ piece
+  pub size : length piece ≤ piece_limit
+  pub so_far : b.IsDueSoFar front due
 
--- a line or a record is refused, and what is due for those before it was written
-abbrev pub Refuses : Command → (List ℕ → List ℕ → Type 0) → Streams → Streams → Type 0
-Refuses command IsRefused old new = IfSome (text_for command old.left) (λ text. Writes (IsRefused text) old.written new.written)
+-- each text that begins with the bytes taken is refused by this fault, at most one read after the place, and what is
+-- due for what stands before that place was written
+pub record Refuses (b : Behaviour) (most : ℕ) (fault : Fault) (old new : Streams) : Type 0 where
+  pub taken : List ℕ
+  pub due : List ℕ
+  pub consumed : Consumes old.left new.left taken
+  pub size : length taken ≤ most
+  pub in_time : IsInTime b taken
+  pub refused : IsSettled (λ text. b.Refuses fault text due) new.left taken
+  pub written : Appends old.written new.written due
+
+-- what may be due behind these bytes: what is due for the text, where the source has ended, or before it has
+abbrev pub IsDueBehind : Behaviour → Option (List ℕ) → List ℕ → List ℕ → Type 0
+IsDueBehind b left taken due = (IsAtEnd left × b.IsDue taken due) ⊎ (OnTrue b.reads (IsInTime b taken) × IsSettled (λ text. b.IsDueBefore text due) left taken)
+
+-- of what is due behind the bytes taken a part was written, and not all
+pub record BreaksOff (b : Behaviour) (most : ℕ) (old new : Streams) : Type 0 where
+  pub taken : List ℕ
+  pub due : List ℕ
+  pub consumed : Consumes old.left new.left taken
+  pub size : length taken ≤ most
+  pub is_due : IsDueBehind b new.left taken due
+  pub written : AppendsPart old.written new.written due
+
+-- of what is due for the bytes taken, or for a first part of each text that begins with them, a front was written
+pub record GivesUp (b : Behaviour) (most : ℕ) (old new : Streams) : Type 0 where
+  pub taken : List ℕ
+  pub due : List ℕ
+  pub consumed : Consumes old.left new.left taken
+  pub size : length taken ≤ most
+  pub is_due : (IsAtEnd new.left × b.IsDue taken due) ⊎ IsSettled (λ text. b.IsDueBefore text due) new.left taken
+  pub written : AppendsFront old.written new.written due
 
 -- where a command may end by a fault
-abbrev pub Ends : Command → ℕ → Streams → Streams → Fault → Type 0
-Ends command most old new OutOfMemory = EndsWithin command old new
-Ends command most old new Usage = ⊥
-Ends command most old new ReadFault = Rose old.read_faults new.read_faults × ((taken : List ℕ) × Stops command old new taken × (length taken < most))
-Ends command most old new WriteFault = Rose old.write_faults new.write_faults × EndsWithin command old new
-Ends command most old new (LongLine n) = Refuses command (IsLong command n) old new
-Ends command most old new (BadItem n) = Refuses command (IsBadItem command n) old new
-Ends command most old new (BadField n) = Refuses command (IsBadField command n) old new
-Ends command most old new (BadEvent n) = Refuses command (IsBadEvent command n) old new
-Ends command most old new OpenFault = ⊥
-Ends command most old new (BadCsv n) = Refuses command (IsUneven command n) old new
-Ends command most old new TooMuch = (taken : List ℕ) × Stops command old new taken × (length taken ≡ most)
+abbrev pub Ends : Behaviour → ℕ → Streams → Streams → Fault → Type 0
+Ends b most old new OutOfMemory = GivesUp b most old new
+Ends b most old new Usage = ⊥
+Ends b most old new ReadFault = Stops b (λ size. size < most) old new
+Ends b most old new WriteFault = BreaksOff b most old new
+Ends b most old new OpenFault = ⊥
+Ends b most old new TooMuch = Stops b (λ size. size ≡ most) old new
+Ends b most old new refusal = Refuses b most refusal old new
 
 -- how a command went
-abbrev pub Executes : Command → ℕ → Streams → Streams → Result (Unit {0}) Fault → Type 0
-Executes command most old new result = MatchResult result (λ _. Finishes command most old new) (λ fault. Ends command most old new fault)
+abbrev pub Executes : Behaviour → ℕ → Streams → Streams → Result (Unit {0}) Fault → Type 0
+Executes b most old new result = MatchResult result (λ _. Finishes b most old new) (λ fault. Ends b most old new fault)
+
+-- only a fault of the source moved its count of faults, and so of the sink
+pub record HasCauses (old new : Streams) (result : Result (Unit {0}) Fault) : Type 0 where
+  pub read : HasCauseIn ReadFault old.read_faults new.read_faults result
+  pub write : HasCauseIn WriteFault old.write_faults new.write_faults result
 
 -- ---- a run over the standard input or a file
 
--- what a run has around it: the standard input, the files and the output
-pub record Outside : Type 0 where
-  pub input : Option (List ℕ)
-  pub input_faults : ℕ
-  pub files : Option (List (List ℕ × List ℕ))
-  pub open_faults : ℕ
-  pub file_faults : ℕ
-  pub written : Option (List ℕ)
-  pub write_faults : ℕ
-
-abbrev pub outside : Option (List ℕ) → ℕ → Option (List (List ℕ × List ℕ)) → ℕ → ℕ → Option (List ℕ) → ℕ → Outside
-outside input input_faults files open_faults file_faults written write_faults = record {
-  input = input;
-  input_faults = input_faults;
-  files = files;
-  open_faults = open_faults;
-  file_faults = file_faults;
-  written = written;
-  write_faults = write_faults;
-}
-
--- the standard input beside the output
-abbrev pub over_input : Outside → Streams
-over_input o = streams o.input o.input_faults o.written o.write_faults
-
--- a file of which this is left, beside the output
-abbrev pub over_file : Option (List ℕ) → Outside → Streams
-over_file left o = streams left o.file_faults o.written o.write_faults
-
--- a fact of the streams that a command is over: the file of this name, of which something may be left afterwards,
--- or the standard input
+-- a fact of the streams that a command is over: the file of this name, or the standard input
 abbrev pub Over : Option Word → (Streams → Streams → Type 0) → Outside → Outside → Type 0
 Over None P old new = P (over_input old) (over_input new)
-Over (Some name) P old new = (rest : Option (List ℕ)) × P (over_file (told_file old.files name) old) (over_file rest new)
+Over (Some name) P old new = P (over_file (told_file old.files name) old) (over_file new.file_left new)
 
--- a file could not be opened, and nothing was read or written
+-- the file that was asked for could not be opened, and nothing was written
 abbrev pub CannotOpen : Option Word → Outside → Outside → Type 0
 CannotOpen None old new = ⊥
-CannotOpen (Some name) old new = Rose old.open_faults new.open_faults × (new.file_faults ≡ old.file_faults) × (new.written ≡ old.written)
+CannotOpen (Some name) old new = new.written ≡ old.written
+
+-- what was asked was done whole
+abbrev pub Succeeds : Asked → ℕ → Outside → Outside → Type 0
+Succeeds asked most old new = Over asked.file (λ a b. Finishes (behaviour_of asked.command) most a b) old new
 
 -- where a run may end by a fault, once its words are accepted
 abbrev pub Fails : Asked → ℕ → Outside → Outside → Fault → Type 0
 Fails asked most old new OpenFault = CannotOpen asked.file old new
-Fails asked most old new fault = Over asked.file (λ a b. Ends asked.command most a b fault) old new
+Fails asked most old new fault = Over asked.file (λ a b. Ends (behaviour_of asked.command) most a b fault) old new
 
 -- how a run went
 abbrev pub Performs : Asked → ℕ → Outside → Outside → Result (Unit {0}) Fault → Type 0
-Performs asked most old new result =
-    MatchResult result (λ _. Over asked.file (λ a b. Finishes asked.command most a b) old new) (λ fault. Fails asked most old new fault)
+Performs asked most old new result = MatchResult result (λ _. Succeeds asked most old new) (λ fault. Fails asked most old new fault)
 
--- what a sink got of a text: its front, and the whole where its count of faults stays
-pub record Reports (old new : Option (List ℕ)) (before now : ℕ) (text : List ℕ) : Type 0 where
-  pub front : AppendsFront old new text
-  pub whole : ¬ Rose before now → Appends old new text
+-- ---- what contracts see of a status
+
+-- a count of faults rose by one at this status, and stands where it stood at every other
+pub record RisesAt (at before now status : ℕ) : Type 0 where
+  pub failed : status ≡ at → Rose before now
+  pub steady : status ≢ at → now ≡ before
+
+-- only a failed read or write moved the counts of the streams that a command is over
+pub record RiseAtTheirs (old new : Streams) (status : ℕ) : Type 0 where
+  pub read : RisesAt 3 old.read_faults new.read_faults status
+  pub write : RisesAt 4 old.write_faults new.write_faults status
+
+-- a sink got all of a text and its count of faults stays, or a part of it and the count rose
+abbrev pub Reports : {E : Type 0} → sink.Ghosts E → E → E → List ℕ → Type 0
+Reports s old new text = (Appends (s.written old) (s.written new) text × (s.faults new ≡ s.faults old))
+    ⊎ (AppendsPart (s.written old) (s.written new) text × Rose (s.faults old) (s.faults new))

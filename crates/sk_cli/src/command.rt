@@ -1,21 +1,20 @@
 // The words of a command line as what is asked.
 ghost use Rattle.std.specs.Prelude.{◌≡◌, IfSome};
 ghost use Rattle.std.specs.Option.{option_map, option_copied};
-ghost use Rattle.sk_cli.specs.Options.{texts_of};
-ghost use Rattle.sk_cli.specs.Command.{request_of, asked_of, count_by, hash_by, replay_by, seed_by, column_by, file_by, asked_by, alone, IsWithin};
+ghost use Rattle.sk_cli.specs.Options.{texts_of, file_by};
+ghost use Rattle.sk_cli.specs.Command.{request_of, asked_of, asked_by, count_by, hash_by, replay_by, alone, IsWithin};
 
+use crate::commands::count::CountPlan;
+use crate::commands::hash::HashPlan;
 use crate::options::{Name, Options, Verb};
-use sk_read::Kind;
-use sk_model::limits::{LEAST_K, MOST_K};
 
 /// What the program is asked to do.
 #[derive(Clone, Copy, Debug, PartialEq, Eq)]
 pub enum Command {
-    /// Estimate how many distinct items there are, by the k smallest: those of the lines at column 0,
-    /// else of the fields in this column, counted from 1.
-    Count { k: u32, kind: Kind, column: u32 },
-    /// Write the hash of each line that is not empty, under a seed.
-    Hash { seed: u32 },
+    /// Estimate how many distinct items there are.
+    Count(CountPlan),
+    /// Write the hash of each line that is not empty.
+    Hash(HashPlan),
     /// Play a schedule and write the answer to each event.
     Replay,
     Help,
@@ -50,7 +49,7 @@ impl<'a> Request<'a> {
         ensures value { option_map asked_of result ≡ asked_by count_by options.now }
         ensures limits { IfSome result (λ request. IsWithin request.command) }
     {
-        let command = Command::count(options)?;
+        let command = Command::Count(CountPlan::of(options)?);
         let file = file_in(options)?;
         Some(Request { command, file })
     }
@@ -59,7 +58,7 @@ impl<'a> Request<'a> {
         ensures value { option_map asked_of result ≡ asked_by hash_by options.now }
         ensures limits { IfSome result (λ request. IsWithin request.command) }
     {
-        let command = Command::hash(options)?;
+        let command = Command::Hash(HashPlan::of(options)?);
         let file = file_in(options)?;
         Some(Request { command, file })
     }
@@ -76,32 +75,6 @@ impl<'a> Request<'a> {
     }
 }
 
-impl Command {
-    fn count(options: &Options<'_>) -> Option<Command>
-        ensures value { result ≡ count_by options.now }
-        ensures limits { IfSome result IsWithin }
-    {
-        let k = options.number(Name::K, u64::from(LEAST_K), u64::from(MOST_K), 4_096)? as u32;
-        let seed = seed_in(options)?;
-        let kind = if options.has(Name::Raw) {
-            Kind::Raw
-        } else {
-            Kind::Hash(seed)
-        };
-        let column = column_in(options)?;
-        Some(Command::Count { k, kind, column })
-    }
-
-    fn hash(options: &Options<'_>) -> Option<Command>
-        ensures value { result ≡ hash_by options.now }
-        ensures limits { IfSome result IsWithin }
-    {
-        Some(Command::Hash {
-            seed: seed_in(options)?,
-        })
-    }
-}
-
 // The command, where no word stands behind it.
 fn alone<'a>(command: Command, behind: &[String]) -> Option<Request<'a>>
     ensures value { option_map asked_of result ≡ alone command (texts_of behind.now) }
@@ -114,24 +87,6 @@ fn alone<'a>(command: Command, behind: &[String]) -> Option<Request<'a>>
         })
     } else {
         None
-    }
-}
-
-// The seed of the hash.
-fn seed_in(options: &Options<'_>) -> Option<u32>
-    ensures { result ≡ seed_by options.now }
-{
-    Some(options.number(Name::Seed, 0, u64::from(u32::MAX), 0)? as u32)
-}
-
-// The column of the records that are read in place of lines; 0 for lines.
-fn column_in(options: &Options<'_>) -> Option<u32>
-    ensures { result ≡ column_by options.now }
-{
-    if options.has(Name::Csv) {
-        Some(options.number(Name::Csv, 1, 4_096, 1)? as u32)
-    } else {
-        Some(0)
     }
 }
 

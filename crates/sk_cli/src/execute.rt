@@ -1,17 +1,19 @@
 // A command over the standard input or over a file.
-ghost use Rattle.std.specs.Prelude.{◌≡◌, ◌≤◌, ◌^◌, Err, None, Some, OnSome, IfNone, IfSome};
+ghost use Rattle.std.specs.Prelude.{◌≡◌, ◌≢◌, ◌≤◌, Err, IfErr, None, Some, OnSome, IfNone, IfSome, true, false};
 ghost use Rattle.std.specs.Option.{option_copied};
-ghost use Rattle.sk_io.specs.Files.{IsMissing};
-ghost use Rattle.sk_cli.specs.Command.{IsWithin};
-ghost use Rattle.sk_cli.specs.Run.{streams, outside, Executes, Performs};
+ghost use Rattle.sk_model.specs.Causes.{HasCauseIn};
 ghost use Rattle.sk_model.specs.Limits.{source_limit};
+ghost use Rattle.sk_io.specs.Files.{IsMissing};
+ghost use Rattle.sk_cli.specs.Command.{behaviour_of, IsWithin};
+ghost use Rattle.sk_cli.specs.Outside.{streams_of, streams_on, outside_of};
+ghost use Rattle.sk_cli.specs.Run.{Executes, HasCauses, Over, Performs};
 
 use crate::command::Command;
-use crate::count::count;
+use crate::commands::about::{HELP, VERSION};
+use crate::commands::count::count;
+use crate::commands::hash::hash;
+use crate::commands::replay::replay;
 use crate::fault::Fault;
-use crate::hash::hash;
-use crate::help::{HELP, VERSION};
-use crate::replay::replay;
 use crate::write::write_text;
 use sk_io::{OnShelf, Shelf, Sink, Source};
 use std::alloc::Global;
@@ -29,15 +31,25 @@ pub fn perform<S: Source, O: Sink, F: Shelf>(
 ) -> Result<(), Fault>
     requires within { IsWithin command }
     requires bound { most ≤ source_limit }
-    ensures done { Performs (record { command = command; file = option_copied file.entry }) most
-        (outside (S.left input.old) (S.faults input.old) (F.files shelf.old) (F.open_faults shelf.old) (F.read_faults shelf.old)
-        (O.written out.old) (O.faults out.old))
-        (outside (S.left input.new) (S.faults input.new) (F.files shelf.new) (F.open_faults shelf.new) (F.read_faults shelf.new)
-        (O.written out.new) (O.faults out.new)) result }
+    ensures done { let old = outside_of S.Source O.Sink F.Shelf input.old out.old shelf.old in
+        let new = outside_of S.Source O.Sink F.Shelf input.new out.new shelf.new in
+        Performs (record { command = command; file = option_copied file.entry }) most old new result }
+
+    // A count rises by one at its own fault, and stands else.
+    ensures causes { let old = outside_of S.Source O.Sink F.Shelf input.old out.old shelf.old in
+        let new = outside_of S.Source O.Sink F.Shelf input.new out.new shelf.new in
+        Over (option_copied file.entry) (λ a b. HasCauses a b result) old new }
+    ensures opens { HasCauseIn Fault.OpenFault (F.open_faults shelf.old) (F.open_faults shelf.new) result }
     ensures missing { IfSome (option_copied file.entry) (λ name. IsMissing (F.files shelf.old) name → result ≡ Err Fault.OpenFault) }
-    ensures files { F.files shelf.new ≡ F.files shelf.old }
+
+    // Only what the command reads is touched, and the output only where there is something to write.
     ensures with_file { OnSome file.entry (input.new ≡ input.old) }
     ensures without_file { IfNone file.entry (shelf.new ≡ shelf.old) }
+    ensures idle { (behaviour_of command).reads ≡ false → input.new ≡ input.old }
+    ensures last { (behaviour_of command).writes_last ≡ true → IfErr result (λ fault. fault ≢ Fault.WriteFault → out.new ≡ out.old) }
+    ensures closed { result ≡ Err Fault.OpenFault → out.new ≡ out.old }
+    ensures files { F.files shelf.new ≡ F.files shelf.old }
+    ensures stays { S.stands_on input.new ≡ S.stands_on input.old }
 {
     match file {
         None => execute(alloc, command, most, input, out),
@@ -48,7 +60,7 @@ pub fn perform<S: Source, O: Sink, F: Shelf>(
     }
 }
 
-/// Does what a command asks, over an open file.
+/// Does what a command asks, over an open file, the one that was opened last.
 fn execute_on<F: Shelf, O: Sink>(
     alloc: Global,
     command: Command,
@@ -59,9 +71,14 @@ fn execute_on<F: Shelf, O: Sink>(
 ) -> Result<(), Fault>
     requires within { IsWithin command }
     requires bound { most ≤ source_limit }
-    ensures done { Executes command most
-        (streams (F.left shelf.old file.old) (F.read_faults shelf.old) (O.written out.old) (O.faults out.old))
-        (streams (F.left shelf.new file.new) (F.read_faults shelf.new) (O.written out.new) (O.faults out.new)) result }
+    requires rest { F.rest shelf.old ≡ F.left shelf.old file.old }
+    ensures done { let old = streams_on F.Shelf O.Sink shelf.old file.old out.old in
+        let new = streams_on F.Shelf O.Sink shelf.new file.new out.new in Executes (behaviour_of command) most old new result }
+    ensures causes { let old = streams_on F.Shelf O.Sink shelf.old file.old out.old in
+        let new = streams_on F.Shelf O.Sink shelf.new file.new out.new in HasCauses old new result }
+    ensures last { (behaviour_of command).writes_last ≡ true → IfErr result (λ fault. fault ≢ Fault.WriteFault → out.new ≡ out.old) }
+    ensures opened { result ≢ Err Fault.OpenFault }
+    ensures rest { F.rest shelf.new ≡ F.left shelf.new file.new }
     ensures opens { F.open_faults shelf.new ≡ F.open_faults shelf.old }
     ensures files { F.files shelf.new ≡ F.files shelf.old }
 {
@@ -79,14 +96,18 @@ pub fn execute<S: Source, O: Sink>(
 ) -> Result<(), Fault>
     requires within { IsWithin command }
     requires bound { most ≤ source_limit }
-    ensures done { Executes command most
-        (streams (S.left source.old) (S.faults source.old) (O.written out.old) (O.faults out.old))
-        (streams (S.left source.new) (S.faults source.new) (O.written out.new) (O.faults out.new)) result }
+    ensures done { let old = streams_of S.Source O.Sink source.old out.old in
+        let new = streams_of S.Source O.Sink source.new out.new in Executes (behaviour_of command) most old new result }
+    ensures causes { let old = streams_of S.Source O.Sink source.old out.old in
+        let new = streams_of S.Source O.Sink source.new out.new in HasCauses old new result }
+    ensures idle { (behaviour_of command).reads ≡ false → source.new ≡ source.old }
+    ensures last { (behaviour_of command).writes_last ≡ true → IfErr result (λ fault. fault ≢ Fault.WriteFault → out.new ≡ out.old) }
+    ensures opened { result ≢ Err Fault.OpenFault }
     ensures stays { S.stands_on source.new ≡ S.stands_on source.old }
 {
     match command {
-        Command::Count { k, kind, column } => count(alloc, k, kind, column, most, source, out),
-        Command::Hash { seed } => hash(alloc, seed, most, source, out),
+        Command::Count(plan) => count(alloc, &plan, most, source, out),
+        Command::Hash(plan) => hash(alloc, &plan, most, source, out),
         Command::Replay => replay(alloc, most, source, out),
         Command::Help => write_text(out, HELP.as_bytes()),
         Command::Version => write_text(out, VERSION.as_bytes()),

@@ -1,13 +1,13 @@
 // Why the program ends by a status other than 0.
 ghost use Rattle.std.specs.Prelude.{◌≡◌, OnOk, OnErr};
 ghost use Rattle.std.specs.Io.KnownBytes.{Appends};
-ghost use Rattle.sk_model.specs.Causes.{HasCause, AppendsFront};
+ghost use Rattle.sk_model.specs.Causes.{HasCause, AppendsPart};
 ghost use Rattle.sk_cli.specs.Fault.{status_of, message_of, unit_message, fault_by};
 
 use itoa::Buffer;
-use sk_read::{Fault as ReadingFault, LineFault};
 use sk_io::{Failed, Sink, write_all};
 use sk_model::OutOfMemory;
+use sk_read::{Fault as ReadingFault, LineFault};
 use std::alloc::AllocError;
 
 /// Why the program ends by a status other than 0. Lines and records are counted from 1.
@@ -104,7 +104,7 @@ impl Fault {
     /// Writes the line of the fault, which standard error gets.
     pub fn tell<E: Sink>(self, err: &mut E) -> Result<(), Failed>
         ensures ok { OnOk result (Appends (E.written err.old) (E.written err.new) (message_of self)) }
-        ensures front { OnErr result (AppendsFront (E.written err.old) (E.written err.new) (message_of self)) }
+        ensures part { OnErr result (AppendsPart (E.written err.old) (E.written err.new) (message_of self)) }
         ensures cause { HasCause (E.faults err.old) (E.faults err.new) result }
     {
         match self {
@@ -129,7 +129,7 @@ impl Fault {
 // Writes what is wrong with a line or a record.
 fn tell_unit<E: Sink>(err: &mut E, unit: &[u8], number: u64, what: &[u8]) -> Result<(), Failed>
     ensures ok { OnOk result (Appends (E.written err.old) (E.written err.new) (unit_message unit.now number what.now)) }
-    ensures front { OnErr result (AppendsFront (E.written err.old) (E.written err.new) (unit_message unit.now number what.now)) }
+    ensures part { OnErr result (AppendsPart (E.written err.old) (E.written err.new) (unit_message unit.now number what.now)) }
     ensures cause { HasCause (E.faults err.old) (E.faults err.new) result }
 {
     write_all(err, unit)?;

@@ -2,14 +2,12 @@
 #![tactic(auto)]
 
 mod command;
-mod count;
+mod commands;
 mod execute;
 mod fault;
-mod hash;
-mod help;
+pub mod laws;
 mod options;
 mod program;
-mod replay;
 mod write;
 
 pub use program::run;

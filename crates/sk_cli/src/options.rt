@@ -1,7 +1,7 @@
 //! The options behind a command: names with a value, and flags, in any order, each at most once.
 
 ghost use Rattle.std.specs.Prelude.{◌+◌, ◌^◌, ◌≡◌, ◌↔◌, IsTrue, IfSome, IfNone, Some, None, ◌<◌, ◌≤◌, length, drop, option_copied, option_map, is_some, IsSome, ◌∷◌};
-ghost use Rattle.sk_cli.specs.Options.{name_of, takes_value, allows, options_of, texts_of, is_once, value_behind, given_in, spelled_by, is_given, number_in};
+ghost use Rattle.sk_cli.specs.Options.{name_of, takes_value, allows, options_of, texts_of, is_once, value_behind, given_in, spelled_by, is_given, number_in, seed_by};
 
 use sk_lines::read_number;
 use std::marker::Model;
@@ -25,8 +25,8 @@ pub enum Name {
 }
 
 impl Name {
-    // The option that a word names.
-    fn of(word: &str) -> Option<Name>
+    /// The option that a word names.
+    pub fn of(word: &str) -> Option<Name>
         ensures { result ≡ name_of word.now }
     {
         match word {
@@ -192,5 +192,11 @@ impl<'a> Options<'a> {
         };
         let number = read_number(word.as_bytes(), high + 1)?;
         if low <= number { Some(number) } else { None }
+    }
+    /// The seed of the hash, 0 where it is not given. `None` where the value is out of its limits.
+    pub fn seed(&self) -> Option<u32>
+        ensures { result ≡ seed_by self.now }
+    {
+        Some(self.number(Name::Seed, 0, u64::from(u32::MAX), 0)? as u32)
     }
 }

@@ -3,11 +3,15 @@ mod files;
 mod replays;
 
 use super::*;
-use crate::command::Command;
+use crate::command::{Command, Request};
+use crate::commands::about::HELP;
+use crate::commands::count::CountPlan;
 use crate::execute::execute;
 use crate::fault::Fault;
-use sk_read::Kind;
+use crate::options::Name;
 use sk_io::{MemShelf, MemSink, MemSource, Shelf};
+use sk_model::limits::{ITEM_END, LEAST_K, LINE_LIMIT, MOST_K};
+use sk_read::Kind;
 use std::alloc::Global;
 use std::process::Abort;
 use std::test::Fail;
@@ -237,9 +241,48 @@ fn words_that_are_no_command(rt: HostRuntime) -> Result<(), Fail> {
 fn tells_of_itself(rt: HostRuntime) -> Result<(), Fail> {
     let alloc = rt.alloc();
     expect_out(&rt, &run_over(alloc, "--version", b"")?, b"sketchd 0.1.0\n");
-    let help = run_over(alloc, "--help", b"")?;
-    assert_eq!(rt; help.status, 0);
-    assert!(rt; help.out.starts_with(b"sketchd estimates"));
+    expect_out(&rt, &run_over(alloc, "--help", b"")?, HELP.as_bytes());
+    Ok(())
+}
+
+// The plan of `count` where no option is given.
+fn plan_of_count(rt: &impl Abort, alloc: Global) -> Result<CountPlan, Fail> {
+    let words = words_of(alloc, "count")?;
+    let Some(request) = Request::of(&words) else {
+        panic!(rt; "no request")
+    };
+    match request.command {
+        Command::Count(plan) => Ok(plan),
+        _ => panic!(rt; "another command"),
+    }
+}
+
+// Limits and defaults are told as the words are read.
+#[test]
+fn help_tells_of_each_option(rt: HostRuntime) -> Result<(), Fail> {
+    let alloc = rt.alloc();
+    let plan = plan_of_count(&rt, alloc)?;
+    assert!(rt; plan.kind == Kind::Hash(0));
+    assert_eq!(rt; plan.column, 0);
+    let told = [
+        format!(in alloc;
+            "--k K        how many hashes are kept, {LEAST_K} to {MOST_K} ({})\n",
+            plan.k
+        )?,
+        format!(in alloc;
+            "--seed S     the seed of the hash, 0 to {} (0)\n",
+            u32::MAX
+        )?,
+        format!(in alloc; "a number from 0 to {}\n", ITEM_END - 1)?,
+        format!(in alloc; "A line has at most {LINE_LIMIT} bytes.")?,
+    ];
+    for text in &told {
+        assert!(rt; HELP.contains(text.as_str()), "{text}");
+    }
+    let names = ["--csv", "--file", "--k", "--raw", "--seed"];
+    for name in names {
+        assert!(rt; Name::of(name).is_some() && HELP.contains(name), "{name}");
+    }
     Ok(())
 }
 
@@ -284,12 +327,39 @@ fn too_much(rt: HostRuntime) -> Result<(), Fail> {
     for (text, want) in cases {
         let mut input = MemSource::new(text.to_vec(alloc)?, 3, Vec::new(alloc));
         let mut out = MemSink::new(alloc, 100, 7, Vec::new(alloc))?;
-        let command = Command::Count {
+        let command = Command::Count(CountPlan {
             k: 4,
             kind: Kind::Raw,
             column: 0,
-        };
+        });
         assert_eq!(rt; execute(alloc, command, 8, &mut input, &mut out), want);
+    }
+    Ok(())
+}
+
+// A failed write to standard error changes no status.
+#[test]
+fn an_error_output_that_is_full(rt: HostRuntime) -> Result<(), Fail> {
+    let alloc = rt.alloc();
+    let cases: [(&str, &[u8], u64, usize, u8); 8] = [
+        ("count x", b"a\n", 9, 100, 2),
+        ("count", b"a\n", 0, 100, 3),
+        ("hash", b"a\n", 9, 0, 4),
+        ("count --raw", b"x\n", 9, 100, 6),
+        ("replay", b"x\n", 9, 100, 7),
+        ("count --file none", b"a\n", 9, 100, 8),
+        ("count --csv 2", b"a\n", 9, 100, 12),
+        ("count --raw --csv 2", b"a,5\n\nb,x\n", 9, 100, 6),
+    ];
+    for (line, text, fails, room, status) in cases {
+        let words = words_of(alloc, line)?;
+        let mut input = MemSource::new(text.to_vec(alloc)?, 100, [fails].to_vec(alloc)?);
+        let mut shelf = MemShelf::new(Vec::new(alloc), Vec::new(alloc), Vec::new(alloc));
+        let mut out = MemSink::new(alloc, room, 100, Vec::new(alloc))?;
+        let mut err = MemSink::new(alloc, 0, 100, Vec::new(alloc))?;
+        let got = run(alloc, &words, &mut input, &mut out, &mut err, &mut shelf);
+        assert_eq!(rt; got, status, "{line}");
+        assert!(rt; err.written().is_empty());
     }
     Ok(())
 }

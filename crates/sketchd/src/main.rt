@@ -53,3 +53,6 @@ fn main(rt: HostRuntime) -> ExitCode {
     let mut shelf = FileShelf::new(&rt);
     ExitCode::from(run(alloc, &words, &mut input, &mut out, &mut err, &mut shelf))
 }
+
+#[cfg(test)]
+mod tests;

@@ -100,3 +100,22 @@ fn files_of_the_system(rt: HostRuntime) -> Result<(), Fail> {
     expect_fault(&rt, &ran, 8, b"open fault\n");
     Ok(())
 }
+
+// A name is a whole word, blanks and all.
+#[test]
+fn a_name_with_blanks(rt: HostRuntime) -> Result<(), Fail> {
+    let alloc = rt.alloc();
+    let name = " a  name ";
+    let mut files = Vec::new(alloc);
+    files.push((String::from_str(alloc, name)?, b"5\n".to_vec(alloc)?))?;
+    let mut shelf = MemShelf::new(files, Vec::new(alloc), Vec::new(alloc));
+    let mut words = words_of(alloc, "count --file")?;
+    words.push(String::from_str(alloc, name)?)?;
+    let mut input = MemSource::new(Vec::new(alloc), 1, Vec::new(alloc));
+    let mut out = MemSink::new(alloc, 100, 100, Vec::new(alloc))?;
+    let mut err = MemSink::new(alloc, 100, 100, Vec::new(alloc))?;
+    let status = run(alloc, &words, &mut input, &mut out, &mut err, &mut shelf);
+    assert_eq!(rt; status, 0);
+    assert_eq!(rt; out.written(), b"estimate 1/1\n".as_slice());
+    Ok(())
+}

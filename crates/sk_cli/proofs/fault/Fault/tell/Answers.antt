@@ -1,6 +1,6 @@
 use Rattle.std.proofs.Common.{sym, subst, OnOk, OnErr}
 use Rattle.std.specs.Io.KnownBytes.{Appends}
-use Rattle.sk_model.specs.Causes.{AppendsFront}
+use Rattle.sk_model.specs.Causes.{AppendsPart}
 use Rattle.sk_cli.specs.declared.fault.Fault.{Fault}
 use Rattle.sk_cli.specs.Fault.{message_of}
 use Rattle.sk_cli.proofs.fault.Fault.tell.Goals as goal
@@ -9,58 +9,58 @@ pub returns-in-ReadFault-clause-ok : goal.returns-in-ReadFault-clause-ok
 returns-in-ReadFault-clause-ok g c =
     subst (λ (f : Fault). OnOk c.write_all-in-ReadFault.result (Appends (g.E.Sink.written c.args.err.now) (g.E.Sink.written c.write_all-in-ReadFault.new.out) (message_of f))) (sym c.in-ReadFault.is) c.write_all-in-ReadFault.ensures.ok
 
-pub returns-in-ReadFault-clause-front : goal.returns-in-ReadFault-clause-front
-returns-in-ReadFault-clause-front g c =
-    subst (λ (f : Fault). OnErr c.write_all-in-ReadFault.result (AppendsFront (g.E.Sink.written c.args.err.now) (g.E.Sink.written c.write_all-in-ReadFault.new.out) (message_of f))) (sym c.in-ReadFault.is) c.write_all-in-ReadFault.ensures.err
+pub returns-in-ReadFault-clause-part : goal.returns-in-ReadFault-clause-part
+returns-in-ReadFault-clause-part g c =
+    subst (λ (f : Fault). OnErr c.write_all-in-ReadFault.result (AppendsPart (g.E.Sink.written c.args.err.now) (g.E.Sink.written c.write_all-in-ReadFault.new.out) (message_of f))) (sym c.in-ReadFault.is) c.write_all-in-ReadFault.ensures.err
 
 pub returns-in-LongLine-clause-ok : goal.returns-in-LongLine-clause-ok
 returns-in-LongLine-clause-ok g c =
     subst (λ (f : Fault). OnOk c.tell_unit.result (Appends (g.E.Sink.written c.args.err.now) (g.E.Sink.written c.tell_unit.new.err) (message_of f))) (sym c.in-LongLine.is) c.tell_unit.ensures.ok
 
-pub returns-in-LongLine-clause-front : goal.returns-in-LongLine-clause-front
-returns-in-LongLine-clause-front g c =
-    subst (λ (f : Fault). OnErr c.tell_unit.result (AppendsFront (g.E.Sink.written c.args.err.now) (g.E.Sink.written c.tell_unit.new.err) (message_of f))) (sym c.in-LongLine.is) c.tell_unit.ensures.front
+pub returns-in-LongLine-clause-part : goal.returns-in-LongLine-clause-part
+returns-in-LongLine-clause-part g c =
+    subst (λ (f : Fault). OnErr c.tell_unit.result (AppendsPart (g.E.Sink.written c.args.err.now) (g.E.Sink.written c.tell_unit.new.err) (message_of f))) (sym c.in-LongLine.is) c.tell_unit.ensures.part
 
 pub returns-in-BadItem-clause-ok : goal.returns-in-BadItem-clause-ok
 returns-in-BadItem-clause-ok g c =
     subst (λ (f : Fault). OnOk c.tell_unit-in-BadItem.result (Appends (g.E.Sink.written c.args.err.now) (g.E.Sink.written c.tell_unit-in-BadItem.new.err) (message_of f))) (sym c.in-BadItem.is) c.tell_unit-in-BadItem.ensures.ok
 
-pub returns-in-BadItem-clause-front : goal.returns-in-BadItem-clause-front
-returns-in-BadItem-clause-front g c =
-    subst (λ (f : Fault). OnErr c.tell_unit-in-BadItem.result (AppendsFront (g.E.Sink.written c.args.err.now) (g.E.Sink.written c.tell_unit-in-BadItem.new.err) (message_of f))) (sym c.in-BadItem.is) c.tell_unit-in-BadItem.ensures.front
+pub returns-in-BadItem-clause-part : goal.returns-in-BadItem-clause-part
+returns-in-BadItem-clause-part g c =
+    subst (λ (f : Fault). OnErr c.tell_unit-in-BadItem.result (AppendsPart (g.E.Sink.written c.args.err.now) (g.E.Sink.written c.tell_unit-in-BadItem.new.err) (message_of f))) (sym c.in-BadItem.is) c.tell_unit-in-BadItem.ensures.part
 
-pub returns-in-Usage-clause-front : goal.returns-in-Usage-clause-front
-returns-in-Usage-clause-front g c =
-    subst (λ (f : Fault). OnErr c.write_all-in-Usage.result (AppendsFront (g.E.Sink.written c.args.err.now) (g.E.Sink.written c.write_all-in-Usage.new.out) (message_of f))) (sym c.in-Usage.is) c.write_all-in-Usage.ensures.err
+pub returns-in-Usage-clause-part : goal.returns-in-Usage-clause-part
+returns-in-Usage-clause-part g c =
+    subst (λ (f : Fault). OnErr c.write_all-in-Usage.result (AppendsPart (g.E.Sink.written c.args.err.now) (g.E.Sink.written c.write_all-in-Usage.new.out) (message_of f))) (sym c.in-Usage.is) c.write_all-in-Usage.ensures.err
 
 pub returns-in-BadEvent-clause-ok : goal.returns-in-BadEvent-clause-ok
 returns-in-BadEvent-clause-ok g c =
     subst (λ (f : Fault). OnOk c.tell_unit-in-BadEvent.result (Appends (g.E.Sink.written c.args.err.now) (g.E.Sink.written c.tell_unit-in-BadEvent.new.err) (message_of f))) (sym c.in-BadEvent.is) c.tell_unit-in-BadEvent.ensures.ok
 
-pub returns-in-BadEvent-clause-front : goal.returns-in-BadEvent-clause-front
-returns-in-BadEvent-clause-front g c =
-    subst (λ (f : Fault). OnErr c.tell_unit-in-BadEvent.result (AppendsFront (g.E.Sink.written c.args.err.now) (g.E.Sink.written c.tell_unit-in-BadEvent.new.err) (message_of f))) (sym c.in-BadEvent.is) c.tell_unit-in-BadEvent.ensures.front
+pub returns-in-BadEvent-clause-part : goal.returns-in-BadEvent-clause-part
+returns-in-BadEvent-clause-part g c =
+    subst (λ (f : Fault). OnErr c.tell_unit-in-BadEvent.result (AppendsPart (g.E.Sink.written c.args.err.now) (g.E.Sink.written c.tell_unit-in-BadEvent.new.err) (message_of f))) (sym c.in-BadEvent.is) c.tell_unit-in-BadEvent.ensures.part
 
 pub returns-in-OpenFault-clause-ok : goal.returns-in-OpenFault-clause-ok
 returns-in-OpenFault-clause-ok g c =
     subst (λ (f : Fault). OnOk c.write_all-in-OpenFault.result (Appends (g.E.Sink.written c.args.err.now) (g.E.Sink.written c.write_all-in-OpenFault.new.out) (message_of f))) (sym c.in-OpenFault.is) c.write_all-in-OpenFault.ensures.ok
 
-pub returns-in-OpenFault-clause-front : goal.returns-in-OpenFault-clause-front
-returns-in-OpenFault-clause-front g c =
-    subst (λ (f : Fault). OnErr c.write_all-in-OpenFault.result (AppendsFront (g.E.Sink.written c.args.err.now) (g.E.Sink.written c.write_all-in-OpenFault.new.out) (message_of f))) (sym c.in-OpenFault.is) c.write_all-in-OpenFault.ensures.err
+pub returns-in-OpenFault-clause-part : goal.returns-in-OpenFault-clause-part
+returns-in-OpenFault-clause-part g c =
+    subst (λ (f : Fault). OnErr c.write_all-in-OpenFault.result (AppendsPart (g.E.Sink.written c.args.err.now) (g.E.Sink.written c.write_all-in-OpenFault.new.out) (message_of f))) (sym c.in-OpenFault.is) c.write_all-in-OpenFault.ensures.err
 
 pub returns-in-BadField-clause-ok : goal.returns-in-BadField-clause-ok
 returns-in-BadField-clause-ok g c =
     subst (λ (f : Fault). OnOk c.tell_unit-in-BadField.result (Appends (g.E.Sink.written c.args.err.now) (g.E.Sink.written c.tell_unit-in-BadField.new.err) (message_of f))) (sym c.in-BadField.is) c.tell_unit-in-BadField.ensures.ok
 
-pub returns-in-BadField-clause-front : goal.returns-in-BadField-clause-front
-returns-in-BadField-clause-front g c =
-    subst (λ (f : Fault). OnErr c.tell_unit-in-BadField.result (AppendsFront (g.E.Sink.written c.args.err.now) (g.E.Sink.written c.tell_unit-in-BadField.new.err) (message_of f))) (sym c.in-BadField.is) c.tell_unit-in-BadField.ensures.front
+pub returns-in-BadField-clause-part : goal.returns-in-BadField-clause-part
+returns-in-BadField-clause-part g c =
+    subst (λ (f : Fault). OnErr c.tell_unit-in-BadField.result (AppendsPart (g.E.Sink.written c.args.err.now) (g.E.Sink.written c.tell_unit-in-BadField.new.err) (message_of f))) (sym c.in-BadField.is) c.tell_unit-in-BadField.ensures.part
 
 pub returns-in-BadCsv-clause-ok : goal.returns-in-BadCsv-clause-ok
 returns-in-BadCsv-clause-ok g c =
     subst (λ (f : Fault). OnOk c.tell_unit-in-BadCsv.result (Appends (g.E.Sink.written c.args.err.now) (g.E.Sink.written c.tell_unit-in-BadCsv.new.err) (message_of f))) (sym c.in-BadCsv.is) c.tell_unit-in-BadCsv.ensures.ok
 
-pub returns-in-BadCsv-clause-front : goal.returns-in-BadCsv-clause-front
-returns-in-BadCsv-clause-front g c =
-    subst (λ (f : Fault). OnErr c.tell_unit-in-BadCsv.result (AppendsFront (g.E.Sink.written c.args.err.now) (g.E.Sink.written c.tell_unit-in-BadCsv.new.err) (message_of f))) (sym c.in-BadCsv.is) c.tell_unit-in-BadCsv.ensures.front
+pub returns-in-BadCsv-clause-part : goal.returns-in-BadCsv-clause-part
+returns-in-BadCsv-clause-part g c =
+    subst (λ (f : Fault). OnErr c.tell_unit-in-BadCsv.result (AppendsPart (g.E.Sink.written c.args.err.now) (g.E.Sink.written c.tell_unit-in-BadCsv.new.err) (message_of f))) (sym c.in-BadCsv.is) c.tell_unit-in-BadCsv.ensures.part

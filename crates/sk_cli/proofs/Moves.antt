@@ -1,0 +1,119 @@
+-- Which count a fault moves.
+use Rattle.std.proofs.Common.{◌≡◌, ℕ, zero, suc, Result, Ok, Err, IfErr, IsErrAnd, refl, sym, ap, ◌∙◌, subst}
+use Rattle.sk_model.specs.Causes.{Rose, HasCause, HasCauseIn}
+use Rattle.sk_read.specs.declared.fault.Fault.{Fault as ReadingFault}
+use Rattle.sk_read.specs.declared.fault.Fault.TheVariants as reading
+use Rattle.sk_read.specs.declared.reader.LineFault.{LineFault}
+use Rattle.sk_read.specs.declared.reader.LineFault.TheVariants as stop
+use Rattle.sk_cli.specs.declared.fault.Fault.{Fault}
+use Rattle.sk_cli.specs.declared.fault.Fault.TheVariants as fault
+use Rattle.sk_cli.specs.Fault.{fault_by, fault_by_line, bad_unit}
+use Rattle.sk_cli.specs.Outside.{Streams}
+use Rattle.sk_cli.specs.Run.{HasCauses}
+
+-- what a fault does to the counts of a source and a sink
+abbrev pub Moves : Streams → Streams → Fault → Type 0
+Moves a b fault.ReadFault = Rose a.read_faults b.read_faults × (b.write_faults ≡ a.write_faults)
+Moves a b fault.WriteFault = (b.read_faults ≡ a.read_faults) × Rose a.write_faults b.write_faults
+Moves a b other = (b.read_faults ≡ a.read_faults) × (b.write_faults ≡ a.write_faults)
+
+-- an error beside a value of this type
+abbrev error_of : (T : Type 0) {E : Type 0} → E → Result T E
+error_of T e = Err e
+
+abbrev fine : Result (Unit {0}) Fault
+fine = Ok tt
+
+nothing_else : (f g : Fault) → error_of (Unit {0}) f ≡ Err g → f ≡ g
+nothing_else f g same = cc
+
+no_fault : (g : Fault) → fine ≡ Err g → ⊥
+no_fault g same = cc
+
+caused : (g f : Fault) (before now : ℕ) → f ≡ g → Rose before now → HasCauseIn {T = Unit {0}} g before now (Err f)
+caused g f before now is rose = record { steady = λ other. absurd (other (ap (λ (x : Fault). Err x) is)); failed = λ same. rose }
+
+uncaused : (g f : Fault) (before now : ℕ) → (f ≡ g → ⊥) → now ≡ before → HasCauseIn {T = Unit {0}} g before now (Err f)
+uncaused g f before now other stays = record { steady = λ same. stays; failed = λ same. absurd (other (nothing_else f g same)) }
+
+elsewhere : (a b : Streams) (f : Fault) → (f ≡ fault.ReadFault → ⊥) → (f ≡ fault.WriteFault → ⊥) → (b.read_faults ≡ a.read_faults) × (b.write_faults ≡ a.write_faults) → HasCauses a b (Err f)
+elsewhere a b f no_read no_write stay = record {
+  read = uncaused fault.ReadFault f a.read_faults b.read_faults no_read stay.0;
+  write = uncaused fault.WriteFault f a.write_faults b.write_faults no_write stay.1;
+}
+
+pub causes_of : (a b : Streams) (f : Fault) → Moves a b f → HasCauses a b (Err f)
+causes_of a b fault.OutOfMemory stay = elsewhere a b fault.OutOfMemory (λ is. cc) (λ is. cc) stay
+causes_of a b fault.Usage stay = elsewhere a b fault.Usage (λ is. cc) (λ is. cc) stay
+causes_of a b fault.ReadFault moves = record {
+  read = caused fault.ReadFault fault.ReadFault a.read_faults b.read_faults refl moves.0;
+  write = uncaused fault.WriteFault fault.ReadFault a.write_faults b.write_faults (λ is. cc) moves.1;
+}
+causes_of a b fault.WriteFault moves = record {
+  read = uncaused fault.ReadFault fault.WriteFault a.read_faults b.read_faults (λ is. cc) moves.0;
+  write = caused fault.WriteFault fault.WriteFault a.write_faults b.write_faults refl moves.1;
+}
+causes_of a b (fault.LongLine n) stay = elsewhere a b (fault.LongLine n) (λ is. cc) (λ is. cc) stay
+causes_of a b (fault.BadItem n) stay = elsewhere a b (fault.BadItem n) (λ is. cc) (λ is. cc) stay
+causes_of a b (fault.BadField n) stay = elsewhere a b (fault.BadField n) (λ is. cc) (λ is. cc) stay
+causes_of a b (fault.BadEvent n) stay = elsewhere a b (fault.BadEvent n) (λ is. cc) (λ is. cc) stay
+causes_of a b fault.OpenFault stay = elsewhere a b fault.OpenFault (λ is. cc) (λ is. cc) stay
+causes_of a b (fault.BadCsv n) stay = elsewhere a b (fault.BadCsv n) (λ is. cc) (λ is. cc) stay
+causes_of a b fault.TooMuch stay = elsewhere a b fault.TooMuch (λ is. cc) (λ is. cc) stay
+
+-- a command that was given a fault
+pub caused_by : (a b : Streams) (r : Result (Unit {0}) Fault) (f : Fault) → IsErrAnd r (λ (e : Fault). e ≡ f) → Moves a b f → HasCauses a b r
+caused_by a b (Ok x) f gives moves = absurd gives
+caused_by a b (Err e) f gives moves = subst (λ (x : Fault). HasCauses a b (Err x)) (sym gives) (causes_of a b f moves)
+
+-- a command that met no fault
+pub no_cause : (a b : Streams) → b.read_faults ≡ a.read_faults → b.write_faults ≡ a.write_faults → HasCauses a b (Ok tt)
+no_cause a b read write = record {
+  read = record { steady = λ no. read; failed = λ is. absurd (no_fault fault.ReadFault is) };
+  write = record { steady = λ no. write; failed = λ is. absurd (no_fault fault.WriteFault is) };
+}
+
+-- a command whose last step is a write
+pub writing_causes : (a b : Streams) (r : Result (Unit {0}) Fault) → b.read_faults ≡ a.read_faults → HasCause a.write_faults b.write_faults r → IfErr r (λ (f : Fault). f ≡ fault.WriteFault) → HasCauses a b r
+writing_causes a b (Ok x) read cause is = no_cause a b read cause.steady
+writing_causes a b (Err e) read cause is = subst (λ (x : Fault). HasCauses a b (Err x)) (sym is) (causes_of a b fault.WriteFault (read, cause.failed))
+
+ok_is_no_error : {T E : Type 0} (v : T) (fault : E) → Ok v ≡ Err fault → ⊥
+ok_is_no_error v fault is = cc
+
+-- a call that did not fail leaves the count
+pub steady_ok : {T E : Type 0} (fault : E) (before now : ℕ) (r : Result T E) (v : T) → HasCauseIn fault before now r → r ≡ Ok v → now ≡ before
+steady_ok fault before now r v cause ok = cause.steady (λ failed. ok_is_no_error v fault (sym ok ∙ failed))
+
+-- a fault of lines
+pub line_moves : (T : Type 0) (a b : Streams) (before : ℕ) (r : Result T LineFault) (s : LineFault) → r ≡ Err s → HasCauseIn stop.ReadFault before b.read_faults r → before ≡ a.read_faults → b.write_faults ≡ a.write_faults →
+    Moves a b (fault_by_line s)
+line_moves T a b before r stop.ReadFault is cause same write = (subst (λ (n : ℕ). Rose n b.read_faults) same (cause.failed is), write)
+line_moves T a b before r (stop.LongLine n) is cause same write = (cause.steady (λ failed. other n (sym is ∙ failed)) ∙ same, write)
+  where
+    other : (n : ℕ) → error_of T (stop.LongLine n) ≡ Err stop.ReadFault → ⊥
+    other n is = cc
+line_moves T a b before r stop.TooMuch is cause same write = (cause.steady (λ failed. other (sym is ∙ failed)) ∙ same, write)
+  where
+    other : error_of T stop.TooMuch ≡ Err stop.ReadFault → ⊥
+    other is = cc
+
+reading_other : (T : Type 0) (f : ReadingFault) → (f ≡ reading.ReadFault → ⊥) → error_of T f ≡ Err reading.ReadFault → ⊥
+reading_other T f differs is = differs (one f is)
+  where
+    one : (f : ReadingFault) → error_of T f ≡ Err reading.ReadFault → f ≡ reading.ReadFault
+    one f is = cc
+
+-- a fault of reading
+pub reading_moves : (T : Type 0) (a b : Streams) (column : ℕ) (r : Result T ReadingFault) (f : ReadingFault) → r ≡ Err f → HasCauseIn reading.ReadFault a.read_faults b.read_faults r → b.write_faults ≡ a.write_faults →
+    Moves a b (fault_by column f)
+reading_moves T a b column r reading.OutOfMemory is cause write = (cause.steady (λ failed. reading_other T reading.OutOfMemory (λ e. cc) (sym is ∙ failed)), write)
+reading_moves T a b column r reading.ReadFault is cause write = (cause.failed is, write)
+reading_moves T a b column r (reading.LongLine n) is cause write = (cause.steady (λ failed. reading_other T (reading.LongLine n) (λ e. cc) (sym is ∙ failed)), write)
+reading_moves T a b column r (reading.BadItem n) is cause write = bad column (cause.steady (λ failed. reading_other T (reading.BadItem n) (λ e. cc) (sym is ∙ failed)), write)
+  where
+    bad : (c : ℕ) → (b.read_faults ≡ a.read_faults) × (b.write_faults ≡ a.write_faults) → Moves a b (bad_unit c n)
+    bad zero stay = stay
+    bad (suc c) stay = stay
+reading_moves T a b column r (reading.BadCsv n) is cause write = (cause.steady (λ failed. reading_other T (reading.BadCsv n) (λ e. cc) (sym is ∙ failed)), write)
+reading_moves T a b column r reading.TooMuch is cause write = (cause.steady (λ failed. reading_other T reading.TooMuch (λ e. cc) (sym is ∙ failed)), write)

@@ -1,5 +1,0 @@
-use Rattle.std.proofs.Common.{append_assoc, rules}
-use Rattle.sk_cli.proofs.count.line_of.Goals as goal
-
-pub returns : goal.returns
-returns c = search (rules, append_assoc)

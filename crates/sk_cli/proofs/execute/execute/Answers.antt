@@ -1,0 +1,24 @@
+use Rattle.std.proofs.Common.{refl, sym, subst}
+use Rattle.sk_cli.specs.Command.{behaviour_of}
+use Rattle.sk_cli.specs.Outside.{Streams, streams_of}
+use Rattle.sk_cli.specs.Run.{Executes}
+use Rattle.sk_cli.specs.declared.command.Command.{Command}
+use Rattle.sk_cli.specs.declared.commands.about.TheConstants.{HELP, VERSION}
+use Rattle.sk_cli.proofs.Telling.{about_told}
+use Rattle.sk_cli.proofs.execute.execute.Goals as goal
+
+pub returns-in-Help-clause-done : goal.returns-in-Help-clause-done
+returns-in-Help-clause-done g c =
+    let a : Streams = streams_of g.S.Source g.O.Sink c.args.source.now c.args.out.now in
+    let b : Streams = streams_of g.S.Source g.O.Sink c.args.source.now c.write_text.new.out in
+    let told = c.write_text.ensures in
+    subst (λ (command : Command). Executes (behaviour_of command) c.args.most a b c.write_text.result) (sym c.in-Help.is)
+    (about_told HELP.now c.as_bytes.result.now c.args.most a b c.write_text.result c.as_bytes.ensures.value refl told.ok told.part told.err)
+
+pub returns-in-Version-clause-done : goal.returns-in-Version-clause-done
+returns-in-Version-clause-done g c =
+    let a : Streams = streams_of g.S.Source g.O.Sink c.args.source.now c.args.out.now in
+    let b : Streams = streams_of g.S.Source g.O.Sink c.args.source.now c.write_text-in-Version.new.out in
+    let told = c.write_text-in-Version.ensures in
+    subst (λ (command : Command). Executes (behaviour_of command) c.args.most a b c.write_text-in-Version.result) (sym c.in-Version.is)
+    (about_told VERSION.now c.as_bytes-in-Version.result.now c.args.most a b c.write_text-in-Version.result c.as_bytes-in-Version.ensures.value refl told.ok told.part told.err)

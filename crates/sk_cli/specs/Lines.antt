@@ -1,0 +1,12 @@
+-- Lines of a text by their number, counted from 1.
+use Rattle.std.specs.Prelude.{ℕ, ◌-◌, ◌≤◌, List, [], slice_index_or}
+use Rattle.sk_model.specs.Limits.{line_limit}
+use Rattle.sk_model.specs.Lines.{IsFirstLong}
+
+-- line n is the first that is too long
+abbrev pub IsLongLine : ℕ → List (List ℕ) → Type 0
+IsLongLine n lines = (1 ≤ n) × IsFirstLong line_limit (n - 1) lines
+
+-- line n; an empty one, where there is none
+abbrev pub line_at : ℕ → List (List ℕ) → List ℕ
+line_at n lines = slice_index_or lines (n - 1) []

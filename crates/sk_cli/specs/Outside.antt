@@ -1,0 +1,51 @@
+-- What a run has around it, as contracts see it.
+use Rattle.std.specs.Prelude.{ℕ, List, Option}
+use Rattle.sk_io.specs.declared.shelf.Shelf as shelf
+use Rattle.sk_io.specs.declared.stream.Sink as sink
+use Rattle.sk_io.specs.declared.stream.Source as source
+
+-- a source and a sink: the bytes that are left and those that were written, where they tell them, and their counts
+-- of faults
+pub record Streams : Type 0 where
+  pub left : Option (List ℕ)
+  pub read_faults : ℕ
+  pub written : Option (List ℕ)
+  pub write_faults : ℕ
+
+abbrev pub streams_of : {S O : Type 0} → source.Ghosts S → sink.Ghosts O → S → O → Streams
+streams_of s o source out = record { left = s.left source; read_faults = s.faults source; written = o.written out; write_faults = o.faults out }
+
+-- an open file and a sink
+abbrev pub streams_on : {F D O : Type 0} → shelf.Ghosts F D → sink.Ghosts O → F → D → O → Streams
+streams_on f o shelf file out = record { left = f.left shelf file; read_faults = f.read_faults shelf; written = o.written out; write_faults = o.faults out }
+
+-- all that a run is handed: the standard input, the files with what is left of the one opened last, and the output
+pub record Outside : Type 0 where
+  pub input : Option (List ℕ)
+  pub input_faults : ℕ
+  pub files : Option (List (List ℕ × List ℕ))
+  pub file_left : Option (List ℕ)
+  pub file_faults : ℕ
+  pub open_faults : ℕ
+  pub written : Option (List ℕ)
+  pub write_faults : ℕ
+
+abbrev pub outside_of : {S O F D : Type 0} → source.Ghosts S → sink.Ghosts O → shelf.Ghosts F D → S → O → F → Outside
+outside_of s o f input out shelf = record {
+  input = s.left input;
+  input_faults = s.faults input;
+  files = f.files shelf;
+  file_left = f.rest shelf;
+  file_faults = f.read_faults shelf;
+  open_faults = f.open_faults shelf;
+  written = o.written out;
+  write_faults = o.faults out;
+}
+
+-- the standard input beside the output
+abbrev pub over_input : Outside → Streams
+over_input o = record { left = o.input; read_faults = o.input_faults; written = o.written; write_faults = o.write_faults }
+
+-- a file of which this is left, beside the output
+abbrev pub over_file : Option (List ℕ) → Outside → Streams
+over_file left o = record { left = left; read_faults = o.file_faults; written = o.written; write_faults = o.write_faults }

@@ -1,0 +1,82 @@
+// The command that plays a schedule.
+ghost use Rattle.std.specs.Prelude.{◌≡◌, ◌≤◌, OnOk, IfOk, MatchOption};
+ghost use Rattle.std.specs.Option.{option_map};
+ghost use Rattle.sk_model.specs.Limits.{source_limit};
+ghost use Rattle.sk_core.specs.Stored.{machine_of};
+ghost use Rattle.sk_cli.specs.Outside.{streams_of};
+ghost use Rattle.sk_cli.specs.Run.{Executes, HasCauses};
+ghost use Rattle.sk_cli.specs.commands.Replay.{start_of, started, MeetsThere, answer_line, IsPlay, IsNoPlay, replaying};
+
+use crate::fault::Fault;
+use crate::write::write_text;
+use sk_core::{Answer, State, push_answer, read_event, read_machine, read_vacant};
+use sk_io::{Sink, Source};
+use sk_model::OutOfMemory;
+use sk_read::LineReader;
+use std::alloc::Global;
+
+// The machine that a first line names, if it names one.
+fn start(alloc: Global, line: &[u8]) -> Result<Option<State>, OutOfMemory>
+    ensures value { IfOk result (λ state. option_map started state ≡ start_of line.now) }
+    ensures invariant { IfOk result MeetsThere }
+{
+    if let Some((k, b, n)) = read_machine(line) {
+        return Ok(Some(State::new(alloc, k, b, n)?));
+    }
+    match read_vacant(line) {
+        Some((k, n)) => Ok(Some(State::vacant(alloc, k, n)?)),
+        None => Ok(None),
+    }
+}
+
+// Plays the event of a line, if it names one that is enabled.
+fn play(line: &[u8], state: &mut State) -> Option<Answer>
+    ensures answer { MatchOption result (IsNoPlay line.now (machine_of state.old))
+        (λ answer. IsPlay line.now state.old.k (machine_of state.old) answer (machine_of state.new)) }
+    ensures sketch { state.new.k ≡ state.old.k }
+{
+    let event = read_event(line)?;
+    state.step(&event).ok()
+}
+
+// Makes the text the line of an answer.
+fn set_line(text: &mut Vec<u8>, answer: &Answer) -> Result<(), OutOfMemory>
+    ensures { OnOk result (text.new.items ≡ answer_line answer.now) }
+{
+    text.clear();
+    push_answer(text, answer)?;
+    text.push(b'\n')?;
+    Ok(())
+}
+
+/// Plays a schedule, and writes the answer to each event before the next line is examined.
+pub fn replay<S: Source, O: Sink>(
+    alloc: Global,
+    most: u64,
+    source: &mut S,
+    out: &mut O,
+) -> Result<(), Fault>
+    requires bound { most ≤ source_limit }
+    ensures done { let old = streams_of S.Source O.Sink source.old out.old in
+        let new = streams_of S.Source O.Sink source.new out.new in Executes replaying most old new result }
+    ensures causes { let old = streams_of S.Source O.Sink source.old out.old in
+        let new = streams_of S.Source O.Sink source.new out.new in HasCauses old new result }
+    ensures stays { S.stands_on source.new ≡ S.stands_on source.old }
+{
+    let mut reader = LineReader::new(alloc, most)?;
+    if !reader.next(source)? {
+        return Err(Fault::BadEvent(1));
+    }
+    let Some(mut state) = start(alloc, reader.line())? else {
+        return Err(Fault::BadEvent(1));
+    };
+    let mut text = Vec::new(alloc);
+    'line: while reader.next(source)? {
+        let Some(answer) = play(reader.line(), &mut state) else {
+            return Err(Fault::BadEvent(reader.number()));
+        };
+        set_line(&mut text, &answer)?;
+        write_text(out, &text)?;
+    }
+    Ok(())
+}
