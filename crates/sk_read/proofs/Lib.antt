@@ -1,3 +1,4 @@
+mod CauseLaws
 pub mod Cuts
 pub mod EndLaws
 pub mod FaultLaws

@@ -1,5 +1,5 @@
 -- What a reader of a source's lines finds.
-use Rattle.std.proofs.Common.{◌≡◌, ℕ, ◌+◌, ◌≤◌, ◌^◌, Bool, true, false, List, [], ◌∷◌, ◌++◌, length, Option, Some, None, Result, Err, refl, arith, append-nil, append_assoc, length-append, sym, ap, ◌∙◌, subst}
+use Rattle.std.proofs.Common.{◌≡◌, ℕ, ◌+◌, ◌≤◌, Bool, true, false, List, [], ◌∷◌, ◌++◌, length, Option, Some, None, Result, Err, refl, arith, append-nil, append_assoc, length-append, sym, ap, ◌∙◌, subst}
 use Rattle.sk_model.specs.Lines.{lines_of, open_lines_of}
 use Rattle.sk_model.proofs.Lines.{long_stays_long, lines_are_few}
 use Rattle.sk_lines.specs.Cutter.{Cutter, Follows, IsLongAfter, is_long}

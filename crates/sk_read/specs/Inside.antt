@@ -1,5 +1,5 @@
 -- How a reader of a source's lines keeps what contracts see of it.
-use Rattle.std.specs.Prelude.{◌≡◌, ◌≤◌, ◌^◌}
+use Rattle.std.specs.Prelude.{◌≡◌, ◌≤◌}
 use Rattle.sk_read.specs.declared.reader.LineReader.TheInside.{Inside}
 use Rattle.sk_read.specs.Reading.{Reading}
 use Rattle.sk_model.specs.Limits.{line_limit, source_limit}

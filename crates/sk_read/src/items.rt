@@ -1,7 +1,7 @@
 // The items of a source.
 ghost use Rattle.std.specs.Prelude.{◌≡◌, ◌≢◌, ◌≤◌, ◌<◌, ◌+◌, ◌-◌, ◌^◌, ℕ, List, [], ◌∷◌, ◌++◌, Ok, Err, OnOk, OnErr, IfOk, IfErr, IfSome, IsErrOf, IsNone, length, take};
 ghost use Rattle.std.specs.Io.KnownBytes.{Consumes, IsAtEnd};
-ghost use Rattle.sk_model.specs.Causes.{Rose};
+ghost use Rattle.sk_model.specs.Causes.{HasCauseIn};
 ghost use Rattle.sk_read.specs.Items.{items_by, item_of, IsGood};
 ghost use Rattle.sk_read.specs.Units.{units_of, complete_units_of, IsReadable, IsReadableSoFar, IsLongUnit, IsBadUnit, IsUnevenUnit};
 ghost use Rattle.sk_model.specs.Width.{IsItem};
@@ -133,7 +133,6 @@ pub fn read_items<S: Source, T: Taker>(
     ensures only_records { (n : ℕ) → result ≡ Err (Fault.BadCsv n) → 1 ≤ plan.now.column }
 
     // The other faults come where no unit of the bytes taken is refused.
-    ensures read_fault { IsErrOf result Fault.ReadFault → Rose (S.faults source.old) (S.faults source.new) }
     ensures read_fault_at { IsErrOf result Fault.ReadFault → (taken : List ℕ) × Consumes (S.left source.old) (S.left source.new) taken
         × (length taken < plan.now.most) × IsReadableSoFar plan.now.kind plan.now.column taken
         × T.stands_for taker.new (items_by plan.now.kind (complete_units_of plan.now.column taken)) }
@@ -143,7 +142,7 @@ pub fn read_items<S: Source, T: Taker>(
     ensures memory { IsErrOf result Fault.OutOfMemory → IfSome (S.left source.old) (λ text.
         (n : ℕ) × T.stands_for taker.new (items_by plan.now.kind (take n (units_of plan.now.column text)))) }
 
-    ensures later { S.faults source.old ≤ S.faults source.new }
+    ensures cause { HasCauseIn Fault.ReadFault (S.faults source.old) (S.faults source.new) result }
     ensures stays { S.stands_on source.new ≡ S.stands_on source.old }
     ensures numbers { T.numbers taker.new ≡ T.numbers taker.old }
 {

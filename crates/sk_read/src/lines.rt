@@ -1,7 +1,7 @@
 // The items of a source's lines.
 ghost use Rattle.std.specs.Prelude.{◌≡◌, ◌≢◌, ◌≤◌, ◌<◌, ◌-◌, ◌^◌, ℕ, List, [], Err, OnOk, IfOk, IfSome, IsErrOf, length, take};
 ghost use Rattle.std.specs.Io.KnownBytes.{Consumes, IsAtEnd};
-ghost use Rattle.sk_model.specs.Causes.{Rose};
+ghost use Rattle.sk_model.specs.Causes.{HasCauseIn};
 ghost use Rattle.sk_model.specs.Lines.{lines_of};
 ghost use Rattle.sk_read.specs.Items.{items_by, AreGood, IsLongAt, IsBadAt, IsGoodSoFar, complete_lines_of};
 ghost use Rattle.sk_model.specs.Limits.{source_limit};
@@ -32,14 +32,13 @@ pub(crate) fn read_lines<S: Source, T: Taker>(
     ensures bad_item { (n : ℕ) → result ≡ Err (Fault.BadItem n) → IfSome (S.left source.old) (λ text.
         IsBadAt kind n (lines_of text) × T.stands_for taker.new (items_by kind (take (n - 1) (lines_of text)))) }
     ensures no_csv { (n : ℕ) → result ≢ Err (Fault.BadCsv n) }
-    ensures read_fault { IsErrOf result Fault.ReadFault → Rose (S.faults source.old) (S.faults source.new) }
     ensures read_fault_at { IsErrOf result Fault.ReadFault → (taken : List ℕ) × Consumes (S.left source.old) (S.left source.new) taken
         × (length taken < most) × IsGoodSoFar kind taken × T.stands_for taker.new (items_by kind (complete_lines_of taken)) }
     ensures too_much { IsErrOf result Fault.TooMuch → (taken : List ℕ) × Consumes (S.left source.old) (S.left source.new) taken
         × (length taken ≡ most) × IsGoodSoFar kind taken × T.stands_for taker.new (items_by kind (complete_lines_of taken)) }
     ensures memory { IsErrOf result Fault.OutOfMemory → IfSome (S.left source.old) (λ text.
         (n : ℕ) × T.stands_for taker.new (items_by kind (take n (lines_of text)))) }
-    ensures later { S.faults source.old ≤ S.faults source.new }
+    ensures cause { HasCauseIn Fault.ReadFault (S.faults source.old) (S.faults source.new) result }
     ensures stays { S.stands_on source.new ≡ S.stands_on source.old }
     ensures numbers { T.numbers taker.new ≡ T.numbers taker.old }
 {

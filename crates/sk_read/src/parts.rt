@@ -2,7 +2,7 @@
 ghost use Rattle.std.specs.Prelude.{◌≡◌, ◌≢◌, ◌≤◌, ◌<◌, ◌+◌, ◌-◌, ◌^◌, ℕ, ◌↔◌, List, [], ◌∷◌, ◌++◌, Ok, Err, OnOk, OnErr, IfOk, IfErr, IsErrOf, length, take, drop, true, false};
 ghost use Rattle.std.specs.Io.KnownBytes.{Consumes, IsAtEnd, Keeps};
 ghost use Rattle.csv.specs.Reading.{default_config, records, strip_bom};
-ghost use Rattle.sk_model.specs.Causes.{Rose};
+ghost use Rattle.sk_model.specs.Causes.{HasCauseIn};
 ghost use Rattle.sk_read.specs.Records.{Row, complete_records_of};
 ghost use Rattle.sk_read.specs.Parts.{HasStarted, HasTaken, Takes, Holds, IsOfSource, IsWithoutMark, mark, remaining_of, is_mark_front};
 ghost use Rattle.sk_model.specs.Limits.{source_limit};
@@ -41,13 +41,12 @@ impl Parts {
         ensures taken { IfOk result (λ parts. (taken : List ℕ) × Consumes (S.left source.old) (S.left source.new) taken × HasTaken parts [] taken) }
         ensures most { IfOk result (λ parts. parts.most ≡ most) }
         ensures end { IfOk result (λ parts. parts.ended ≡ true → IsAtEnd (S.left source.new) × (parts.taken < most)) }
-        ensures read_fault { IsErrOf result Fault.ReadFault → Rose (S.faults source.old) (S.faults source.new) }
         ensures read_fault_at { IsErrOf result Fault.ReadFault → (taken : List ℕ) × Consumes (S.left source.old) (S.left source.new) taken
             × (length taken < most) × (complete_records_of taken ≡ []) }
         ensures too_much { IsErrOf result Fault.TooMuch → (taken : List ℕ) × Consumes (S.left source.old) (S.left source.new) taken
             × (length taken ≡ most) × (complete_records_of taken ≡ []) }
         ensures err { IfErr result IsOfSource }
-        ensures later { S.faults source.old ≤ S.faults source.new }
+        ensures cause { HasCauseIn Fault.ReadFault (S.faults source.old) (S.faults source.new) result }
         ensures stays { S.stands_on source.new ≡ S.stands_on source.old }
     {
         let mut bytes = Vec::new(alloc);
@@ -89,11 +88,10 @@ impl Parts {
         requires open { self.old.ended ≡ false }
         ensures holds { OnOk result ((more : List ℕ) × Consumes (S.left source.old) (S.left source.new) more × Holds self.old self.new more × (length more ≤ room)) }
         ensures end { OnOk result (self.new.ended ≡ true → IsAtEnd (S.left source.new)) }
-        ensures read_fault { IsErrOf result Fault.ReadFault → Rose (S.faults source.old) (S.faults source.new) × (self.old.taken < self.old.most)
-            × Keeps (S.left source.old) (S.left source.new) }
+        ensures read_fault { IsErrOf result Fault.ReadFault → (self.old.taken < self.old.most) × Keeps (S.left source.old) (S.left source.new) }
         ensures too_much { IsErrOf result Fault.TooMuch → (self.old.taken ≡ self.old.most) × Keeps (S.left source.old) (S.left source.new) }
         ensures err { IfErr result IsOfSource }
-        ensures later { S.faults source.old ≤ S.faults source.new }
+        ensures cause { HasCauseIn Fault.ReadFault (S.faults source.old) (S.faults source.new) result }
         ensures stays { S.stands_on source.new ≡ S.stands_on source.old }
     {
         let room = (self.most - self.taken).min(room as u64) as usize;
@@ -117,7 +115,6 @@ impl Parts {
             → self.new.ended ≡ true → IsAtEnd (S.left source.new) × (self.new.taken < self.new.most)) }
         ensures most { OnOk result (self.new.most ≡ self.old.most) }
         ensures remaining { OnOk result (remaining_of self.new ≡ remaining_of self.old) }
-        ensures read_fault { IsErrOf result Fault.ReadFault → Rose (S.faults source.old) (S.faults source.new) }
         ensures read_fault_at { IsErrOf result Fault.ReadFault → (more : List ℕ) × Consumes (S.left source.old) (S.left source.new) more
             × ((rows : List Row) (taken : List ℕ) → HasTaken self.old rows taken
             → (complete_records_of (taken ++ more) ≡ rows) × (length (taken ++ more) < self.old.most)) }
@@ -125,7 +122,7 @@ impl Parts {
             × ((rows : List Row) (taken : List ℕ) → HasTaken self.old rows taken
             → (complete_records_of (taken ++ more) ≡ rows) × (length (taken ++ more) ≡ self.old.most)) }
         ensures err { IfErr result IsOfSource }
-        ensures later { S.faults source.old ≤ S.faults source.new }
+        ensures cause { HasCauseIn Fault.ReadFault (S.faults source.old) (S.faults source.new) result }
         ensures stays { S.stands_on source.new ≡ S.stands_on source.old }
     {
         'piece: while self.cut == 1 {

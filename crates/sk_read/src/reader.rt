@@ -1,7 +1,7 @@
 // The lines of a source.
 ghost use Rattle.std.specs.Prelude.{◌≡◌, ◌≤◌, ◌<◌, ◌+◌, ◌-◌, ◌^◌, ℕ, List, [], ◌∷◌, ◌++◌, Ok, Err, OnOk, OnErr, IfOk, IsErrOf, ◌≢◌, length, true, false, vec_len};
 ghost use Rattle.std.specs.Io.KnownBytes.{Consumes, IsAtEnd, Keeps};
-ghost use Rattle.sk_model.specs.Causes.{Rose};
+ghost use Rattle.sk_model.specs.Causes.{HasCauseIn};
 ghost use Rattle.sk_model.specs.Lines.{lines_of};
 ghost use Rattle.sk_lines.specs.declared.cutter.Next.TheVariants as next;
 ghost use Rattle.sk_read.specs.Reading.{HasGiven, GivesLine, GivesNext, GivesNone, Stands, Stops, IsLongNext, IsLongLast, FindsLong, Feeds, remaining_of};
@@ -85,11 +85,11 @@ impl LineReader {
         ensures fed { IfOk result (λ fed. (more : List ℕ) × Consumes (S.left source.old) (S.left source.new) more × Feeds self.old self.new more) }
         ensures some { result ≡ Ok true → (self.old.taken < self.new.taken) × (self.new.taken ≤ self.new.most) }
         ensures end { result ≡ Ok false → IsAtEnd (S.left source.new) × (self.new ≡ self.old) × (self.new.taken < self.new.most) }
-        ensures read_fault { IsErrOf result LineFault.ReadFault → Rose (S.faults source.old) (S.faults source.new) × (self.old.taken < self.old.most) }
+        ensures read_fault { IsErrOf result LineFault.ReadFault → (self.old.taken < self.old.most) }
         ensures too_much { IsErrOf result LineFault.TooMuch → self.old.taken ≡ self.old.most }
         ensures err { OnErr result ((self.new ≡ self.old) × Keeps (S.left source.old) (S.left source.new)) }
         ensures no_long { (n : ℕ) → result ≢ Err (LineFault.LongLine n) }
-        ensures later { S.faults source.old ≤ S.faults source.new }
+        ensures cause { HasCauseIn LineFault.ReadFault (S.faults source.old) (S.faults source.new) result }
         ensures stays { S.stands_on source.new ≡ S.stands_on source.old }
     {
         let room = (self.most - self.taken).min(PIECE_LEN as u64) as usize;
@@ -160,7 +160,6 @@ impl LineReader {
         ensures ended { result ≡ Ok false → self.new.ended ≡ true }
         ensures long_line { (n : ℕ) → result ≡ Err (LineFault.LongLine n) → (more : List ℕ) × Consumes (S.left source.old) (S.left source.new) more
             × FindsLong self.old more (S.left source.new) n }
-        ensures read_fault { IsErrOf result LineFault.ReadFault → Rose (S.faults source.old) (S.faults source.new) }
         ensures read_fault_at { IsErrOf result LineFault.ReadFault → (more : List ℕ) × Consumes (S.left source.old) (S.left source.new) more
             × Stops self.old self.new more × (self.new.taken < self.new.most) }
         ensures too_much { IsErrOf result LineFault.TooMuch → (more : List ℕ) × Consumes (S.left source.old) (S.left source.new) more
@@ -169,7 +168,7 @@ impl LineReader {
         ensures bound { OnOk result (self.new.taken ≤ self.new.most) }
         ensures limit { self.new.cutter.limit ≡ self.old.cutter.limit }
         ensures most { self.new.most ≡ self.old.most }
-        ensures later { S.faults source.old ≤ S.faults source.new }
+        ensures cause { HasCauseIn LineFault.ReadFault (S.faults source.old) (S.faults source.new) result }
         ensures stays { S.stands_on source.new ≡ S.stands_on source.old }
     {
         'piece: loop {

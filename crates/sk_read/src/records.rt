@@ -1,7 +1,7 @@
 // The items in a column of a source's records.
 ghost use Rattle.std.specs.Prelude.{◌≡◌, ◌≤◌, ◌<◌, ◌-◌, ◌^◌, ℕ, List, [], Err, OnOk, IfOk, IfSome, IsErrOf, length, take};
 ghost use Rattle.std.specs.Io.KnownBytes.{Consumes, IsAtEnd};
-ghost use Rattle.sk_model.specs.Causes.{Rose};
+ghost use Rattle.sk_model.specs.Causes.{HasCauseIn};
 ghost use Rattle.sk_read.specs.Items.{items_by};
 ghost use Rattle.sk_read.specs.Records.{records_of, complete_records_of, AreGoodRows, fields_in, IsLongRow, IsBadRow, IsUnevenRow};
 ghost use Rattle.sk_read.specs.Table.{items_in};
@@ -35,7 +35,6 @@ pub(crate) fn read_records<S: Source, T: Taker>(
         IsBadRow plan.now.kind plan.now.column n (records_of text) × T.stands_for taker.new (items_by plan.now.kind (take (n - 1) (fields_in plan.now.column (records_of text))))) }
     ensures bad_csv { (n : ℕ) → result ≡ Err (Fault.BadCsv n) → IfSome (S.left source.old) (λ text.
         IsUnevenRow plan.now.kind plan.now.column n (records_of text) × T.stands_for taker.new (items_by plan.now.kind (take (n - 1) (fields_in plan.now.column (records_of text))))) }
-    ensures read_fault { IsErrOf result Fault.ReadFault → Rose (S.faults source.old) (S.faults source.new) }
     ensures read_fault_at { IsErrOf result Fault.ReadFault → (taken : List ℕ) × Consumes (S.left source.old) (S.left source.new) taken
         × (length taken < plan.now.most) × AreGoodRows plan.now.kind plan.now.column (complete_records_of taken)
         × T.stands_for taker.new (items_in plan.now.kind plan.now.column (complete_records_of taken)) }
@@ -44,7 +43,7 @@ pub(crate) fn read_records<S: Source, T: Taker>(
         × T.stands_for taker.new (items_in plan.now.kind plan.now.column (complete_records_of taken)) }
     ensures memory { IsErrOf result Fault.OutOfMemory → IfSome (S.left source.old) (λ text.
         (n : ℕ) × T.stands_for taker.new (items_by plan.now.kind (take n (fields_in plan.now.column (records_of text))))) }
-    ensures later { S.faults source.old ≤ S.faults source.new }
+    ensures cause { HasCauseIn Fault.ReadFault (S.faults source.old) (S.faults source.new) result }
     ensures stays { S.stands_on source.new ≡ S.stands_on source.old }
     ensures numbers { T.numbers taker.new ≡ T.numbers taker.old }
 {

@@ -12,8 +12,8 @@ ghost use Rattle.sk_model.specs.Limits.{most_kept};
 
 use crate::items::{Fault, Intake, Taker, take_unit};
 use crate::kind::Kind;
-use crate::reader::LINE_LIMIT;
 use csv::{ByteRecord, Reader, ReaderBuilder};
+use sk_model::limits::LINE_LIMIT;
 use std::alloc::Global;
 
 // A column of records: how its fields become items, how many fields each record has, and how many

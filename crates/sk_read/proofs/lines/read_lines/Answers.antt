@@ -1,4 +1,4 @@
-use Rattle.std.proofs.Common.{◌≡◌, ◌<◌, ◌+◌, ◌^◌, ℕ, List, ◌++◌, ◌∷◌, [], length, take, Ok, Err, Bool, IsNone, true, false, refl, sym, ap, ◌∙◌, subst, arith, length-append}
+use Rattle.std.proofs.Common.{◌≡◌, ◌<◌, ◌+◌, ℕ, List, ◌++◌, ◌∷◌, [], length, take, Ok, Err, Bool, IsNone, true, false, refl, sym, ap, ◌∙◌, subst, arith, length-append}
 use Rattle.std.proofs.lemmas.Bool.{false≢true}
 use Rattle.std.proofs.lemmas.List.Elements.{All-append, All-cons, All-nil}
 use Rattle.std.specs.Option.{IfSome}
@@ -8,11 +8,11 @@ use Rattle.sk_read.specs.declared.reader.LineFault.{LineFault}
 use Rattle.sk_read.specs.declared.items.Fault.TheVariants as fault
 use Rattle.sk_read.specs.Items.{items_by, item_of, IsGood}
 use Rattle.sk_read.specs.Reading.{ComesLong}
+use Rattle.sk_read.proofs.CauseLaws.{steady_ok}
 use Rattle.sk_read.proofs.FaultLaws.{given_fault, long_is, read_fault_is, too_much_is, bad_is}
 use Rattle.sk_read.proofs.ItemLaws.{no_items, by_told, long_at, bad_at, stood, has_few, has_begun, read_whole}
 use Rattle.sk_read.proofs.lines.read_lines.Goals as goal
 use Rattle.sk_model.specs.Limits.{source_limit}
-use Rattle.sk_model.specs.Missing.{longer}
 
 pub returns-in_err-reader-clause-memory : goal.returns-in_err-reader-clause-memory
 returns-in_err-reader-clause-memory g c = λ err.
@@ -31,7 +31,7 @@ line-init g c = record {
   limit = c.in_ok-reader.ensures.limit;
   most = c.in_ok-reader.ensures.most;
   end = λ ended. absurd (false≢true (sym c.in_ok-reader.ensures.open ∙ ended));
-  later = omega arith;
+  steady = refl;
   stays = refl;
   numbers = refl;
 }
@@ -107,7 +107,7 @@ line-preserved g c =
       limit = c.next.ensures.limit ∙ inv.limit;
       most = c.next.ensures.most ∙ inv.most;
       end = c.next.ensures.end inv.end;
-      later = omega (arith, c.next.ensures.later, inv.later);
+      steady = steady_ok _ _ _ _ _ c.next.ensures.cause c.in_ok-next.was ∙ inv.steady;
       stays = c.next.ensures.stays ∙ inv.stays;
       numbers = c.take_unit.ensures.numbers ∙ inv.numbers;
     }

@@ -1,4 +1,4 @@
-use Rattle.std.proofs.Common.{◌≡◌, ◌≤◌, List, ℕ, true, All}
+use Rattle.std.proofs.Common.{◌≡◌, List, ℕ, true, All}
 use Rattle.std.specs.Io.KnownBytes.{Consumes, IsAtEnd}
 use Rattle.sk_read.specs.Items.{items_by, IsGood}
 use Rattle.sk_read.specs.Reading.{HasGiven, remaining_of}
@@ -16,7 +16,7 @@ invariant-line g l = record {
   limit : l.reader.cutter.limit ≡ line_limit;
   most : l.reader.most ≡ l.most;
   end : l.reader.ended ≡ true → IsAtEnd (g.S.Source.left l.source);
-  later : g.S.Source.faults l.initial.source ≤ g.S.Source.faults l.source;
+  steady : g.S.Source.faults l.source ≡ g.S.Source.faults l.initial.source;
   stays : g.S.Source.stands_on l.source ≡ g.S.Source.stands_on l.initial.source;
   numbers : g.T.Taker.numbers l.taker ≡ g.T.Taker.numbers l.initial.taker;
 }

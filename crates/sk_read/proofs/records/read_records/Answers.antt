@@ -1,4 +1,4 @@
-use Rattle.std.proofs.Common.{◌≡◌, ◌<◌, ◌≤◌, ◌+◌, ◌^◌, ℕ, List, [], ◌++◌, length, take, Ok, Err, Bool, false, refl, sym, ap, ◌∙◌, subst, arith}
+use Rattle.std.proofs.Common.{◌≡◌, ◌<◌, ◌≤◌, ◌+◌, ℕ, List, [], ◌++◌, length, take, Ok, Err, Bool, false, refl, sym, ap, ◌∙◌, subst, arith}
 use Rattle.std.proofs.KnownBytes.{Consumes-trans}
 use Rattle.csv.specs.Reading.{default_config, records}
 use Rattle.sk_read.specs.declared.kind.Kind.{Kind}
@@ -6,6 +6,7 @@ use Rattle.sk_read.specs.declared.items.Fault.{Fault}
 use Rattle.sk_read.specs.Items.{items_by}
 use Rattle.sk_read.specs.Records.{Row, records_of, fields_in, AreGoodRows}
 use Rattle.sk_read.specs.Table.{items_in, HasRows, Ends}
+use Rattle.sk_read.proofs.CauseLaws.{steady_ok}
 use Rattle.sk_read.proofs.FaultLaws.{given_fault}
 use Rattle.sk_read.proofs.ItemLaws.{no_items, by_told, read_whole}
 use Rattle.sk_read.proofs.RowLaws.{under_same}
@@ -64,7 +65,7 @@ part-init g c =
       column = c.new-table.ensures.column;
       most = start.most;
       end = λ over. let at = start.end over in (at.0, omega (arith, at.1, start.most));
-      later = start.later;
+      steady = steady_ok _ _ _ _ _ c.start.ensures.cause c.in_ok-parts.was;
       stays = start.stays;
       numbers = refl;
     }
@@ -181,8 +182,11 @@ returns-in_err-give-clause-bad_item g c = λ n is. (at_whole g c).bad n (given_f
 pub returns-in_err-give-clause-bad_csv : goal.returns-in_err-give-clause-bad_csv
 returns-in_err-give-clause-bad_csv g c = λ n is. (at_whole g c).uneven n (given_fault _ _ _ c.from_residual-in_err-give.ensures.1 is)
 
-pub returns-in_err-give-clause-read_fault : goal.returns-in_err-give-clause-read_fault
-returns-in_err-give-clause-read_fault g c = λ is. absurd ((at_whole g c).no_read_fault (given_fault _ _ _ c.from_residual-in_err-give.ensures.1 is))
+pub returns-in_err-give-clause-cause : goal.returns-in_err-give-clause-cause
+returns-in_err-give-clause-cause g c = record {
+  steady = λ _. steady_ok _ _ _ _ _ c.refill.ensures.cause c.in_ok-refill.was ∙ c.part.invariant.steady;
+  failed = λ is. absurd ((at_whole g c).no_read_fault (given_fault _ _ _ c.from_residual-in_err-give.ensures.1 is));
+}
 
 pub returns-in_err-give-clause-read_fault_at : goal.returns-in_err-give-clause-read_fault_at
 returns-in_err-give-clause-read_fault_at g c = λ is. absurd ((at_whole g c).no_read_fault (given_fault _ _ _ c.from_residual-in_err-give.ensures.1 is))
@@ -223,8 +227,11 @@ returns-in_err-give-2-clause-bad_item g c = λ n is. (at_rest g c).bad n (given_
 pub returns-in_err-give-2-clause-bad_csv : goal.returns-in_err-give-2-clause-bad_csv
 returns-in_err-give-2-clause-bad_csv g c = λ n is. (at_rest g c).uneven n (given_fault _ _ _ c.from_residual-in_err-give-2.ensures.1 is)
 
-pub returns-in_err-give-2-clause-read_fault : goal.returns-in_err-give-2-clause-read_fault
-returns-in_err-give-2-clause-read_fault g c = λ is. absurd ((at_rest g c).no_read_fault (given_fault _ _ _ c.from_residual-in_err-give-2.ensures.1 is))
+pub returns-in_err-give-2-clause-cause : goal.returns-in_err-give-2-clause-cause
+returns-in_err-give-2-clause-cause g c = record {
+  steady = λ _. steady_ok _ _ _ _ _ c.refill.ensures.cause c.in_ok-refill.was ∙ c.part.invariant.steady;
+  failed = λ is. absurd ((at_rest g c).no_read_fault (given_fault _ _ _ c.from_residual-in_err-give-2.ensures.1 is));
+}
 
 pub returns-in_err-give-2-clause-read_fault_at : goal.returns-in_err-give-2-clause-read_fault_at
 returns-in_err-give-2-clause-read_fault_at g c = λ is. absurd ((at_rest g c).no_read_fault (given_fault _ _ _ c.from_residual-in_err-give-2.ensures.1 is))
@@ -265,7 +272,7 @@ part-preserved g c =
       end = λ over.
           let at = c.in_ok-refill.ensures.end inv.end (sym c.drop_whole.ensures.same.2 ∙ over) in
           (at.0, omega (arith, at.1, c.drop_whole.ensures.same.0, c.drop_whole.ensures.same.1));
-      later = omega (arith, c.in_ok-refill.ensures.later, inv.later);
+      steady = steady_ok _ _ _ _ _ c.refill.ensures.cause c.in_ok-refill.was ∙ inv.steady;
       stays = c.in_ok-refill.ensures.stays ∙ inv.stays;
       numbers = c.give.ensures.numbers ∙ inv.numbers;
     }

@@ -1,4 +1,4 @@
-use Rattle.std.proofs.Common.{◌≡◌, ◌≤◌, ◌<◌, List, ℕ, true}
+use Rattle.std.proofs.Common.{◌≡◌, ◌<◌, List, ℕ, true}
 use Rattle.std.specs.Io.KnownBytes.{Consumes, IsAtEnd}
 use Rattle.sk_read.specs.Records.{Row}
 use Rattle.sk_read.specs.Parts.{HasTaken, remaining_of}
@@ -17,7 +17,7 @@ invariant-part g l = record {
   column : l.table.column ≡ l.plan.column;
   most : l.parts.most ≡ l.plan.most;
   end : l.parts.ended ≡ true → IsAtEnd (g.S.Source.left l.source) × (l.parts.taken < l.parts.most);
-  later : g.S.Source.faults l.fn.source ≤ g.S.Source.faults l.source;
+  steady : g.S.Source.faults l.source ≡ g.S.Source.faults l.fn.source;
   stays : g.S.Source.stands_on l.source ≡ g.S.Source.stands_on l.fn.source;
   numbers : g.T.Taker.numbers l.taker ≡ g.T.Taker.numbers l.fn.taker;
 }

@@ -1,4 +1,4 @@
-use Rattle.std.proofs.Common.{ℕ, ◌<◌, Option, sym, subst}
+use Rattle.std.proofs.Common.{ℕ, Option, sym, subst}
 use Rattle.std.specs.Option.{IfSome}
 use Rattle.sk_model.proofs.Numbers.{number_below}
 use Rattle.sk_read.proofs.kind.Kind.item.Goals as goal

@@ -5,6 +5,7 @@ use Rattle.sk_read.specs.Places.{state_of, IsCut}
 use Rattle.sk_read.specs.Parts.{HasTaken}
 use Rattle.sk_read.specs.declared.parts.Parts.{Parts}
 use Rattle.sk_read.specs.declared.place.Place.{Place}
+use Rattle.sk_read.proofs.CauseLaws.{steady_ok}
 use Rattle.sk_read.proofs.FaultLaws.{given_fault}
 use Rattle.sk_read.proofs.PartLaws.{consumes_still, complete_is, takes_more, behind_is}
 use Rattle.sk_read.proofs.parts.Parts.refill.Goals as goal
@@ -18,10 +19,10 @@ returns-in_err-take-clause-read_fault_at g c = λ is.
     let which = given_fault _ _ _ c.from_residual.ensures.1 is in
     let at = c.take.ensures.read_fault (c.in_err-take.was ∙ ap (λ (e : Fault). Err e) which) in (
       inv.more,
-      consumes_still _ _ _ inv.more inv.consumed at.2,
+      consumes_still _ _ _ inv.more inv.consumed at.1,
       λ rows taken has.
           let now = inv.takes rows taken has in
-          (complete_is c.piece.self rows (taken ++ inv.more) now c.piece-test.true c.if-self.false, omega (arith, now.count, at.1, inv.most)),
+          (complete_is c.piece.self rows (taken ++ inv.more) now c.piece-test.true c.if-self.false, omega (arith, now.count, at.0, inv.most)),
     )
 
 pub returns-in_err-take-clause-too_much : goal.returns-in_err-take-clause-too_much
@@ -70,7 +71,7 @@ piece-preserved-then-cut-gt0 g c =
       end = λ start over. (c.in_ok-take.ensures.end over, (holds.end over).1);
       most = holds.most ∙ inv.most;
       remaining = omega (arith, ap length holds.bytes, length-append c.piece.self.bytes.items more, holds.taken, holds.bound, holds.most, inv.remaining);
-      later = omega (arith, c.in_ok-take.ensures.later, inv.later);
+      steady = steady_ok _ _ _ _ _ c.take.ensures.cause c.in_ok-take.was ∙ inv.steady;
       stays = c.in_ok-take.ensures.stays ∙ inv.stays;
     }
 
@@ -103,6 +104,6 @@ piece-preserved g c =
       end = λ start over. (c.in_ok-take.ensures.end over, (holds.end over).1);
       most = holds.most ∙ inv.most;
       remaining = omega (arith, ap length holds.bytes, length-append c.piece.self.bytes.items more, holds.taken, holds.bound, holds.most, inv.remaining);
-      later = omega (arith, c.in_ok-take.ensures.later, inv.later);
+      steady = steady_ok _ _ _ _ _ c.take.ensures.cause c.in_ok-take.was ∙ inv.steady;
       stays = c.in_ok-take.ensures.stays ∙ inv.stays;
     }

@@ -1,4 +1,4 @@
-use Rattle.std.proofs.Common.{◌≡◌, ◌≤◌, ◌<◌, ◌-◌, ◌+◌, ℕ, List, true}
+use Rattle.std.proofs.Common.{◌≡◌, ◌<◌, ◌-◌, ◌+◌, ℕ, List, true}
 use Rattle.std.specs.Io.KnownBytes.{Consumes, IsAtEnd}
 use Rattle.sk_read.specs.Parts.{Takes, remaining_of}
 use Rattle.sk_read.proofs.PartLaws.{may_end}
@@ -13,7 +13,7 @@ invariant-piece g l = record {
       l.self.ended ≡ true → IsAtEnd (g.S.Source.left l.source) × (l.self.taken < l.self.most);
   most : l.self.most ≡ l.initial.self.most;
   remaining : remaining_of l.self ≡ remaining_of l.initial.self;
-  later : g.S.Source.faults l.initial.source ≤ g.S.Source.faults l.source;
+  steady : g.S.Source.faults l.source ≡ g.S.Source.faults l.initial.source;
   stays : g.S.Source.stands_on l.source ≡ g.S.Source.stands_on l.initial.source;
 }
 

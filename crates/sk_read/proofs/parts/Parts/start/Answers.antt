@@ -13,8 +13,8 @@ returns-in_err-take-clause-read_fault_at g c = λ is.
     let rest = behind_is 1 c.deref.result.now (10 ∷ []) inv.taken refl (c.deref.ensures.value ∙ inv.bytes) in
     let front : is_mark_front inv.taken ≡ true = ap is_mark_front (sym rest) ∙ sym c.may_be_mark.ensures ∙ c.if-may_be_mark.true in (
       inv.taken,
-      consumes_still _ _ _ inv.taken inv.consumed at.2,
-      omega (arith, inv.count, at.1, inv.most),
+      consumes_still _ _ _ inv.taken inv.consumed at.1,
+      omega (arith, inv.count, at.0, inv.most),
       none_complete inv.taken front,
     )
 

@@ -14,7 +14,7 @@ invariant-mark g l = record {
   cut : l.parts.cut ≡ 1;
   most : l.parts.most ≡ l.initial.parts.most;
   end : l.parts.ended ≡ true → IsAtEnd (g.S.Source.left l.source) × (l.parts.taken < l.parts.most);
-  later : g.S.Source.faults l.initial.source ≤ g.S.Source.faults l.source;
+  steady : g.S.Source.faults l.source ≡ g.S.Source.faults l.initial.source;
   stays : g.S.Source.stands_on l.source ≡ g.S.Source.stands_on l.initial.source;
 }
 

@@ -3,6 +3,7 @@ use Rattle.std.proofs.lemmas.Bool.{false≢true}
 use Rattle.std.specs.Io.KnownBytes.{Consumes, IsAtEnd}
 use Rattle.std.proofs.KnownBytes.{Consumes-trans}
 use Rattle.sk_read.specs.Reading.{FindsLong}
+use Rattle.sk_read.proofs.CauseLaws.{steady_ok}
 use Rattle.sk_read.proofs.Readings.{Moves, moves_on, moves_fed, gives_next, gives_none, finds_long, finds_long_last, same_line}
 use Rattle.sk_read.proofs.reader.LineReader.next.Goals as goal
 
@@ -59,7 +60,7 @@ piece-preserved g c =
     record {
       moves = (before.0 ++ fed.0, Consumes-trans _ _ _ _ _ before.1 fed.1, moves);
       end = λ start ended. absurd (false≢true (sym (fed.2.ended ∙ c.cut.ensures.ended ∙ open_still) ∙ ended));
-      later = omega (arith, c.in_ok-refill.ensures.later, c.piece.invariant.later);
+      steady = steady_ok _ _ _ _ _ c.refill.ensures.cause c.in_ok-refill.was ∙ c.piece.invariant.steady;
       stays = c.in_ok-refill.ensures.stays ∙ c.piece.invariant.stays;
     }
 

@@ -1,4 +1,4 @@
-use Rattle.std.proofs.Common.{Bor, ◌≡◌, ◌+◌, ◌≤◌, ◌^◌, ℕ, List, [], ◌++◌, length, Some}
+use Rattle.std.proofs.Common.{Bor, ◌≡◌, ◌+◌, ◌≤◌, ℕ, List, [], ◌++◌, length, Some}
 use Rattle.csv.specs.Reading.{default_config, records, source_of}
 use Rattle.csv.specs.declared.parser.State.{State}
 use Rattle.csv.specs.declared.parser.State.TheVariants as st
