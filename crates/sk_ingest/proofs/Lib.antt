@@ -1,10 +1,8 @@
 pub mod Cuts
 pub mod Fields
 pub mod Blocks
-pub mod Kept
 pub mod Items
 pub mod Joined
-pub mod Idle
 pub mod Updaters
 pub mod Totals
 pub mod Feeding

@@ -9,8 +9,9 @@ use Rattle.sk_hub.specs.declared.answers.Update.{Update}
 use Rattle.sk_hub.specs.declared.answers.Update.TheVariants as update
 use Rattle.sk_hub.specs.Updaters.{UpdaterState, handed_of, base_of, kept_of, earlier_of, with_item, LooksInVain, HandsOver, Keeps, HandsWith}
 use Rattle.sk_hub.specs.Rounds.{IsElsewhere}
-use Rattle.sk_ingest.specs.Feeds.{AreKept, HoldsTold, GoesOn, KeepsNone, Takes}
-use Rattle.sk_ingest.proofs.Kept.{kept_append, kept_longer, kept_few, one_kept, one_dropped}
+use Rattle.sk_compose.specs.Kept.{AreKept}
+use Rattle.sk_ingest.specs.Feeds.{HoldsTold, GoesOn, KeepsNone, Takes}
+use Rattle.sk_compose.proofs.Kept.{kept_append, kept_longer, kept_few, one_kept, one_dropped}
 
 -- ---- its told value
 

@@ -8,11 +8,10 @@ ghost use Rattle.sk_read.specs.Items.{items_by, IsGood};
 ghost use Rattle.sk_read.specs.declared.kind.Kind.{Kind};
 ghost use Rattle.sk_ingest.specs.Blocks.{place_of};
 ghost use Rattle.sk_ingest.specs.Rounds.{block_of};
-ghost use Rattle.sk_ingest.specs.Feeds.{IsIdle, AreKept, Takes};
+ghost use Rattle.sk_ingest.specs.Feeds.{Takes};
 ghost use Rattle.sk_ingest.specs.Windows.{items_in};
 ghost use Rattle.sk_model.specs.Width.{AreItems};
 
-pub mod idle;
 pub mod totals;
 
 /// The first block begins at the first line.
@@ -46,24 +45,6 @@ pub fn items_of_good_lines()
 /// Items of lines are below the end of the items.
 pub fn items_of_lines_are_below()
     ensures { (kind : Kind) (lines : List (List ℕ)) → AreItems (items_in kind lines) }
-{}
-
-/// One item more at the end, which is kept.
-pub fn keeps_one_more()
-    ensures { (keeps : ℕ → ℕ → Bool) (hint : List Entry → ℕ) (base : List Entry) (items kept : List ℕ) (item : ℕ)
-        → AreKept keeps hint base items kept → AreKept keeps hint base (items ++ item ∷ []) (kept ++ item ∷ []) }
-{}
-
-/// One item more at the end, which is idle.
-pub fn drops_one_more()
-    ensures { (keeps : ℕ → ℕ → Bool) (hint : List Entry → ℕ) (base : List Entry) (items kept : List ℕ) (item : ℕ)
-        → IsIdle keeps hint base item → AreKept keeps hint base items kept → AreKept keeps hint base (items ++ item ∷ []) kept }
-{}
-
-/// What was kept of items stays, whatever the list comes to begin.
-pub fn kept_stays()
-    ensures { (keeps : ℕ → ℕ → Bool) (hint : List Entry → ℕ) (base longer : List Entry) (items kept : List ℕ)
-        → Begins base longer → AreKept keeps hint base items kept → AreKept keeps hint longer items kept }
 {}
 
 /// What an updater takes after other items, it takes with them.

@@ -1,7 +1,8 @@
 use Rattle.std.proofs.Common.{◌∙◌}
 use Rattle.sk_model.specs.Entries.{items_of_entries}
 use Rattle.sk_compose.specs.Numbers.{k_of}
-use Rattle.sk_ingest.proofs.Totals.{smallest_of_taken, same_word}
+use Rattle.sk_compose.proofs.Smallest.{same_word}
+use Rattle.sk_ingest.proofs.Totals.{smallest_of_taken}
 use Rattle.sk_ingest.proofs.laws.totals.the_word_is_of_all_that_was_taken.Goals as goal
 
 pub returns : goal.returns

@@ -2,8 +2,8 @@ use Rattle.std.proofs.Common.{◌∙◌, flat_map}
 use Rattle.std.specs.List.{range_with_len}
 use Rattle.sk_model.specs.Entries.{items_of_entries}
 use Rattle.sk_compose.specs.Numbers.{k_of}
-use Rattle.sk_ingest.proofs.Totals.{smallest_of_all, same_word}
-use Rattle.sk_ingest.proofs.laws.idle.the_word_is_of_all_items.Goals as goal
+use Rattle.sk_compose.proofs.Smallest.{smallest_of_all, same_word}
+use Rattle.sk_compose.proofs.laws.kept.the_word_is_of_all_items.Goals as goal
 
 pub returns : goal.returns
 returns g c = λ numbers list n items below small kept.

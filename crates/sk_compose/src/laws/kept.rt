@@ -1,15 +1,40 @@
-//! Items that were not kept change no reply.
-ghost use Rattle.std.specs.Prelude.{ℕ, List, ◌≡◌, ◌<◌, ◌++◌, All, Contains, flat_map};
+//! What items gave of which some were kept, by a hint.
+ghost use Rattle.std.specs.Prelude.{ℕ, Bool, List, [], ◌∷◌, ◌≡◌, ◌<◌, ◌≤◌, ◌++◌, length, All, Contains, flat_map};
 ghost use Rattle.std.specs.List.{range_with_len};
 ghost use Rattle.sk_model.specs.Entries.{Entry, entries_by, tagged};
 ghost use Rattle.sk_model.specs.Missing.{Begins};
 ghost use Rattle.sk_model.specs.Sketch.{packed_of};
-ghost use Rattle.sk_compose.specs.Numbers.{k_of};
-ghost use Rattle.sk_ingest.specs.Feeds.{AreKept};
 ghost use Rattle.sk_model.specs.Width.{AreItems};
+ghost use Rattle.sk_compose.specs.Kept.{IsFiltered, AreKept};
+ghost use Rattle.sk_compose.specs.Numbers.{k_of};
 
-use sk_compose::{Composable, ThetaKind};
+use crate::composable::Composable;
+use crate::theta_kind::ThetaKind;
 use std::marker::PhantomData;
+
+/// One item more at the end, which is kept.
+pub fn keeps_one_more()
+    ensures { (keeps : ℕ → ℕ → Bool) (hint : List Entry → ℕ) (base : List Entry) (items kept : List ℕ) (item : ℕ)
+        → AreKept keeps hint base items kept → AreKept keeps hint base (items ++ item ∷ []) (kept ++ item ∷ []) }
+{}
+
+/// One item more at the end, which is filtered.
+pub fn drops_one_more()
+    ensures { (keeps : ℕ → ℕ → Bool) (hint : List Entry → ℕ) (base : List Entry) (items kept : List ℕ) (item : ℕ)
+        → IsFiltered keeps hint base item → AreKept keeps hint base items kept → AreKept keeps hint base (items ++ item ∷ []) kept }
+{}
+
+/// What was kept of items stays, whatever the list comes to begin.
+pub fn kept_stays()
+    ensures { (keeps : ℕ → ℕ → Bool) (hint : List Entry → ℕ) (base longer : List Entry) (items kept : List ℕ)
+        → Begins base longer → AreKept keeps hint base items kept → AreKept keeps hint longer items kept }
+{}
+
+/// No more are kept than there were.
+pub fn kept_are_few()
+    ensures { (keeps : ℕ → ℕ → Bool) (hint : List Entry → ℕ) (base : List Entry) (items kept : List ℕ)
+        → AreKept keeps hint base items kept → length kept ≤ length items }
+{}
 
 /// Behind the base, items give the replies of those that were kept, whatever comes before and after them.
 pub fn kept_items_give_the_replies<C: Composable>(_sketch: PhantomData<C>)

@@ -3,7 +3,7 @@ use Rattle.std.proofs.Common.{ℕ, ◌≤◌, List, [], ◌∷◌, ◌++◌, len
 use Rattle.sk_model.specs.Entries.{Entry}
 use Rattle.sk_model.specs.Missing.{Begins}
 use Rattle.sk_model.proofs.Missing.{begins_trans}
-use Rattle.sk_ingest.specs.Feeds.{IsIdle, AreKept}
+use Rattle.sk_compose.specs.Kept.{IsFiltered, AreKept}
 
 pub kept_append : (keeps : ℕ → ℕ → Bool) (hint : List Entry → ℕ) (base : List Entry) (xs ys ks ls : List ℕ) → AreKept keeps hint base xs ks → AreKept keeps hint base ys ls → AreKept keeps hint base (xs ++ ys) (ks ++ ls)
 unfolding AreKept
@@ -15,7 +15,7 @@ pub one_kept : (keeps : ℕ → ℕ → Bool) (hint : List Entry → ℕ) (base 
 unfolding AreKept
 one_kept keeps hint base item = inr ([], refl, refl)
 
-pub one_dropped : (keeps : ℕ → ℕ → Bool) (hint : List Entry → ℕ) (base : List Entry) (item : ℕ) → IsIdle keeps hint base item → AreKept keeps hint base (item ∷ []) []
+pub one_dropped : (keeps : ℕ → ℕ → Bool) (hint : List Entry → ℕ) (base : List Entry) (item : ℕ) → IsFiltered keeps hint base item → AreKept keeps hint base (item ∷ []) []
 unfolding AreKept
 one_dropped keeps hint base item idle = inl (idle, refl)
 
@@ -24,11 +24,11 @@ pub keeps_last : (keeps : ℕ → ℕ → Bool) (hint : List Entry → ℕ) (bas
 keeps_last keeps hint base items kept item k = kept_append keeps hint base items (item ∷ []) kept (item ∷ []) k (one_kept keeps hint base item)
 
 -- one more, which is not
-pub drops_last : (keeps : ℕ → ℕ → Bool) (hint : List Entry → ℕ) (base : List Entry) (items kept : List ℕ) (item : ℕ) → IsIdle keeps hint base item → AreKept keeps hint base items kept → AreKept keeps hint base (items ++ item ∷ []) kept
+pub drops_last : (keeps : ℕ → ℕ → Bool) (hint : List Entry → ℕ) (base : List Entry) (items kept : List ℕ) (item : ℕ) → IsFiltered keeps hint base item → AreKept keeps hint base items kept → AreKept keeps hint base (items ++ item ∷ []) kept
 drops_last keeps hint base items kept item idle k = subst (AreKept keeps hint base (items ++ item ∷ [])) (append-nil kept) (kept_append keeps hint base items (item ∷ []) kept [] k (one_dropped keeps hint base item idle))
 
 -- what is idle by a list is so by each that begins with it
-pub idle_longer : (keeps : ℕ → ℕ → Bool) (hint : List Entry → ℕ) (base base' : List Entry) (item : ℕ) → Begins base base' → IsIdle keeps hint base item → IsIdle keeps hint base' item
+pub idle_longer : (keeps : ℕ → ℕ → Bool) (hint : List Entry → ℕ) (base base' : List Entry) (item : ℕ) → Begins base base' → IsFiltered keeps hint base item → IsFiltered keeps hint base' item
 idle_longer keeps hint base base' item b i = (i.0, begins_trans i.0 base base' i.1 b, i.2)
 
 pub kept_longer : (keeps : ℕ → ℕ → Bool) (hint : List Entry → ℕ) (base base' : List Entry) (items kept : List ℕ) → Begins base base' → AreKept keeps hint base items kept → AreKept keeps hint base' items kept

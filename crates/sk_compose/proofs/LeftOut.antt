@@ -1,15 +1,15 @@
 -- Items that were not kept, by any sketch.
-use Rattle.std.proofs.Common.{◌≡◌, inl, inr, ℕ, ◌<◌, Bool, false, List, [], ◌∷◌, ◌++◌, sym, ap, ◌∙◌, subst, append_assoc}
+use Rattle.std.proofs.Common.{◌≡◌, inl, inr, ℕ, Bool, false, List, [], ◌∷◌, ◌++◌, sym, ap, ◌∙◌, subst, append_assoc}
 use Rattle.std.proofs.lemmas.List.Elements.{All-head, All-tail}
 use Rattle.sk_model.specs.Entries.{Entry, tagged}
 use Rattle.sk_model.specs.Missing.{Begins}
 use Rattle.sk_model.proofs.Missing.{begins_trans, begins_more}
-use Rattle.sk_ingest.specs.Feeds.{IsIdle, AreKept}
+use Rattle.sk_compose.specs.Kept.{IsFiltered, AreKept}
 use Rattle.sk_model.specs.Width.{IsItem, AreItems}
 
 -- a reply that no idle item changes
 module _ (keeps : ℕ → ℕ → Bool) (hint reply : List Entry → ℕ) (same : (list more rest : List Entry) (i item : ℕ) → IsItem item → keeps (hint list) item ≡ false → reply ((list ++ more) ++ (i, item) ∷ rest) ≡ reply ((list ++ more) ++ rest)) where
-  one_left_out : (base list rest : List Entry) (i item : ℕ) → Begins base list → IsItem item → IsIdle keeps hint base item → reply (list ++ (i, item) ∷ rest) ≡ reply (list ++ rest)
+  one_left_out : (base list rest : List Entry) (i item : ℕ) → Begins base list → IsItem item → IsFiltered keeps hint base item → reply (list ++ (i, item) ∷ rest) ≡ reply (list ++ rest)
   one_left_out base list rest i item b small idle =
       let all = begins_trans idle.0 base list idle.1 b in
       subst (λ (l : List Entry). reply (l ++ (i, item) ∷ rest) ≡ reply (l ++ rest)) (sym all.1) (same idle.0 all.0 rest i item small idle.2)

@@ -1,5 +1,5 @@
-use Rattle.sk_ingest.proofs.Idle.{all_left_out}
-use Rattle.sk_ingest.proofs.laws.idle.kept_items_give_the_replies.Goals as goal
+use Rattle.sk_compose.proofs.LeftOut.{all_left_out}
+use Rattle.sk_compose.proofs.laws.kept.kept_items_give_the_replies.Goals as goal
 
 pub returns-clause-word : goal.returns-clause-word
 returns-clause-word g c = λ numbers. all_left_out g.C.Composable.keeps_of (g.C.Composable.hint_of numbers) (g.C.Composable.packed_of numbers)
