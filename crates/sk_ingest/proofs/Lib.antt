@@ -4,7 +4,11 @@ pub mod Blocks
 pub mod Items
 pub mod Joined
 pub mod Updaters
-pub mod Totals
+pub mod Shares
 pub mod Feeding
 pub mod Rounds
-pub mod Tables
+pub mod Calls
+pub mod Drained
+pub mod Room
+pub mod Moved
+pub mod New

@@ -1,14 +1,9 @@
 -- What it means that items were fed to an updater.
-use Rattle.std.specs.Prelude.{◌≡◌, ◌⊎◌, ℕ, ◌<◌, List, [], ◌∷◌, ◌++◌, length, Bool, false, not}
-use Rattle.sk_model.specs.Entries.{Entry, entries_by}
+use Rattle.std.specs.Prelude.{◌≡◌, ℕ, List, ◌++◌, length, Bool}
+use Rattle.sk_model.specs.Entries.{Entry}
 use Rattle.sk_model.specs.Missing.{Begins}
 use Rattle.sk_compose.specs.Kept.{AreKept}
-use Rattle.sk_gate.specs.Hands.{is_empty}
-use Rattle.sk_hub.specs.Updaters.{UpdaterState, base_of, handed_of, kept_of, earlier_of}
-
--- it holds a told value where it did, and no hand came since; or where something was handed over before its last hand
-abbrev pub HoldsTold : UpdaterState → UpdaterState → Type 0
-HoldsTold u u' = ((u'.news ≡ u.news) × (handed_of u' ≡ handed_of u) × (u'.last ≡ u.last)) ⊎ (u'.news ≡ not (is_empty (earlier_of u')))
+use Rattle.sk_hub.specs.Updaters.{UpdaterState, base_of, handed_of, kept_of, HoldsTold}
 
 -- the same updater, with longer lists: each begins with what it was
 pub record GoesOn (u u' : UpdaterState) : Type 0 where
@@ -22,6 +17,7 @@ pub record GoesOn (u u' : UpdaterState) : Type 0 where
   pub base : Begins (base_of u) (base_of u')
   pub handed : Begins (handed_of u) (handed_of u')
   pub seen : Begins u.view.seen u'.view.seen
+  pub steps : Begins u.view.steps u'.view.steps
   pub told : HoldsTold u u'
 
 -- it goes on, and has kept nothing more
@@ -35,8 +31,3 @@ pub record Takes (keeps : ℕ → ℕ → Bool) (hint_of : List ℕ → List Ent
   pub more : List ℕ
   pub kept : kept_of u' ≡ kept_of u ++ more
   pub of_items : AreKept keeps (hint_of u.view.numbers) (base_of u') items more
-
--- its buffer is full, and what it handed over is not all in its base
-pub record IsStuck (u : UpdaterState) : Type 0 where
-  pub full : length u.fill ≡ u.size
-  pub behind : length (entries_by u.number (base_of u)) < length (handed_of u)
