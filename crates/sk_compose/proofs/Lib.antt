@@ -1,1 +1,4 @@
-pub mod Filtered
+pub mod Batches
+pub mod Kept
+pub mod LeftOut
+pub mod Smallest

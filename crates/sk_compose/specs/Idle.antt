@@ -1,5 +1,5 @@
 -- What the sketch of the k smallest owes of an item that its hint does not keep.
-use Rattle.std.proofs.Common.{◌≡◌, ◌↔◌, ℕ, ◌+◌, ◌-◌, ◌*◌, ◌%◌, ◌<◌, ◌≤◌, true, false, List, ◌∷◌, ◌++◌, length, nat_lt, refl, sym, ap, ◌∙◌, arith, if◌then◌else◌, slice_index}
+use Rattle.std.proofs.Common.{◌≡◌, ◌↔◌, ℕ, ◌+◌, ◌-◌, ◌*◌, ◌%◌, ◌≤◌, true, false, List, ◌∷◌, ◌++◌, length, nat_lt, refl, sym, ap, ◌∙◌, arith, if◌then◌else◌, slice_index}
 use Rattle.std.proofs.lemmas.Bool.Decides.{nat_tests}
 use Rattle.sk_model.specs.Entries.{Entry, items_of_entries}
 use Rattle.sk_model.specs.Sketch.{k_smallest, theta_of, packed_of}

@@ -1,3 +1,4 @@
 pub mod Buffers
 pub mod Idle
+pub mod Kept
 pub mod Numbers

@@ -4,7 +4,6 @@
 mod buffer;
 mod composable;
 pub mod laws;
-pub mod round;
 mod theta;
 mod theta_kind;
 

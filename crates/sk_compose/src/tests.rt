@@ -2,10 +2,9 @@ ghost use Rattle.std.specs.Prelude.{◌≡◌, ◌≤◌, List, [], IfOk};
 ghost use Rattle.sk_model.specs.Entries.{Entry, items_of_entries};
 ghost use Rattle.sk_model.specs.Sketch.{packed_of, unpacked};
 ghost use Rattle.sk_compose.specs.Numbers.{k_of};
-ghost use Rattle.sk_model.specs.Limits.{most_size};
+ghost use Rattle.sk_model.specs.Width.{AreItems};
 
 use super::*;
-use crate::round::{Published, offer, serve};
 use sk_theta::{ITEM_END, Reply, Theta, unpack};
 use std::alloc::Global;
 use std::sync::Wait;
@@ -82,61 +81,58 @@ impl Composable for Tally {
     ghost idle_lists = { λ _ _ _ _ _ _ _ no. never no };
 }
 
-fn parcel<T: Drop>(alloc: Global, b: u32) -> Result<Parcel<T>, OutOfMemory>
-    requires least { 1 ≤ b }
-    requires most { b ≤ most_size }
-    ensures items { IfOk result (λ p. p.buffer.items ≡ []) }
-    ensures capacity { IfOk result (λ p. p.buffer.capacity ≡ b) }
+// A buffer of three items.
+fn three_items(alloc: Global, items: [u64; 3]) -> Result<Buffer, OutOfMemory>
+    requires fits { AreItems items }
+    ensures items { IfOk result (λ buffer. buffer.items ≡ items) }
 {
-    Ok(Parcel {
-        buffer: Buffer::new(alloc, b)?,
-        told: None,
-    })
+    let mut buffer = Buffer::new(alloc, 3)?;
+    buffer.push(items[0]);
+    buffer.push(items[1]);
+    buffer.push(items[2]);
+    Ok(buffer)
 }
 
 #[test]
 #[tactic(auto, unfolding(sk_model::specs::Entries::items_of_entries))]
 fn a_repeat_in_a_batch_counts_once(rt: HostRuntime) -> Result<(), Fail> {
     let mut sketch = Theta::new(rt.alloc(), 2)?;
-    let mut parcel = parcel(rt.alloc(), 3)?;
-    let published = offer(&rt, &mut sketch, 0, &[3, 5, 3], &mut parcel)?;
-    assert_eq!(rt; unpack(published.word), Reply { count: 2, theta: 5 });
-    assert_eq!(rt; published.hint, 5);
-    assert_eq!(rt; (parcel.buffer.len(), parcel.told), (0, Some(())));
-    Ok(())
-}
-
-#[test]
-#[tactic(auto, unfolding(sk_model::specs::Entries::items_of_entries))]
-fn an_idle_item_is_not_handed_over(rt: HostRuntime) -> Result<(), Fail> {
-    let mut sketch = Theta::new(rt.alloc(), 2)?;
-    let mut parcel = parcel(rt.alloc(), 2)?;
+    let mut batch = three_items(rt.alloc(), [3, 5, 3])?;
+    assert!(rt; batch.is_full());
     assert!(rt; Theta::early(sketch.hint()));
-    offer(&rt, &mut sketch, 0, &[0, 1], &mut parcel)?;
-    assert!(rt; !Theta::early(sketch.hint()));
-    round::fill::<Theta>(sketch.hint(), &[1, 7], &mut parcel.buffer);
-    assert_eq!(rt; parcel.buffer.len(), 0);
-    round::fill::<Theta>(sketch.hint(), &[0], &mut parcel.buffer);
-    assert_eq!(rt; parcel.buffer.items(), [0].as_slice());
+    Composable::merge(&mut sketch, &rt, 0, &batch)?;
+    assert_eq!(rt;
+        unpack(Composable::packed(&sketch)),
+        Reply { count: 2, theta: 5 }
+    );
+    assert_eq!(rt; sketch.hint(), 5);
+    assert!(rt; !Theta::early(5) && Theta::keeps(5, 4) && !Theta::keeps(5, 5));
+    batch.clear();
+    assert_eq!(rt; batch.len(), 0);
     Ok(())
 }
 
 #[test]
-#[tactic(auto, unfolding(sk_model::specs::Entries::items_of_entries))]
-fn a_refused_batch_is_merged_by_the_next_round(rt: HostRuntime) -> Result<(), Fail> {
+fn a_refused_batch_is_merged_when_it_comes_again(rt: HostRuntime) -> Result<(), Fail> {
     let mut tally = Tally {
         count: 0,
         refused: false,
     };
-    let mut parcel = parcel(rt.alloc(), 2)?;
-    let Err(OutOfMemory) = offer(&rt, &mut tally, 0, &[7, 9], &mut parcel) else {
+    let batch = three_items(rt.alloc(), [7, 9, 7])?;
+    let Err(OutOfMemory) = tally.merge(&rt, 0, &batch) else {
         panic!(rt; "the first merge was not refused");
     };
-    assert_eq!(rt; (parcel.buffer.len(), tally.packed()), (2, 0));
-    assert!(rt; parcel.buffer.is_full());
-    let published = serve(&rt, &mut tally, 0, &mut parcel)?;
-    assert_eq!(rt; published, Published { word: 2, hint: 1 });
-    assert_eq!(rt; (parcel.buffer.len(), parcel.told), (0, Some(2)));
+    assert_eq!(rt; (batch.items(), tally.packed()), ([7, 9, 7].as_slice(), 0));
+    tally.merge(&rt, 0, &batch)?;
+    let mut parcel = Parcel {
+        buffer: batch,
+        told: Some(tally.told()),
+    };
+    parcel.buffer.clear();
+    assert_eq!(rt;
+        (parcel.buffer.len(), parcel.told, tally.packed()),
+        (0, Some(3), 3)
+    );
     Ok(())
 }
 

@@ -3,7 +3,8 @@ use Rattle.std.proofs.Common.{◌≡◌, ℕ, ◌+◌, ◌-◌, ◌<◌, ◌≤�
 use Rattle.std.specs.List.{cons_option}
 use Rattle.std.specs.Option.{unwrap_or, IfSome}
 use Rattle.std.proofs.lemmas.Bool.{false≢true, lt-ltb}
-use Rattle.std.proofs.lemmas.List.{take_more, get_or-drop}
+use Rattle.std.proofs.Math.Seq.{take-add}
+use Rattle.std.proofs.lemmas.List.{take_more, get_or-drop, drop-drop}
 use Rattle.std.proofs.lemmas.List.Elements.{filter_map-append, All-nil, All-cons, All-head, All-tail}
 use Rattle.sk_read.specs.Items.{item_of, items_by, IsGood}
 use Rattle.sk_read.specs.declared.kind.Kind.{Kind}
@@ -80,3 +81,20 @@ pub items_below : (kind : Kind) (lines : List (List ℕ)) → AreItems (items_in
 unfolding items_in
 items_below kind [] = All-nil IsItem
 items_below kind (line ∷ lines) = one_below (item_in kind line) (items_in kind lines) (line_below kind line) (items_below kind lines)
+
+few_more : (o : Option ℕ) (items : List ℕ) (n : ℕ) → length items ≤ n → length (cons_option o items) ≤ n + 1
+few_more None items n few = omega arith
+few_more (Some x) items n few = omega arith
+
+pub few_items : (kind : Kind) (lines : List (List ℕ)) → length (items_in kind lines) ≤ length lines
+unfolding items_in
+few_items kind [] = omega arith
+few_items kind (line ∷ lines) = let few = few_more (item_in kind line) (items_in kind lines) (length lines) (few_items kind lines) in omega arith
+
+-- a slice is its part up to a place, and that from there
+pub range_split : {A : Type 0} (xs : List A) (from place to : ℕ) → from ≤ place → place ≤ to → slice_range xs from to ≡ slice_range xs from place ++ slice_range xs place to
+range_split xs from place to low high =
+    let whole : to - from ≡ (place - from) + (to - place) = omega arith in
+    let there : from + (place - from) ≡ place = omega arith in
+    ap (λ n. take n (drop from xs)) whole ∙ take-add (place - from) (to - place) (drop from xs)
+    ∙ ap (λ l. slice_range xs from place ++ take (to - place) l) (drop-drop (place - from) from xs ∙ ap (λ n. drop n xs) there)

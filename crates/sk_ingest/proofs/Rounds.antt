@@ -1,6 +1,6 @@
 -- Blocks that are fed at once.
-use Rattle.std.proofs.Common.{◌≡◌, ◌⊎◌, inl, inr, ℕ, ◌+◌, ◌-◌, ◌<◌, ◌≤◌, Bool, List, [], ◌∷◌, length, get_or, drop, slice_range, map, Result, Ok, Err, OnOk, OnErr, IsOk, IsErr, refl, sym, ap, subst, ◌∙◌, arith}
-use Rattle.std.proofs.lemmas.Bool.{false≢true, cases_lt}
+use Rattle.std.proofs.Common.{◌≡◌, ℕ, ◌+◌, ◌-◌, ◌<◌, ◌≤◌, Bool, List, [], ◌∷◌, length, get_or, drop, slice_range, map, Result, Ok, Err, OnOk, OnErr, IfOk, IsOk, IsErr, sym, ap, subst, ◌∙◌, arith}
+use Rattle.std.proofs.lemmas.Bool.{false≢true}
 use Rattle.std.proofs.lemmas.List.{get_or-map, length-map, length-take-le, length-drop, take-take, take_all}
 use Rattle.sk_model.specs.Entries.{Entry}
 use Rattle.sk_hub.specs.Updaters.{UpdaterState, kept_of}
@@ -60,7 +60,7 @@ err_gives (Ok x) is p = absurd (false≢true is)
 err_gives (Err e) is p = p
 
 -- one of them, and so the cause
-pub one_refused : {A E P : Type 0} (fed : A → Result (Unit {0}) E) (ys : List A) → ((i : ℕ) × (i < length ys) × ((d : A) → IsErr (fed (get_or ys i d)))) → ((i : ℕ) (d : A) → i < length ys → OnErr (fed (get_or ys i d)) P) → P
+pub one_refused : {A T E P : Type 0} (fed : A → Result T E) (ys : List A) → ((i : ℕ) × (i < length ys) × ((d : A) → IsErr (fed (get_or ys i d)))) → ((i : ℕ) (d : A) → i < length ys → OnErr (fed (get_or ys i d)) P) → P
 one_refused fed [] some each = let no : ⊥ = omega (arith, some.1) in absurd no
 one_refused fed (y ∷ ys) some each = err_gives (fed (get_or (y ∷ ys) some.0 y)) (some.2 y) (each some.0 y some.1)
 
@@ -71,7 +71,7 @@ room_at f lines xs i x inside is room =
     subst (λ n. length (kept_of (f x)) + length (block_of lines i n) ≤ most_kept) (length-map xs f)
     (subst (λ u. length (kept_of u) + length (block_of lines i (length (map f xs))) ≤ most_kept) (get_or-map f xs i x (f x) inside ∙ ap f (sym is)) at)
 
-pub all_take : {A E : Type 0} (f : A → UpdaterState) (fed : A → Result (Unit {0}) E) (keeps : ℕ → ℕ → Bool) (hint_of : List ℕ → List Entry → ℕ) (kind : Kind) (lines : List (List ℕ)) (xs ys : List A) → length ys ≡ length xs
+pub all_take : {A T E : Type 0} (f : A → UpdaterState) (fed : A → Result T E) (keeps : ℕ → ℕ → Bool) (hint_of : List ℕ → List Entry → ℕ) (kind : Kind) (lines : List (List ℕ)) (xs ys : List A) → length ys ≡ length xs
     → ((i : ℕ) (d : A) → i < length ys → IsOk (fed (get_or ys i d)))
     → ((i : ℕ) (d : A) → i < length xs → OnOk (fed (get_or ys i d)) (Takes keeps hint_of (f (get_or xs i d)) (items_in kind (block_of lines i (length xs))) (f (get_or ys i d))))
     → TakeBlocks keeps hint_of kind lines (map f xs) (map f ys)
@@ -87,16 +87,13 @@ all_front f keeps hint_of kind lines xs ys same each =
     of_images f (λ i. TakesFront keeps hint_of kind (block_of lines i (length (map f xs)))) xs ys same
     (λ i d inside. subst (λ n. TakesFront keeps hint_of kind (block_of lines i n) (f (get_or xs i d)) (f (get_or ys i d))) (sym (length-map xs f)) (each i d inside))
 
--- ---- the room of all
+-- ---- its block
 
-pub room_of_all : {A : Type 0} (f : A → UpdaterState) (lines : List (List ℕ)) (xs : List A) → ((i : ℕ) (d : A) → i < length xs → length (kept_of (f (get_or xs i d))) + length (block_of lines i (length xs)) ≤ most_kept) → HaveRoom lines (map f xs)
-room_of_all f lines xs each =
-    of_images f (λ i u u'. length (kept_of u) + length (block_of lines i (length (map f xs))) ≤ most_kept) xs xs refl
-    (λ i d inside. subst (λ n. length (kept_of (f (get_or xs i d))) + length (block_of lines i n) ≤ most_kept) (sym (length-map xs f)) (each i d inside))
-
-next_case : (P : ℕ → Type 0) (n : ℕ) → ((i : ℕ) → i < n → P i) → P n → (i : ℕ) → i < n + 1 → (i < n) ⊎ (n ≤ i) → P i
-next_case P n before now i below (inl less) = before i less
-next_case P n before now i below (inr more) = let same : n ≡ i = omega arith in subst P same now
-
-pub up_to_next : (P : ℕ → Type 0) (n : ℕ) → ((i : ℕ) → i < n → P i) → P n → (i : ℕ) → i < n + 1 → P i
-up_to_next P n before now i below = next_case P n before now i below (cases_lt i n)
+pub front_taken : {E : Type 0} (keeps : ℕ → ℕ → Bool) (hint_of : List ℕ → List Entry → ℕ) (kind : Kind) (lines : List (List ℕ)) (i n from to : ℕ) (u u' : UpdaterState) (r : Result ℕ E) → i < n → from ≡ place_of (length lines) i n → to ≡ place_of (length lines) (i + 1) n
+    → IfOk r (λ place. (from ≤ place) × (place ≤ to)) → IfOk r (λ place. Takes keeps hint_of u (items_in kind (slice_range lines from place)) u')
+    → OnErr r ((place : ℕ) × (from ≤ place) × (place ≤ to) × Takes keeps hint_of u (items_in kind (slice_range lines from place)) u')
+    → TakesFront keeps hint_of kind (block_of lines i n) u u'
+front_taken keeps hint_of kind lines i n from to u u' (Ok place) within low high inside taken refused =
+    takes_to keeps hint_of kind lines i n place u u' within (subst (λ p. p ≤ place) low inside.0) (subst (λ p. place ≤ p) high inside.1) (subst (λ p. Takes keeps hint_of u (items_in kind (slice_range lines p place)) u') low taken)
+front_taken keeps hint_of kind lines i n from to u u' (Err e) within low high inside taken refused =
+    takes_to keeps hint_of kind lines i n refused.0 u u' within (subst (λ p. p ≤ refused.0) low refused.1) (subst (λ p. refused.0 ≤ p) high refused.2) (subst (λ p. Takes keeps hint_of u (items_in kind (slice_range lines p refused.0)) u') low refused.3)

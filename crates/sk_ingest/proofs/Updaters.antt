@@ -2,15 +2,18 @@
 use Rattle.std.proofs.Common.{◌≡◌, ◌≢◌, ◌⊎◌, inl, inr, ℕ, ◌+◌, ◌-◌, ◌≤◌, List, [], ◌∷◌, ◌++◌, length, take, Bool, true, false, not, MatchBool, Result, Ok, Err, OnOk, OnErr, subst, sym, ap, refl, ◌∙◌, append-nil, append_assoc, length-append, arith}
 use Rattle.std.proofs.lemmas.List.{take_at}
 use Rattle.sk_model.specs.Entries.{Entry}
+use Rattle.sk_model.specs.Missing.{Begins}
 use Rattle.sk_model.proofs.Missing.{begins_trans, begins_refl}
 use Rattle.sk_gate.specs.Views.{mine_of}
 use Rattle.sk_gate.specs.Hands.{is_empty}
 use Rattle.sk_hub.specs.declared.answers.Update.{Update}
 use Rattle.sk_hub.specs.declared.answers.Update.TheVariants as update
-use Rattle.sk_hub.specs.Updaters.{UpdaterState, handed_of, base_of, kept_of, earlier_of, with_item, LooksInVain, HandsOver, Keeps, HandsWith}
-use Rattle.sk_hub.specs.Rounds.{IsElsewhere}
-use Rattle.sk_ingest.specs.Feeds.{AreKept, HoldsTold, GoesOn, KeepsNone, Takes}
-use Rattle.sk_ingest.proofs.Kept.{kept_append, kept_longer, kept_few, one_kept, one_dropped}
+use Rattle.sk_hub.specs.Updaters.{UpdaterState, handed_of, base_of, kept_of, earlier_of, HoldsTold, with_item, LooksInVain, HandsOver, Keeps, HandsWith}
+use Rattle.sk_machine.specs.declared.views.Move.TheVariants.{Look, Hand}
+use Rattle.sk_hub.specs.Rounds.{KnowsAsMuch}
+use Rattle.sk_compose.specs.Kept.{AreKept}
+use Rattle.sk_ingest.specs.Feeds.{GoesOn, KeepsNone, Takes}
+use Rattle.sk_compose.proofs.Kept.{kept_append, kept_longer, kept_few, one_kept, one_dropped}
 
 -- ---- its told value
 
@@ -30,7 +33,7 @@ earlier_handed hint_of u u' fill h =
 -- ---- it goes on
 
 goes_refl : (u : UpdaterState) → GoesOn u u
-goes_refl u = record { number = refl; size = refl; table = refl; eager = refl; name = refl; numbers = refl; sized = refl; base = begins_refl (base_of u); handed = begins_refl (handed_of u); seen = begins_refl u.view.seen; told = inl (refl, refl, refl) }
+goes_refl u = record { number = refl; size = refl; table = refl; eager = refl; name = refl; numbers = refl; sized = refl; base = begins_refl (base_of u); handed = begins_refl (handed_of u); seen = begins_refl u.view.seen; steps = begins_refl u.view.steps; told = inl (refl, refl, refl) }
 
 goes_trans : (u v w : UpdaterState) → GoesOn u v → GoesOn v w → GoesOn u w
 goes_trans u v w a b = record {
@@ -44,15 +47,16 @@ goes_trans u v w a b = record {
   base = begins_trans _ _ _ a.base b.base;
   handed = begins_trans _ _ _ a.handed b.handed;
   seen = begins_trans _ _ _ a.seen b.seen;
+  steps = begins_trans _ _ _ a.steps b.steps;
   told = told_trans u v w a.told b.told;
 }
 
 goes_with : (u : UpdaterState) (item : ℕ) → GoesOn u (with_item u item)
-goes_with u item = record { number = refl; size = refl; table = refl; eager = refl; name = refl; numbers = refl; sized = refl; base = begins_refl (base_of u); handed = begins_refl (handed_of u); seen = begins_refl u.view.seen; told = inl (refl, refl, refl) }
+goes_with u item = record { number = refl; size = refl; table = refl; eager = refl; name = refl; numbers = refl; sized = refl; base = begins_refl (base_of u); handed = begins_refl (handed_of u); seen = begins_refl u.view.seen; steps = begins_refl u.view.steps; told = inl (refl, refl, refl) }
 
 goes_in_vain : (u u' : UpdaterState) → LooksInVain u u' → GoesOn u u'
 goes_in_vain u u' l = subst (GoesOn u) (sym l.state)
-    (record { number = refl; size = refl; table = refl; eager = refl; name = refl; numbers = refl; sized = refl; base = begins_refl (base_of u); handed = begins_refl (handed_of u); seen = begins_refl u.view.seen; told = inl (refl, refl, refl) })
+    (record { number = refl; size = refl; table = refl; eager = refl; name = refl; numbers = refl; sized = refl; base = begins_refl (base_of u); handed = begins_refl (handed_of u); seen = begins_refl u.view.seen; steps = (Look u.number 0 ∷ [], refl); told = inl (refl, refl, refl) })
 
 goes_handed : (hint_of : List ℕ → List Entry → ℕ) (u u' : UpdaterState) (fill : List ℕ) → HandsOver hint_of u fill u' → GoesOn u u'
 goes_handed hint_of u u' fill h = record {
@@ -66,6 +70,7 @@ goes_handed hint_of u u' fill h = record {
   base = h.renewed.grows;
   handed = (u.fill, ap (λ v. (mine_of v).handed) h.view);
   seen = h.renewed.sees;
+  steps = (Look u.number u'.hint ∷ Hand u.number ∷ [], ap (λ v. v.steps) h.view);
   told = inr (ap (λ z. z.news) h.state ∙ ap (λ l. not (is_empty l)) (sym (earlier_handed hint_of u u' fill h)));
 }
 
@@ -77,11 +82,28 @@ none_refl u = record { goes = goes_refl u; kept = refl }
 pub none_trans : (u v w : UpdaterState) → KeepsNone u v → KeepsNone v w → KeepsNone u w
 none_trans u v w a b = record { goes = goes_trans u v w a.goes b.goes; kept = b.kept ∙ a.kept }
 
--- the turn was found with another seat
-pub elsewhere : (u u' : UpdaterState) (other : ℕ) → u' ≡ record u { view = u'.view } → IsElsewhere u.view other u'.view → KeepsNone u u'
-elsewhere u u' other stays e =
-    let all = stays ∙ ap (λ v. record u { view = v }) e in
-    subst (KeepsNone u) (sym all) (record { goes = record { number = refl; size = refl; table = refl; eager = refl; name = refl; numbers = refl; sized = refl; base = begins_refl (base_of u); handed = begins_refl (handed_of u); seen = begins_refl u.view.seen; told = inl (refl, refl, refl) }; kept = refl })
+same_begins : {A : Type 0} (xs ys : List A) → ys ≡ xs → Begins xs ys
+same_begins xs ys same = ([], same ∙ sym (append-nil xs))
+
+-- it tried to propagate
+pub helped : (u u' : UpdaterState) → u' ≡ record u { view = u'.view } → KnowsAsMuch u.view u'.view → KeepsNone u u'
+helped u u' stays knows = record {
+  goes = record {
+    number = ap (λ z. z.number) stays;
+    size = ap (λ z. z.size) stays;
+    table = ap (λ z. z.table) stays;
+    eager = ap (λ z. z.eager) stays;
+    name = ap (λ v. v.name) knows.view;
+    numbers = ap (λ v. v.numbers) knows.view;
+    sized = knows.sized;
+    base = same_begins (base_of u) (base_of u') (ap (λ v. (mine_of v).base) knows.view);
+    handed = same_begins (handed_of u) (handed_of u') (ap (λ v. (mine_of v).handed) knows.view);
+    seen = knows.grows;
+    steps = knows.later;
+    told = inl (ap (λ z. z.news) stays, ap (λ v. (mine_of v).handed) knows.view, ap (λ z. z.last) stays);
+  };
+  kept = ap (λ l. l ++ u'.fill) (ap (λ v. (mine_of v).handed) knows.view) ∙ ap (λ l. handed_of u ++ l) (ap (λ z. z.fill) stays);
+}
 
 -- ---- it takes items
 
@@ -109,6 +131,9 @@ pub takes_few : (keeps : ℕ → ℕ → Bool) (hint_of : List ℕ → List Entr
 takes_few keeps hint_of u u' xs t =
     let few = kept_few keeps (hint_of u.view.numbers) (base_of u') xs t.more t.of_items in
     let e = ap length t.kept in omega (arith, length-append (kept_of u) t.more)
+
+pub kept_begins : (keeps : ℕ → ℕ → Bool) (hint_of : List ℕ → List Entry → ℕ) (u u' : UpdaterState) (xs : List ℕ) → Takes keeps hint_of u xs u' → Begins (kept_of u) (kept_of u')
+kept_begins keeps hint_of u u' xs t = (t.more, t.kept)
 
 -- ---- an offer
 

@@ -1,27 +1,9 @@
 -- What it means that items were fed to an updater.
-use Rattle.std.specs.Prelude.{◌≡◌, ◌⊎◌, ℕ, ◌<◌, List, [], ◌∷◌, ◌++◌, length, Bool, false, not}
-use Rattle.sk_model.specs.Entries.{Entry, entries_by}
+use Rattle.std.specs.Prelude.{◌≡◌, ℕ, List, ◌++◌, length, Bool}
+use Rattle.sk_model.specs.Entries.{Entry}
 use Rattle.sk_model.specs.Missing.{Begins}
-use Rattle.sk_gate.specs.Hands.{is_empty}
-use Rattle.sk_hub.specs.Updaters.{UpdaterState, base_of, handed_of, kept_of, earlier_of}
-
--- ---- items
-
--- the hint of a list that this one begins with does not keep the item
-abbrev pub IsIdle : (ℕ → ℕ → Bool) → (List Entry → ℕ) → List Entry → ℕ → Type 0
-IsIdle keeps hint base item = (front : List Entry) × Begins front base × (keeps (hint front) item ≡ false)
-
--- of items, in order, exactly these were kept, and each other one is idle
-unfoldable pub AreKept : (ℕ → ℕ → Bool) → (List Entry → ℕ) → List Entry → List ℕ → List ℕ → Type 0
-AreKept keeps hint base [] kept = kept ≡ []
-AreKept keeps hint base (item ∷ items) kept = (IsIdle keeps hint base item × AreKept keeps hint base items kept)
-    ⊎ ((more : List ℕ) × (kept ≡ item ∷ more) × AreKept keeps hint base items more)
-
--- ---- an updater
-
--- it holds a told value where it did, and no hand came since; or where something was handed over before its last hand
-abbrev pub HoldsTold : UpdaterState → UpdaterState → Type 0
-HoldsTold u u' = ((u'.news ≡ u.news) × (handed_of u' ≡ handed_of u) × (u'.last ≡ u.last)) ⊎ (u'.news ≡ not (is_empty (earlier_of u')))
+use Rattle.sk_compose.specs.Kept.{AreKept}
+use Rattle.sk_hub.specs.Updaters.{UpdaterState, base_of, handed_of, kept_of, HoldsTold}
 
 -- the same updater, with longer lists: each begins with what it was
 pub record GoesOn (u u' : UpdaterState) : Type 0 where
@@ -35,6 +17,7 @@ pub record GoesOn (u u' : UpdaterState) : Type 0 where
   pub base : Begins (base_of u) (base_of u')
   pub handed : Begins (handed_of u) (handed_of u')
   pub seen : Begins u.view.seen u'.view.seen
+  pub steps : Begins u.view.steps u'.view.steps
   pub told : HoldsTold u u'
 
 -- it goes on, and has kept nothing more
@@ -42,14 +25,9 @@ pub record KeepsNone (u u' : UpdaterState) : Type 0 where
   pub goes : GoesOn u u'
   pub kept : kept_of u' ≡ kept_of u
 
--- it goes on, and of these items, in order, has kept each that is not idle by its base
+-- it goes on, and of these items, in order, has kept each that is not filtered by its base
 pub record Takes (keeps : ℕ → ℕ → Bool) (hint_of : List ℕ → List Entry → ℕ) (u : UpdaterState) (items : List ℕ) (u' : UpdaterState) : Type 0 where
   pub goes : GoesOn u u'
   pub more : List ℕ
   pub kept : kept_of u' ≡ kept_of u ++ more
   pub of_items : AreKept keeps (hint_of u.view.numbers) (base_of u') items more
-
--- its buffer is full, and what it handed over is not all in its base
-pub record IsStuck (u : UpdaterState) : Type 0 where
-  pub full : length u.fill ≡ u.size
-  pub behind : length (entries_by u.number (base_of u)) < length (handed_of u)

@@ -1,5 +1,7 @@
 pub mod Windows
 pub mod Blocks
 pub mod Feeds
+pub mod Calls
 pub mod Rounds
-pub mod Totals
+pub mod Shares
+pub mod Drained

@@ -8,6 +8,10 @@ use Rattle.sk_ingest.specs.Windows.{items_in}
 use Rattle.sk_ingest.specs.Feeds.{Takes}
 use Rattle.sk_model.specs.Limits.{most_kept}
 
+-- for how many updaters there is room
+pub record FeedersState : Type 0 where
+  pub most : ℕ
+
 -- the lines of block i of n
 abbrev pub block_of : List (List ℕ) → ℕ → ℕ → List (List ℕ)
 block_of lines i n = slice_range lines (place_of (length lines) i n) (place_of (length lines) (i + 1) n)
@@ -15,6 +19,10 @@ block_of lines i n = slice_range lines (place_of (length lines) i n) (place_of (
 -- each updater has room for its block
 abbrev pub HaveRoom : List (List ℕ) → List UpdaterState → Type 0
 HaveRoom lines us = (i : ℕ) (d : UpdaterState) → i < length us → length (kept_of (slice_index_or us i d)) + length (block_of lines i (length us)) ≤ most_kept
+
+-- each has room for so many items more
+abbrev pub HaveRoomFor : ℕ → List UpdaterState → Type 0
+HaveRoomFor count us = (i : ℕ) (d : UpdaterState) → i < length us → length (kept_of (slice_index_or us i d)) + count ≤ most_kept
 
 -- it took the items of the first of these lines
 abbrev pub TakesFront : (ℕ → ℕ → Bool) → (List ℕ → List Entry → ℕ) → Kind → List (List ℕ) → UpdaterState → UpdaterState → Type 0

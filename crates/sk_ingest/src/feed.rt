@@ -1,8 +1,9 @@
 //! How the items of a window's lines are fed to an updater.
-ghost use Rattle.std.specs.Prelude.{◌≡◌, ◌≢◌, ◌⊎◌, ℕ, ◌+◌, ◌-◌, ◌<◌, ◌≤◌, [], ◌∷◌, length, slice_index_or, slice_range, true, false, Ok, OnOk, OnErr, IfOk, IsSome, IsTrue};
+ghost use Rattle.std.specs.Prelude.{◌≡◌, ◌≢◌, ◌⊎◌, ℕ, ◌+◌, ◌-◌, ◌<◌, ◌≤◌, [], ◌∷◌, length, slice_index_or, slice_range, true, false, Ok, OnOk, OnErr, IfOk, IsTrue};
 ghost use Rattle.sk_hub.specs.Updaters.{kept_of};
 ghost use Rattle.sk_ingest.specs.Windows.{item_in, items_in};
-ghost use Rattle.sk_ingest.specs.Feeds.{KeepsNone, Takes, IsStuck};
+ghost use Rattle.sk_ingest.specs.Feeds.{KeepsNone, Takes};
+ghost use Rattle.sk_ingest.specs.Calls.{filter_of, IsFed, IsFedEach, IsStopped, IsBusyWith, Filters, Accepts, InsistsAfter, HelpsIfEager, ServesAfter, ServesAll, FindsElsewhere};
 ghost use Rattle.sk_model.specs.Width.{IsItem};
 ghost use Rattle.sk_model.specs.Limits.{most_kept};
 
@@ -10,8 +11,8 @@ use crate::window::Window;
 use crossbeam_utils::Backoff;
 use sk_compose::Composable;
 use sk_hub::{Help, Update, Updater};
-use sk_read::Kind;
 use sk_model::OutOfMemory;
+use sk_read::Kind;
 use std::sync::Wait;
 
 /// Feeds the items of the lines from one place up to another, in order, and answers the first place that was
@@ -32,8 +33,13 @@ pub fn feed_block<C: Composable, R: Wait>(
     ensures place { IfOk result (λ place. (from ≤ place) × (place ≤ to)) }
     ensures taken { IfOk result (λ place. Takes C.keeps_of C.hint_of u.old (items_in kind (slice_range w.now.lines from place)) u.new) }
     ensures all { IfOk result (λ place. help ≡ true → place ≡ to) }
-    ensures stuck { IfOk result (λ place. place < to → IsStuck u.new) }
-    ensures item { IfOk result (λ place. place < to → IsSome (item_in kind (slice_index_or w.now.lines place []))) }
+
+    // Below `to` it answers exactly where the updater was busy with the item of that very line.
+    ensures fed { IfOk result (λ place. place ≡ to
+        → IsFedEach (filter_of C.keeps_of C.early_of C.hint_of) help u.old (items_in kind (slice_range w.now.lines from to)) u.new) }
+    ensures busy { IfOk result (λ place. place < to
+        → IsStopped (filter_of C.keeps_of C.early_of C.hint_of) u.old (items_in kind (slice_range w.now.lines from place))
+        (item_in kind (slice_index_or w.now.lines place [])) u.new) }
     ensures refused { OnErr result ((place : ℕ) × (from ≤ place) × (place ≤ to)
         × Takes C.keeps_of C.hint_of u.old (items_in kind (slice_range w.now.lines from place)) u.new) }
     ensures helping { OnErr result (IsTrue help) }
@@ -59,9 +65,10 @@ fn feed_item<C: Composable, R: Wait>(
     requires item { IsItem item }
     requires room { length (kept_of u.old) < most_kept }
     ensures taken { result ≡ Ok true → Takes C.keeps_of C.hint_of u.old (item ∷ []) u.new }
-    ensures busy { result ≡ Ok false → help ≡ false }
+    ensures fed { result ≡ Ok true → IsFed (filter_of C.keeps_of C.early_of C.hint_of) help u.old item u.new }
+    ensures alone { result ≡ Ok false → help ≡ false }
+    ensures busy { result ≡ Ok false → IsBusyWith (filter_of C.keeps_of C.early_of C.hint_of) u.old item u.new }
     ensures none { result ≡ Ok false → KeepsNone u.old u.new }
-    ensures stuck { result ≡ Ok false → IsStuck u.new }
     ensures refused { OnErr result (KeepsNone u.old u.new ⊎ Takes C.keeps_of C.hint_of u.old (item ∷ []) u.new) }
     ensures helping { OnErr result (IsTrue help) }
     ensures cause { OnErr result (IsTrue C.TAKES_MEMORY) }
@@ -81,6 +88,7 @@ fn insist<C: Composable, R: Wait>(rt: &R, u: &mut Updater<C>, item: u64) -> Resu
     requires item { IsItem item }
     requires room { length (kept_of u.old) < most_kept }
     ensures taken { OnOk result (Takes C.keeps_of C.hint_of u.old (item ∷ []) u.new) }
+    ensures fed { OnOk result ((times : ℕ) × InsistsAfter (filter_of C.keeps_of C.early_of C.hint_of) times u.old item u.new) }
     ensures refused { OnErr result (KeepsNone u.old u.new ⊎ Takes C.keeps_of C.hint_of u.old (item ∷ []) u.new) }
     ensures cause { OnErr result (IsTrue C.TAKES_MEMORY) }
 {
@@ -100,7 +108,9 @@ fn offer<C: Composable>(u: &mut Updater<C>, item: u64) -> Update
     requires room { length (kept_of u.old) < most_kept }
     ensures taken { result ≢ Update.Busy → Takes C.keeps_of C.hint_of u.old (item ∷ []) u.new }
     ensures none { result ≡ Update.Busy → KeepsNone u.old u.new }
-    ensures stuck { result ≡ Update.Busy → IsStuck u.new }
+    ensures busy { result ≡ Update.Busy → IsBusyWith (filter_of C.keeps_of C.early_of C.hint_of) u.old item u.new }
+    ensures filtered { result ≡ Update.Filtered → Filters (filter_of C.keeps_of C.early_of C.hint_of) u.old item u.new }
+    ensures accepted { (result ≡ Update.Kept) ⊎ (result ≡ Update.Handed) → Accepts (filter_of C.keeps_of C.early_of C.hint_of) u.old item u.new }
 {
     // It tells the proof which list the hint is of.
     let _hint = u.hint();
@@ -110,6 +120,7 @@ fn offer<C: Composable>(u: &mut Updater<C>, item: u64) -> Update
 // Propagates once, if the updater is eager and no other seat propagates.
 fn help_if_eager<C: Composable, R: Wait>(rt: &R, u: &mut Updater<C>) -> Result<(), OutOfMemory>
     ensures none { KeepsNone u.old u.new }
+    ensures helped { OnOk result (HelpsIfEager (filter_of C.keeps_of C.early_of C.hint_of) u.old u.new) }
     ensures cause { OnErr result (IsTrue C.TAKES_MEMORY) }
 {
     if u.is_eager() {
@@ -121,6 +132,7 @@ fn help_if_eager<C: Composable, R: Wait>(rt: &R, u: &mut Updater<C>) -> Result<(
 // Propagates, and waits while another seat does.
 fn help_until_served<C: Composable, R: Wait>(rt: &R, u: &mut Updater<C>) -> Result<(), OutOfMemory>
     ensures none { KeepsNone u.old u.new }
+    ensures served { OnOk result ((times : ℕ) × ServesAfter times u.old u.new) }
     ensures cause { OnErr result (IsTrue C.TAKES_MEMORY) }
 {
     let backoff = Backoff::new();
@@ -136,6 +148,8 @@ fn help_until_served<C: Composable, R: Wait>(rt: &R, u: &mut Updater<C>) -> Resu
 // Propagates once, and answers whether no other seat did.
 fn help_once<C: Composable, R: Wait>(rt: &R, u: &mut Updater<C>) -> Result<bool, OutOfMemory>
     ensures none { KeepsNone u.old u.new }
+    ensures served { result ≡ Ok true → ServesAll u.old u.new }
+    ensures elsewhere { result ≡ Ok false → FindsElsewhere u.old u.new }
     ensures cause { OnErr result (IsTrue C.TAKES_MEMORY) }
 {
     match u.help(rt) {

@@ -1,19 +1,18 @@
 //! What follows from the definitions alone.
-ghost use Rattle.std.specs.Prelude.{ℕ, Bool, List, [], ◌∷◌, ◌≡◌, ◌<◌, ◌≤◌, ◌+◌, ◌++◌, All, flat_map};
+ghost use Rattle.std.specs.Prelude.{ℕ, Bool, List, ◌≡◌, ◌<◌, ◌≤◌, ◌+◌, ◌++◌, length, slice_range, All, flat_map};
 ghost use Rattle.std.specs.List.{range_with_len};
 ghost use Rattle.sk_model.specs.Entries.{Entry};
 ghost use Rattle.sk_model.specs.Missing.{Begins};
-ghost use Rattle.sk_hub.specs.Updaters.{UpdaterState};
+ghost use Rattle.sk_hub.specs.Updaters.{UpdaterState, kept_of};
 ghost use Rattle.sk_read.specs.Items.{items_by, IsGood};
 ghost use Rattle.sk_read.specs.declared.kind.Kind.{Kind};
 ghost use Rattle.sk_ingest.specs.Blocks.{place_of};
 ghost use Rattle.sk_ingest.specs.Rounds.{block_of};
-ghost use Rattle.sk_ingest.specs.Feeds.{IsIdle, AreKept, Takes};
+ghost use Rattle.sk_ingest.specs.Feeds.{Takes};
 ghost use Rattle.sk_ingest.specs.Windows.{items_in};
 ghost use Rattle.sk_model.specs.Width.{AreItems};
 
-pub mod idle;
-pub mod totals;
+pub mod shares;
 
 /// The first block begins at the first line.
 pub fn blocks_begin()
@@ -48,26 +47,34 @@ pub fn items_of_lines_are_below()
     ensures { (kind : Kind) (lines : List (List ℕ)) → AreItems (items_in kind lines) }
 {}
 
-/// One item more at the end, which is kept.
-pub fn keeps_one_more()
-    ensures { (keeps : ℕ → ℕ → Bool) (hint : List Entry → ℕ) (base : List Entry) (items kept : List ℕ) (item : ℕ)
-        → AreKept keeps hint base items kept → AreKept keeps hint base (items ++ item ∷ []) (kept ++ item ∷ []) }
-{}
-
-/// One item more at the end, which is idle.
-pub fn drops_one_more()
-    ensures { (keeps : ℕ → ℕ → Bool) (hint : List Entry → ℕ) (base : List Entry) (items kept : List ℕ) (item : ℕ)
-        → IsIdle keeps hint base item → AreKept keeps hint base items kept → AreKept keeps hint base (items ++ item ∷ []) kept }
-{}
-
-/// What was kept of items stays, whatever the list comes to begin.
-pub fn kept_stays()
-    ensures { (keeps : ℕ → ℕ → Bool) (hint : List Entry → ℕ) (base longer : List Entry) (items kept : List ℕ)
-        → Begins base longer → AreKept keeps hint base items kept → AreKept keeps hint longer items kept }
+/// No line has more than one item.
+pub fn items_are_few()
+    ensures { (kind : Kind) (lines : List (List ℕ)) → length (items_in kind lines) ≤ length lines }
 {}
 
 /// What an updater takes after other items, it takes with them.
 pub fn takes_add_up()
     ensures { (keeps : ℕ → ℕ → Bool) (hint_of : List ℕ → List Entry → ℕ) (u v w : UpdaterState) (items more : List ℕ)
         → Takes keeps hint_of u items v → Takes keeps hint_of v more w → Takes keeps hint_of u (items ++ more) w }
+{}
+
+/// Who took the items of a block up to a place, and then those from there, took the block's.
+pub fn parts_of_a_block_add_up()
+    ensures { (keeps : ℕ → ℕ → Bool) (hint_of : List ℕ → List Entry → ℕ) (kind : Kind) (lines : List (List ℕ))
+        (from place to : ℕ) (u v w : UpdaterState) → from ≤ place → place ≤ to
+        → Takes keeps hint_of u (items_in kind (slice_range lines from place)) v
+        → Takes keeps hint_of v (items_in kind (slice_range lines place to)) w
+        → Takes keeps hint_of u (items_in kind (slice_range lines from to)) w }
+{}
+
+/// What an updater had kept begins what it keeps later.
+pub fn kept_begins_later()
+    ensures { (keeps : ℕ → ℕ → Bool) (hint_of : List ℕ → List Entry → ℕ) (u u' : UpdaterState) (items : List ℕ)
+        → Takes keeps hint_of u items u' → Begins (kept_of u) (kept_of u') }
+{}
+
+/// Of so many items no more are kept.
+pub fn takes_few()
+    ensures { (keeps : ℕ → ℕ → Bool) (hint_of : List ℕ → List Entry → ℕ) (u u' : UpdaterState) (items : List ℕ)
+        → Takes keeps hint_of u items u' → length (kept_of u') ≤ length (kept_of u) + length items }
 {}

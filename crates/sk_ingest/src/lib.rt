@@ -2,17 +2,22 @@
 #![tactic(auto)]
 
 mod block;
+mod drain;
 mod feed;
 mod feeder;
+mod feeders;
 pub mod laws;
 mod window;
+mod word;
 
 pub use block::Block;
+pub use drain::drain_all;
 pub use feed::feed_block;
-pub use feeder::{Feeder, feed_window, feeders_of, have_room};
-pub use sk_read::Kind;
+pub use feeders::Feeders;
 pub use sk_model::OutOfMemory;
+pub use sk_read::Kind;
 pub use window::Window;
+pub use word::{feed_windows, word_of_windows};
 
 #[cfg(test)]
 mod tests;

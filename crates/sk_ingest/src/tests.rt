@@ -1,10 +1,12 @@
-ghost use Rattle.std.specs.Prelude.{◌≡◌, [], All, length, map, IfOk};
+ghost use Rattle.std.specs.Prelude.{◌≡◌, ◌≤◌, [], length, map, IfOk};
 ghost use Rattle.sk_model.specs.Entries.{items_of_entries};
+ghost use Rattle.sk_model.specs.Limits.{most_k, most_kept};
 ghost use Rattle.sk_theta.specs.Kept.{StandsFor};
+ghost use Rattle.sk_ingest.specs.Shares.{all_lines};
 
 use super::*;
 use sk_compose::Composable;
-use sk_hub::{Drain, Heart, Opened, Updater, open};
+use sk_hub::{Opened, Updater, open};
 use sk_theta::{Shape, Theta, unpack};
 use std::alloc::Global;
 use std::process::Abort;
@@ -37,10 +39,12 @@ fn five_lines_in_two_blocks(rt: HostRuntime) {
 // ---- a hub whose one updater keeps two items in a buffer
 
 #[tactic(auto, unfolding(sk_model::specs::Entries::items_of_entries))]
-fn sketch(alloc: Global) -> Result<Theta, OutOfMemory>
+fn sketch(alloc: Global, k: u32) -> Result<Theta, OutOfMemory>
+    requires least { 2 ≤ k }
+    requires most { k ≤ most_k }
     ensures { IfOk result (λ s. StandsFor s (items_of_entries [])) }
 {
-    Theta::new(alloc, 8)
+    Theta::new(alloc, k)
 }
 
 fn hub_of<C: Composable>(alloc: Global, eager: bool, global: C) -> Result<Opened<C>, OutOfMemory>
@@ -78,7 +82,7 @@ fn feed<C: Composable, R: Abort + Wait>(
 #[test]
 fn a_block_without_help_ends_at_a_busy_line(rt: HostRuntime) -> Result<(), Fail> {
     let window = five_lines(&rt, rt.alloc())?;
-    let mut hub = hub_of(rt.alloc(), false, sketch(rt.alloc())?)?;
+    let mut hub = hub_of(rt.alloc(), false, sketch(rt.alloc(), 8)?)?;
     let mut updater = hub.updaters.remove(0);
     assert_eq!(rt; feed(&rt, &mut updater, &window, 0, false)?, 4);
     assert_eq!(rt; unpack(hub.token.ask()).count, 0);
@@ -90,84 +94,61 @@ fn a_block_without_help_ends_at_a_busy_line(rt: HostRuntime) -> Result<(), Fail>
 #[test]
 fn an_eager_updater_publishes_each_item(rt: HostRuntime) -> Result<(), Fail> {
     let window = five_lines(&rt, rt.alloc())?;
-    let mut hub = hub_of(rt.alloc(), true, sketch(rt.alloc())?)?;
+    let mut hub = hub_of(rt.alloc(), true, sketch(rt.alloc(), 8)?)?;
     let mut updater = hub.updaters.remove(0);
     assert_eq!(rt; feed(&rt, &mut updater, &window, 0, true)?, 5);
     assert_eq!(rt; unpack(hub.token.ask()).count, 5);
     Ok(())
 }
 
-// ---- a hub whose four updaters are fed at once
+// ---- windows that are fed to four updaters at once
 
-// Its heart, and a feeder for each updater.
-#[derive(Drop)]
-struct Four {
-    heart: Heart<Theta>,
-    feeders: Vec<Feeder<Theta>>,
-}
-
-#[tactic(auto, unfolding(sk_model::specs::Entries::items_of_entries))]
-fn hub_of_four(alloc: Global) -> Result<Four, OutOfMemory>
-    ensures count { IfOk result (λ hub. length hub.feeders.items ≡ 4) }
-    ensures tables { IfOk result (λ hub. All (λ u. u.table ≡ hub.heart.table) (map (λ f. f.updater) hub.feeders.items)) }
-{
-    let Ok(shape) = Shape::new(1_024, 8, 4, 0, false) else {
-        return Err(OutOfMemory);
-    };
-    let Opened {
-        heart,
-        updaters,
-        token: _,
-    } = open(alloc, &shape, Theta::new(alloc, 1_024)?)?;
-    let feeders = feeders_of(alloc, updaters)?;
-    Ok(Four { heart, feeders })
-}
-
-// The lines from "0" to "999".
-fn thousand_lines(rt: &impl Abort, alloc: Global) -> Result<Window, OutOfMemory> {
+// The lines from one number up to another.
+fn lines_between(
+    rt: &impl Abort,
+    alloc: Global,
+    from: u32,
+    to: u32,
+) -> Result<Window, OutOfMemory> {
     let mut window = Window::new(alloc, 1_000)?;
-    for number in 0..1_000u32 {
+    for number in from..to {
         let line = format!(in alloc; "{number}")?;
-        assert!(rt; !window.is_full() && line.len() < 5);
+        assert!(rt; !window.is_full() && line.len() < 11);
         window.push(line.as_bytes())?;
     }
     Ok(window)
 }
 
-// Feeds all lines to four updaters in four threads.
-fn feed_four<R: Threads + Wait + Abort + Sync>(
+// Counts the lines of windows by four updaters, in four threads.
+fn counted<R: Threads + Wait + Abort + Sync>(
     rt: &R,
-    hub: Four,
-    window: &Window,
-) -> Result<Four, OutOfMemory>
-    requires count { length hub.feeders.items ≡ 4 }
-    requires tables { All (λ u. u.table ≡ hub.heart.table) (map (λ f. f.updater) hub.feeders.items) }
-    ensures tables { IfOk result (λ fed. All (λ u. u.table ≡ fed.heart.table) (map (λ f. f.updater) fed.feeders.items)) }
+    alloc: Global,
+    windows: &[Window],
+) -> Result<u32, OutOfMemory>
+    requires few { length (all_lines (map (λ w. w.lines) windows.now)) ≤ most_kept }
 {
-    let Four { heart, mut feeders } = hub;
-    assert!(rt; have_room(&feeders, window));
-    feed_window(rt, &mut feeders, window, Kind::Raw, 4)?;
-    Ok(Four { heart, feeders })
-}
-
-// Drains all updaters, and counts.
-fn drained_count(rt: &impl Wait, hub: Four) -> Result<u32, OutOfMemory>
-    requires tables { All (λ u. u.table ≡ hub.heart.table) (map (λ f. f.updater) hub.feeders.items) }
-{
-    let Four { mut heart, feeders } = hub;
-    'feeder: for feeder in feeders {
-        match heart.drain(rt, feeder.updater) {
-            Drain::Drained => {}
-            Drain::OutOfMemory(_) => return Err(OutOfMemory),
-        }
-    }
-    Ok(unpack(heart.ask()).count)
+    let Ok(shape) = Shape::new(1_024, 8, 4, 0, false) else {
+        return Err(OutOfMemory);
+    };
+    let word = word_of_windows(
+        rt,
+        alloc,
+        &shape,
+        sketch(alloc, 1_024)?,
+        windows,
+        Kind::Raw,
+        4,
+    )?;
+    Ok(unpack(word).count)
 }
 
 #[test]
-fn four_updaters_take_a_window_at_once(rt: HostRuntime) -> Result<(), Fail> {
-    let window = thousand_lines(&rt, rt.alloc())?;
-    let hub = feed_four(&rt, hub_of_four(rt.alloc())?, &window)?;
-    assert_eq!(rt; drained_count(&rt, hub)?, 1_000);
+fn four_updaters_count_two_windows(rt: HostRuntime) -> Result<(), Fail> {
+    let windows = [
+        lines_between(&rt, rt.alloc(), 0, 600)?,
+        lines_between(&rt, rt.alloc(), 500, 1_000)?,
+    ];
+    assert_eq!(rt; windows[0].len() + windows[1].len(), 1_100);
+    assert_eq!(rt; counted(&rt, rt.alloc(), &windows)?, 1_000);
     Ok(())
 }

@@ -3,8 +3,8 @@ ghost use Rattle.std.specs.Prelude.{◌≡◌, ◌<◌, ◌≤◌, ◌++◌, ◌
 ghost use Rattle.sk_ingest.specs.Windows.{is_full, item_in};
 ghost use Rattle.sk_model.specs.Width.{IsItem};
 
-use sk_read::{Kind, LINE_LIMIT};
 use sk_model::OutOfMemory;
+use sk_read::{Kind, LINE_LIMIT};
 use std::alloc::Global;
 use std::marker::Model;
 

@@ -1,7 +1,9 @@
-use Rattle.std.proofs.Common.{◌<◌, ◌≤◌, ◌+◌, ◌-◌, length, Ok, sym, subst, ap, ◌∙◌, arith, slice_range}
-use Rattle.sk_hub.specs.Updaters.{kept_of}
+use Rattle.std.proofs.Common.{ℕ, List, ◌<◌, ◌≤◌, ◌+◌, ◌-◌, ◌++◌, length, Ok, sym, subst, ap, ◌∙◌, arith, slice_range}
+use Rattle.sk_hub.specs.Updaters.{UpdaterState, kept_of}
 use Rattle.sk_ingest.specs.Windows.{items_in}
 use Rattle.sk_ingest.specs.Feeds.{Takes}
+use Rattle.sk_ingest.specs.Calls.{filter_of, IsFedEach}
+use Rattle.sk_ingest.proofs.Calls.{no_line_fed, line_fed, line_unfed, lines_fed, stopped}
 use Rattle.sk_ingest.proofs.Updaters.{takes_then_none, on_err}
 use Rattle.sk_ingest.proofs.Feeding.{no_line, line_taken, line_passed, line_refused, room_after, room_passed}
 use Rattle.sk_ingest.proofs.feed.feed_block.Goals as goal
@@ -12,6 +14,7 @@ pub line-init : goal.line-init
 line-init g c = let k = g.C.Composable in record {
   taken = no_line k.keeps_of k.hint_of c.args.u.now c.args.kind c.args.w.now.lines c.args.from;
   room = c.requires.room;
+  leads = no_line_fed (filter_of k.keeps_of k.early_of k.hint_of) c.args.help c.args.u.now c.args.kind c.args.w.now.lines c.args.from;
 }
 
 pub returns-in_err-feed_item-clause-refused : goal.returns-in_err-feed_item-clause-refused
@@ -30,18 +33,36 @@ returns-then-not-branch-clause-taken g c =
 pub line-preserved : goal.line-preserved
 line-preserved g c =
     let k = g.C.Composable in
+    let f = filter_of k.keeps_of k.early_of k.hint_of in
     let inside : c.line.place < length c.args.w.now.lines = omega (arith, c.requires.within, c.line-test.true) in
     elim c.match-item.branch [
       | in-Some+in_ok-feed_item+else-not-branch w ↦
           let taken = w.in_ok-feed_item.ensures.taken (ap Ok w.if-not-branch.false) in record {
             taken = subst (λ z. Takes k.keeps_of k.hint_of c.args.u.now (items_in c.args.kind (slice_range c.args.w.now.lines c.args.from (c.line.place + 1))) z) (sym w.u-is)
                 (line_taken k.keeps_of k.hint_of c.args.u.now c.line.u w.feed_item.new.u c.args.kind c.args.w.now.lines c.args.from c.line.place w.in-Some.item c.line.auto.place inside (sym c.item.ensures.value ∙ w.in-Some.is) c.line.invariant.taken taken);
+            leads = subst (λ z. (u' : UpdaterState) (items : List ℕ) → IsFedEach f c.args.help z items u' → IsFedEach f c.args.help c.args.u.now (items_in c.args.kind (slice_range c.args.w.now.lines c.args.from (c.line.place + 1)) ++ items) u') (sym w.u-is)
+                (line_fed f c.args.help c.args.u.now c.args.kind c.args.w.now.lines c.args.from c.line.u w.feed_item.new.u c.line.place w.in-Some.item c.line.auto.place inside (sym c.item.ensures.value ∙ w.in-Some.is) c.line.invariant.leads (w.in_ok-feed_item.ensures.fed (ap Ok w.if-not-branch.false)));
             room = subst (λ z. length (kept_of z) + (c.args.to - (c.line.place + 1)) ≤ most_kept) (sym w.u-is)
                 (room_after k.keeps_of k.hint_of c.line.u w.feed_item.new.u w.in-Some.item c.line.place c.args.to most_kept taken c.line-test.true c.line.invariant.room);
           }
       | in_default w ↦ record {
         taken = subst (λ z. Takes k.keeps_of k.hint_of c.args.u.now (items_in c.args.kind (slice_range c.args.w.now.lines c.args.from (c.line.place + 1))) z) (sym w.u-is)
             (line_passed k.keeps_of k.hint_of c.args.u.now c.line.u c.args.kind c.args.w.now.lines c.args.from c.line.place c.line.auto.place inside (sym c.item.ensures.value ∙ w.in_default.is) c.line.invariant.taken);
+        leads = subst (λ z. (u' : UpdaterState) (items : List ℕ) → IsFedEach f c.args.help z items u' → IsFedEach f c.args.help c.args.u.now (items_in c.args.kind (slice_range c.args.w.now.lines c.args.from (c.line.place + 1)) ++ items) u') (sym w.u-is)
+            (line_unfed f c.args.help c.args.u.now c.args.kind c.args.w.now.lines c.args.from c.line.u c.line.place c.line.auto.place inside (sym c.item.ensures.value ∙ w.in_default.is) c.line.invariant.leads);
         room = subst (λ z. length (kept_of z) + (c.args.to - (c.line.place + 1)) ≤ most_kept) (sym w.u-is) (room_passed (length (kept_of c.line.u)) c.line.place c.args.to most_kept c.line.invariant.room);
       }
     ]
+
+pub returns-then-not-branch-clause-busy : goal.returns-then-not-branch-clause-busy
+returns-then-not-branch-clause-busy g c =
+    let k = g.C.Composable in let f = filter_of k.keeps_of k.early_of k.hint_of in
+    λ below. stopped f c.args.help c.args.u.now c.line.u c.feed_item.new.u (items_in c.args.kind (slice_range c.args.w.now.lines c.args.from c.line.place)) _ c.in-Some.item (c.in_ok-feed_item.ensures.alone (ap Ok c.if-not-branch.true))
+    (lines_fed f c.args.help c.args.u.now c.args.kind c.args.w.now.lines c.args.from c.line.u c.line.place c.line.invariant.leads)
+    (sym c.item.ensures.value ∙ c.in-Some.is) (c.in_ok-feed_item.ensures.busy (ap Ok c.if-not-branch.true))
+
+pub returns-clause-fed : goal.returns-clause-fed
+returns-clause-fed g c =
+    let k = g.C.Composable in let f = filter_of k.keeps_of k.early_of k.hint_of in
+    λ end. subst (λ p. IsFedEach f c.args.help c.args.u.now (items_in c.args.kind (slice_range c.args.w.now.lines c.args.from p)) c.line.u) (omega (arith, c.line-test.false, c.line.auto.place-end))
+    (lines_fed f c.args.help c.args.u.now c.args.kind c.args.w.now.lines c.args.from c.line.u c.line.place c.line.invariant.leads)

@@ -3,4 +3,4 @@ use Rattle.std.specs.Prelude.{IsOk}
 use Rattle.sk_ingest.proofs.feeder.outcome.Given as goal
 
 abbrev pub invariant-feeder : goal.invariant-feeder
-invariant-feeder g l = (i : ℕ) (d : _) → i < l.i → IsOk (slice_index_or l.feeders i d).fed
+invariant-feeder g l = (i : ℕ) (d : _) → i < l.i → IsOk (slice_index_or l.feeders i d).place

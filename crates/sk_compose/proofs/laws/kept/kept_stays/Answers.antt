@@ -1,0 +1,5 @@
+use Rattle.sk_compose.proofs.Kept as lemmas
+use Rattle.sk_compose.proofs.laws.kept.kept_stays.Goals as goal
+
+pub returns : goal.returns
+returns c = lemmas.kept_longer

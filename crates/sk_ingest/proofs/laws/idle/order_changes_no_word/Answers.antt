@@ -1,5 +1,0 @@
-use Rattle.sk_ingest.proofs.Totals.{same_word, same_members}
-use Rattle.sk_ingest.proofs.laws.idle.order_changes_no_word.Goals as goal
-
-pub returns : goal.returns
-returns c = λ k xs ys into back. same_word k xs ys (same_members k xs ys into back)

@@ -1,0 +1,32 @@
+-- What each updater took, window after window, and a list that has all that they kept.
+use Rattle.std.specs.Prelude.{◌≡◌, ℕ, ◌<◌, Bool, List, [], length, slice_index_or, flat_map, All}
+use Rattle.sk_model.specs.Entries.{Entry, entries_by}
+use Rattle.sk_model.specs.Missing.{Begins}
+use Rattle.sk_hub.specs.Updaters.{UpdaterState, base_of, kept_of}
+use Rattle.sk_read.specs.declared.kind.Kind.{Kind}
+use Rattle.sk_ingest.specs.Windows.{items_in}
+use Rattle.sk_ingest.specs.Rounds.{block_of}
+use Rattle.sk_ingest.specs.Feeds.{Takes}
+
+-- what updater i of n takes of windows, in order: the items of its block of each
+unfoldable pub share : Kind → List (List (List ℕ)) → ℕ → ℕ → List ℕ
+share kind windows n i = flat_map (λ lines. items_in kind (block_of lines i n)) windows
+
+-- the lines of windows, in order
+abbrev pub all_lines : List (List (List ℕ)) → List (List ℕ)
+all_lines windows = flat_map (λ lines. lines) windows
+
+-- each updater took its share of these windows
+pub record TakeShares (keeps : ℕ → ℕ → Bool) (hint_of : List ℕ → List Entry → ℕ) (kind : Kind) (windows : List (List (List ℕ))) (us us' : List UpdaterState) : Type 0 where
+  pub count : length us' ≡ length us
+  pub each : (i : ℕ) (d : UpdaterState) → i < length us → Takes keeps hint_of (slice_index_or us i d) (share kind windows (length us) i) (slice_index_or us' i d)
+
+-- they have kept nothing yet, and are of a sketch with these numbers
+abbrev pub HaveKeptNone : List ℕ → List UpdaterState → Type 0
+HaveKeptNone numbers us = All (λ u. (u.view.numbers ≡ numbers) × (kept_of u ≡ [])) us
+
+-- the list begins with each updater's base, and has exactly what they kept
+pub record HasAllOf (list : List Entry) (us : List UpdaterState) : Type 0 where
+  pub bases : (i : ℕ) (d : UpdaterState) → i < length us → Begins (base_of (slice_index_or us i d)) list
+  pub kept : (i : ℕ) (d : UpdaterState) → i < length us → entries_by i list ≡ kept_of (slice_index_or us i d)
+  pub only : All (λ entry. entry.0 < length us) list

@@ -1,0 +1,112 @@
+//! How a window is fed to the updaters of a hub, at once.
+ghost use Rattle.std.specs.Prelude.{◌≡◌, ◌∷◌, ◌<◌, ◌≤◌, [], length, map, reverse, vec_capacity, OnOk, OnErr, IfOk, IsTrue};
+ghost use Rattle.sk_ingest.specs.Rounds.{HaveRoom, TakeFronts};
+ghost use Rattle.sk_ingest.specs.Shares.{TakeShares};
+ghost use Rattle.sk_model.specs.Limits.{most_updaters};
+
+use crate::feeder::{Feeder, feed_each};
+use crate::window::Window;
+use sk_compose::Composable;
+use sk_hub::Updater;
+use sk_model::OutOfMemory;
+use sk_read::Kind;
+use std::alloc::Global;
+use std::marker::Model;
+use std::sync::Wait;
+use std::thread::Threads;
+
+/// Room in which updaters are fed at once. Between two windows it holds none.
+#[derive(Drop)]
+pub struct Feeders<C: Composable> {
+    feeders: Vec<Feeder<C>>,
+    most: u32,
+}
+
+impl<C: Composable> Model for Feeders<C> {
+    ghost use Rattle.std.specs.Prelude.{◌≡◌, ◌≤◌, [], vec_capacity};
+    ghost use Rattle.sk_ingest.specs.Rounds.{FeedersState};
+
+    ghost Value = { FeedersState };
+
+    ghost view = { λ f. record { most = f.most } };
+
+    ghost invariant = { λ f. (f.feeders.items ≡ []) × (f.most ≤ vec_capacity f.feeders) };
+}
+
+impl<C: Composable> Feeders<C> {
+    /// Room for so many updaters. All its memory is taken here.
+    pub fn new(alloc: Global, most: u32) -> Result<Feeders<C>, OutOfMemory>
+        ensures { IfOk result (λ feeders. feeders.most ≡ most) }
+    {
+        Ok(Feeders {
+            feeders: Vec::with_capacity(alloc, most as usize)?,
+            most,
+        })
+    }
+
+    /// Feeds a window to from 1 to 64 updaters at once, in at most so many threads. Each takes its block, and
+    /// propagates where it is busy or eager.
+    pub fn feed_window<R: Threads + Wait + Sync>(
+        &mut self,
+        rt: &R,
+        updaters: &mut Vec<Updater<C>>,
+        window: &Window,
+        kind: Kind,
+        threads: u32,
+    ) -> Result<(), OutOfMemory>
+    where
+        C: Send,
+        C::Told: Send,
+        requires threads { 0 < threads }
+        requires most { length updaters.old.items ≤ most_updaters }
+        requires places { length updaters.old.items ≤ self.old.most }
+        requires room { HaveRoom window.now.lines updaters.old.items }
+        ensures taken { OnOk result (TakeShares C.keeps_of C.hint_of kind (window.now.lines ∷ []) updaters.old.items updaters.new.items) }
+        ensures refused { OnErr result (TakeFronts C.keeps_of C.hint_of kind window.now.lines updaters.old.items updaters.new.items) }
+        ensures cause { OnErr result (IsTrue C.TAKES_MEMORY) }
+        ensures count { length updaters.new.items ≡ length updaters.old.items }
+        ensures stays { self.new ≡ self.old }
+    {
+        lend(updaters, &mut self.feeders);
+        let fed = feed_each(rt, self.feeders.as_mut_slice(), window, kind, threads);
+        give_back(&mut self.feeders, updaters);
+        fed
+    }
+}
+
+// The last is the first.
+fn turn<T>(elements: &mut Vec<T>)
+    ensures turned { elements.new.items ≡ reverse elements.old.items }
+    ensures capacity { vec_capacity elements.new ≡ vec_capacity elements.old }
+{
+    elements.as_mut_slice().reverse();
+}
+
+// Moves updaters to feeders, in order.
+fn lend<C: Composable>(updaters: &mut Vec<Updater<C>>, feeders: &mut Vec<Feeder<C>>)
+    requires none { feeders.old.items ≡ [] }
+    requires room { length updaters.old.items ≤ vec_capacity feeders.old }
+    ensures moved { map (λ f. f.updater) feeders.new.items ≡ updaters.old.items }
+    ensures left { updaters.new.items ≡ [] }
+    ensures places { vec_capacity feeders.new ≡ vec_capacity feeders.old }
+    ensures capacity { vec_capacity updaters.new ≡ vec_capacity updaters.old }
+{
+    turn(updaters);
+    'lend: while let Some(updater) = updaters.pop() {
+        feeders.push_reserved(Feeder::new(updater));
+    }
+}
+
+// Moves the updaters of feeders back, in order.
+fn give_back<C: Composable>(feeders: &mut Vec<Feeder<C>>, updaters: &mut Vec<Updater<C>>)
+    requires none { updaters.old.items ≡ [] }
+    requires room { length feeders.old.items ≤ vec_capacity updaters.old }
+    ensures moved { updaters.new.items ≡ map (λ f. f.updater) feeders.old.items }
+    ensures left { feeders.new.items ≡ [] }
+    ensures places { vec_capacity feeders.new ≡ vec_capacity feeders.old }
+{
+    turn(feeders);
+    'back: while let Some(feeder) = feeders.pop() {
+        updaters.push_reserved(feeder.updater);
+    }
+}
