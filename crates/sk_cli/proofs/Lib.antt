@@ -1,3 +1,4 @@
+pub mod CountDeciding
 pub mod Counting
 pub mod Deciding
 pub mod Endings
