@@ -1,3 +1,4 @@
+pub mod Completing
 pub mod CountDeciding
 pub mod Counting
 pub mod Deciding
