@@ -1,3 +1,5 @@
+pub mod Completing
+pub mod CountDeciding
 pub mod Counting
 pub mod Deciding
 pub mod Endings

@@ -138,3 +138,14 @@ pub record RiseAtTheirs (old new : Streams) (status : ℕ) : Type 0 where
 abbrev pub Reports : {E : Type 0} → sink.Ghosts E → E → E → List ℕ → Type 0
 Reports s old new text = (Appends (s.written old) (s.written new) text × (s.faults new ≡ s.faults old))
     ⊎ (AppendsPart (s.written old) (s.written new) text × Rose (s.faults old) (s.faults new))
+
+-- ---- what a text decides of a status
+
+-- the text that is read for what was asked, where its source tells it
+abbrev pub told_text : Option Word → Outside → Option (List ℕ)
+told_text None o = o.input
+told_text (Some name) o = told_file o.files name
+
+-- a status that no text decides: want of memory, or a failed read, write or open
+abbrev pub IsOfCalls : ℕ → Type 0
+IsOfCalls status = (status ≡ 1) ⊎ (status ≡ 3) ⊎ (status ≡ 4) ⊎ (status ≡ 8)

@@ -1,12 +1,12 @@
 // The top call: words in, a status out.
-ghost use Rattle.std.specs.Prelude.{◌≡◌, ◌≢◌, ◌↔◌, None, MatchOption, OnSome, IfNone, IfSome, true, false};
+ghost use Rattle.std.specs.Prelude.{◌≡◌, ◌≢◌, ◌⊎◌, ◌↔◌, ◌<◌, ℕ, List, length, None, Some, MatchOption, OnSome, IfNone, IfSome, true, false};
 ghost use Rattle.sk_model.specs.Limits.{source_limit};
 ghost use Rattle.sk_io.specs.Files.{IsMissing};
 ghost use Rattle.sk_cli.specs.Options.{texts_of};
 ghost use Rattle.sk_cli.specs.Command.{request_of, behaviour_of};
 ghost use Rattle.sk_cli.specs.Fault.{message_of, status_of};
 ghost use Rattle.sk_cli.specs.Outside.{outside_of};
-ghost use Rattle.sk_cli.specs.Run.{Over, Succeeds, Fails, Reports, RisesAt, RiseAtTheirs};
+ghost use Rattle.sk_cli.specs.Run.{Over, Succeeds, Fails, Reports, RisesAt, RiseAtTheirs, told_text, IsOfCalls};
 ghost use Rattle.sk_cli.specs.declared.fault.Fault.{Fault};
 ghost use Rattle.sk_cli.specs.declared.fault.Fault.TheVariants as fault;
 
@@ -48,6 +48,15 @@ pub fn run<S: Source, O: Sink, E: Sink, F: Shelf>(
         let new = outside_of S.Source O.Sink F.Shelf input.new out.new shelf.new in
         Over asked.file (λ a b. RiseAtTheirs a b result) old new) }
     ensures opens { RisesAt 8 (F.open_faults shelf.old) (F.open_faults shelf.new) result }
+
+    // Where the text that is read is told, it decides: 0 where something is due for it, the status of its refusal where
+    // it is refused, or that of a call that failed.
+    ensures complete { IfSome (request_of (texts_of words.now)) (λ asked. let old = outside_of S.Source O.Sink F.Shelf input.old out.old shelf.old in
+        (text due : List ℕ) → told_text asked.file old ≡ Some text → (behaviour_of asked.command).IsDue text due → length text < source_limit
+        → (result ≡ 0) ⊎ IsOfCalls result) }
+    ensures refused { IfSome (request_of (texts_of words.now)) (λ asked. let old = outside_of S.Source O.Sink F.Shelf input.old out.old shelf.old in
+        (f : Fault) (text due : List ℕ) → told_text asked.file old ≡ Some text → (behaviour_of asked.command).reads ≡ true
+        → (behaviour_of asked.command).Refuses f text due → length text < source_limit → (result ≡ status_of f) ⊎ IsOfCalls result) }
 
     // A file that is known not to be there can't be opened.
     ensures missing { IfSome (request_of (texts_of words.now)) (λ asked. IfSome asked.file (λ name. IsMissing (F.files shelf.old) name → result ≡ 8)) }

@@ -1,7 +1,12 @@
-use Rattle.std.proofs.Common.{◌≢◌, ◌≡◌, true, ap, ◌∙◌}
+use Rattle.std.proofs.Common.{◌≢◌, ◌≡◌, ◌⊎◌, inr, ◌<◌, ℕ, List, length, Some, true, sym, ap, ◌∙◌, subst}
+use Rattle.sk_model.specs.Limits.{source_limit}
 use Rattle.sk_cli.specs.Command.{Asked, asked_of, behaviour_of}
 use Rattle.sk_cli.specs.Fault.{status_of}
+use Rattle.sk_cli.specs.Outside.{Outside, outside_of}
+use Rattle.sk_cli.specs.Run.{told_text, IsOfCalls}
+use Rattle.sk_cli.specs.declared.fault.Fault.{Fault}
 use Rattle.sk_cli.specs.declared.fault.Fault.TheVariants as fault
+use Rattle.sk_cli.proofs.Completing.{due_fails, refusal_fails, refusal_succeeds}
 use Rattle.sk_cli.proofs.Reporting.{no_request, of_request}
 use Rattle.sk_cli.proofs.program.run.Goals as goal
 
@@ -14,3 +19,36 @@ returns-in-Err-clause-last g c =
     (λ (asked : Asked). (behaviour_of asked.command).writes_last ≡ true → c.report-in-Err.result ≢ 0 → c.report-in-Err.result ≢ 4 → c.perform.new.out ≡ c.args.out.now)
     c.in-Some.ensures.value
     (λ last some not_written. c.in-Err.ensures.last last (λ is. not_written (c.report-in-Err.ensures.status ∙ ap status_of is)))
+
+pub returns-in-Ok-clause-refused : goal.returns-in-Ok-clause-refused
+returns-in-Ok-clause-refused g c =
+    let old : Outside = outside_of g.S.Source g.O.Sink g.F.Shelf c.args.input.now c.args.out.now c.args.shelf.now in
+    let new : Outside = outside_of g.S.Source g.O.Sink g.F.Shelf c.perform.new.input c.perform.new.out c.perform.new.shelf in
+    let a : Asked = asked_of c.in-Some.request in
+    of_request _ a
+    (λ (asked : Asked). (f : Fault) (text due : List ℕ) → told_text asked.file old ≡ Some text → (behaviour_of asked.command).reads ≡ true → (behaviour_of asked.command).Refuses f text due → length text < source_limit →
+    (0 ≡ status_of f) ⊎ IsOfCalls 0)
+    c.in-Some.ensures.value
+    (λ f text due told reads is less. absurd (refusal_succeeds a source_limit old new text due f reads told is c.in-Ok.ensures.done))
+
+pub returns-in-Err-clause-complete : goal.returns-in-Err-clause-complete
+returns-in-Err-clause-complete g c =
+    let old : Outside = outside_of g.S.Source g.O.Sink g.F.Shelf c.args.input.now c.args.out.now c.args.shelf.now in
+    let new : Outside = outside_of g.S.Source g.O.Sink g.F.Shelf c.perform.new.input c.perform.new.out c.perform.new.shelf in
+    let a : Asked = asked_of c.in-Some.request in
+    of_request _ a
+    (λ (asked : Asked). (text due : List ℕ) → told_text asked.file old ≡ Some text → (behaviour_of asked.command).IsDue text due → length text < source_limit → (c.report-in-Err.result ≡ 0) ⊎ IsOfCalls c.report-in-Err.result)
+    c.in-Some.ensures.value
+    (λ text due told is less. inr (subst IsOfCalls (sym c.report-in-Err.ensures.status) (due_fails a source_limit old new text due c.in-Err.fault told is less c.in-Err.ensures.done)))
+
+pub returns-in-Err-clause-refused : goal.returns-in-Err-clause-refused
+returns-in-Err-clause-refused g c =
+    let old : Outside = outside_of g.S.Source g.O.Sink g.F.Shelf c.args.input.now c.args.out.now c.args.shelf.now in
+    let new : Outside = outside_of g.S.Source g.O.Sink g.F.Shelf c.perform.new.input c.perform.new.out c.perform.new.shelf in
+    let a : Asked = asked_of c.in-Some.request in
+    of_request _ a
+    (λ (asked : Asked). (f : Fault) (text due : List ℕ) → told_text asked.file old ≡ Some text → (behaviour_of asked.command).reads ≡ true → (behaviour_of asked.command).Refuses f text due → length text < source_limit →
+    (c.report-in-Err.result ≡ status_of f) ⊎ IsOfCalls c.report-in-Err.result)
+    c.in-Some.ensures.value
+    (λ f text due told reads is less. subst (λ (status : ℕ). (status ≡ status_of f) ⊎ IsOfCalls status) (sym c.report-in-Err.ensures.status)
+    (refusal_fails a source_limit old new text due f c.in-Err.fault told is less c.in-Err.ensures.done))
