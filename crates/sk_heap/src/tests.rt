@@ -3,8 +3,7 @@ ghost use Rattle.sk_model.specs.Width.{IsItem};
 ghost use Rattle.sk_model.specs.Limits.{least_k, most_k};
 
 use super::*;
-use sk_compose::round::offer;
-use sk_compose::{Buffer, Composable, Parcel, ThetaKind};
+use sk_compose::{Buffer, Composable, ThetaKind};
 use sk_model::plain;
 use sk_theta::{ITEM_END, Reply, Theta, unpack};
 use std::alloc::Global;
@@ -46,14 +45,17 @@ fn entries_move_back_behind_one_that_goes(rt: HostRuntime) -> Result<(), Fail> {
 #[tactic(auto, unfolding(sk_model::specs::Entries::items_of_entries))]
 fn a_repeat_in_a_batch_counts_once(rt: HostRuntime) -> Result<(), Fail> {
     let mut sketch = HeapTheta::new(rt.alloc(), 2)?;
-    let mut parcel = Parcel {
-        buffer: Buffer::new(rt.alloc(), 3)?,
-        told: None,
-    };
-    let published = offer(&rt, &mut sketch, 0, &[3, 5, 3], &mut parcel)?;
-    assert_eq!(rt; unpack(published.word), Reply { count: 2, theta: 5 });
-    assert_eq!(rt; published.hint, 5);
-    assert!(rt; !HeapTheta::keeps(published.hint, 5));
+    let mut batch = Buffer::new(rt.alloc(), 3)?;
+    batch.push(3);
+    batch.push(5);
+    batch.push(3);
+    Composable::merge(&mut sketch, &rt, 0, &batch)?;
+    assert_eq!(rt;
+        unpack(Composable::packed(&sketch)),
+        Reply { count: 2, theta: 5 }
+    );
+    assert_eq!(rt; sketch.hint(), 5);
+    assert!(rt; !HeapTheta::keeps(5, 5));
     assert!(rt; HeapTheta::early(ITEM_END));
     assert_eq!(rt; ThetaKind::k(&sketch), 2);
     Ok(())

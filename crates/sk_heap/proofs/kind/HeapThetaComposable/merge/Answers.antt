@@ -1,5 +1,5 @@
 use Rattle.sk_model.specs.Entries.{items_of_entries}
-use Rattle.sk_compose.proofs.Filtered.{items_more}
+use Rattle.sk_compose.proofs.Batches.{items_more}
 use Rattle.sk_heap.proofs.kind.HeapThetaComposable.merge.Goals as goal
 
 pub returns-clause-lists : goal.returns-clause-lists
