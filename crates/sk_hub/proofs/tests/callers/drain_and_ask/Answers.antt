@@ -1,4 +1,4 @@
-use Rattle.std.proofs.Common.{rules, ◌≡◌, Contains, ap, sym, subst, ◌∙◌}
+use Rattle.std.proofs.Common.{rules, Contains, sym, subst, ◌∙◌}
 use Rattle.std.proofs.lemmas.List.Elements.{Contains-push}
 use Rattle.sk_hub.specs.Drains.{IsDrained}
 use Rattle.sk_hub.proofs.tests.callers.drain_and_ask.Goals as goal

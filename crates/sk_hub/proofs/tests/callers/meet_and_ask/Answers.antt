@@ -1,4 +1,4 @@
-use Rattle.std.proofs.Common.{◌≡◌, length, All, ap, sym, subst, ◌∙◌}
+use Rattle.std.proofs.Common.{◌≡◌, All, ap, sym, subst, ◌∙◌}
 use Rattle.sk_model.specs.Entries.{entries_by}
 use Rattle.sk_model.specs.Missing.{LacksAtMost}
 use Rattle.sk_machine.specs.Coarse.{IsEntry}

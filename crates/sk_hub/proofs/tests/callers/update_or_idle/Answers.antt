@@ -1,4 +1,4 @@
-use Rattle.std.proofs.Common.{◌≡◌, false, ap, sym, subst, ◌∙◌}
+use Rattle.std.proofs.Common.{ap, sym, subst, ◌∙◌}
 use Rattle.sk_model.specs.Missing.{Begins}
 use Rattle.sk_hub.specs.Updaters.{base_of}
 use Rattle.sk_hub.proofs.tests.callers.update_or_idle.Goals as goal
