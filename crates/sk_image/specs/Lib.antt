@@ -7,3 +7,4 @@ pub mod Images
 pub mod Inside
 pub mod Reading
 pub mod Written
+pub mod Stops

@@ -8,7 +8,7 @@ ghost use Rattle.sk_image.specs.Reading.{IsBadAt, IsGoodSoFar, TakesInTime};
 use crate::draft::Draft;
 use crate::image::Image;
 use crate::stop::ReadStop;
-use sk_io::Source;
+use sk_io::{Source, read_within};
 use std::alloc::Global;
 
 // The most bytes that one read is asked for.
@@ -43,14 +43,12 @@ pub fn read<S: Source>(alloc: Global, source: &mut S, most: u64) -> Result<Image
     let mut draft = Draft::new(alloc);
     let mut piece = [0; PIECE_LEN];
     let mut taken = 0;
-    'read: while taken < most {
-        let room = (most - taken).min(PIECE_LEN as u64) as usize;
-        let n = source.read(&mut piece[..room])?;
+    'read: loop {
+        let n = read_within(source, &mut piece, most - taken)?;
         if n == 0 {
             return draft.end();
         }
         draft = draft.with_bytes(alloc, &piece[..n])?;
         taken += n as u64;
     }
-    Err(ReadStop::TooMuch)
 }

@@ -1,7 +1,7 @@
 // Why an image is not read.
 ghost use Rattle.std.specs.Prelude.{◌≡◌};
 
-use sk_io::Failed;
+use sk_io::BoundFault;
 use std::alloc::AllocFailed;
 
 /// Why a source was not read as an image.
@@ -18,13 +18,16 @@ pub enum ReadStop {
     OutOfMemory,
 }
 
-impl From<Failed> for ReadStop {
-    ghost use Rattle.sk_image.specs.declared.stop.ReadStop.TheVariants as stop;
+impl From<BoundFault> for ReadStop {
+    ghost use Rattle.sk_image.specs.Stops.{read_stop_by};
 
-    ghost from_gives = { λ _ e. e ≡ stop.ReadFault };
+    ghost from_gives = { λ fault e. e ≡ read_stop_by fault };
 
-    fn from(_: Failed) -> Self {
-        ReadStop::ReadFault
+    fn from(fault: BoundFault) -> Self {
+        match fault {
+            BoundFault::ReadFault => ReadStop::ReadFault,
+            BoundFault::TooMuch => ReadStop::TooMuch,
+        }
     }
 }
 

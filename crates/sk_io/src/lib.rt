@@ -2,6 +2,7 @@
 //! over std.
 #![tactic(auto)]
 
+mod bounded;
 mod file_shelf;
 mod mem_shelf;
 mod mem_sink;
@@ -13,6 +14,7 @@ mod standard;
 mod stream;
 mod sure_source;
 
+pub use bounded::{BoundFault, read_within};
 pub use file_shelf::FileShelf;
 pub use mem_shelf::{MemFile, MemShelf};
 pub use mem_sink::MemSink;

@@ -57,6 +57,26 @@ fn a_sure_source_gives_all(rt: HostRuntime) -> Result<(), Fail> {
 }
 
 #[test]
+fn reads_within_a_bound(rt: HostRuntime) -> Result<(), Fail> {
+    let alloc = rt.alloc();
+    let mut source = MemSource::new(b"estimate".to_vec(alloc)?, 8, [1].to_vec(alloc)?);
+    let mut piece = [0; 4];
+    let rows = [
+        (3, Ok(3)),
+        (9, Err(BoundFault::ReadFault)),
+        (0, Err(BoundFault::TooMuch)),
+        (9, Ok(4)),
+        (9, Ok(1)),
+        (9, Ok(0)),
+    ];
+    for (room, answer) in rows {
+        assert_eq!(rt; read_within(&mut source, &mut piece, room), answer);
+    }
+    assert_eq!(rt; piece, *b"emat");
+    Ok(())
+}
+
+#[test]
 fn writes_until_the_room_is_full(rt: HostRuntime) -> Result<(), Fail> {
     let alloc = rt.alloc();
     let mut sink = MemSink::new(alloc, 5, 2, Vec::new(alloc))?;

@@ -2,7 +2,7 @@
 ghost use Rattle.std.specs.Prelude.{◌≡◌};
 
 use crate::reader::LineFault;
-use sk_io::Failed;
+use sk_io::BoundFault;
 use sk_model::OutOfMemory;
 use std::alloc::AllocError;
 
@@ -44,13 +44,13 @@ impl From<AllocError> for Fault {
     }
 }
 
-impl From<Failed> for Fault {
-    ghost use Rattle.sk_read.specs.declared.fault.Fault.TheVariants as fault;
+impl From<BoundFault> for Fault {
+    ghost use Rattle.sk_read.specs.Faults.{fault_by, line_fault_by};
 
-    ghost from_gives = { λ _ e. e ≡ fault.ReadFault };
+    ghost from_gives = { λ fault e. e ≡ fault_by (line_fault_by fault) };
 
-    fn from(_: Failed) -> Self {
-        Fault::ReadFault
+    fn from(fault: BoundFault) -> Self {
+        Fault::from(LineFault::from(fault))
     }
 }
 

@@ -7,7 +7,7 @@ ghost use Rattle.sk_lines.specs.declared.cutter.Next.TheVariants as next;
 ghost use Rattle.sk_read.specs.Reading.{HasGiven, GivesLine, HasRead, Goes, Stands, IsLongNext, IsLongLast, Feeds, remaining_of};
 ghost use Rattle.sk_model.specs.Limits.{source_limit};
 
-use sk_io::{Failed, Source};
+use sk_io::{BoundFault, Source, read_within};
 use sk_lines::{Lines, Next};
 use sk_model::OutOfMemory;
 use sk_model::limits::LINE_LIMIT;
@@ -28,13 +28,16 @@ pub enum LineFault {
     TooMuch,
 }
 
-impl From<Failed> for LineFault {
-    ghost use Rattle.sk_read.specs.declared.reader.LineFault.TheVariants as fault;
+impl From<BoundFault> for LineFault {
+    ghost use Rattle.sk_read.specs.Faults.{line_fault_by};
 
-    ghost from_gives = { λ _ e. e ≡ fault.ReadFault };
+    ghost from_gives = { λ fault e. e ≡ line_fault_by fault };
 
-    fn from(_: Failed) -> Self {
-        LineFault::ReadFault
+    fn from(fault: BoundFault) -> Self {
+        match fault {
+            BoundFault::ReadFault => LineFault::ReadFault,
+            BoundFault::TooMuch => LineFault::TooMuch,
+        }
     }
 }
 
@@ -90,11 +93,7 @@ impl LineReader {
         ensures cause { HasCauseIn LineFault.ReadFault (S.faults source.old) (S.faults source.new) result }
         ensures stays { S.stands_on source.new ≡ S.stands_on source.old }
     {
-        let room = (self.most - self.taken).min(PIECE_LEN as u64) as usize;
-        if room == 0 {
-            return Err(LineFault::TooMuch);
-        }
-        let n = source.read(&mut self.piece[..room])?;
+        let n = read_within(source, &mut self.piece, self.most - self.taken)?;
         if n == 0 {
             return Ok(false);
         }

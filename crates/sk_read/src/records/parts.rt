@@ -10,7 +10,7 @@ ghost use Rattle.sk_model.specs.Limits.{source_limit};
 use crate::fault::Fault;
 use crate::reader::PIECE_LEN;
 use crate::records::scan::{ScanState, scan};
-use sk_io::Source;
+use sk_io::{Source, read_within};
 use std::alloc::Global;
 
 // The bytes of the byte order mark, U+FEFF in UTF-8.
@@ -86,11 +86,8 @@ impl Parts {
         ensures cause { HasCauseIn Fault.ReadFault (S.faults source.old) (S.faults source.new) result }
         ensures stays { S.stands_on source.new ≡ S.stands_on source.old }
     {
-        let room = (self.most - self.taken).min(room as u64) as usize;
-        if room == 0 {
-            return Err(Fault::TooMuch);
-        }
-        let n = source.read(&mut self.piece[..room])?;
+        let allowed = self.most - self.taken;
+        let n = read_within(source, &mut self.piece[..room], allowed)?;
         self.bytes.extend_from_slice(&self.piece[..n])?;
         self.taken += n as u64;
         self.ended = n == 0;
