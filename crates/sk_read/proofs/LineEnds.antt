@@ -1,5 +1,5 @@
 -- How the reading of a source ends.
-use Rattle.std.proofs.Common.{◌≡◌, ℕ, ◌+◌, ◌≤◌, List, [], ◌∷◌, ◌++◌, length, take, false, Option, Result, Ok, Err, IsErrAnd, inl, inr, refl, sym, ap, ◌∙◌, subst, arith, length-append}
+use Rattle.std.proofs.Common.{◌≡◌, ℕ, ◌+◌, ◌≤◌, List, [], ◌∷◌, ◌++◌, length, take, false, Option, None, Some, IfSome, Result, Ok, Err, IsErrAnd, inl, inr, refl, sym, ap, ◌∙◌, subst, arith, append-nil, length-append}
 use Rattle.std.specs.Io.KnownBytes.{Consumes}
 use Rattle.std.proofs.KnownBytes.{Consumes-nil}
 use Rattle.std.proofs.lemmas.List.Elements.{All-nil}
@@ -23,6 +23,13 @@ use Rattle.sk_read.proofs.Readings.{given_settled, nothing_read}
 pub settled_so : (P Q : List ℕ → Type 0) (left : Option (List ℕ)) (taken : List ℕ) → ((text : List ℕ) → P text → Q text) → IsSettled P left taken → IsSettled Q left taken
 settled_so P Q left taken so (inl always) = inl (λ later. so (taken ++ later) (always later))
 settled_so P Q left taken so (inr here) = inr (here.0, so taken here.1)
+
+-- a fact of every text that goes on from the bytes taken is one of the text read, where the source tells it
+pub settled_told : (P : List ℕ → Type 0) (old left : Option (List ℕ)) (taken : List ℕ) → Consumes old left taken → IsSettled P left taken → IfSome old P
+settled_told P None left taken consumed settled = tt
+settled_told P (Some text) None taken consumed settled = absurd consumed
+settled_told P (Some text) (Some rest) taken consumed (inl always) = subst P (sym consumed) (always rest)
+settled_told P (Some text) (Some rest) taken consumed (inr here) = subst P (sym (consumed ∙ ap (λ (l : List ℕ). taken ++ l) here.0 ∙ append-nil taken)) here.1
 
 -- a taker stopped at a line
 line_stops : (Stopped : List (List ℕ) → List ℕ → Type 0) (most : ℕ) (r : Reading) (old left : Option (List ℕ)) (given : List (List ℕ)) (line taken : List ℕ) → r.most ≡ most → Consumes old left taken → Stopped given line →
