@@ -15,7 +15,7 @@ use Rattle.sk_read.specs.Columns.{Refuses, Breaks}
 use Rattle.sk_read.specs.Faults.{IsOfTaker}
 use Rattle.sk_model.specs.Limits.{line_limit}
 
-pub field_at_is : (fields : Row) (i : ℕ) → unwrap_or (field_at fields i) [] ≡ get_or fields i []
+field_at_is : (fields : Row) (i : ℕ) → unwrap_or (field_at fields i) [] ≡ get_or fields i []
 unfolding field_at
 field_at_is [] i = refl
 field_at_is (field ∷ fields) zero = refl

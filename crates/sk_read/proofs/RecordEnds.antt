@@ -41,7 +41,7 @@ width_begun [] row more = refl
 width_begun (first ∷ given) row more = refl
 
 -- the whole records held, in front of those that follow
-pub whole_rows : (p : Parts) (rows : List Row) (taken later : List ℕ) → HasTaken p rows taken → (p.ended ≡ true → later ≡ []) →
+whole_rows : (p : Parts) (rows : List Row) (taken later : List ℕ) → HasTaken p rows taken → (p.ended ≡ true → later ≡ []) →
     (more : List Row) × (records_of (taken ++ later) ≡ (rows ++ records default_config (take p.cut p.bytes.items)) ++ more)
 whole_rows p rows taken later has over =
     let is = has.cut in
@@ -68,7 +68,7 @@ strip_shorter (a ∷ b ∷ c ∷ rest) = by (is_bom a b c) refl
     by true e = rw e (omega arith)
     by false e = rw e (omega arith)
 
-pub few_records : (text : List ℕ) → length (records_of text) ≤ length text
+few_records : (text : List ℕ) → length (records_of text) ≤ length text
 unfolding records_of
 few_records text = omega (arith, records_few (strip_bom text), strip_shorter text)
 
@@ -122,7 +122,7 @@ sound_front column (x ∷ xs) ys sound = record {
       (subst (AreWithin line_limit) (map-append (field_of column) (x ∷ xs) ys) sound.within);
 }
 
-pub sound_begins : (column : ℕ) (xs ys : List Row) → Begins xs ys → AreSoundRows column ys → AreSoundRows column xs
+sound_begins : (column : ℕ) (xs ys : List Row) → Begins xs ys → AreSoundRows column ys → AreSoundRows column xs
 sound_begins column xs ys begins sound = sound_front column xs begins.0 (subst (AreSoundRows column) begins.1 sound)
 
 fields_begin : (column : ℕ) (xs ys : List Row) → Begins xs ys → Begins (fields_in column xs) (fields_in column ys)
@@ -222,6 +222,17 @@ module _ (Gave : List (List ℕ) → Type 0) (Stopped : Fault → List (List ℕ
       ))))
   no_row rows _ sound gave lacks = absurd lacks
 
+  -- the reading broke off behind some of some more records, at the next one
+  off_at : (rows more : List Row) (f : Fault) (Known : List (List ℕ) → Type 0) (Comes : List (List ℕ) → List ℕ → Type 0) → length taken ≤ most → AreInTime rows taken → AreSoundRows column rows →
+      IsSettled (λ (text : List ℕ). Begins (rows ++ more) (records_of text)) left taken → (at : EndsAt column Gave Stopped rows more f) → Known (fields_in column (rows ++ at.some)) →
+      ((all : List ℕ) → Begins ((rows ++ at.some) ++ at.next ∷ []) (records_of all) → Comes (fields_in column (rows ++ at.some)) all) → BreaksOff (Column column) most Known Comes old left
+  off_at rows more f Known Comes size in_time sound settled at known comes =
+      let given = rows ++ at.some in
+      off Known Comes rows given size in_time sound (begins_append rows at.some) known
+      (settled_so (λ (text : List ℕ). Begins (rows ++ more) (records_of text)) (λ (text : List ℕ). Begins (fields_in column given) (fields_in column (records_of text)) × Comes (fields_in column given) text) left taken (λ text first.
+      let begins = reaches rows at.some more (records_of text) at.next at.begins first in
+      (fields_begin column given (records_of text) (begins_trans given (given ++ at.next ∷ []) (records_of text) (begins_append given (at.next ∷ [])) begins), comes text begins)) settled)
+
   -- a taker stopped at the field of one of some more records
   stops_at : (rows more : List Row) (f : Fault) (Known : List (List ℕ) → List ℕ → Type 0) → length taken ≤ most → AreInTime rows taken → AreSoundRows column rows → IsSettled (λ (text : List ℕ). Begins (rows ++ more) (records_of text)) left taken →
       (at : EndsAt column Gave Stopped rows more f) → StopsBehind column Stopped (rows ++ at.some) at.next f → Known (fields_in column (rows ++ at.some)) (field_of column at.next) → StopsAt (Column column) most Known old left
@@ -230,16 +241,10 @@ module _ (Gave : List (List ℕ) → Type 0) (Stopped : Fault → List (List ℕ
       let unit = field_of column at.next in
       let place : length (fields_in column given) + 1 ≡ length (given ++ at.next ∷ []) = omega (arith, length_fields column given, length-append given (at.next ∷ [])) in (
         unit,
-        off (λ given. Known given unit) (λ given text. Begins (given ++ unit ∷ []) (fields_in column (records_of text)) × IsSoundUpTo (Column column) (length given + 1) text) rows given size in_time sound (begins_append rows at.some) known
-            (settled_so (λ (text : List ℕ). Begins (rows ++ more) (records_of text))
-            (λ (text : List ℕ). Begins (fields_in column given) (fields_in column (records_of text)) × (Begins (fields_in column given ++ unit ∷ []) (fields_in column (records_of text)) × IsSoundUpTo (Column column) (length (fields_in column given) + 1) text)) left taken (λ text first.
-            let begins = reaches rows at.some more (records_of text) at.next at.begins first in (
-              fields_begin column given (records_of text) (begins_trans given (given ++ at.next ∷ []) (records_of text) (begins_append given (at.next ∷ [])) begins),
-              (
-                subst (λ (l : List (List ℕ)). Begins l (fields_in column (records_of text))) (fields_more column given at.next) (fields_begin column (given ++ at.next ∷ []) (records_of text) begins),
-                subst (AreSoundRows column) (sym (front_rows column (length (fields_in column given) + 1) (given ++ at.next ∷ []) (records_of text) place begins)) behind.0,
-              ),
-            )) settled),
+        off_at rows more f (λ given. Known given unit) (λ given text. Begins (given ++ unit ∷ []) (fields_in column (records_of text)) × IsSoundUpTo (Column column) (length given + 1) text) size in_time sound settled at known (λ text begins. (
+          subst (λ (l : List (List ℕ)). Begins l (fields_in column (records_of text))) (fields_more column given at.next) (fields_begin column (given ++ at.next ∷ []) (records_of text) begins),
+          subst (AreSoundRows column) (sym (front_rows column (length (fields_in column given) + 1) (given ++ at.next ∷ []) (records_of text) place begins)) behind.0,
+        )),
       )
 
   -- one of some more records was refused, or memory was wanting behind some of them
@@ -260,21 +265,13 @@ module _ (Gave : List (List ℕ) → Type 0) (Stopped : Fault → List (List ℕ
   broke rows more (fault.LongLine n) size in_time sound settled breaks =
       let given = rows ++ breaks.some in
       let place : n ≡ length (fields_in column given) + 1 = omega (arith, breaks.refused.0, length_fields column given) in
-      off Gave (λ given text. (n ≡ length given + 1) × IsLongBehind (Column column) (length given) text) rows given size in_time sound (begins_append rows breaks.some) breaks.refused.3
-      (settled_so (λ (text : List ℕ). Begins (rows ++ more) (records_of text)) (λ (text : List ℕ). Begins (fields_in column given) (fields_in column (records_of text)) × ((n ≡ length (fields_in column given) + 1) × IsLongBehind (Column column) (length (fields_in column given)) text)) left taken (λ text first.
-      let begins = reaches rows breaks.some more (records_of text) breaks.next breaks.begins first in (
-        fields_begin column given (records_of text) (begins_trans given (given ++ breaks.next ∷ []) (records_of text) (begins_append given (breaks.next ∷ [])) begins),
-        (place, long_behind column given (records_of text) breaks.next begins breaks.sound breaks.refused.1 breaks.refused.2),
-      )) settled)
+      off_at rows more (fault.LongLine n) Gave (λ given text. (n ≡ length given + 1) × IsLongBehind (Column column) (length given) text) size in_time sound settled breaks breaks.refused.3
+      (λ text begins. (place, long_behind column given (records_of text) breaks.next begins breaks.sound breaks.refused.1 breaks.refused.2))
   broke rows more (fault.BadCsv n) size in_time sound settled breaks =
       let given = rows ++ breaks.some in
       let place : n ≡ length (fields_in column given) + 1 = omega (arith, breaks.refused.0, length_fields column given) in
-      off Gave (λ given text. (n ≡ length given + 1) × IsUnevenBehind (Column column) (length given) text) rows given size in_time sound (begins_append rows breaks.some) breaks.refused.2
-      (settled_so (λ (text : List ℕ). Begins (rows ++ more) (records_of text)) (λ (text : List ℕ). Begins (fields_in column given) (fields_in column (records_of text)) × ((n ≡ length (fields_in column given) + 1) × IsUnevenBehind (Column column) (length (fields_in column given)) text)) left taken (λ text first.
-      let begins = reaches rows breaks.some more (records_of text) breaks.next breaks.begins first in (
-        fields_begin column given (records_of text) (begins_trans given (given ++ breaks.next ∷ []) (records_of text) (begins_append given (breaks.next ∷ [])) begins),
-        (place, uneven_behind column given (records_of text) breaks.next begins breaks.sound breaks.refused.1),
-      )) settled)
+      off_at rows more (fault.BadCsv n) Gave (λ given text. (n ≡ length given + 1) × IsUnevenBehind (Column column) (length given) text) size in_time sound settled breaks breaks.refused.2
+      (λ text begins. (place, uneven_behind column given (records_of text) breaks.next begins breaks.sound breaks.refused.1))
   broke rows more (fault.BadItem n) size in_time sound settled breaks =
       let place : n ≡ length (fields_in column (rows ++ breaks.some)) + 1 = omega (arith, breaks.refused.0, length_fields column (rows ++ breaks.some)) in
       stops_at rows more (fault.BadItem n) (λ given unit. (n ≡ length given + 1) × Stopped (fault.BadItem n) given unit) size in_time sound settled breaks breaks.refused.1 (place, breaks.refused.1.1)

@@ -110,11 +110,9 @@ impl Parts {
             }
             let len = self.bytes.len();
             self.read_more(source, PIECE_LEN)?;
-            let (place, cut) = scan(self.place, &self.bytes[len..]);
+            let (place, found) = scan(self.place, &self.bytes[len..]);
             self.place = place;
-            if cut > 0 {
-                self.cut = len + cut;
-            }
+            self.cut = cut_behind(self.cut, len, found);
         }
         Ok(true)
     }
@@ -148,6 +146,15 @@ impl Parts {
     {
         &self.bytes
     }
+}
+
+// The last cut, where `found` bytes lie before the last one in a piece that was put behind `len` bytes.
+fn cut_behind(before: usize, len: usize, found: usize) -> usize
+    requires { len + found < 2 ^ 64 }
+    ensures stays { found ≡ 0 → result ≡ before }
+    ensures later { 0 < found → result ≡ len + found }
+{
+    if found == 0 { before } else { len + found }
 }
 
 // Drops so many bytes from the front.
