@@ -14,7 +14,7 @@ use Rattle.std.proofs.lemmas.List.Elements.{All-nil}
 use Rattle.std.proofs.lemmas.Result.{MatchResult-at_err}
 use Rattle.std.proofs.Math.Seq.{get_or-append_seam}
 
-no_items : (kind : Kind) → items_by kind [] ≡ []
+pub no_items : (kind : Kind) → items_by kind [] ≡ []
 unfolding items_by items_of filled
 no_items kind = refl
 

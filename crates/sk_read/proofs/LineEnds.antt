@@ -59,7 +59,7 @@ line_stops Stopped most r old left given line taken is consumed stopped read in_
 
 module _ (Gave : List (List ℕ) → Type 0) (Stopped : Fault → List (List ℕ) → List ℕ → Type 0) (most : ℕ) where
   -- a taker stopped at a unit, for this fault
-  taker_ends : (units : Units) (old new : Option (List ℕ)) (given : List (List ℕ)) (unit : List ℕ) (n : ℕ) (f : Fault) → n ≡ length given + 1 → IsOfTaker n f → Stopped f given unit →
+  pub taker_ends : (units : Units) (old new : Option (List ℕ)) (given : List (List ℕ)) (unit : List ℕ) (n : ℕ) (f : Fault) → n ≡ length given + 1 → IsOfTaker n f → Stopped f given unit →
       ((Known : List (List ℕ) → List ℕ → Type 0) → Known given unit → StopsAt units most Known old new) → Ends units most Gave Stopped old new f
   taker_ends units old new given unit n (fault.BadItem m) place of stopped stops = stops (λ given unit. (m ≡ length given + 1) × Stopped (fault.BadItem m) given unit) (of ∙ place, stopped)
   taker_ends units old new given unit n fault.OutOfMemory place of stopped stops = inr (stops (Stopped fault.OutOfMemory) stopped)

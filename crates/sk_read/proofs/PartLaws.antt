@@ -99,7 +99,7 @@ drop_given p new rows taken has bytes cut place count most ended =
     }
 
 -- a piece more was taken, with a place between two records or none
-takes_more : (p mid new : Parts) (rows : List Row) (taken more : List ℕ) (found : ℕ) → HasTaken p rows taken → p.ended ≡ false → Holds p mid more →
+pub takes_more : (p mid new : Parts) (rows : List Row) (taken more : List ℕ) (found : ℕ) → HasTaken p rows taken → p.ended ≡ false → Holds p mid more →
     IsCut (state_of p.place) more (state_of new.place) found → new.bytes.items ≡ mid.bytes.items → new.taken ≡ mid.taken → new.most ≡ mid.most →
     (found ≡ 0 → new.cut ≡ p.cut) → (0 < found → new.cut ≡ length p.bytes.items + found) → HasTaken new rows (taken ++ more)
 takes_more p mid new rows taken more found has going holds cut bytes count most stays later_cut =
@@ -142,7 +142,7 @@ less_one rows row =
     ap (λ (n : ℕ). take n (rows ++ row ∷ [])) place ∙ take-append_seam rows (row ∷ [])
 
 -- where no whole record is held, the records given are those that have ended
-complete_is : (p : Parts) (rows : List Row) (taken : List ℕ) → HasTaken p rows taken → p.cut ≡ 1 → p.ended ≡ false → complete_records_of taken ≡ rows
+pub complete_is : (p : Parts) (rows : List Row) (taken : List ℕ) → HasTaken p rows taken → p.cut ≡ 1 → p.ended ≡ false → complete_records_of taken ≡ rows
 complete_is p rows taken has one going =
     let is = has.cut in
     let between : state_after st.StartRecord is.front ≡ st.StartRecord = is.between (omega (arith, one)) in
@@ -180,7 +180,7 @@ unfolding strip_bom
 mark_dropped later = refl
 
 -- no record has ended in the first bytes of a mark
-none_complete : (taken : List ℕ) → is_mark_front taken ≡ true → complete_records_of taken ≡ []
+pub none_complete : (taken : List ℕ) → is_mark_front taken ≡ true → complete_records_of taken ≡ []
 unfolding records_of strip_bom records_from next_record
 none_complete [] front = refl
 none_complete (a ∷ []) front = subst (λ (x : ℕ). complete_records_of (x ∷ []) ≡ []) (sym (eqb-true a 0xEF front)) refl
@@ -263,7 +263,7 @@ started p new taken held found has which bytes cut place count most ended = reco
     go (suc n) cut = cut_later st.StartRecord (10 ∷ []) held st.StartRecord (state_of new.place) 1 (suc n) base cut (omega arith)
 
 -- one piece more behind records of which all that ended were given
-rows_in_time : (rows : List Row) (taken more : List ℕ) → complete_records_of taken ≡ rows → length more ≤ piece_limit → AreInTime rows (taken ++ more)
+pub rows_in_time : (rows : List Row) (taken more : List ℕ) → complete_records_of taken ≡ rows → length more ≤ piece_limit → AreInTime rows (taken ++ more)
 rows_in_time rows taken more complete size = record {
   front = taken;
   piece = more;

@@ -22,14 +22,14 @@ use Rattle.std.specs.Io.KnownBytes.{IsAtEnd}
 use Rattle.sk_model.specs.Limits.{line_limit, source_limit}
 
 -- a line that is too long has its own number, since few bytes make few lines
-long_next : (limit n most : ℕ) (c : Cutter) (given : List (List ℕ)) (taken : List ℕ) → length taken ≤ most → most ≤ source_limit → Follows c given taken →
+pub long_next : (limit n most : ℕ) (c : Cutter) (given : List (List ℕ)) (taken : List ℕ) → length taken ≤ most → most ≤ source_limit → Follows c given taken →
     IsLongAfter limit n given (open_lines_of taken) → (n ≡ length given + 1) × ((rest : List ℕ) → ComesLong limit given (lines_of (taken ++ rest)))
 long_next limit n most c given taken within few follows long =
     let lines = lines_are_few (taken ++ 10 ∷ []) in
     let number : n ≡ length given + 1 = omega (arith, long.number, long.first.0, lines, length-append taken (10 ∷ [])) in
     (number, λ rest. record { begins = given_lines_stay c given taken rest follows; first = long_stays_long limit (length given) taken rest long.first })
 
-long_last : (limit n most : ℕ) (c : Cutter) (given : List (List ℕ)) (taken : List ℕ) → length taken ≤ most → most ≤ source_limit → Follows c given taken →
+pub long_last : (limit n most : ℕ) (c : Cutter) (given : List (List ℕ)) (taken : List ℕ) → length taken ≤ most → most ≤ source_limit → Follows c given taken →
     IsLongAfter limit n given (lines_of taken) → (n ≡ length given + 1) × ComesLong limit given (lines_of taken)
 long_last limit n most c given taken within few follows long =
     let number : n ≡ length given + 1 = omega (arith, long.number, long.first.0, lines_are_few taken) in (

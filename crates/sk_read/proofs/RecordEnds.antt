@@ -41,7 +41,7 @@ width_begun [] row more = refl
 width_begun (first ∷ given) row more = refl
 
 -- the whole records held, in front of those that follow
-whole_rows : (p : Parts) (rows : List Row) (taken later : List ℕ) → HasTaken p rows taken → (p.ended ≡ true → later ≡ []) →
+pub whole_rows : (p : Parts) (rows : List Row) (taken later : List ℕ) → HasTaken p rows taken → (p.ended ≡ true → later ≡ []) →
     (more : List Row) × (records_of (taken ++ later) ≡ (rows ++ records default_config (take p.cut p.bytes.items)) ++ more)
 whole_rows p rows taken later has over =
     let is = has.cut in
@@ -68,7 +68,7 @@ strip_shorter (a ∷ b ∷ c ∷ rest) = by (is_bom a b c) refl
     by true e = rw e (omega arith)
     by false e = rw e (omega arith)
 
-few_records : (text : List ℕ) → length (records_of text) ≤ length text
+pub few_records : (text : List ℕ) → length (records_of text) ≤ length text
 unfolding records_of
 few_records text = omega (arith, records_few (strip_bom text), strip_shorter text)
 
@@ -122,7 +122,7 @@ sound_front column (x ∷ xs) ys sound = record {
       (subst (AreWithin line_limit) (map-append (field_of column) (x ∷ xs) ys) sound.within);
 }
 
-sound_begins : (column : ℕ) (xs ys : List Row) → Begins xs ys → AreSoundRows column ys → AreSoundRows column xs
+pub sound_begins : (column : ℕ) (xs ys : List Row) → Begins xs ys → AreSoundRows column ys → AreSoundRows column xs
 sound_begins column xs ys begins sound = sound_front column xs begins.0 (subst (AreSoundRows column) begins.1 sound)
 
 fields_begin : (column : ℕ) (xs ys : List Row) → Begins xs ys → Begins (fields_in column xs) (fields_in column ys)

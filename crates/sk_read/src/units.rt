@@ -62,7 +62,7 @@ pub trait UnitTaker {
 }
 
 /// Gives the units of a source of fewer than `most` bytes to the taker, in order, and answers how
-/// many there were.
+/// many there were. Where the taker stops at one, it answers the taker's fault.
 pub fn read_units<S: Source, T: UnitTaker>(
     alloc: Global,
     units: Units,

@@ -8,7 +8,7 @@ ghost use Rattle.sk_read.specs.Parts.{HasStarted, HasTaken, HasHeld, Holds, Lack
 ghost use Rattle.sk_model.specs.Limits.{source_limit};
 
 use crate::fault::Fault;
-use crate::reader::PIECE_LEN;
+use crate::reader::{LineFault, PIECE_LEN};
 use crate::records::scan::{ScanState, scan};
 use sk_io::{Source, read_within};
 use std::alloc::Global;
@@ -87,7 +87,7 @@ impl Parts {
         ensures stays { S.stands_on source.new ≡ S.stands_on source.old }
     {
         let allowed = self.most - self.taken;
-        let n = read_within(source, &mut self.piece[..room], allowed)?;
+        let n = read_within(source, &mut self.piece[..room], allowed).map_err(LineFault::from)?;
         self.bytes.extend_from_slice(&self.piece[..n])?;
         self.taken += n as u64;
         self.ended = n == 0;
