@@ -1,5 +1,5 @@
 -- Where a text of records may be cut, as it grows.
-use Rattle.std.proofs.Common.{◌≡◌, ◌⊎◌, ℕ, ◌+◌, ◌<◌, true, List, [], ◌∷◌, ◌++◌, length, refl, sym, ap, ◌∙◌, subst, inl, inr, arith, append_assoc, append-nil, length-append}
+use Rattle.std.proofs.Common.{◌≡◌, ℕ, ◌+◌, ◌<◌, true, List, [], ◌∷◌, ◌++◌, length, refl, sym, ap, ◌∙◌, subst, arith, append_assoc, length-append}
 use Rattle.csv.specs.Machine.{step}
 use Rattle.csv.specs.Reading.{default_config}
 use Rattle.csv.specs.declared.parser.State.{State}
@@ -9,28 +9,20 @@ use Rattle.sk_read.specs.declared.records.scan.ScanState.TheVariants as scan
 use Rattle.sk_read.specs.Scan.{IsEnd, state_of, settled, is_inside, state_after, StaysInside, IsCut}
 use Rattle.sk_read.proofs.Steps.{settled_goes_on, settled_twice, inside_settled, between_is_end}
 
-pub place_settled : (p : ScanState) → settled (state_of p) ≡ state_of p
+place_settled : (p : ScanState) → settled (state_of p) ≡ state_of p
 place_settled scan.Between = refl
 place_settled scan.FieldStart = refl
 place_settled scan.InField = refl
 place_settled scan.InQuotes = refl
 place_settled scan.AfterQuote = refl
 
--- a place lies between two records or inside one
-pub between_or_inside : (p : ScanState) → (state_of p ≡ st.StartRecord) ⊎ (is_inside (state_of p) ≡ true)
-between_or_inside scan.Between = inl refl
-between_or_inside scan.FieldStart = inr refl
-between_or_inside scan.InField = inr refl
-between_or_inside scan.InQuotes = inr refl
-between_or_inside scan.AfterQuote = inr refl
-
 -- what is settled goes on alike
-pub after_settled : (s : State) (xs : List ℕ) → state_after (settled s) xs ≡ state_after s xs
+after_settled : (s : State) (xs : List ℕ) → state_after (settled s) xs ≡ state_after s xs
 unfolding state_after
 after_settled s [] = settled_twice s
 after_settled s (c ∷ rest) = rw (settled_goes_on s c) refl
 
-pub stays_settled : (s : State) (xs : List ℕ) → StaysInside (settled s) xs → StaysInside s xs
+stays_settled : (s : State) (xs : List ℕ) → StaysInside (settled s) xs → StaysInside s xs
 unfolding StaysInside
 stays_settled s [] stays = tt
 stays_settled s (c ∷ rest) stays = rw (settled_goes_on s c) at stays
@@ -40,7 +32,7 @@ unfolding state_after
 after_append s [] ys = sym (after_settled s ys)
 after_append s (c ∷ rest) ys = after_append (step default_config s c).0 rest ys
 
-pub stays_append : (s : State) (xs ys : List ℕ) → StaysInside s xs → StaysInside (state_after s xs) ys → StaysInside s (xs ++ ys)
+stays_append : (s : State) (xs ys : List ℕ) → StaysInside s xs → StaysInside (state_after s xs) ys → StaysInside s (xs ++ ys)
 unfolding state_after StaysInside
 stays_append s [] ys stays more = stays_settled s ys more
 stays_append s (c ∷ rest) ys stays more = (stays.0, stays_append (step default_config s c).0 rest ys stays.1 more)
@@ -70,23 +62,6 @@ cut_none p = record {
   inside = tt;
   ends = sym (after_none (state_of p) ∙ place_settled p);
 }
-
--- one byte more, behind which it stands between two records
-pub cut_here : (s : State) (xs : List ℕ) (state next : State) (cut c : ℕ) → IsCut s xs state cut → next ≡ settled (step default_config state c).0 → next ≡ st.StartRecord →
-    IsCut s (xs ++ c ∷ []) next (length xs + 1)
-unfolding StaysInside
-cut_here s xs state next cut c is goes between =
-    let ends : next ≡ state_after s (xs ++ c ∷ []) =
-    goes ∙ sym (after_byte state c) ∙ ap (λ (t : State). state_after t (c ∷ [])) is.ends ∙ sym (after_append s xs (c ∷ [])) in
-    record {
-      front = xs ++ c ∷ [];
-      back = [];
-      joined = sym (append-nil (xs ++ c ∷ []));
-      size = length-append xs (c ∷ []);
-      between = λ some. sym ends ∙ between;
-      inside = tt;
-      ends = ends;
-    }
 
 -- one byte more, behind which it stands inside a record
 pub cut_before : (s : State) (xs : List ℕ) (state next : State) (cut c : ℕ) → IsCut s xs state cut → next ≡ settled (step default_config state c).0 → is_inside next ≡ true →

@@ -10,7 +10,7 @@ use Rattle.csv.specs.declared.parser.State.TheVariants as st
 use Rattle.sk_read.specs.declared.records.scan.ScanState.{ScanState}
 use Rattle.sk_read.specs.declared.records.scan.ScanState.TheVariants as scan
 use Rattle.sk_read.specs.Scan.{IsEnd, state_of, settled, is_inside, state_after, StaysInside, IsCut}
-use Rattle.sk_read.proofs.Steps.{after_cr, inside_settled}
+use Rattle.sk_read.proofs.Steps.{after_cr, inside_settled, in_field}
 use Rattle.sk_read.proofs.Cuts.{after_append, after_byte, after_none, cut_none}
 
 -- a state outside quotes
@@ -20,22 +20,14 @@ is_unquoted st.AfterCr = true
 is_unquoted st.StartField = true
 is_unquoted st.InField = true
 is_unquoted st.AfterQuote = true
-is_unquoted st.InQuoted = false
-is_unquoted st.InEscape = false
-is_unquoted st.InComment = false
+is_unquoted _ = false
 
 abbrev pub IsNoQuote : ℕ → Type 0
 IsNoQuote c = c ≢ 34
 
 unquoted_settled : (s : State) → is_unquoted (settled s) ≡ is_unquoted s
-unquoted_settled st.StartRecord = refl
 unquoted_settled st.AfterCr = refl
-unquoted_settled st.StartField = refl
-unquoted_settled st.InField = refl
-unquoted_settled st.AfterQuote = refl
-unquoted_settled st.InQuoted = refl
-unquoted_settled st.InEscape = refl
-unquoted_settled st.InComment = refl
+unquoted_settled s = refl
 
 -- a byte that is no quote does outside quotes what it does in a field
 abbrev GoesPlain : State → ℕ → Type 0
@@ -71,9 +63,7 @@ step_plain st.AfterCr c plain no_quote = rw (after_cr c) (record_plain c no_quot
 step_plain st.StartField c plain no_quote = rw no_quote (refl, field_plain c)
 step_plain st.InField c plain no_quote = (refl, field_plain c)
 step_plain st.AfterQuote c plain no_quote = rw no_quote (refl, field_plain c)
-step_plain st.InQuoted c plain no_quote = absurd (false≢true plain)
-step_plain st.InEscape c plain no_quote = absurd (false≢true plain)
-step_plain st.InComment c plain no_quote = absurd (false≢true plain)
+step_plain s c plain no_quote = absurd (false≢true plain)
 
 -- outside quotes it stays there
 plain_after : (s : State) (xs : List ℕ) → is_unquoted s ≡ true → All IsNoQuote xs → is_unquoted (state_after s xs) ≡ true
@@ -88,15 +78,9 @@ plain_last s xs c plain none other =
     after_append s xs (c ∷ []) ∙ after_byte (state_after s xs) c ∙ (step_plain (state_after s xs) c (plain_after s xs plain none) (ne_eqb c 34 other)).0
 
 inside_plain : (c : ℕ) → ¬ IsEnd c → is_inside (settled (step default_config st.InField c).0) ≡ true
-inside_plain c other = elim (cases_Bool (c == 44)) [
-  | inl comma ↦ rw comma refl
-  | inr no_comma ↦ elim (cases_Bool (c == 13)) [
-    | inl cr ↦ absurd (other (inr (eqb-true c 13 cr)))
-    | inr no_cr ↦ elim (cases_Bool (c == 10)) [
-      | inl lf ↦ absurd (other (inl (eqb-true c 10 lf)))
-      | inr no_lf ↦ rw (no_comma, no_cr, no_lf) refl
-    ]
-  ]
+inside_plain c other = elim (in_field c) [
+  | inl ends ↦ absurd (other ends.0)
+  | inr stays ↦ inside_settled (step default_config st.InField c).0 ∙ stays.1
 ]
 
 -- without an LF or CR no record ends
@@ -151,7 +135,7 @@ last_of [] c all = All-head IsNoQuote c [] all
 last_of (y ∷ ys) c all = last_of ys c (All-tail IsNoQuote y (ys ++ c ∷ []) all)
 
 -- outside quotes the cut lies behind the last LF or CR
-pub cut_plain : (s : State) (xs init : List ℕ) (last n : ℕ) → is_unquoted s ≡ true → All IsNoQuote xs → xs ≡ init ++ last ∷ [] → n ≤ length xs → (0 < n → IsEnd (get_or xs (n - 1) 0)) →
+cut_plain : (s : State) (xs init : List ℕ) (last n : ℕ) → is_unquoted s ≡ true → All IsNoQuote xs → xs ≡ init ++ last ∷ [] → n ≤ length xs → (0 < n → IsEnd (get_or xs (n - 1) 0)) →
     All (λ (c : ℕ). ¬ IsEnd c) (drop n xs) → IsCut s xs (settled (step default_config st.InField last).0) n
 cut_plain s xs init last n plain none whole fits end after =
     let front_none = All-take IsNoQuote n xs none in
@@ -170,7 +154,7 @@ cut_plain s xs init last n plain none whole fits end after =
     }
 
 -- a place outside quotes
-pub place_unquoted : (p : ScanState) → p ≢ scan.InQuotes → is_unquoted (state_of p) ≡ true
+place_unquoted : (p : ScanState) → p ≢ scan.InQuotes → is_unquoted (state_of p) ≡ true
 place_unquoted scan.Between other = refl
 place_unquoted scan.FieldStart other = refl
 place_unquoted scan.InField other = refl

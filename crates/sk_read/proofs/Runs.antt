@@ -21,29 +21,35 @@ run s fields field (c ∷ rest) =
 some_is : {A : Type 0} (x y : A) → Some x ≡ Some y → x ≡ y
 some_is x y same = ap (λ (o : Option _). unwrap_or o x) same
 
--- one record read is the first of a run
-pub read_is : (s : State) (fields : Row) (field xs : List ℕ) (p : Read) → next_record default_config s fields field xs ≡ Some p →
-    run s fields field xs ≡ p.0 ∷ run p.1 [] [] p.2
-unfolding next_record run
-read_is s fields field [] p e = by (ends_at_end s) refl
+-- how a record is read: the end of the text ends it, or a byte, or it goes on behind a byte
+read_by : (P : State → Row → List ℕ → List ℕ → Read → Type 0) →
+    ((s : State) (fields : Row) (field : List ℕ) → ends_at_end s ≡ true → P s fields field [] (fields ++ (field ∷ []), st.StartRecord, [])) →
+    ((s : State) (fields : Row) (field : List ℕ) (c : ℕ) (rest : List ℕ) → is_end (step default_config s c).1 ≡ true →
+    P s fields field (c ∷ rest) (fields_after (step default_config s c).1 fields field, (step default_config s c).0, rest)) →
+    ((s : State) (fields : Row) (field : List ℕ) (c : ℕ) (rest : List ℕ) (p : Read) → is_end (step default_config s c).1 ≡ false →
+    P (step default_config s c).0 (fields_after (step default_config s c).1 fields field) (field_after (step default_config s c).1 c field) rest p → P s fields field (c ∷ rest) p) →
+    (s : State) (fields : Row) (field xs : List ℕ) (p : Read) → next_record default_config s fields field xs ≡ Some p → P s fields field xs p
+unfolding next_record
+read_by P ends ended goes s fields field [] p e = by (ends_at_end s) refl
   where
-    by : (b : Bool) → ends_at_end s ≡ b → run s fields field [] ≡ p.0 ∷ run p.1 [] [] p.2
-    by true t =
-        let q : (fields ++ (field ∷ []), st.StartRecord, []) ≡ p = some_is _ p (rw t at e) in
-        subst (λ (r : Read). run s fields field [] ≡ r.0 ∷ run r.1 [] [] r.2) q (rw t refl)
+    by : (b : Bool) → ends_at_end s ≡ b → P s fields field [] p
+    by true t = subst (P s fields field []) (some_is (fields ++ (field ∷ []), st.StartRecord, []) p (rw t at e)) (ends s fields field t)
     by false t = cc (rw t at e)
-read_is s fields field (c ∷ rest) p e =
+read_by P ends ended goes s fields field (c ∷ rest) p e =
     by (is_end (step default_config s c).1) refl
-    (read_is (step default_config s c).0 (fields_after (step default_config s c).1 fields field) (field_after (step default_config s c).1 c field) rest p)
+    (read_by P ends ended goes (step default_config s c).0 (fields_after (step default_config s c).1 fields field) (field_after (step default_config s c).1 c field) rest p)
   where
     by : (b : Bool) → is_end (step default_config s c).1 ≡ b →
         (next_record default_config (step default_config s c).0 (fields_after (step default_config s c).1 fields field) (field_after (step default_config s c).1 c field) rest ≡ Some p →
-        run (step default_config s c).0 (fields_after (step default_config s c).1 fields field) (field_after (step default_config s c).1 c field) rest ≡ p.0 ∷ run p.1 [] [] p.2) →
-        run s fields field (c ∷ rest) ≡ p.0 ∷ run p.1 [] [] p.2
-    by true t again =
-        let q : (fields_after (step default_config s c).1 fields field, (step default_config s c).0, rest) ≡ p = some_is _ p (rw t at e) in
-        subst (λ (r : Read). run s fields field (c ∷ rest) ≡ r.0 ∷ run r.1 [] [] r.2) q (rw t refl)
-    by false t again = rw t (again (rw t at e))
+        P (step default_config s c).0 (fields_after (step default_config s c).1 fields field) (field_after (step default_config s c).1 c field) rest p) → P s fields field (c ∷ rest) p
+    by true t again = subst (P s fields field (c ∷ rest)) (some_is (fields_after (step default_config s c).1 fields field, (step default_config s c).0, rest) p (rw t at e)) (ended s fields field c rest t)
+    by false t again = goes s fields field c rest p t (again (rw t at e))
+
+-- one record read is the first of a run
+pub read_is : (s : State) (fields : Row) (field xs : List ℕ) (p : Read) → next_record default_config s fields field xs ≡ Some p →
+    run s fields field xs ≡ p.0 ∷ run p.1 [] [] p.2
+unfolding run
+read_is = read_by (λ s fields field xs p. run s fields field xs ≡ p.0 ∷ run p.1 [] [] p.2) (λ s fields field t. rw t refl) (λ s fields field c rest t. rw t refl) (λ s fields field c rest p t again. rw t again)
 
 pub none_is : (s : State) (fields : Row) (field xs : List ℕ) → next_record default_config s fields field xs ≡ None → run s fields field xs ≡ []
 unfolding next_record run
@@ -64,50 +70,12 @@ none_is s fields field (c ∷ rest) e =
     by false t again = rw t (again (rw t at e))
 
 -- a record that was read takes a byte, if there is one
-pub shorter : (s : State) (fields : Row) (field xs : List ℕ) (p : Read) → next_record default_config s fields field xs ≡ Some p → length p.2 ≤ length xs - 1
-unfolding next_record
-shorter s fields field [] p e = by (ends_at_end s) refl
-  where
-    by : (b : Bool) → ends_at_end s ≡ b → length p.2 ≤ 0
-    by true t =
-        let q : (fields ++ (field ∷ []), st.StartRecord, []) ≡ p = some_is _ p (rw t at e) in
-        subst (λ (r : Read). length r.2 ≤ 0) q (omega arith)
-    by false t = cc (rw t at e)
-shorter s fields field (c ∷ rest) p e =
-    by (is_end (step default_config s c).1) refl
-    (shorter (step default_config s c).0 (fields_after (step default_config s c).1 fields field) (field_after (step default_config s c).1 c field) rest p)
-  where
-    by : (b : Bool) → is_end (step default_config s c).1 ≡ b →
-        (next_record default_config (step default_config s c).0 (fields_after (step default_config s c).1 fields field) (field_after (step default_config s c).1 c field) rest ≡ Some p → length p.2 ≤ length rest - 1) →
-        length p.2 ≤ length (c ∷ rest) - 1
-    by true t again =
-        let q : (fields_after (step default_config s c).1 fields field, (step default_config s c).0, rest) ≡ p = some_is _ p (rw t at e) in
-        subst (λ (r : Read). length r.2 ≤ length (c ∷ rest) - 1) q (omega arith)
-    by false t again =
-        let less = again (rw t at e) in
-        omega (arith, less)
+shorter : (s : State) (fields : Row) (field xs : List ℕ) (p : Read) → next_record default_config s fields field xs ≡ Some p → length p.2 ≤ length xs - 1
+shorter = read_by (λ s fields field xs p. length p.2 ≤ length xs - 1) (λ s fields field t. omega arith) (λ s fields field c rest t. omega arith) (λ s fields field c rest p t again. omega (arith, again))
 
 -- behind a record it stands between two
 pub read_between : (s : State) (fields : Row) (field xs : List ℕ) (p : Read) → next_record default_config s fields field xs ≡ Some p → settled p.1 ≡ st.StartRecord
-unfolding next_record
-read_between s fields field [] p e = by (ends_at_end s) refl
-  where
-    by : (b : Bool) → ends_at_end s ≡ b → settled p.1 ≡ st.StartRecord
-    by true t =
-        let q : (fields ++ (field ∷ []), st.StartRecord, []) ≡ p = some_is _ p (rw t at e) in
-        subst (λ (r : Read). settled r.1 ≡ st.StartRecord) q refl
-    by false t = cc (rw t at e)
-read_between s fields field (c ∷ rest) p e =
-    by (is_end (step default_config s c).1) refl
-    (read_between (step default_config s c).0 (fields_after (step default_config s c).1 fields field) (field_after (step default_config s c).1 c field) rest p)
-  where
-    by : (b : Bool) → is_end (step default_config s c).1 ≡ b →
-        (next_record default_config (step default_config s c).0 (fields_after (step default_config s c).1 fields field) (field_after (step default_config s c).1 c field) rest ≡ Some p → settled p.1 ≡ st.StartRecord) →
-        settled p.1 ≡ st.StartRecord
-    by true t again =
-        let q : (fields_after (step default_config s c).1 fields field, (step default_config s c).0, rest) ≡ p = some_is _ p (rw t at e) in
-        subst (λ (r : Read). settled r.1 ≡ st.StartRecord) q (ends_between s c t)
-    by false t again = again (rw t at e)
+read_between = read_by (λ s fields field xs p. settled p.1 ≡ st.StartRecord) (λ s fields field t. refl) (λ s fields field c rest t. ends_between s c t) (λ s fields field c rest p t again. again)
 
 -- a record that was read between two takes a byte
 pub takes_some : (s : State) (xs : List ℕ) (p : Read) → settled s ≡ st.StartRecord → next_record default_config s [] [] xs ≡ Some p → length p.2 < length xs
@@ -165,22 +133,17 @@ tidy_step : (s : State) (c : ℕ) (fields : Row) (field : List ℕ) → IsTidy s
     IsTidy (step default_config s c).0 (fields_after (step default_config s c).1 fields field) (field_after (step default_config s c).1 c field)
 tidy_step s c fields field (inl inside) going = inl (stays_inside s c inside going)
 tidy_step s c fields field (inr between) going = elim (between_goes_on s c between.0) [
-  | inl begins ↦ inl begins.0
-  | inr skips ↦ inr (rw skips (refl, between.1, between.2))
+  | inl begins ↦ inl begins.1
+  | inr skips ↦ inr (rw skips.1 (refl, between.1, between.2))
 ]
 
 -- between two records all states go on alike
-pub between_alike : (s : State) (xs : List ℕ) → settled s ≡ st.StartRecord → run s [] [] xs ≡ run st.StartRecord [] [] xs
+between_alike : (s : State) (xs : List ℕ) → settled s ≡ st.StartRecord → run s [] [] xs ≡ run st.StartRecord [] [] xs
 unfolding run
 between_alike st.StartRecord xs between = refl
 between_alike st.AfterCr [] between = refl
 between_alike st.AfterCr (c ∷ rest) between = rw (after_cr c) refl
-between_alike st.StartField xs between = cc
-between_alike st.InField xs between = cc
-between_alike st.InQuoted xs between = cc
-between_alike st.AfterQuote xs between = cc
-between_alike st.InEscape xs between = cc
-between_alike st.InComment xs between = cc
+between_alike s xs between = cc
 
 run_none : (s : State) → settled s ≡ st.StartRecord → run s [] [] [] ≡ []
 unfolding run
@@ -225,10 +188,7 @@ open_one st.StartField fields field [] inside stays = (fields ++ (field ++ 120 �
 open_one st.InField fields field [] inside stays = (fields ++ (field ++ 120 ∷ []) ∷ [], refl)
 open_one st.InQuoted fields field [] inside stays = (fields ++ (field ++ 120 ∷ []) ∷ [], refl)
 open_one st.AfterQuote fields field [] inside stays = (fields ++ (field ++ 120 ∷ []) ∷ [], refl)
-open_one st.StartRecord fields field [] inside stays = absurd (false≢true inside)
-open_one st.AfterCr fields field [] inside stays = absurd (false≢true inside)
-open_one st.InEscape fields field [] inside stays = absurd (false≢true inside)
-open_one st.InComment fields field [] inside stays = absurd (false≢true inside)
+open_one s fields field [] inside stays = absurd (false≢true inside)
 open_one s fields field (c ∷ rest) inside stays =
     by (is_end (step default_config s c).1) refl
     (open_one (step default_config s c).0 (fields_after (step default_config s c).1 fields field) (field_after (step default_config s c).1 c field) rest stays.0 stays.1)
@@ -245,8 +205,8 @@ open_from_start [] stays = ((120 ∷ []) ∷ [], refl)
 open_from_start (c ∷ rest) stays = elim (between_goes_on st.StartRecord c refl) [
   | inl begins ↦
       let more = open_one (step default_config st.StartRecord c).0 (fields_after (step default_config st.StartRecord c).1 [] []) (field_after (step default_config st.StartRecord c).1 c []) rest stays.0 stays.1 in
-      (more.0, rw begins.1 more.1)
-  | inr skips ↦ absurd (false≢true (ap (λ (p : State × Action). is_inside p.0) (sym skips) ∙ stays.0))
+      (more.0, rw begins.0 more.1)
+  | inr skips ↦ absurd (false≢true (ap (λ (p : State × Action). is_inside p.0) (sym skips.1) ∙ stays.0))
 ]
 
 pub open_is_one : (back : List ℕ) → StaysInside st.StartRecord back → (row : Row) × (records default_config (back ++ 120 ∷ []) ≡ row ∷ [])

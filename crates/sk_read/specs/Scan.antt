@@ -18,13 +18,7 @@ state_of scan.AfterQuote = st.AfterQuote
 -- a state, where the one behind a CR that ended a record is that between two records: both go on alike
 abbrev pub settled : State → State
 settled st.AfterCr = st.StartRecord
-settled st.StartRecord = st.StartRecord
-settled st.StartField = st.StartField
-settled st.InField = st.InField
-settled st.InQuoted = st.InQuoted
-settled st.AfterQuote = st.AfterQuote
-settled st.InEscape = st.InEscape
-settled st.InComment = st.InComment
+settled state = state
 
 -- LF and CR
 abbrev pub IsEnd : ℕ → Type 0
@@ -36,10 +30,7 @@ is_inside st.StartField = true
 is_inside st.InField = true
 is_inside st.InQuoted = true
 is_inside st.AfterQuote = true
-is_inside st.StartRecord = false
-is_inside st.AfterCr = false
-is_inside st.InEscape = false
-is_inside st.InComment = false
+is_inside _ = false
 
 -- the state behind a text, from a state
 unfoldable pub state_after : State → List ℕ → State

@@ -2,7 +2,6 @@
 ghost use Rattle.std.specs.Prelude.{◌≡◌};
 
 use crate::reader::LineFault;
-use sk_io::BoundFault;
 use sk_model::OutOfMemory;
 use std::alloc::AllocError;
 
@@ -22,6 +21,8 @@ pub enum Fault {
     BadCsv(u64),
     /// As many bytes were taken as are too much.
     TooMuch,
+    /// Who takes the units could not write.
+    WriteFault,
 }
 
 impl From<OutOfMemory> for Fault {
@@ -41,16 +42,6 @@ impl From<AllocError> for Fault {
 
     fn from(_: AllocError) -> Self {
         Fault::OutOfMemory
-    }
-}
-
-impl From<BoundFault> for Fault {
-    ghost use Rattle.sk_read.specs.Faults.{fault_by, line_fault_by};
-
-    ghost from_gives = { λ fault e. e ≡ fault_by (line_fault_by fault) };
-
-    fn from(fault: BoundFault) -> Self {
-        Fault::from(LineFault::from(fault))
     }
 }
 

@@ -1,9 +1,14 @@
-ghost use Rattle.std.specs.Prelude.{◌≤◌, ◌^◌, [], ⊤};
+ghost use Rattle.std.specs.Prelude.{◌≡◌, ◌≤◌, ◌^◌, ℕ, List, [], ◌∷◌, length, map, ⊤, None, Some, IsSome, IfOk, IfSome, IsErrOf};
+ghost use Rattle.std.specs.Option.{option_to_list};
 ghost use Rattle.sk_model.specs.Limits.{source_limit};
+ghost use Rattle.sk_model.specs.Missing.{Begins};
+ghost use Rattle.sk_read.specs.Units.{units_of};
+ghost use Rattle.sk_read.specs.declared.fault.Fault.TheVariants as fault;
 
-use crate::{Fault, Intake, Kind, Taker, read_items};
+use crate::{Fault, Intake, Kind, Taker, UnitTaker, Units, read_items, read_units};
 use sk_hash::hash48;
-use sk_io::MemSource;
+use sk_io::{MemSource, Source};
+use sk_model::limits::SOURCE_LIMIT;
 use sk_theta::Theta;
 use std::alloc::Global;
 use std::process::Abort;
@@ -23,56 +28,53 @@ impl Taker for Items {
     }
 }
 
+// The answer of a reading in pieces of this length, of which these reads fail, and the items taken.
 fn read(
     alloc: Global,
     intake: Intake,
     text: &[u8],
     piece: usize,
-) -> Result<(Result<u64, Fault>, Items), Fail>
+    failing: &[u64],
+) -> Result<(Result<u64, Fault>, Vec<u64>), Fail>
     requires { intake.most ≤ source_limit }
 {
-    let mut source = MemSource::new(text.to_vec(alloc)?, piece.max(1), Vec::new(alloc));
+    let mut source = MemSource::new(text.to_vec(alloc)?, piece.max(1), failing.to_vec(alloc)?);
     let mut items = Items(Vec::new(alloc));
     let result = read_items(alloc, &intake, &mut source, &mut items);
-    Ok((result, items))
+    Ok((result, items.0))
 }
 
 fn intake(kind: Kind, column: u32) -> Intake
     ensures { result.most ≤ source_limit }
 {
-    Intake {
-        kind,
-        column,
-        most: 1 << 40,
-    }
+    Intake::of_items(kind, column, SOURCE_LIMIT)
 }
 
-// In pieces of several lengths, the column has these fields that are not empty, in so many records.
-fn expect_fields(
+fn expect(
     rt: &impl Abort,
-    alloc: Global,
-    text: &[u8],
-    column: u32,
-    records: u64,
-    fields: &[&[u8]],
-) -> Result<(), Fail> {
-    for piece in [1, 2, 3, 7, 1000] {
-        let (result, items) = read(alloc, intake(Kind::Hash(9), column), text, piece)?;
-        assert_eq!(rt; result, Ok(records));
-        assert_eq!(rt; items.0.len(), fields.len());
-        for (item, field) in items.0.iter().zip(fields) {
-            assert_eq!(rt; *item, hash48(9, field));
-        }
+    got: (Result<u64, Fault>, Vec<u64>),
+    want: Result<u64, Fault>,
+    items: &[u64],
+) {
+    assert_eq!(rt; got.0, want);
+    assert_eq!(rt; got.1.as_slice(), items);
+}
+
+fn hashes_of(alloc: Global, fields: &[&[u8]]) -> Result<Vec<u64>, Fail> {
+    let mut hashes = Vec::new(alloc);
+    for field in fields {
+        hashes.push(hash48(9, field))?;
     }
-    Ok(())
+    Ok(hashes)
 }
 
 // The fields are those that Python's module csv reads, where it reads blank lines and the byte order
-// mark alike.
+// mark alike. A mark is dropped at the very start alone, and only where it is whole. At column 0 the
+// units are lines: a mark is part of the first, and quotes and commas are bytes.
 #[test]
-fn columns_of_records(rt: HostRuntime) -> Result<(), Fail> {
+fn fields_of_units(rt: HostRuntime) -> Result<(), Fail> {
     let alloc = rt.alloc();
-    let cases: [(&[u8], u32, u64, &[&[u8]]); 20] = [
+    let cases: [(&[u8], u32, u64, &[&[u8]]); 28] = [
         (b"", 1, 0, &[]),
         (b"a,b\nc,d\n", 1, 2, &[b"a", b"c"]),
         (b"a,b\nc,d\n", 2, 2, &[b"b", b"d"]),
@@ -93,18 +95,6 @@ fn columns_of_records(rt: HostRuntime) -> Result<(), Fail> {
         (b"\"a\r\nb\",c\nd,e\n", 2, 2, &[b"c", b"e"]),
         (b"a,a\n", 2, 1, &[b"a"]),
         (b"\"\",\"x\"\n", 2, 1, &[b"x"]),
-    ];
-    for (text, column, records, fields) in cases {
-        expect_fields(&rt, alloc, text, column, records, fields)?;
-    }
-    Ok(())
-}
-
-// A byte order mark is dropped at the very start alone, and only where it is whole.
-#[test]
-fn byte_order_marks(rt: HostRuntime) -> Result<(), Fail> {
-    let alloc = rt.alloc();
-    let cases: [(&[u8], u32, u64, &[&[u8]]); 7] = [
         (b"\xEF\xBB\xBFa,b\n", 1, 1, &[b"a"]),
         (b"\xEF\xBB\xBF\"a,b\",c\n", 1, 1, &[b"a,b"]),
         (b"\xEF\xBB\xBF", 1, 0, &[]),
@@ -112,18 +102,28 @@ fn byte_order_marks(rt: HostRuntime) -> Result<(), Fail> {
         (b"\xEF\nb\n", 1, 2, &[b"\xEF", b"b"]),
         (b"a\n\xEF\xBB\xBFb\n", 1, 2, &[b"a", b"\xEF\xBB\xBFb"]),
         (b"\xEF\xBB\xBF\xEF\xBB\xBFa\n", 1, 1, &[b"\xEF\xBB\xBFa"]),
+        (
+            b"\xEF\xBB\xBFa\n\n\"b,\nc\r\nd\rd",
+            0,
+            5,
+            &[b"\xEF\xBB\xBFa", b"\"b,", b"c", b"d\rd"],
+        ),
     ];
     for (text, column, records, fields) in cases {
-        expect_fields(&rt, alloc, text, column, records, fields)?;
+        let hashes = hashes_of(alloc, fields)?;
+        for piece in [1, 2, 3, 7, 1000] {
+            let got = read(alloc, intake(Kind::Hash(9), column), text, piece, &[])?;
+            expect(&rt, got, Ok(records), &hashes);
+        }
     }
     Ok(())
 }
 
-// The first record that is refused, and the items before it.
+// The first unit that is refused, and the items before it.
 #[test]
-fn refused_records(rt: HostRuntime) -> Result<(), Fail> {
+fn refused_units(rt: HostRuntime) -> Result<(), Fail> {
     let alloc = rt.alloc();
-    let cases: [(&[u8], u32, Fault, &[u64]); 10] = [
+    let cases: [(&[u8], u32, Fault, &[u64]); 11] = [
         (b"1,2\n3\n", 1, Fault::BadCsv(2), &[1]),
         (b"1,2\n3,4,5\n6,7\n", 2, Fault::BadCsv(2), &[2]),
         (b"1,2\n3,4\n", 3, Fault::BadCsv(1), &[]),
@@ -134,12 +134,12 @@ fn refused_records(rt: HostRuntime) -> Result<(), Fail> {
         (b"1,2\nx\n", 1, Fault::BadCsv(2), &[1]),
         (b"x,1\n2\n", 1, Fault::BadItem(1), &[]),
         (b"1,2\n\"\"\n", 1, Fault::BadCsv(2), &[1]),
+        (b"1\nx\n2\n", 0, Fault::BadItem(2), &[1]),
     ];
     for (text, column, fault, items) in cases {
         for piece in [1, 2, 3, 7, 1000] {
-            let (result, taken) = read(alloc, intake(Kind::Raw, column), text, piece)?;
-            assert_eq!(rt; result, Err(fault));
-            assert_eq!(rt; taken.0.as_slice(), items);
+            let got = read(alloc, intake(Kind::Raw, column), text, piece, &[])?;
+            expect(&rt, got, Err(fault), items);
         }
     }
     Ok(())
@@ -170,33 +170,40 @@ fn long_fields(rt: HostRuntime) -> Result<(), Fail> {
     for (len, kind, column, want, items) in cases {
         let text = long_text(alloc, len)?;
         for piece in [4096, 1_000_000] {
-            let (result, taken) = read(alloc, intake(kind, column), &text, piece)?;
-            assert_eq!(rt; result, want);
-            assert_eq!(rt; taken.0.len(), items);
+            let (result, taken) = read(alloc, intake(kind, column), &text, piece, &[])?;
+            assert_eq!(rt; (result, taken.len()), (want, items));
         }
     }
     Ok(())
 }
 
-// A fault of the source comes behind all records that have ended before it.
+// A fault of the source comes behind all units that have ended before it, and a refused unit is told
+// before the next read, which would fail.
 #[test]
 fn faults_of_the_source(rt: HostRuntime) -> Result<(), Fail> {
     let alloc = rt.alloc();
-    for (call, items) in [(0, 0), (1, 0), (4, 1), (8, 2)] {
-        let mut source = MemSource::new(b"1,2\n3,4\n".to_vec(alloc)?, 1, [call].to_vec(alloc)?);
-        let mut taken = Items(Vec::new(alloc));
-        let result = read_items(alloc, &intake(Kind::Raw, 1), &mut source, &mut taken);
-        assert_eq!(rt; result, Err(Fault::ReadFault));
-        assert_eq!(rt; taken.0.len(), items);
+    let two = b"1,2\n3,4\n";
+    let refused = b"1\nx\n2\n";
+    let cases: [(&[u8], u32, u64, &[u64], Result<u64, Fault>, &[u64]); 8] = [
+        (two, 1, 9, &[0], Err(Fault::ReadFault), &[]),
+        (two, 1, 9, &[1], Err(Fault::ReadFault), &[]),
+        (two, 1, 9, &[4], Err(Fault::ReadFault), &[1]),
+        (two, 1, 9, &[8], Err(Fault::ReadFault), &[1, 3]),
+        (two, 1, 8, &[], Err(Fault::TooMuch), &[1, 3]),
+        (two, 1, 9, &[], Ok(2), &[1, 3]),
+        (refused, 0, 9, &[4], Err(Fault::BadItem(2)), &[1]),
+        (refused, 1, 9, &[4], Err(Fault::BadItem(2)), &[1]),
+    ];
+    for (text, column, most, failing, want, items) in cases {
+        let got = read(
+            alloc,
+            Intake::of_items(Kind::Raw, column, most),
+            text,
+            1,
+            failing,
+        )?;
+        expect(&rt, got, want, items);
     }
-    let mut limited = intake(Kind::Raw, 1);
-    limited.most = 8;
-    let (result, taken) = read(alloc, limited, b"1,2\n3,4\n", 1000)?;
-    assert_eq!(rt; result, Err(Fault::TooMuch));
-    assert_eq!(rt; taken.0.len(), 2);
-    limited.most = 9;
-    let (result, _) = read(alloc, limited, b"1,2\n3,4\n", 1000)?;
-    assert_eq!(rt; result, Ok(2));
     Ok(())
 }
 
@@ -252,29 +259,63 @@ fn distinct_fields(rt: HostRuntime) -> Result<(), Fail> {
     Ok(())
 }
 
-// At column 0 the units are lines: a mark is part of the first, and quotes and commas are bytes.
-#[test]
-fn lines_at_column_0(rt: HostRuntime) -> Result<(), Fail> {
-    let alloc = rt.alloc();
-    let text = b"\xEF\xBB\xBFa\n\n\"b,\nc\r\nd\rd";
-    let fields: [&[u8]; 4] = [b"\xEF\xBB\xBFa", b"\"b,", b"c", b"d\rd"];
-    expect_fields(&rt, alloc, text, 0, 5, &fields)?;
-    let (result, taken) = read(alloc, intake(Kind::Raw, 0), b"1\nx\n2\n", 2)?;
-    assert_eq!(rt; result, Err(Fault::BadItem(2)));
-    assert_eq!(rt; taken.0.as_slice(), [1].as_slice());
-    Ok(())
+// Takes one unit, of which it keeps the length, and cannot write at the next.
+#[derive(Drop)]
+struct One(Option<usize>);
+
+impl UnitTaker for One {
+    ghost use Rattle.sk_read.specs.Standing.{Standing};
+
+    ghost went = { λ start now units. start.0 ≡ None → map length units ≡ option_to_list now.0 };
+
+    ghost stopped = { λ start now why units _. start.0 ≡ None → (why ≡ fault.WriteFault) × IsSome now.0 × (map length units ≡ option_to_list now.0) };
+
+    ghost stands_on = { λ _. record { kind = None; borrows = []; numbers = [] } };
+
+    fn take(&mut self, unit: &[u8], _number: u64) -> Result<(), Fault> {
+        if self.0.is_some() {
+            return Err(Fault::WriteFault);
+        }
+        self.0 = Some(unit.len());
+        Ok(())
+    }
 }
 
-// A refused unit is told before the next read, which would fail.
+// What it was given is the text's first unit, and where it could not write the text has a second.
+fn read_one<S: Source>(
+    alloc: Global,
+    units: Units,
+    source: &mut S,
+    one: &mut One,
+) -> Result<u64, Fault>
+    requires { one.old.0 ≡ None }
+    ensures whole { IfOk result (λ n. n ≤ 1) }
+    ensures stopped { IsErrOf result fault.WriteFault → IfSome (S.left source.old) (λ text. (first : List ℕ) × (second : List ℕ)
+        × Begins (first ∷ second ∷ []) (units_of units text) × (one.new.0 ≡ Some (length first))) }
+{
+    read_units(alloc, units, SOURCE_LIMIT, source, one)
+}
+
+// A taker that cannot write stops the reading at its unit.
 #[test]
-fn refusals_before_the_next_read(rt: HostRuntime) -> Result<(), Fail> {
+fn one_unit_alone(rt: HostRuntime) -> Result<(), Fail> {
     let alloc = rt.alloc();
-    for column in [0, 1] {
-        let mut source = MemSource::new(b"1\nx\n2\n".to_vec(alloc)?, 1, [4].to_vec(alloc)?);
-        let mut taken = Items(Vec::new(alloc));
-        let result = read_items(alloc, &intake(Kind::Raw, column), &mut source, &mut taken);
-        assert_eq!(rt; result, Err(Fault::BadItem(2)));
-        assert_eq!(rt; taken.0.as_slice(), [1].as_slice());
+    let cases: [(&[u8], Units, Result<u64, Fault>, Option<usize>); 4] = [
+        (b"ab\nc\nd\n", Units::Lines, Err(Fault::WriteFault), Some(2)),
+        (
+            b"a,bcd\ne,f\n",
+            Units::Column(1),
+            Err(Fault::WriteFault),
+            Some(3),
+        ),
+        (b"a", Units::Lines, Ok(1), Some(1)),
+        (b"", Units::Column(0), Ok(0), None),
+    ];
+    for (text, units, want, len) in cases {
+        let mut source = MemSource::new(text.to_vec(alloc)?, 1, Vec::new(alloc));
+        let mut one = One(None);
+        let result = read_one(alloc, units, &mut source, &mut one);
+        assert_eq!(rt; (result, one.0), (want, len));
     }
     Ok(())
 }

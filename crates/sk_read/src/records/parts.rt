@@ -8,7 +8,7 @@ ghost use Rattle.sk_read.specs.Parts.{HasStarted, HasTaken, HasHeld, Holds, Lack
 ghost use Rattle.sk_model.specs.Limits.{source_limit};
 
 use crate::fault::Fault;
-use crate::reader::PIECE_LEN;
+use crate::reader::{LineFault, PIECE_LEN};
 use crate::records::scan::{ScanState, scan};
 use sk_io::{Source, read_within};
 use std::alloc::Global;
@@ -87,7 +87,7 @@ impl Parts {
         ensures stays { S.stands_on source.new ≡ S.stands_on source.old }
     {
         let allowed = self.most - self.taken;
-        let n = read_within(source, &mut self.piece[..room], allowed)?;
+        let n = read_within(source, &mut self.piece[..room], allowed).map_err(LineFault::from)?;
         self.bytes.extend_from_slice(&self.piece[..n])?;
         self.taken += n as u64;
         self.ended = n == 0;
@@ -110,11 +110,9 @@ impl Parts {
             }
             let len = self.bytes.len();
             self.read_more(source, PIECE_LEN)?;
-            let (place, cut) = scan(self.place, &self.bytes[len..]);
+            let (place, found) = scan(self.place, &self.bytes[len..]);
             self.place = place;
-            if cut > 0 {
-                self.cut = len + cut;
-            }
+            self.cut = cut_behind(self.cut, len, found);
         }
         Ok(true)
     }
@@ -148,6 +146,15 @@ impl Parts {
     {
         &self.bytes
     }
+}
+
+// The last cut, where `found` bytes lie before the last one in a piece that was put behind `len` bytes.
+fn cut_behind(before: usize, len: usize, found: usize) -> usize
+    requires { len + found < 2 ^ 64 }
+    ensures stays { found ≡ 0 → result ≡ before }
+    ensures later { 0 < found → result ≡ len + found }
+{
+    if found == 0 { before } else { len + found }
 }
 
 // Drops so many bytes from the front.

@@ -44,41 +44,6 @@ returns-clause-goes g c = λ rows taken held.
     let before = c.piece.invariant.goes rows taken held in
     (before.0, before.1, (before.2, omega (arith, before.2.has.some, c.piece-test.false)))
 
-pub piece-preserved-then-cut-gt0 : goal.piece-preserved-then-cut-gt0
-piece-preserved-then-cut-gt0 g c =
-    let inv = c.piece.invariant in
-    let fed = c.in_ok-read_more.ensures.holds in
-    let more = fed.0 in
-    let holds = fed.2 in
-    let place : c.len-len.result ≡ length c.piece.self.bytes.items = omega (arith, c.len-len.ensures, c.piece.self.bytes.ok.0) in
-    let joined : c.deref.result.now ≡ c.piece.self.bytes.items ++ more = c.deref.ensures.value ∙ holds.bytes in
-    let cut : IsCut (state_of c.piece.self.place) more (state_of c.scan-place.result.0) c.scan-place.result.1 =
-    subst (λ (p : ScanState). IsCut (state_of p) more (state_of c.scan-place.result.0) c.scan-place.result.1) holds.place
-    (subst (λ (l : List ℕ). IsCut (state_of c.read_more.new.self.place) l (state_of c.scan-place.result.0) c.scan-place.result.1) (behind_is c.len-len.result c.deref.result.now c.piece.self.bytes.items more place joined) c.scan-place.ensures.cut) in
-    let new : Parts = record {
-      bytes = c.read_more.new.self.bytes;
-      cut = c.len-len.result + c.scan-place.result.1;
-      place = c.scan-place.result.0;
-      piece = c.read_more.new.self.piece;
-      taken = c.read_more.new.self.taken;
-      most = c.read_more.new.self.most;
-      ended = c.read_more.new.self.ended;
-    } in
-    record {
-      goes = λ rows taken held.
-          let before = inv.goes rows taken held in (
-            before.0 ++ more,
-            Consumes-trans _ _ _ _ _ before.1 fed.1,
-            subst (HasHeld new (g.S.Source.left c.read_more.new.source) rows) (append_assoc taken before.0 more)
-                (held_more c.piece.self c.read_more.new.self new _ _ rows (taken ++ before.0) more c.scan-place.result.1 before.2 c.piece-test.true c.if-self.false holds fed.3 c.in_ok-read_more.ensures.end cut refl refl refl refl
-                (λ none. absurd (omega (arith, none, c.if-cut-gt0.true))) (λ some. ap (λ (n : ℕ). n + c.scan-place.result.1) place)),
-          );
-      most = holds.most ∙ inv.most;
-      remaining = omega (arith, ap length holds.bytes, length-append c.piece.self.bytes.items more, holds.taken, holds.bound, holds.most, inv.remaining);
-      steady = steady_ok _ _ _ _ _ c.read_more.ensures.cause c.in_ok-read_more.was ∙ inv.steady;
-      stays = c.in_ok-read_more.ensures.stays ∙ inv.stays;
-    }
-
 pub piece-preserved : goal.piece-preserved
 piece-preserved g c =
     let inv = c.piece.invariant in
@@ -92,7 +57,7 @@ piece-preserved g c =
     (subst (λ (l : List ℕ). IsCut (state_of c.read_more.new.self.place) l (state_of c.scan-place.result.0) c.scan-place.result.1) (behind_is c.len-len.result c.deref.result.now c.piece.self.bytes.items more place joined) c.scan-place.ensures.cut) in
     let new : Parts = record {
       bytes = c.read_more.new.self.bytes;
-      cut = c.read_more.new.self.cut;
+      cut = c.cut_behind-self.result;
       place = c.scan-place.result.0;
       piece = c.read_more.new.self.piece;
       taken = c.read_more.new.self.taken;
@@ -106,7 +71,7 @@ piece-preserved g c =
             Consumes-trans _ _ _ _ _ before.1 fed.1,
             subst (HasHeld new (g.S.Source.left c.read_more.new.source) rows) (append_assoc taken before.0 more)
                 (held_more c.piece.self c.read_more.new.self new _ _ rows (taken ++ before.0) more c.scan-place.result.1 before.2 c.piece-test.true c.if-self.false holds fed.3 c.in_ok-read_more.ensures.end cut refl refl refl refl
-                (λ none. holds.cut) (λ some. absurd (omega (arith, some, c.if-cut-gt0.false)))),
+                (λ none. c.cut_behind-self.ensures.stays none ∙ holds.cut) (λ some. c.cut_behind-self.ensures.later some ∙ ap (λ (n : ℕ). n + c.scan-place.result.1) place)),
           );
       most = holds.most ∙ inv.most;
       remaining = omega (arith, ap length holds.bytes, length-append c.piece.self.bytes.items more, holds.taken, holds.bound, holds.most, inv.remaining);
