@@ -1,20 +1,17 @@
 -- What is true of an updater and of the heart stays true where their seats know no more.
-use Rattle.std.proofs.Common.{◌≡◌, ◌≢◌, ℕ, ◌+◌, ◌<◌, ◌≤◌, List, [], ◌∷◌, ◌++◌, All, length, map, get_or, set, Bool, false, Option, Some, None, is_some, subst, sym, ap, refl, ◌∙◌, arith, length-set, get_or-set_same, get_or-set_other}
+use Rattle.std.proofs.Common.{◌≡◌, ◌≢◌, ℕ, ◌<◌, ◌≤◌, List, [], ◌∷◌, ◌++◌, All, length, map, get_or, set, Bool, false, Option, Some, None, is_some, subst, sym, ap, refl, ◌∙◌, arith, length-set, get_or-set_same, get_or-set_other}
 use Rattle.std.proofs.lemmas.List.{map-set, length-map}
 use mathlib.Core.Logic.{dite}
 use native.Mathlib.Decide.{ℕ_discrete}
-use Rattle.std.proofs.lemmas.List.Elements.{All-append}
 use Rattle.sk_model.specs.Entries.{Entry}
-use Rattle.sk_model.specs.Width.{IsItem, AreItems}
-use Rattle.sk_model.specs.Limits.{most_size, most_updaters, most_kept, IsFrom}
 use Rattle.sk_compose.specs.Buffers.{Contents}
 use Rattle.sk_gate.specs.Slots.{Telling}
 use Rattle.sk_machine.specs.Coarse.{IsEntry}
 use Rattle.sk_machine.specs.declared.views.Move.TheVariants.{Ask}
-use Rattle.sk_gate.specs.Views.{size_of, mine_of}
+use Rattle.sk_gate.specs.Views.{size_of}
 use Rattle.sk_gate.specs.Moves.{AsksAt}
 use Rattle.sk_gate.specs.Hands.{SeatState}
-use Rattle.sk_hub.specs.Updaters.{IsFree, IsViewOf, IsUpdater, IsWholeUpdater, items_in, state_of}
+use Rattle.sk_hub.specs.Updaters.{IsFree, IsViewOf, IsUpdater}
 use Rattle.sk_hub.specs.Hearts.{heart_of, IsHeart, IsWholeHeart}
 use Rattle.sk_hub.specs.Rounds.{KnowsAsMuch}
 use Rattle.sk_hub.proofs.Views.{seen_again, view_knows}
@@ -97,23 +94,6 @@ heart_stays k s s' vacant told updaters admitted stays knows i =
     subst (λ z. IsHeart k z vacant told updaters admitted) (known_more s s' stays knows) as_before
 
 -- ---- what is true of every handle
-
-pub updater_whole : {T : Type 0} (hint_of : List ℕ → List Entry → ℕ) (k : Telling T) (s : SeatState) (number updaters size : ℕ) (items : List ℕ) (fill : Option Contents) (told : Option T) (hint taken last : ℕ) (eager : Bool)
-    → items ≡ items_in fill → IsFrom 1 most_size size → length items ≤ size → AreItems items → IsUpdater hint_of k s number updaters size fill told hint taken last → IsWholeUpdater hint_of (state_of s number size fill told hint last eager)
-updater_whole hint_of k s number updaters size items fill told hint taken last eager is sizes room are i =
-    let all : AreItems ((mine_of s.view).handed ++ items_in fill) = subst (λ l. AreItems ((mine_of s.view).handed ++ l)) is (All-append IsItem (mine_of s.view).handed items i.view.items are) in
-    record {
-      view = i.view;
-      within = subst (λ n. number < n) (sym i.sized) i.within;
-      few = subst (λ n. n ≤ most_updaters) (sym i.sized) i.few;
-      slots = i.slots ∙ ap (λ n. n + 1) (sym i.sized);
-      size_known = i.size_is;
-      size = sizes;
-      fill = subst (λ l. length l ≤ size) is room;
-      items = all;
-      most = subst (λ n. n ≤ most_kept) i.taken_is i.most;
-      hint_is = i.hint_is;
-    }
 
 pub heart_whole : {T : Type 0} (k : Telling T) (s : SeatState) (vacant : List SeatState) (told : List (Option T)) (updaters admitted : ℕ) (eager : Bool) → IsHeart k s vacant told updaters admitted → IsWholeHeart (heart_of s updaters admitted told eager)
 heart_whole k s vacant told updaters admitted eager i = record {

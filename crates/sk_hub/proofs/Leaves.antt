@@ -1,20 +1,19 @@
 -- An updater that is served and flushed until nothing of it is left.
-use Rattle.std.proofs.Common.{◌≡◌, ◌≢◌, ◌⊎◌, inl, inr, ℕ, zero, suc, ◌+◌, ◌-◌, List, [], ◌∷◌, ◌++◌, length, take, All, not, subst, sym, ap, refl, ◌∙◌, append-nil, length-append, arith}
-use Rattle.std.proofs.lemmas.List.{take_at}
+use Rattle.std.proofs.Common.{◌≡◌, ◌≢◌, ◌⊎◌, inl, inr, ℕ, zero, suc, List, [], ◌∷◌, ◌++◌, All, Bool, true, false, not, subst, sym, ap, refl, ◌∙◌, append-nil}
 use Rattle.std.specs.Prelude.{slice_set}
 use Rattle.sk_model.specs.Entries.{Entry, entries_by}
 use Rattle.sk_model.specs.Missing.{Begins}
 use Rattle.sk_model.proofs.Missing.{begins_trans, begins_refl}
 use Rattle.sk_machine.specs.Coarse.{IsEntry}
-use Rattle.sk_machine.specs.declared.views.Move.TheVariants.{Ask, Join, Turn}
+use Rattle.sk_machine.specs.declared.views.Move.TheVariants.{Ask, Join}
 use Rattle.sk_machine.specs.declared.views.View.{View}
-use Rattle.sk_gate.specs.Views.{known_of, mine_of, size_of}
+use Rattle.sk_gate.specs.Views.{known_of, mine_of}
 use Rattle.sk_gate.specs.Hands.{is_empty}
-use Rattle.sk_hub.specs.Updaters.{UpdaterState, handed_of, base_of, kept_of, earlier_of, HoldsTold, LooksInVain, Renews, HandsOver}
+use Rattle.sk_hub.specs.Updaters.{UpdaterState, handed_of, base_of, kept_of, LooksInVain, Renews, HandsOver}
 use Rattle.sk_hub.specs.Hearts.{HeartState}
 use Rattle.sk_hub.specs.Rounds.{KnowsAsMuch, Serves, Refuses, IsElsewhere, TriesToServe, TriesTimes}
-use Rattle.sk_hub.specs.Drains.{IsDrained, ServesAndTakesIn, ComesBack, IsSettled, TriesInVain}
-use Rattle.sk_hub.proofs.Steps.{seen_stays}
+use Rattle.sk_hub.specs.Drains.{IsDrained, ServesAndTakesIn, ComesBack, TriesUntil, IsSettled, TriesInVain}
+use Rattle.sk_hub.proofs.Handing.{told_trans, earlier_handed}
 
 -- ---- what the heart knows
 
@@ -31,16 +30,6 @@ knows_trans u v w a b = record {
   sizes_stay = λ i known. let same = a.sizes_stay i known in b.sizes_stay i (subst (λ z. z ≢ 0) (sym same) known) ∙ same;
 }
 
-pub knows_elsewhere : (v w : View) (other : ℕ) → IsElsewhere v other w → KnowsAsMuch v w
-knows_elsewhere v w other e = record {
-  view = e ∙ λ d. let x : View = sym e d in record v { seen = x.seen; steps = x.steps; given = x.given; sizes = x.sizes };
-  grows = subst (Begins v.seen) (sym (ap (λ x. x.seen) e)) (begins_refl v.seen);
-  later = (Turn (other + 1) ∷ [], ap (λ x. x.steps) e);
-  sees = seen_stays v w (ap (λ x. x.seen) e) (ap (λ x. x.post) e) (ap (λ x. length x.sizes) e);
-  sized = ap (λ x. length x.sizes) e;
-  sizes_stay = λ j _. ap (λ x. size_of x j) e;
-}
-
 -- ---- tries
 
 pub tries_serve : (i : ℕ) (v w : View) (held found : ℕ) → Serves v i 1 held found w → TriesToServe i v w
@@ -49,11 +38,11 @@ tries_serve i v w held found s = inl (held, found, s)
 pub tries_elsewhere : (i : ℕ) (v w : View) (other : ℕ) → IsElsewhere v other w → TriesToServe i v w
 tries_elsewhere i v w other e = inr (other, e)
 
-pub tries_none : (i : ℕ) (v : View) → (times : ℕ) × TriesTimes i times v v
+tries_none : (i : ℕ) (v : View) → (times : ℕ) × TriesTimes i times v v
 unfolding TriesTimes
 tries_none i v = (zero, refl)
 
-pub tries_more : (i : ℕ) (v x w : View) → (times : ℕ) × TriesTimes i times v x → TriesToServe i x w → (times : ℕ) × TriesTimes i times v w
+tries_more : (i : ℕ) (v x w : View) → (times : ℕ) × TriesTimes i times v x → TriesToServe i x w → (times : ℕ) × TriesTimes i times v w
 unfolding TriesTimes
 tries_more i v x w (times, earlier) once = (suc times, (x, earlier, once))
 
@@ -62,29 +51,11 @@ unfolding TriesTimes
 tries_after i v x first zero w same = (first.0, subst (TriesTimes i first.0 v) (sym same) first.1)
 tries_after i v x first (suc times) w (y, earlier, once) = let all = tries_after i v x first times y earlier in (suc all.0, (y, all.1, once))
 
-pub tries_trans : (i : ℕ) (v x w : View) → (times : ℕ) × TriesTimes i times v x → (times : ℕ) × TriesTimes i times x w → (times : ℕ) × TriesTimes i times v w
+tries_trans : (i : ℕ) (v x w : View) → (times : ℕ) × TriesTimes i times v x → (times : ℕ) × TriesTimes i times x w → (times : ℕ) × TriesTimes i times v w
 tries_trans i v x w first (times, then) = tries_after i v x first times w then
 
-pub in_vain_after : (i : ℕ) (v x w : View) → (times : ℕ) × TriesTimes i times v x → TriesInVain i x w → TriesInVain i v w
+in_vain_after : (i : ℕ) (v x w : View) → (times : ℕ) × TriesTimes i times v x → TriesInVain i x w → TriesInVain i v w
 in_vain_after i v x w first r = let all = tries_trans i v x r.before first (r.times, r.tries) in record { times = all.0; before = r.before; tries = all.1; refuses = r.refuses }
-
-pub in_vain_now : (i : ℕ) (v x w : View) → (times : ℕ) × TriesTimes i times v x → Refuses x i 1 w → TriesInVain i v w
-in_vain_now i v x w first r = record { times = first.0; before = x; tries = first.1; refuses = r }
-
--- ---- its told value
-
-told_trans : (u v w : UpdaterState) → HoldsTold u v → HoldsTold v w → HoldsTold u w
-told_trans u v w (inl a) (inl b) = inl (b.0 ∙ a.0, b.1 ∙ a.1, b.2 ∙ a.2)
-told_trans u v w (inr a) (inl b) = inr (b.0 ∙ a ∙ (λ e. not (is_empty (take (length (sym b.1 e) - sym b.2 e) (sym b.1 e)))))
-told_trans u v w a (inr b) = inr b
-
--- what it had handed over before this hand
-earlier_handed : (hint_of : List ℕ → List Entry → ℕ) (u u' : UpdaterState) (fill : List ℕ) → HandsOver hint_of u fill u' → earlier_of u' ≡ handed_of u
-earlier_handed hint_of u u' fill h =
-    let handed : handed_of u' ≡ handed_of u ++ u.fill = ap (λ v. (mine_of v).handed) h.view in
-    let last : u'.last ≡ length u.fill = ap (λ z. z.last) h.state in
-    let before : length (handed_of u) ≡ length (handed_of u ++ u.fill) - length u.fill = omega (arith, length-append (handed_of u) u.fill) in
-    (λ e. take (length (handed e) - last e) (handed e)) ∙ take_at (handed_of u) u.fill (length (handed_of u ++ u.fill) - length u.fill) before
 
 -- ---- what an updater comes back with
 
@@ -161,6 +132,45 @@ comes_handed hint_of u u' r =
 pub same_table : (h h' : HeartState) (u u' : UpdaterState) → h' ≡ record h { view = h'.view } → ComesBack u u' → u.table ≡ h.table → u'.table ≡ h'.table
 same_table h h' u u' stays back same = back.table ∙ same ∙ sym (ap (λ z. z.table) stays)
 
+-- ---- tries until something is done
+
+-- nothing was tried yet
+pub not_tried : (h : HeartState) (u : UpdaterState) → TriesUntil true h u h u
+not_tried h u = record { ends = tries_none u.number h.view; known = knows_none h.view; stays = refl; back = comes_back u }
+
+-- it was tried once more, and then the updater came back
+pub tried_again : (h x w : HeartState) (u y z : UpdaterState) → TriesUntil true h u x y → TriesToServe y.number x.view w.view → KnowsAsMuch x.view w.view → w ≡ record x { view = w.view } → ComesBack y z → TriesUntil true h u w z
+tried_again h x w u y z t once knows stays back = record {
+  ends = tries_more u.number h.view x.view w.view t.ends (subst (λ n. TriesToServe n x.view w.view) t.back.number once);
+  known = knows_trans h.view x.view w.view t.known knows;
+  stays = stays ∙ λ e. record (t.stays e) { view = w.view };
+  back = comes_trans u y z t.back back;
+}
+
+-- or a batch was refused
+pub tried_in_vain : (h x w : HeartState) (u y : UpdaterState) → TriesUntil true h u x y → Refuses x.view y.number 1 w.view → KnowsAsMuch x.view w.view → w ≡ record x { view = w.view } → TriesUntil false h u w y
+tried_in_vain h x w u y t refuses knows stays = record {
+  ends = record { times = t.ends.0; before = x.view; tries = t.ends.1; refuses = subst (λ n. Refuses x.view n 1 w.view) t.back.number refuses };
+  known = knows_trans h.view x.view w.view t.known knows;
+  stays = stays ∙ λ e. record (t.stays e) { view = w.view };
+  back = t.back;
+}
+
+-- the same updater was then tried anew
+pub tried_then : (done : Bool) (h x w : HeartState) (u y z : UpdaterState) → TriesUntil true h u x y → TriesUntil done x y w z → TriesUntil done h u w z
+tried_then true h x w u y z first then = record {
+  ends = tries_trans u.number h.view x.view w.view first.ends (subst (λ n. (times : ℕ) × TriesTimes n times x.view w.view) first.back.number then.ends);
+  known = knows_trans h.view x.view w.view first.known then.known;
+  stays = then.stays ∙ λ e. record (first.stays e) { view = w.view };
+  back = comes_trans u y z first.back then.back;
+}
+tried_then false h x w u y z first then = record {
+  ends = in_vain_after u.number h.view x.view w.view first.ends (subst (λ n. TriesInVain n x.view w.view) first.back.number then.ends);
+  known = knows_trans h.view x.view w.view first.known then.known;
+  stays = then.stays ∙ λ e. record (first.stays e) { view = w.view };
+  back = comes_trans u y z first.back then.back;
+}
+
 -- an updater whose buffer is empty was settled
 pub is_settled : (hint_of : List ℕ → List Entry → ℕ) (u u' : UpdaterState) → u.fill ≡ [] → Renews hint_of u u' → IsSettled u'
 is_settled hint_of u u' empty r = record {
@@ -176,20 +186,20 @@ flushed hint_of u u' (inr is) same empty hands = (comes_handed hint_of u u' (han
 -- ---- a drain
 
 -- an updater that was served before it was taken in
-pub drained_after : (h h' h'' : HeartState) (u u' : UpdaterState) → KnowsAsMuch h.view h'.view → h' ≡ record h { view = h'.view } → ComesBack u u' → IsDrained h' u' h'' → IsDrained h u h''
-drained_after h h' h'' u u' k stays b d = record {
+pub drained_after : (h h' h'' : HeartState) (u u' : UpdaterState) → TriesUntil true h u h' u' → IsDrained h' u' h'' → IsDrained h u h''
+drained_after h h' h'' u u' t d = let k = t.known in let b = t.back in record {
   seen = ap (λ n. entries_by n h''.view.seen) (sym b.number) ∙ d.seen ∙ b.kept;
   hears = begins_trans _ _ _ b.seen d.hears;
   base = begins_trans _ _ _ b.base d.base;
-  entries = subst (λ n. All (IsEntry n) h''.view.seen) (ap (λ z. z.updaters) stays) d.entries;
+  entries = subst (λ n. All (IsEntry n) h''.view.seen) (ap (λ z. z.updaters) t.stays) d.entries;
   known = ap (λ n. known_of h''.view n) (sym b.number) ∙ d.known ∙ b.kept;
   others = λ i ne. d.others i (subst (λ n. i ≢ n) (sym b.number) ne) ∙ ap (λ v. known_of v i) k.view;
   drained = d.drained ∙ (λ e. (k.view e).drained ++ b.number e ∷ []);
-  news = d.news ∙ (λ e. slice_set (stays e).news (b.number e) (not (is_empty (b.kept e))));
-  stays = d.stays ∙ (λ e. record (stays e) { view = h''.view; news = h''.news });
+  news = d.news ∙ (λ e. slice_set (t.stays e).news (b.number e) (not (is_empty (b.kept e))));
+  stays = d.stays ∙ (λ e. record (t.stays e) { view = h''.view; news = h''.news });
   numbers = d.numbers ∙ ap (λ v. v.numbers) k.view;
   name = d.name ∙ ap (λ v. v.name) k.view;
 }
 
-pub serves_then : (i : ℕ) (v x w y : View) → (times : ℕ) × TriesTimes i times v x → (times : ℕ) × TriesTimes i times x w → (word : ℕ) × (y.steps ≡ w.steps ++ Join ∷ Ask word ∷ []) → ServesAndTakesIn i v y
-serves_then i v x w y first then (word, steps) = let all = tries_trans i v x w first then in record { times = all.0; before = w; tries = all.1; word = word; steps = steps }
+pub taken_in_after : (h h' : HeartState) (u u' : UpdaterState) (w : View) → TriesUntil true h u h' u' → (word : ℕ) × (w.steps ≡ h'.view.steps ++ Join ∷ Ask word ∷ []) → ServesAndTakesIn u.number h.view w
+taken_in_after h h' u u' w t (word, steps) = record { times = t.ends.0; before = h'.view; tries = t.ends.1; word = word; steps = steps }

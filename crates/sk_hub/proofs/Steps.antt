@@ -82,16 +82,6 @@ finds_batch v w i within f =
       sizes_stay = λ j known. ap (λ z. slice_index z j) learnt ∙ sizes_learnt v.sizes i (size_of w i) within f.same j known;
     }
 
--- nothing was found
-pub finds_nothing : (v w : View) (i word : ℕ) → w ≡ record v { steps = v.steps ++ Find i word ∷ [] } → Advances v (Find i word ∷ []) w
-finds_nothing v w i word e = record {
-  view = only_these v w _ _ _ _ _ e;
-  grows = subst (Begins v.seen) (sym (ap (λ x. x.seen) e)) (begins_refl v.seen);
-  sees = seen_stays v w (ap (λ x. x.seen) e) (ap (λ x. x.post) e) (ap (λ x. length x.sizes) e);
-  sized = ap (λ x. length x.sizes) e;
-  sizes_stay = λ j _. ap (λ x. size_of x j) e;
-}
-
 -- a batch was found, taken, published and given back
 pub serves_found : (v w w' x : View) (i count : ℕ) → Advances v (Find i 0 ∷ []) w → w' ≡ w → 0 < count → (steps : List Move) × PublishesBatch i count steps × Advances w' steps x → (steps : List Move) × ServesOne i count steps × Advances v steps x
 serves_found v w w' x i count found same some (steps, published, advances) =

@@ -1,5 +1,5 @@
 -- An updater's seat is taken in, and the heart asks.
-use Rattle.std.proofs.Common.{◌≡◌, ◌≢◌, ℕ, ◌<◌, List, [], ◌∷◌, ◌++◌, ◌+◌, arith, length, map, get_or, set, All, Bool, true, false, not, if◌then◌else◌, Option, Some, None, is_some, subst, sym, ap, refl, ◌∙◌, append-nil, append_assoc, length-set, get_or-set_same, get_or-set_other}
+use Rattle.std.proofs.Common.{◌≡◌, ◌≢◌, ℕ, ◌<◌, List, [], ◌∷◌, ◌++◌, ◌+◌, arith, length, map, get_or, set, All, Bool, true, false, not, if◌then◌else◌, Option, Some, None, is_some, subst, sym, ap, refl, ◌∙◌, append-nil, length-set, get_or-set_same, get_or-set_other}
 use Rattle.std.specs.Prelude.{Contains}
 use Rattle.std.proofs.lemmas.List.{map-set}
 use Rattle.std.proofs.lemmas.List.Elements.{Contains-push}
@@ -12,7 +12,7 @@ use Rattle.sk_machine.specs.Coarse.{IsEntry}
 use Rattle.sk_compose.specs.Buffers.{Contents}
 use Rattle.sk_compose.specs.declared.buffer.Parcel.{Parcel}
 use Rattle.sk_machine.specs.declared.views.Mine.{Mine}
-use Rattle.sk_machine.specs.declared.views.Move.TheVariants.{Ask, Join}
+use Rattle.sk_machine.specs.declared.views.Move.TheVariants.{Ask}
 use Rattle.sk_machine.specs.declared.views.Post.TheVariants.{Updater}
 use Rattle.sk_machine.specs.declared.views.Duty.TheVariants.{Free}
 use Rattle.sk_machine.specs.declared.views.View.{View}
@@ -107,9 +107,6 @@ module _ {T : Type 0} (hint_of packed : List ℕ → List Entry → ℕ) (k : Te
         told_is = told_then x.view.known long refl;
       } in
       subst (λ z. IsHeart k z vacant (set told number p.told) n admitted) heart_is is
-
-  pub steps_then : ha.view.steps ≡ hs.view.steps ++ Join ∷ Ask word ∷ []
-  steps_then = ap (λ v. v.steps) view_is ∙ append_assoc hs.view.steps (Join ∷ []) (Ask word ∷ [])
 
   -- the heart has seen all that it had seen before
   pub seen_then : Begins hs.view.seen ha.view.seen

@@ -7,7 +7,6 @@ use Rattle.sk_model.specs.Width.{IsItem, AreItems}
 use Rattle.sk_model.proofs.Missing.{begins_trans, begins_refl}
 use Rattle.sk_machine.specs.Coarse.{IsEntry}
 use Rattle.sk_machine.specs.declared.views.Mine.{Mine}
-use Rattle.sk_machine.specs.declared.views.Move.{Move}
 use Rattle.sk_machine.specs.declared.views.Move.TheVariants.{Hand}
 use Rattle.sk_machine.specs.declared.views.Post.TheVariants.{Updater}
 use Rattle.sk_machine.specs.declared.views.View.{View}
@@ -46,13 +45,6 @@ view_knows i v w k o =
       items = o.items;
     } in
     subst (IsViewOf i) (sym k.view) is
-
--- after steps that tell nothing
-pub view_steps : (i : ℕ) (v w : View) (steps : List Move) → w ≡ record v { steps = steps } → IsViewOf i v → IsViewOf i w
-view_steps i v w steps same o =
-    let x : View = record v { steps = steps } in
-    let is : IsViewOf i x = record { post = o.post; entries = o.entries; own = o.own; based = o.based; settled = o.settled; items = o.items } in
-    subst (IsViewOf i) (sym same) is
 
 -- after a look that renewed its base
 pub view_renewed : (hint : List ℕ → List Entry → ℕ) (i : ℕ) (v w : View) (word : ℕ) → RenewsAt hint v word w i → IsViewOf i v → IsViewOf i w

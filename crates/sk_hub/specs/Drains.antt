@@ -1,5 +1,6 @@
 -- What it means that an updater was drained, and that one was admitted.
-use Rattle.std.specs.Prelude.{◌≡◌, ◌≢◌, ℕ, suc, ◌<◌, List, [], ◌∷◌, ◌++◌, length, replicate, All, not, true, false, slice_set}
+use Rattle.std.specs.Prelude.{◌≡◌, ◌≢◌, ℕ, suc, ◌<◌, List, [], ◌∷◌, ◌++◌, length, replicate, All, Bool, not, true, false, slice_set}
+use Rattle.std.specs.Bool.{MatchBool}
 use Rattle.sk_model.specs.Entries.{Entry, entries_by}
 use Rattle.sk_model.specs.Missing.{Begins}
 use Rattle.sk_machine.specs.Coarse.{IsEntry}
@@ -9,7 +10,7 @@ use Rattle.sk_gate.specs.Views.{known_of, mine_of}
 use Rattle.sk_gate.specs.Hands.{is_empty}
 use Rattle.sk_hub.specs.Updaters.{UpdaterState, handed_of, base_of, kept_of, HoldsTold}
 use Rattle.sk_hub.specs.Hearts.{HeartState}
-use Rattle.sk_hub.specs.Rounds.{Refuses, TriesTimes}
+use Rattle.sk_hub.specs.Rounds.{Refuses, KnowsAsMuch, TriesTimes}
 
 -- the published list has exactly what the updater kept, and the heart knows it; it has seen what the updater had
 pub record IsDrained (h : HeartState) (u : UpdaterState) (h' : HeartState) : Type 0 where
@@ -59,6 +60,14 @@ pub record ComesBack (u u' : UpdaterState) : Type 0 where
   pub sizes : u'.view.sizes ≡ u.view.sizes
   pub eager : u'.eager ≡ u.eager
   pub told : HoldsTold u u'
+
+-- the heart tried to serve this updater until something was done, or until a batch was refused. It knows no more of
+-- updaters, and this one comes back
+pub record TriesUntil (done : Bool) (h : HeartState) (u : UpdaterState) (h' : HeartState) (u' : UpdaterState) : Type 0 where
+  pub ends : MatchBool done ((times : ℕ) × TriesTimes u.number times h.view h'.view) (TriesInVain u.number h.view h'.view)
+  pub known : KnowsAsMuch h.view h'.view
+  pub stays : h' ≡ record h { view = h'.view }
+  pub back : ComesBack u u'
 
 -- an updater of the heart's table that has seen and kept nothing
 pub record IsNew (hint_of : List ℕ → List Entry → ℕ) (number size : ℕ) (h : HeartState) (u : UpdaterState) : Type 0 where

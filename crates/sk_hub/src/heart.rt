@@ -1,10 +1,10 @@
 //! The heart: the handle that propagates, drains updaters and admits new ones.
 ghost use Rattle.sk_gate.specs.Slots.{telling};
 ghost use Rattle.sk_gate.specs.Views.{known_of};
-ghost use Rattle.sk_hub.specs.Drains.{IsDrained, ServesAndTakesIn, TriesInVain, ComesBack, IsSettled, IsNew};
+ghost use Rattle.sk_hub.specs.Drains.{IsDrained, ServesAndTakesIn, TriesInVain, ComesBack, TriesUntil, IsSettled, IsNew};
 ghost use Rattle.sk_hub.specs.Hearts.{IsWholeHeart};
 ghost use Rattle.sk_hub.specs.Replies.{IsRelaxedReply, HasDrained};
-ghost use Rattle.sk_hub.specs.Rounds.{Sweeps, ServesNothing, ServesBatch, Refuses, IsElsewhere, KnowsAsMuch, TriesToServe, TriesTimes};
+ghost use Rattle.sk_hub.specs.Rounds.{Sweeps, ServesNothing, ServesBatch, Refuses, IsElsewhere, KnowsAsMuch, TriesToServe};
 ghost use Rattle.sk_hub.specs.Updaters.{TellsItems};
 ghost use Rattle.sk_machine.specs.declared.views.Move.TheVariants.{Ask, Join};
 ghost use Rattle.sk_model.specs.Limits.{most_size};
@@ -166,13 +166,9 @@ impl<C: Composable> Heart<C> {
     // Serves and flushes the updater until its buffer is empty.
     fn flush_all<R: Wait>(&mut self, rt: &R, u: &mut Updater<C>) -> bool
         requires table { u.old.table ≡ self.old.table }
-        ensures back { ComesBack u.old u.new }
+        ensures tries { TriesUntil result self.old u.old self.new u.new }
         ensures empty { OnTrue result (u.new.fill ≡ []) }
-        ensures tries { OnTrue result ((times : ℕ) × TriesTimes u.old.number times self.old.view self.new.view) }
-        ensures refused { OnFalse result (TriesInVain u.old.number self.old.view self.new.view) }
-        ensures known { KnowsAsMuch self.old.view self.new.view }
         ensures cause { OnFalse result (IsTrue C.TAKES_MEMORY) }
-        ensures stays { self.new ≡ record self.old { view = self.new.view } }
     {
         let backoff = Backoff::new();
         'flush: for _ in rt.forever() {
@@ -191,13 +187,9 @@ impl<C: Composable> Heart<C> {
     fn settle_all<R: Wait>(&mut self, rt: &R, u: &mut Updater<C>) -> bool
         requires table { u.old.table ≡ self.old.table }
         requires empty { u.old.fill ≡ [] }
-        ensures back { ComesBack u.old u.new }
+        ensures tries { TriesUntil result self.old u.old self.new u.new }
         ensures settled { OnTrue result (IsSettled u.new) }
-        ensures tries { OnTrue result ((times : ℕ) × TriesTimes u.old.number times self.old.view self.new.view) }
-        ensures refused { OnFalse result (TriesInVain u.old.number self.old.view self.new.view) }
-        ensures known { KnowsAsMuch self.old.view self.new.view }
         ensures cause { OnFalse result (IsTrue C.TAKES_MEMORY) }
-        ensures stays { self.new ≡ record self.old { view = self.new.view } }
     {
         let backoff = Backoff::new();
         'settle: for _ in rt.forever() {

@@ -5,6 +5,7 @@ ghost use Rattle.sk_gate.specs.Views.{known_of, size_of};
 ghost use Rattle.sk_hub.specs.Updaters.{kept_of};
 ghost use Rattle.sk_model.specs.Limits.{most_k, most_size};
 
+mod beside;
 mod callers;
 mod refused;
 

@@ -1,6 +1,5 @@
 -- An updater that goes on.
-use Rattle.std.proofs.Common.{◌≡◌, ◌≢◌, ◌⊎◌, inl, inr, ℕ, ◌+◌, ◌-◌, ◌≤◌, List, [], ◌∷◌, ◌++◌, length, take, Bool, true, false, not, MatchBool, Result, Ok, Err, OnOk, OnErr, subst, sym, ap, refl, ◌∙◌, append-nil, append_assoc, length-append, arith}
-use Rattle.std.proofs.lemmas.List.{take_at}
+use Rattle.std.proofs.Common.{◌≡◌, ◌≢◌, ◌⊎◌, inl, inr, ℕ, ◌+◌, ◌≤◌, List, [], ◌∷◌, ◌++◌, length, Bool, true, false, not, MatchBool, Result, Ok, Err, OnOk, OnErr, subst, sym, ap, refl, ◌∙◌, append-nil, append_assoc, length-append, arith}
 use Rattle.sk_model.specs.Entries.{Entry}
 use Rattle.sk_model.specs.Missing.{Begins}
 use Rattle.sk_model.proofs.Missing.{begins_trans, begins_refl}
@@ -8,27 +7,13 @@ use Rattle.sk_gate.specs.Views.{mine_of}
 use Rattle.sk_gate.specs.Hands.{is_empty}
 use Rattle.sk_hub.specs.declared.answers.Update.{Update}
 use Rattle.sk_hub.specs.declared.answers.Update.TheVariants as update
-use Rattle.sk_hub.specs.Updaters.{UpdaterState, handed_of, base_of, kept_of, earlier_of, HoldsTold, with_item, LooksInVain, HandsOver, Keeps, HandsWith}
+use Rattle.sk_hub.specs.Updaters.{UpdaterState, handed_of, base_of, kept_of, with_item, LooksInVain, HandsOver, Keeps, HandsWith}
 use Rattle.sk_machine.specs.declared.views.Move.TheVariants.{Look, Hand}
 use Rattle.sk_hub.specs.Rounds.{KnowsAsMuch}
+use Rattle.sk_hub.proofs.Handing.{told_trans, earlier_handed}
 use Rattle.sk_compose.specs.Kept.{AreKept}
 use Rattle.sk_ingest.specs.Feeds.{GoesOn, KeepsNone, Takes}
 use Rattle.sk_compose.proofs.Kept.{kept_append, kept_longer, kept_few, one_kept, one_dropped}
-
--- ---- its told value
-
-told_trans : (u v w : UpdaterState) → HoldsTold u v → HoldsTold v w → HoldsTold u w
-told_trans u v w (inl a) (inl b) = inl (b.0 ∙ a.0, b.1 ∙ a.1, b.2 ∙ a.2)
-told_trans u v w (inr a) (inl b) = inr (b.0 ∙ a ∙ (λ e. not (is_empty (take (length (sym b.1 e) - sym b.2 e) (sym b.1 e)))))
-told_trans u v w a (inr b) = inr b
-
--- what it had handed over before this hand
-earlier_handed : (hint_of : List ℕ → List Entry → ℕ) (u u' : UpdaterState) (fill : List ℕ) → HandsOver hint_of u fill u' → earlier_of u' ≡ handed_of u
-earlier_handed hint_of u u' fill h =
-    let handed : handed_of u' ≡ handed_of u ++ u.fill = ap (λ v. (mine_of v).handed) h.view in
-    let last : u'.last ≡ length u.fill = ap (λ z. z.last) h.state in
-    let before : length (handed_of u) ≡ length (handed_of u ++ u.fill) - length u.fill = omega (arith, length-append (handed_of u) u.fill) in
-    (λ e. take (length (handed e) - last e) (handed e)) ∙ take_at (handed_of u) u.fill (length (handed_of u ++ u.fill) - length u.fill) before
 
 -- ---- it goes on
 
