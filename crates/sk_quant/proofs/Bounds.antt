@@ -1,12 +1,12 @@
 -- Lemmas on what a list of items leaves: how much of it lies where, and how far its ranks are off.
-use Rattle.std.proofs.Common.{◌≡◌, ℕ, zero, suc, ◌+◌, ◌*◌, ◌/◌, ◌%◌, ◌^◌, ◌<◌, ◌≤◌, Bool, true, false, ltb, cond, List, [], ◌∷◌, ◌++◌, length, drop, replicate, fold, All, ⊎_elim, refl, sym, ap, ◌∙◌, subst, append_assoc, append-nil, arith, length-append, mul-zero, mul-one, pow-suc, mod-lt, div-add-mod', div-le_self}
+use Rattle.std.proofs.Common.{◌≡◌, ℕ, zero, suc, ◌+◌, ◌*◌, ◌/◌, ◌%◌, ◌^◌, ◌<◌, ◌≤◌, ltb, List, [], ◌∷◌, ◌++◌, length, drop, replicate, fold, All, ⊎_elim, refl, sym, ap, ◌∙◌, subst, append_assoc, append-nil, arith, length-append, mul-zero, mul-one, pow-suc, mod-lt, div-add-mod', div-le_self}
 use Rattle.std.proofs.Math.Nat.{zero-div, zero-mod}
 use Rattle.std.specs.Int.{abs_diff}
 use Rattle.std.specs.List.Sorted.{IsNonDecreasing}
-use Rattle.std.proofs.lemmas.Bool.{cases_lt, ltb-true, ltb-false}
+use Rattle.std.proofs.lemmas.Bool.{cases_lt, lt-ltb, le-ltb, cond-true, cond-false}
 use Rattle.std.proofs.lemmas.List.{length-replicate}
 use Rattle.std.proofs.lemmas.List.Elements.{All-nil, All-cons}
-use Rattle.std.proofs.lemmas.List.Sorted.{length_permutation, IsNonDecreasingBy-short}
+use Rattle.std.proofs.lemmas.List.Sorted.{IsNonDecreasingBy-short}
 use Rattle.std.proofs.lemmas.List.Sums.{fold_push, count_by-le-length}
 use Rattle.std.proofs.lemmas.Nat.{div-mul-add, mod-mul-add}
 use Rattle.sk_quant.specs.Held.{Held, held_at_first, halved, carried, held_with, held_after, layers_of}
@@ -14,7 +14,7 @@ use Rattle.sk_quant.specs.Limits.{most_items, level_count}
 use Rattle.sk_quant.specs.Order.{in_order}
 use Rattle.sk_quant.specs.Quantiles.{AreFilled, IsFilled}
 use Rattle.sk_quant.specs.Ranks.{rank_of, weighted_rank, weight_of, rank_error}
-use Rattle.sk_quant.proofs.Orders.{rank-append, rank-in_order, in_order_rises, IsPermutation-in_order}
+use Rattle.sk_quant.proofs.Orders.{rank-append, rank-in_order, in_order_rises, length-in_order}
 use Rattle.sk_quant.proofs.Halves.{length-halved, halved_rises, halves_are_near}
 use Rattle.sk_quant.proofs.Errors.{terms, terms-suc, error_terms-is, error_terms_all}
 
@@ -85,7 +85,7 @@ pub record IsCarried (coins : ℕ → ℕ) (place k often : ℕ) (items : List �
 
 joined_length : (level half : List ℕ) (k : ℕ) → length level ≡ k → length half ≡ k → length (in_order (level ++ half)) ≡ 2 * k
 joined_length level half k is is' =
-    omega (arith, length_permutation (level ++ half) (in_order (level ++ half)) (IsPermutation-in_order (level ++ half)), length-append level half)
+    omega (arith, length-in_order (level ++ half), length-append level half)
 
 joined_rank : (t : ℕ) (level half : List ℕ) → rank_of t (in_order (level ++ half)) ≡ rank_of t level + rank_of t half
 joined_rank t level half = rank-in_order t (level ++ half) ∙ rank-append t level half
@@ -165,11 +165,6 @@ carried_all coins place k often items ((x ∷ level) ∷ levels) some is up fill
 
 -- ---- one more item
 
--- after a list of n items
-pub record IsAfter (k n : ℕ) (done : List ℕ) (held : Held) : Type 0 where
-  pub filled : IsFilled k n held
-  pub near : (t : ℕ) → (weighted_rank t (layers_of held) ≤ rank_of t done + terms (n / (2 * k)) level_count) × (rank_of t done ≤ weighted_rank t (layers_of held) + terms (n / (2 * k)) level_count)
-
 next_within : (n d : ℕ) → n % d + 1 < d → ((n + 1) % d ≡ n % d + 1) × ((n + 1) / d ≡ n / d)
 next_within n d less =
     let parts : n + 1 ≡ n / d * d + (n % d + 1) = omega (arith, div-add-mod' n d) in
@@ -180,102 +175,111 @@ next_full n d some is =
     let parts : n + 1 ≡ (n / d + 1) * d + 0 = omega (arith, div-add-mod' n d) in
     (ap (λ (m : ℕ). m % d) parts ∙ mod-mul-add (n / d + 1) d 0 some, ap (λ (m : ℕ). m / d) parts ∙ div-mul-add (n / d + 1) d 0 some)
 
--- the base has room
-stays : (k n x : ℕ) (done : List ℕ) (held : Held) → length held.base + 1 < 2 * k → IsAfter k n done held → IsAfter k (n + 1) (done ++ x ∷ []) (record held { base = held.base ++ x ∷ [] })
-stays k n x done held room so_far = record {
-  filled = record {
-    base = omega (arith, length-append held.base (x ∷ []), next.0, filled.base);
-    levels = subst (λ (m : ℕ). AreFilled k m held.levels) (sym next.1) filled.levels;
-    number = filled.number;
-    place = omega (arith, filled.place);
-  };
-  near = near;
-}
-  where
-    filled : IsFilled k n held
-    filled = so_far.filled
+-- the base has room for one more
+abbrev pub with_room : Held → ℕ → Held
+with_room held x = record held { base = held.base ++ x ∷ [] }
 
-    next : ((n + 1) % (2 * k) ≡ n % (2 * k) + 1) × ((n + 1) / (2 * k) ≡ n / (2 * k))
-    next = next_within n (2 * k) (omega (arith, filled.base))
+-- the base is full with one more, and goes up
+abbrev pub with_compaction : (ℕ → ℕ) → Held → ℕ → Held
+with_compaction coins held x =
+    let up = carried coins held.place (in_order (held.base ++ x ∷ [])) held.levels in record { base = []; levels = up.0; place = up.1 }
 
-    near : (t : ℕ) → (weighted_rank t ((held.base ++ x ∷ []) ∷ held.levels) ≤ rank_of t (done ++ x ∷ []) + terms ((n + 1) / (2 * k)) level_count) × (rank_of t (done ++ x ∷ []) ≤ weighted_rank t ((held.base ++ x ∷ []) ∷ held.levels) + terms ((n + 1) / (2 * k)) level_count)
-    near t =
-        let was = so_far.near t in
-        let before = weighted_rank-cons t held.base held.levels in
-        let after = weighted_rank-cons t (held.base ++ x ∷ []) held.levels in
-        let one = rank-append t held.base (x ∷ []) in
-        let all = rank-append t done (x ∷ []) in
-        let same = ap (λ (m : ℕ). terms m level_count) next.1 in
-        (omega arith, omega arith)
-
--- the base is full, and goes up
-goes_up : (coins : ℕ → ℕ) (k n x : ℕ) (done : List ℕ) (held : Held) → 1 ≤ k → n < most_items → 2 * k ≤ length held.base + 1 → IsAfter k n done held
-    → IsAfter k (n + 1) (done ++ x ∷ []) (let up = carried coins held.place (in_order (held.base ++ x ∷ [])) held.levels in record { base = []; levels = up.0; place = up.1 })
-goes_up coins k n x done held some few full so_far = record {
-  filled = record {
-    base = sym next.0;
-    levels = subst (λ (m : ℕ). AreFilled k m up.0) (sym next.1) moves.filled;
-    number = moves.number ∙ filled.number;
-    place = omega (arith, filled.place, moves.next, filled.number);
-  };
-  near = near;
-}
-  where
-    filled : IsFilled k n held
-    filled = so_far.filled
-
-    items : List ℕ
-    items = in_order (held.base ++ x ∷ [])
-
-    up : List (List ℕ) × ℕ
-    up = carried coins held.place items held.levels
-
-    is_full : n % (2 * k) + 1 ≡ 2 * k
-    is_full = omega (arith, filled.base, mod-lt n {m = 2 * k} (omega arith))
-
-    next : ((n + 1) % (2 * k) ≡ 0) × ((n + 1) / (2 * k) ≡ n / (2 * k) + 1)
-    next = next_full n (2 * k) (omega arith) is_full
-
-    long : length items ≡ 2 * k
-    long = omega (arith, length_permutation (held.base ++ x ∷ []) items (IsPermutation-in_order (held.base ++ x ∷ [])), length-append held.base (x ∷ []), filled.base)
-
-    moves : IsCarried coins held.place k (n / (2 * k)) items held.levels
-    moves =
-        carried_all coins held.place k (n / (2 * k)) items held.levels some long (in_order_rises (held.base ++ x ∷ [])) filled.levels
-        (omega (arith, div-le_self n (2 * k), ap (λ (l : ℕ). 2 ^ l) filled.number))
-
-    near : (t : ℕ) → (weighted_rank t ([] ∷ up.0) ≤ rank_of t (done ++ x ∷ []) + terms ((n + 1) / (2 * k)) level_count) × (rank_of t (done ++ x ∷ []) ≤ weighted_rank t ([] ∷ up.0) + terms ((n + 1) / (2 * k)) level_count)
-    near t =
-        let was = so_far.near t in
-        let there = moves.moved t in
-        let before = weighted_rank-cons t held.base held.levels in
-        let after = weighted_rank-cons t [] up.0 in
-        let ranks = rank-in_order t (held.base ++ x ∷ []) in
-        let one = rank-append t held.base (x ∷ []) in
-        let all = rank-append t done (x ∷ []) in
-        let more = ap (λ (m : ℕ). terms m level_count) next.1 in
-        let less = ap (λ (l : ℕ). terms (n / (2 * k)) l) filled.number in
-        let more' = ap (λ (l : ℕ). terms (n / (2 * k) + 1) l) filled.number in
-        (omega arith, omega arith)
-
-pub one_more_item : (coins : ℕ → ℕ) (k n x : ℕ) (done : List ℕ) (held : Held) → 1 ≤ k → n < most_items → IsAfter k n done held → IsAfter k (n + 1) (done ++ x ∷ []) (held_with coins k held x)
+pub held_with_room : (coins : ℕ → ℕ) (k x : ℕ) (held : Held) → length held.base + 1 < 2 * k → held_with coins k held x ≡ with_room held x
 unfolding held_with
-one_more_item coins k n x done held some few so_far = by_test (ltb (length base) (2 * k)) refl
-  where
-    base : List ℕ
-    base = held.base ++ x ∷ []
+held_with_room coins k x held room = cond-true (ltb (length (held.base ++ x ∷ [])) (2 * k)) (with_room held x) (with_compaction coins held x) (lt-ltb (length (held.base ++ x ∷ [])) (2 * k) (omega (arith, length-append held.base (x ∷ []))))
 
-    up : List (List ℕ) × ℕ
-    up = carried coins held.place (in_order base) held.levels
+pub held_with_compaction : (coins : ℕ → ℕ) (k x : ℕ) (held : Held) → 2 * k ≤ length held.base + 1 → held_with coins k held x ≡ with_compaction coins held x
+unfolding held_with
+held_with_compaction coins k x held full = cond-false (ltb (length (held.base ++ x ∷ [])) (2 * k)) (with_room held x) (with_compaction coins held x) (le-ltb (length (held.base ++ x ∷ [])) (2 * k) (omega (arith, length-append held.base (x ∷ []))))
 
-    long : length base ≡ length held.base + 1
-    long = omega (arith, length-append held.base (x ∷ []))
+filled_with_room : (k n x : ℕ) (held : Held) → length held.base + 1 < 2 * k → IsFilled k n held → IsFilled k (n + 1) (with_room held x)
+filled_with_room k n x held room filled =
+    let next = next_within n (2 * k) (omega (arith, filled.base)) in
+    record {
+      base = omega (arith, length-append held.base (x ∷ []), next.0, filled.base);
+      levels = subst (λ (m : ℕ). AreFilled k m held.levels) (sym next.1) filled.levels;
+      number = filled.number;
+      place = omega (arith, filled.place);
+    }
 
-    by_test : (b : Bool) → ltb (length base) (2 * k) ≡ b → IsAfter k (n + 1) (done ++ x ∷ []) (cond b (record held { base = base }) (record { base = []; levels = up.0; place = up.1 }))
-    by_test true is = stays k n x done held (omega (arith, long, ltb-true (length base) (2 * k) is)) so_far
-    by_test false is = goes_up coins k n x done held some few (omega (arith, long, ltb-false (length base) (2 * k) is)) so_far
+-- the number of items, once the base is full
+full_next : (k n : ℕ) (held : Held) → 1 ≤ k → 2 * k ≤ length held.base + 1 → IsFilled k n held → ((n + 1) % (2 * k) ≡ 0) × ((n + 1) / (2 * k) ≡ n / (2 * k) + 1)
+full_next k n held some full filled =
+    next_full n (2 * k) (omega arith) (omega (arith, filled.base, mod-lt n {m = 2 * k} (omega arith)))
+
+compaction_carries : (coins : ℕ → ℕ) (k n x : ℕ) (held : Held) → 1 ≤ k → n < most_items → 2 * k ≤ length held.base + 1 → IsFilled k n held
+    → IsCarried coins held.place k (n / (2 * k)) (in_order (held.base ++ x ∷ [])) held.levels
+compaction_carries coins k n x held some few full filled =
+    carried_all coins held.place k (n / (2 * k)) (in_order (held.base ++ x ∷ [])) held.levels some
+    (omega (arith, length-in_order (held.base ++ x ∷ []), length-append held.base (x ∷ []), filled.base, mod-lt n {m = 2 * k} (omega arith)))
+    (in_order_rises (held.base ++ x ∷ [])) filled.levels (omega (arith, div-le_self n (2 * k), ap (λ (l : ℕ). 2 ^ l) filled.number))
+
+filled_with_compaction : (coins : ℕ → ℕ) (k n x : ℕ) (held : Held) → 1 ≤ k → n < most_items → 2 * k ≤ length held.base + 1 → IsFilled k n held → IsFilled k (n + 1) (with_compaction coins held x)
+filled_with_compaction coins k n x held some few full filled =
+    let next = full_next k n held some full filled in
+    let moves = compaction_carries coins k n x held some few full filled in
+    record {
+      base = sym next.0;
+      levels = subst (λ (m : ℕ). AreFilled k m (with_compaction coins held x).levels) (sym next.1) moves.filled;
+      number = moves.number ∙ filled.number;
+      place = omega (arith, filled.place, moves.next, filled.number);
+    }
+
+pub one_more_filled : (coins : ℕ → ℕ) (k n x : ℕ) (held : Held) → 1 ≤ k → n < most_items → IsFilled k n held → IsFilled k (n + 1) (held_with coins k held x)
+one_more_filled coins k n x held some few filled = ⊎_elim
+    (λ room. subst (λ (h : Held). IsFilled k (n + 1) h) (sym (held_with_room coins k x held room)) (filled_with_room k n x held room filled))
+    (λ full. subst (λ (h : Held). IsFilled k (n + 1) h) (sym (held_with_compaction coins k x held full)) (filled_with_compaction coins k n x held some few full filled))
+    (cases_lt (length held.base + 1) (2 * k))
+
+-- the rank of t in what is held of n items is no further off than their error allows
+abbrev pub IsNear : ℕ → ℕ → ℕ → List ℕ → Held → Type 0
+IsNear k n t done held =
+    (weighted_rank t (layers_of held) ≤ rank_of t done + terms (n / (2 * k)) level_count) × (rank_of t done ≤ weighted_rank t (layers_of held) + terms (n / (2 * k)) level_count)
+
+near_with_room : (k n t x : ℕ) (done : List ℕ) (held : Held) → length held.base + 1 < 2 * k → IsFilled k n held → IsNear k n t done held → IsNear k (n + 1) t (done ++ x ∷ []) (with_room held x)
+near_with_room k n t x done held room filled was =
+    let next = next_within n (2 * k) (omega (arith, filled.base)) in
+    let before = weighted_rank-cons t held.base held.levels in
+    let after = weighted_rank-cons t (held.base ++ x ∷ []) held.levels in
+    let one = rank-append t held.base (x ∷ []) in
+    let all = rank-append t done (x ∷ []) in
+    let same = ap (λ (m : ℕ). terms m level_count) next.1 in
+    (omega arith, omega arith)
+
+near_with_compaction : (coins : ℕ → ℕ) (k n t x : ℕ) (done : List ℕ) (held : Held) → 1 ≤ k → n < most_items → 2 * k ≤ length held.base + 1 → IsFilled k n held → IsNear k n t done held
+    → IsNear k (n + 1) t (done ++ x ∷ []) (with_compaction coins held x)
+near_with_compaction coins k n t x done held some few full filled was =
+    let next = full_next k n held some full filled in
+    let moves = compaction_carries coins k n x held some few full filled in
+    let there = moves.moved t in
+    let before = weighted_rank-cons t held.base held.levels in
+    let after = weighted_rank-cons t [] (with_compaction coins held x).levels in
+    let ranks = rank-in_order t (held.base ++ x ∷ []) in
+    let one = rank-append t held.base (x ∷ []) in
+    let all = rank-append t done (x ∷ []) in
+    let more = ap (λ (m : ℕ). terms m level_count) next.1 in
+    let less = ap (λ (l : ℕ). terms (n / (2 * k)) l) filled.number in
+    let more' = ap (λ (l : ℕ). terms (n / (2 * k) + 1) l) filled.number in
+    (omega arith, omega arith)
+
+one_more_near : (coins : ℕ → ℕ) (k n t x : ℕ) (done : List ℕ) (held : Held) → 1 ≤ k → n < most_items → IsFilled k n held → IsNear k n t done held → IsNear k (n + 1) t (done ++ x ∷ []) (held_with coins k held x)
+one_more_near coins k n t x done held some few filled was = ⊎_elim
+    (λ room. subst (λ (h : Held). IsNear k (n + 1) t (done ++ x ∷ []) h) (sym (held_with_room coins k x held room)) (near_with_room k n t x done held room filled was))
+    (λ full. subst (λ (h : Held). IsNear k (n + 1) t (done ++ x ∷ []) h) (sym (held_with_compaction coins k x held full)) (near_with_compaction coins k n t x done held some few full filled was))
+    (cases_lt (length held.base + 1) (2 * k))
 
 -- ---- all items
+
+-- what is held after a list of n items
+pub record IsAfter (k n : ℕ) (done : List ℕ) (held : Held) : Type 0 where
+  pub filled : IsFilled k n held
+  pub near : (t : ℕ) → IsNear k n t done held
+
+after_one_more : (coins : ℕ → ℕ) (k n x : ℕ) (done : List ℕ) (held : Held) → 1 ≤ k → n < most_items → IsAfter k n done held → IsAfter k (n + 1) (done ++ x ∷ []) (held_with coins k held x)
+after_one_more coins k n x done held some few so_far = record {
+  filled = one_more_filled coins k n x held some few so_far.filled;
+  near = λ t. one_more_near coins k n t x done held some few so_far.filled (so_far.near t);
+}
 
 pub after_none : (k : ℕ) → IsAfter k 0 [] held_at_first
 after_none k = record {
@@ -298,7 +302,7 @@ after_more coins k n done (x ∷ more) held some few so_far =
     let all = fold (λ h y. held_with coins k h y) (held_with coins k held x) more in
     subst (λ (m : ℕ). IsAfter k m (done ++ x ∷ more) all) same
     (subst (λ (l : List ℕ). IsAfter k (n + 1 + length more) l all) (append_assoc done (x ∷ []) more)
-    (after_more coins k (n + 1) (done ++ x ∷ []) more (held_with coins k held x) some (omega arith) (one_more_item coins k n x done held some (omega arith) so_far)))
+    (after_more coins k (n + 1) (done ++ x ∷ []) more (held_with coins k held x) some (omega arith) (after_one_more coins k n x done held some (omega arith) so_far)))
 
 pub after_all : (coins : ℕ → ℕ) (k : ℕ) (items : List ℕ) → 1 ≤ k → length items ≤ most_items → IsAfter k (length items) items (held_after coins k items)
 unfolding held_after

@@ -1,7 +1,8 @@
 -- Lemmas on the terms of the error.
-use Rattle.std.proofs.Common.{◌≡◌, ℕ, zero, suc, ◌+◌, ◌-◌, ◌*◌, ◌/◌, ◌^◌, ◌<◌, ◌≤◌, ⊎_elim, refl, sym, ap, ◌∙◌, arith, pow-suc, pow_mono, div-one, div-le_self}
+use Rattle.std.proofs.Common.{◌≡◌, ℕ, zero, suc, ◌+◌, ◌-◌, ◌*◌, ◌/◌, ◌%◌, ◌^◌, ◌<◌, ◌≤◌, ⊎_elim, refl, sym, ap, ◌∙◌, arith, pow-suc, pow_mono, div-one, div-le_self, div-mul-le_self, mod-eq_of_lt, mul_comm}
 use Rattle.std.proofs.Math.Nat.{div-div-eq-div-mul, div-eq_of_lt, mul-div-le}
 use Rattle.std.proofs.lemmas.Bool.{cases_lt}
+use Rattle.sk_quant.specs.Limits.{most_items}
 use Rattle.sk_quant.specs.Ranks.{error_terms, rank_error}
 
 -- the terms of a number of compactions of the base
@@ -59,3 +60,25 @@ pub terms-bound : (m l most : ℕ) → m ≤ most → terms m l ≤ l * most
 unfolding terms
 terms-bound m zero most le = omega arith
 terms-bound m (suc l) most le = omega (arith, terms-bound m l most le, mul-div-le m (2 ^ l))
+
+-- ---- the loop
+
+pub no_terms : (n k : ℕ) → 0 ≡ error_terms n k 0
+unfolding error_terms
+no_terms n k = refl
+
+-- a term as the code has it: shifted down, and up again
+pub shifted : (n k l half : ℕ) → half ≡ k → n ≤ most_items → n / (2 * half) / 2 ^ l * 2 ^ l % 2 ^ 64 ≡ 2 ^ l * (n / (2 * k * 2 ^ l))
+shifted n k l half is few =
+    let q = n / (2 * k) / 2 ^ l in
+    let small : q * 2 ^ l < 2 ^ 64 = omega (arith, div-mul-le_self (n / (2 * k)) (2 ^ l), div-le_self n (2 * k)) in
+    ap (λ (h : ℕ). n / (2 * h) / 2 ^ l * 2 ^ l % 2 ^ 64) is ∙ mod-eq_of_lt small ∙ mul_comm q (2 ^ l) ∙ ap (λ (r : ℕ). 2 ^ l * r) (div-div-eq-div-mul n (2 * k) (2 ^ l))
+
+pub one_term_more : (n k l half : ℕ) → half ≡ k → n ≤ most_items → error_terms n k l + n / (2 * half) / 2 ^ l * 2 ^ l % 2 ^ 64 ≡ error_terms n k (l + 1)
+unfolding error_terms
+one_term_more n k l half is few =
+    let next : l + 1 ≡ suc l = omega arith in
+    ap (λ (t : ℕ). error_terms n k l + t) (shifted n k l half is few) ∙ ap (λ (m : ℕ). error_terms n k m) (sym next)
+
+pub terms_are_few : (n k l : ℕ) → n ≤ most_items → error_terms n k l ≤ l * most_items
+terms_are_few n k l few = omega (arith, error_terms-is n k l, terms-bound (n / (2 * k)) l most_items (omega (arith, div-le_self n (2 * k))))

@@ -87,14 +87,12 @@ pub record IsHalving (coin : ℕ) (items now : List ℕ) (i : ℕ) : Type 0 wher
 pub halving_begins : (coin : ℕ) (items : List ℕ) → IsHalving coin items items 0
 halving_begins coin items = record { len = refl; front = refl; rest = refl }
 
-pub halving_goes_on : (coin : ℕ) (items now : List ℕ) (i : ℕ) → coin < 2 → i < length items / 2 → IsHalving coin items now i → IsHalving coin items (set now i (get_or now (2 * i + coin) 0)) (i + 1)
-halving_goes_on coin items now i side inside so_far = record {
-  len = length-set now i (get_or now (2 * i + coin) 0) ∙ so_far.len;
-  front = take_more_set now i (get_or now (2 * i + coin) 0) within
-      ∙ ap (λ (l : List ℕ). l ++ get_or now (2 * i + coin) 0 ∷ []) so_far.front
-      ∙ ap (λ (n : ℕ). take i (halved coin items) ++ n ∷ []) taken
+pub halving_goes_on : (coin : ℕ) (items now : List ℕ) (i z : ℕ) → coin < 2 → i < length items / 2 → z ≡ get_or now (2 * i + coin) 0 → IsHalving coin items now i → IsHalving coin items (set now i z) (i + 1)
+halving_goes_on coin items now i z side inside is so_far = record {
+  len = length-set now i z ∙ so_far.len;
+  front = take_more_set now i z within ∙ ap (λ (l : List ℕ). l ++ z ∷ []) so_far.front ∙ ap (λ (n : ℕ). take i (halved coin items) ++ n ∷ []) (is ∙ taken)
       ∙ sym (take_more (halved coin items) i 0 (omega (arith, length-halved coin items)));
-  rest = drop-set-lt (i + 1) now i (get_or now (2 * i + coin) 0) (omega arith) ∙ sym (drop-drop 1 i now) ∙ ap (λ (l : List ℕ). drop 1 l) so_far.rest ∙ drop-drop 1 i items;
+  rest = drop-set-lt (i + 1) now i z (omega arith) ∙ sym (drop-drop 1 i now) ∙ ap (λ (l : List ℕ). drop 1 l) so_far.rest ∙ drop-drop 1 i items;
 }
   where
     within : i < length now
@@ -105,9 +103,10 @@ halving_goes_on coin items now i side inside so_far = record {
 
     taken : get_or now (2 * i + coin) 0 ≡ get_or (halved coin items) i 0
     taken =
-        ap (λ (n : ℕ). get_or now n 0) (sym at) ∙ sym (get_or-drop i now (i + coin) 0)
-        ∙ ap (λ (l : List ℕ). get_or l (i + coin) 0) so_far.rest ∙ get_or-drop i items (i + coin) 0
-        ∙ ap (λ (n : ℕ). get_or items n 0) at ∙ sym (get_or-halved coin items i 0 side inside)
+        ap (λ (n : ℕ). get_or now n 0) (sym at) ∙ sym (get_or-drop i now (i + coin) 0) ∙ ap (λ (l : List ℕ). get_or l (i + coin) 0) so_far.rest ∙ get_or-drop i items (i + coin) 0
+        ∙ ap (λ (n : ℕ). get_or items n 0) at
+        ∙ sym (get_or-halved coin items i 0 side inside)
 
-pub halving_ends : (coin : ℕ) (items now : List ℕ) → IsHalving coin items now (length items / 2) → take (length items / 2) now ≡ halved coin items
-halving_ends coin items now so_far = so_far.front ∙ take_all (length items / 2) (halved coin items) (omega (arith, length-halved coin items))
+pub halving_ends : (coin : ℕ) (items now : List ℕ) (i half : ℕ) → half ≡ length items / 2 → i ≡ half → IsHalving coin items now i → take half now ≡ halved coin items
+halving_ends coin items now i half is same so_far =
+    ap (λ (n : ℕ). take n now) (sym same) ∙ so_far.front ∙ take_all i (halved coin items) (omega (arith, length-halved coin items))

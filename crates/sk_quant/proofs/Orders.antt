@@ -1,9 +1,9 @@
--- Lemmas on items in order and on ranks: rising lists with the same ranks are one list.
+-- Lemmas on items in order and on ranks: rising lists_of with the same ranks are one list.
 use Rattle.std.proofs.Common.{◌≡◌, ℕ, zero, suc, ◌+◌, ◌<◌, ◌≤◌, Bool, true, false, ltb, cond, List, [], ◌∷◌, ◌++◌, length, get_or, All, IsPermutation, ⊎_elim, refl, sym, ap, ◌∙◌, arith}
 use Rattle.std.specs.List.Sorted.{IsNonDecreasing}
 use Rattle.std.proofs.lemmas.Bool.{cases_order, lt-ltb, le-ltb, ltb-true, ltb-false, cond-true, cond-false}
 use Rattle.std.proofs.lemmas.List.Elements.{All-append, All-head, All-tail}
-use Rattle.std.proofs.lemmas.List.Sorted.{IsPermutation-refl, IsPermutation-cons, IsPermutation-trans, IsPermutation-middle, All-permutation, sum_by-IsPermutation}
+use Rattle.std.proofs.lemmas.List.Sorted.{IsPermutation-refl, IsPermutation-cons, IsPermutation-trans, IsPermutation-middle, length_permutation, All-permutation, sum_by-IsPermutation}
 use Rattle.std.proofs.lemmas.List.Sums.{sum_by-cons, sum_by-append}
 use Rattle.sk_quant.specs.Order.{rising_with, in_order}
 use Rattle.sk_quant.specs.Ranks.{rank_of}
@@ -29,7 +29,7 @@ rank-append t xs ys = sum_by-append (one_below t) xs ys
 pub rank-permutation : (t : ℕ) (xs ys : List ℕ) → IsPermutation xs ys → rank_of t ys ≡ rank_of t xs
 rank-permutation t xs ys same = sum_by-IsPermutation (one_below t) xs ys same
 
--- ---- rising lists
+-- ---- rising lists_of
 
 -- a rising list whose members are all at least b
 abbrev pub AscendsFrom : ℕ → List ℕ → Type 0
@@ -106,6 +106,9 @@ IsPermutation-in_order [] = IsPermutation-refl []
 IsPermutation-in_order (x ∷ xs) =
     IsPermutation-trans (x ∷ xs) (x ∷ in_order xs) (rising_with x (in_order xs))
     (IsPermutation-cons x xs (in_order xs) (IsPermutation-in_order xs)) (IsPermutation-rising_with x (in_order xs))
+
+pub length-in_order : (xs : List ℕ) → length (in_order xs) ≡ length xs
+length-in_order xs = length_permutation xs (in_order xs) (IsPermutation-in_order xs)
 
 pub rank-in_order : (t : ℕ) (xs : List ℕ) → rank_of t (in_order xs) ≡ rank_of t xs
 rank-in_order t xs = rank-permutation t xs (in_order xs) (IsPermutation-in_order xs)

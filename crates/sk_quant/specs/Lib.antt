@@ -4,3 +4,4 @@ pub mod Limits
 pub mod Order
 pub mod Quantiles
 pub mod Ranks
+pub mod Stored
