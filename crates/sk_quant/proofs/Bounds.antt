@@ -16,7 +16,7 @@ use Rattle.sk_quant.specs.Quantiles.{AreFilled, IsFilled}
 use Rattle.sk_quant.specs.Ranks.{rank_of, weighted_rank, weight_of, rank_error}
 use Rattle.sk_quant.proofs.Orders.{rank-append, rank-in_order, in_order_rises, length-in_order}
 use Rattle.sk_quant.proofs.Halves.{length-halved, halved_rises, halves_are_near}
-use Rattle.sk_quant.proofs.Errors.{terms, terms-suc, error_terms-is, error_terms_all}
+use Rattle.sk_quant.proofs.Errors.{counts, counts-suc, compactions-is, terms, terms-suc, error_terms-is, error_terms_all}
 
 -- ---- weights
 
@@ -80,7 +80,7 @@ IsMoved often levels a b = (a + terms often levels ≤ b + terms (often + 1) lev
 pub record IsCarried (coins : ℕ → ℕ) (place k often : ℕ) (items : List ℕ) (levels : List (List ℕ)) : Type 0 where
   pub filled : AreFilled k (often + 1) (carried coins place items levels).0
   pub number : length (carried coins place items levels).0 ≡ length levels
-  pub next : (carried coins place items levels).1 ≤ place + length levels
+  pub next : (carried coins place items levels).1 + counts often (length levels) ≡ place + counts (often + 1) (length levels)
   pub moved : (t : ℕ) → IsMoved often (length levels) (rank_of t items + 2 * weighted_rank t levels) (2 * weighted_rank t (carried coins place items levels).0)
 
 joined_length : (level half : List ℕ) (k : ℕ) → length level ≡ k → length half ≡ k → length (in_order (level ++ half)) ≡ 2 * k
@@ -96,7 +96,7 @@ unfolding carried
 into_empty coins place k often items levels is up below even = record {
   filled = (omega (arith, length-halved (coins place) items, ap (λ (n : ℕ). k * n) odd, mul-one k), halved_rises (coins place) items up, subst (λ (n : ℕ). AreFilled k n levels) same below);
   number = refl;
-  next = omega arith;
+  next = one_coin;
   moved = moved;
 }
   where
@@ -105,6 +105,9 @@ into_empty coins place k often items levels is up below even = record {
 
     same : often / 2 ≡ (often + 1) / 2
     same = omega arith
+
+    one_coin : place + 1 + counts often (suc (length levels)) ≡ place + counts (often + 1) (suc (length levels))
+    one_coin = omega (arith, counts-suc often (length levels), counts-suc (often + 1) (length levels), ap (λ (n : ℕ). counts n (length levels)) same)
 
     moved : (t : ℕ) → IsMoved often (suc (length levels)) (rank_of t items + 2 * weighted_rank t ([] ∷ levels)) (2 * weighted_rank t (halved (coins place) items ∷ levels))
     moved t =
@@ -122,7 +125,7 @@ unfolding carried
 through_full coins place k often x items level levels up odd above = record {
   filled = (sym (ap (λ (n : ℕ). k * n) even ∙ mul-zero k), IsNonDecreasingBy-short (λ n. n) [] (omega arith), subst (λ (n : ℕ). AreFilled k n higher.0) next above.filled);
   number = ap (λ (n : ℕ). suc n) above.number;
-  next = omega (arith, above.next);
+  next = more_coins;
   moved = moved;
 }
   where
@@ -137,6 +140,9 @@ through_full coins place k often x items level levels up odd above = record {
 
     next : often / 2 + 1 ≡ (often + 1) / 2
     next = omega arith
+
+    more_coins : higher.1 + counts often (suc (length levels)) ≡ place + counts (often + 1) (suc (length levels))
+    more_coins = omega (arith, above.next, counts-suc often (length levels), counts-suc (often + 1) (length levels), ap (λ (n : ℕ). counts n (length levels)) next)
 
     moved : (t : ℕ) → IsMoved often (suc (length levels)) (rank_of t items + 2 * weighted_rank t ((x ∷ level) ∷ levels)) (2 * weighted_rank t ([] ∷ higher.0))
     moved t =
@@ -199,7 +205,7 @@ filled_with_room k n x held room filled =
       base = omega (arith, length-append held.base (x ∷ []), next.0, filled.base);
       levels = subst (λ (m : ℕ). AreFilled k m held.levels) (sym next.1) filled.levels;
       number = filled.number;
-      place = omega (arith, filled.place);
+      place = filled.place ∙ compactions-is n k level_count ∙ ap (λ (m : ℕ). counts m level_count) (sym next.1) ∙ sym (compactions-is (n + 1) k level_count);
     }
 
 -- the number of items, once the base is full
@@ -222,7 +228,16 @@ filled_with_compaction coins k n x held some few full filled =
       base = sym next.0;
       levels = subst (λ (m : ℕ). AreFilled k m (with_compaction coins held x).levels) (sym next.1) moves.filled;
       number = moves.number ∙ filled.number;
-      place = omega (arith, filled.place, moves.next, filled.number);
+      place = omega (
+        arith,
+        filled.place,
+        moves.next,
+        compactions-is n k level_count,
+        compactions-is (n + 1) k level_count,
+        ap (λ (m : ℕ). counts m level_count) next.1,
+        ap (λ (l : ℕ). counts (n / (2 * k)) l) filled.number,
+        ap (λ (l : ℕ). counts (n / (2 * k) + 1) l) filled.number,
+      );
     }
 
 pub one_more_filled : (coins : ℕ → ℕ) (k n x : ℕ) (held : Held) → 1 ≤ k → n < most_items → IsFilled k n held → IsFilled k (n + 1) (held_with coins k held x)
@@ -281,13 +296,18 @@ after_one_more coins k n x done held some few so_far = record {
   near = λ t. one_more_near coins k n t x done held some few so_far.filled (so_far.near t);
 }
 
+counts_none : (l : ℕ) → counts 0 l ≡ 0
+unfolding counts
+counts_none zero = refl
+counts_none (suc l) = omega (arith, counts_none l, zero-div (2 ^ l))
+
 pub after_none : (k : ℕ) → IsAfter k 0 [] held_at_first
 after_none k = record {
   filled = record {
     base = sym (zero-mod (2 * k));
     levels = subst (λ (m : ℕ). AreFilled k m held_at_first.levels) (sym (zero-div (2 * k))) (none_filled k level_count);
     number = length-replicate {A = List ℕ} level_count [];
-    place = omega arith;
+    place = sym (compactions-is 0 k level_count ∙ ap (λ (m : ℕ). counts m level_count) (zero-div (2 * k)) ∙ counts_none level_count);
   };
   near = λ t. let none = weighted_rank-cons t [] held_at_first.levels in let rest = weighted_of_none t level_count in (omega arith, omega arith);
 }

@@ -3,7 +3,7 @@ use Rattle.std.proofs.Common.{◌≡◌, ℕ, zero, suc, ◌+◌, ◌-◌, ◌*�
 use Rattle.std.proofs.Math.Nat.{div-div-eq-div-mul, div-eq_of_lt, mul-div-le}
 use Rattle.std.proofs.lemmas.Bool.{cases_lt}
 use Rattle.sk_quant.specs.Limits.{most_items}
-use Rattle.sk_quant.specs.Ranks.{error_terms, rank_error}
+use Rattle.sk_quant.specs.Ranks.{compactions, error_terms, rank_error}
 
 -- the terms of a number of compactions of the base
 unfoldable pub terms : ℕ → ℕ → ℕ
@@ -16,6 +16,33 @@ error_terms-is n k zero = refl
 error_terms-is n k (suc l) =
     ap (λ (e : ℕ). e + 2 ^ l * (n / (2 * k * 2 ^ l))) (error_terms-is n k l)
     ∙ ap (λ (q : ℕ). terms (n / (2 * k)) l + 2 ^ l * q) (sym (div-div-eq-div-mul n (2 * k) (2 ^ l)))
+
+-- how many compactions, of so many of the base
+unfoldable pub counts : ℕ → ℕ → ℕ
+counts m zero = 0
+counts m (suc l) = counts m l + m / 2 ^ l
+
+pub compactions-is : (n k l : ℕ) → compactions n k l ≡ counts (n / (2 * k)) l
+unfolding compactions counts
+compactions-is n k zero = refl
+compactions-is n k (suc l) =
+    ap (λ (c : ℕ). c + n / (2 * k * 2 ^ l)) (compactions-is n k l) ∙ ap (λ (q : ℕ). counts (n / (2 * k)) l + q) (sym (div-div-eq-div-mul n (2 * k) (2 ^ l)))
+
+pub counts-suc : (m l : ℕ) → counts m (suc l) ≡ m + counts (m / 2) l
+unfolding counts
+counts-suc m zero = omega (arith, div-one m)
+counts-suc m (suc l) =
+    let power : 2 ^ suc l ≡ 2 * 2 ^ l = omega (arith, pow-suc 2 l) in
+    let whole : m / 2 ^ suc l ≡ m / 2 / 2 ^ l = ap (λ (p : ℕ). m / p) power ∙ sym (div-div-eq-div-mul m 2 (2 ^ l)) in
+    omega (arith, counts-suc m l, whole)
+
+counts-bound : (m l most : ℕ) → m ≤ most → counts m l ≤ l * most
+unfolding counts
+counts-bound m zero most le = omega arith
+counts-bound m (suc l) most le = omega (arith, counts-bound m l most le, div-le_self m (2 ^ l))
+
+pub compactions_are_few : (n k l : ℕ) → n ≤ most_items → compactions n k l ≤ l * most_items
+compactions_are_few n k l few = omega (arith, compactions-is n k l, counts-bound (n / (2 * k)) l most_items (omega (arith, div-le_self n (2 * k))))
 
 -- all but the first term are those of half as many, doubled
 pub terms-suc : (m l : ℕ) → terms m (suc l) ≡ m + 2 * terms (m / 2) l

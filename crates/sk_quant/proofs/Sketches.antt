@@ -2,14 +2,15 @@
 use Rattle.std.proofs.Common.{◌≡◌, ℕ, Vec, Global, All, vec_capacity, ◌+◌, ◌*◌, ◌/◌, ◌<◌, ◌≤◌, List, [], ◌∷◌, ◌++◌, length, replicate, refl, sym, ap, subst, ◌∙◌, arith, length-append, mod-lt}
 use Rattle.std.specs.Int.{abs_diff}
 use Rattle.std.specs.List.Sorted.{IsNonDecreasing}
+use Rattle.std.specs.Vec.{with_items}
+use Rattle.std.proofs.lemmas.List.{with_items_is}
 use Rattle.sk_quant.specs.Coins.{Coins, coin_of}
-use Rattle.sk_quant.specs.Held.{Held, held_at_first, held_with, held_after, carried, layers_of, ranked}
+use Rattle.sk_quant.specs.Held.{Held, held_at_first, held_with, held_after, layers_of, ranked}
 use Rattle.sk_quant.specs.Limits.{least_quantile_k, most_quantile_k, key_end, most_items, level_count}
-use Rattle.sk_quant.specs.Order.{in_order}
 use Rattle.sk_quant.specs.Quantiles.{Quantiles, updated, IsSketchOf, IsWholeQuantiles}
 use Rattle.sk_quant.specs.Ranks.{rank_of, weighted_rank, weight_of, rank_error}
-use Rattle.sk_quant.specs.Stored.{lists_of, shown, AreStored}
-use Rattle.sk_quant.proofs.Bounds.{held_with_room, held_with_compaction, levels_are_short, after_none, one_more_filled, held_after_push, ranks_are_near, weight_of_layers}
+use Rattle.sk_quant.specs.Stored.{lists_of, held_in, shown, AreStored}
+use Rattle.sk_quant.proofs.Bounds.{levels_are_short, after_none, one_more_filled, held_after_push, ranks_are_near, weight_of_layers}
 
 -- the sketch of no items
 abbrev pub empty : ℕ → ℕ → Quantiles
@@ -61,32 +62,25 @@ levels_of_whole sketch whole = levels_are_short sketch.k (sketch.count / (2 * sk
 pub levels_rise : (sketch : Quantiles) → IsWholeQuantiles sketch → All (λ (level : List ℕ). IsNonDecreasing level) sketch.held.levels
 levels_rise sketch whole k d inside = (levels_of_whole sketch whole k d inside).1
 
--- a sketch with one item more, and with what it then holds
-abbrev counted : Quantiles → Held → Quantiles
-counted sketch held = record sketch { count = sketch.count + 1; held = held }
+-- levels that were lent and came back
+pub items_back : (levels : Vec (Vec ℕ Global) Global) (lent now : List (Vec ℕ Global)) → lent ≡ levels.items → length now ≡ length lent → (with_items levels now).items ≡ now
+items_back levels lent now is_lent long =
+    with_items_is levels now (omega (arith, long, ap (λ (ls : List (Vec ℕ Global)). length ls) is_lent, levels.ok.0))
 
-pub shown_with_room : (k count x : ℕ) (base more : Vec ℕ Global) (levels : Vec (Vec ℕ Global) Global) (coins : Coins) → length base.items + 1 < 2 * k → more.items ≡ base.items ++ x ∷ []
-    → shown k (count + 1) more levels coins ≡ updated (shown k count base levels coins) x
-shown_with_room k count x base more levels coins room is =
-    let sketch = shown k count base levels coins in
-    ap (λ (items : List ℕ). counted sketch (record sketch.held { base = items })) is
-    ∙ ap (λ (h : Held). counted sketch h) (sym (held_with_room (coin_of coins.key) k x sketch.held room))
-
-pub shown_with_compaction : (k count x : ℕ) (base none : Vec ℕ Global) (levels higher : Vec (Vec ℕ Global) Global) (coins later : Coins) → 2 * k ≤ length base.items + 1 → none.items ≡ [] → later.key ≡ coins.key
-    → (lists_of higher.items, later.taken) ≡ carried (coin_of coins.key) coins.taken (in_order (base.items ++ x ∷ [])) (lists_of levels.items)
-    → shown k (count + 1) none higher later ≡ updated (shown k count base levels coins) x
-shown_with_compaction k count x base none levels higher coins later full is_none same up =
-    let sketch = shown k count base levels coins in
-    ap (λ (items : List ℕ). record (shown k (count + 1) none higher later) { held = record { base = items; levels = lists_of higher.items; place = later.taken } }) is_none
-    ∙ ap (λ (key : ℕ). record { k = k; key = key; count = count + 1; held = record { base = []; levels = lists_of higher.items; place = later.taken } }) same
-    ∙ ap (λ (p : List (List ℕ) × ℕ). counted sketch (record { base = []; levels = p.0; place = p.1 })) up
-    ∙ ap (λ (h : Held). counted sketch h) (sym (held_with_compaction (coin_of coins.key) k x sketch.held full))
+-- what is put into base, levels and coins is what an update leaves, where the levels are lent and come back
+pub shown_updated : (k count x : ℕ) (base base' : Vec ℕ Global) (levels : Vec (Vec ℕ Global) Global) (lent now : List (Vec ℕ Global)) (coins coins' : Coins) → lent ≡ levels.items → length now ≡ length lent → coins'.key ≡ coins.key
+    → held_in base' now coins' ≡ held_with (coin_of coins.key) k (held_in base lent coins) x → shown k (count + 1) base' (with_items levels now) coins' ≡ updated (shown k count base levels coins) x
+shown_updated k count x base base' levels lent now coins coins' is_lent long same held =
+    ap (λ (ls : List (Vec ℕ Global)). record { k = k; key = coins'.key; count = count + 1; held = held_in base' ls coins' }) (items_back levels lent now is_lent long)
+    ∙ ap (λ (key : ℕ). record { k = k; key = key; count = count + 1; held = held_in base' now coins' }) same
+    ∙ ap (λ (h : Held). record { k = k; key = coins.key; count = count + 1; held = h }) held
+    ∙ ap (λ (ls : List (Vec ℕ Global)). record { k = k; key = coins.key; count = count + 1; held = held_with (coin_of coins.key) k (held_in base ls coins) x }) is_lent
 
 pub stored_updated : (k count x : ℕ) (base base' : Vec ℕ Global) (levels levels' : Vec (Vec ℕ Global) Global) (coins coins' : Coins) → shown k (count + 1) base' levels' coins' ≡ updated (shown k count base levels coins) x
-    → AreStored k count base levels coins → count < most_items → vec_capacity base ≤ vec_capacity base' → All (λ level. k ≤ vec_capacity level) levels'.items → AreStored k (count + 1) base' levels' coins'
+    → AreStored k count base levels coins → count < most_items → 2 * k ≤ vec_capacity base' → All (λ level. k ≤ vec_capacity level) levels'.items → AreStored k (count + 1) base' levels' coins'
 stored_updated k count x base base' levels levels' coins coins' is stored few room rooms = record {
   whole = subst (λ (s : Quantiles). IsWholeQuantiles s) (sym is) (whole_updated (shown k count base levels coins) x stored.whole few);
-  base_room = omega (arith, stored.base_room);
+  base_room = room;
   level_rooms = rooms;
 }
 

@@ -19,3 +19,7 @@ most_items = 2 ^ 46
 -- so many levels stand above the base
 abbrev pub level_count : ℕ
 level_count = 48
+
+-- the coins of a key have places below this
+abbrev pub coin_end : ℕ
+coin_end = 2 ^ 68

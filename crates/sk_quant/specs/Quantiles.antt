@@ -4,6 +4,7 @@ use Rattle.std.specs.List.Sorted.{IsNonDecreasing}
 use Rattle.sk_quant.specs.Coins.{coin_of}
 use Rattle.sk_quant.specs.Held.{Held, held_with, held_after}
 use Rattle.sk_quant.specs.Limits.{least_quantile_k, most_quantile_k, key_end, most_items, level_count}
+use Rattle.sk_quant.specs.Ranks.{compactions}
 
 -- its k and its key, how many items it was given, and what it holds of them
 pub record Quantiles : Type 0 where
@@ -29,12 +30,12 @@ abbrev pub AreFilled : ℕ → ℕ → List (List ℕ) → Type 0
 AreFilled k often [] = often ≡ 0
 AreFilled k often (level ∷ levels) = (length level ≡ k * (often % 2)) × IsNonDecreasing level × AreFilled k (often / 2) levels
 
--- what a sketch holds of so many items
+-- how much of so many items lies where, and how many coins that took
 pub record IsFilled (k count : ℕ) (held : Held) : Type 0 where
   pub base : length held.base ≡ count % (2 * k)
   pub levels : AreFilled k (count / (2 * k)) held.levels
   pub number : length held.levels ≡ level_count
-  pub place : held.place ≤ level_count * count
+  pub place : held.place ≡ compactions count k level_count
 
 -- what holds of every sketch
 pub record IsWholeQuantiles (sketch : Quantiles) : Type 0 where

@@ -15,7 +15,12 @@ unfoldable pub weight_of : List (List ℕ) → ℕ
 weight_of [] = 0
 weight_of (layer ∷ layers) = length layer + 2 * weight_of layers
 
--- the sum of 2 ^ l * floor (n / (2k * 2 ^ l)) over the first so many l, from 0
+-- so often items of n were compacted: n / (2k * 2 ^ l) times those of weight 2 ^ l, for the first so many l, from 0
+unfoldable pub compactions : ℕ → ℕ → ℕ → ℕ
+compactions n k zero = 0
+compactions n k (suc l) = compactions n k l + n / (2 * k * 2 ^ l)
+
+-- each times its weight: the sum of 2 ^ l * (n / (2k * 2 ^ l)) over the first so many l
 unfoldable pub error_terms : ℕ → ℕ → ℕ → ℕ
 error_terms n k zero = 0
 error_terms n k (suc l) = error_terms n k l + 2 ^ l * (n / (2 * k * 2 ^ l))

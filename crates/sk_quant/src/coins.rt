@@ -1,6 +1,7 @@
 //! The coins of a key.
-ghost use Rattle.std.specs.Prelude.{◌≡◌, ◌+◌, ◌-◌, ◌<◌, ◌^◌};
-ghost use Rattle.sk_quant.specs.Coins.{Coins as Tossed, coin_of};
+ghost use Rattle.std.specs.Prelude.{◌≡◌, ◌+◌, ◌<◌};
+ghost use Rattle.sk_quant.specs.Coins.{coin_of};
+ghost use Rattle.sk_quant.specs.Limits.{coin_end};
 
 use rand_chacha::ChaCha8Rng;
 use rand_core::SeedableRng;
@@ -41,7 +42,7 @@ impl Coins {
     /// The next coin.
     #[tactic(auto, unfolding(crate::specs::Coins::coin_of))]
     pub fn toss(&mut self) -> u32
-        requires { self.old.taken + 1 < 2 ^ 68 }
+        requires { self.old.taken + 1 < coin_end }
         ensures coin { result ≡ coin_of self.old.key self.old.taken }
         ensures sides { result < 2 }
         ensures next { self.new ≡ record self.old { taken = self.old.taken + 1 } }

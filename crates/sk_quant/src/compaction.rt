@@ -1,10 +1,10 @@
 //! Rising items go up, half of them at each level.
-ghost use Rattle.std.specs.Prelude.{◌≡◌, ◌+◌, ◌*◌, ◌<◌, ◌≤◌, ◌^◌, ◌++◌, ℕ, length, All, vec_len, vec_capacity};
+ghost use Rattle.std.specs.Prelude.{◌≡◌, ◌+◌, ◌*◌, ◌<◌, ◌≤◌, ◌++◌, [], length, All, vec_len, vec_capacity};
 ghost use Rattle.std.specs.List.Sorted.{IsNonDecreasing};
 ghost use Rattle.sk_quant.specs.Coins.{coin_of};
-ghost use Rattle.sk_quant.specs.Held.{halved, carried};
+ghost use Rattle.sk_quant.specs.Held.{halved, carried, held_with};
 ghost use Rattle.sk_quant.specs.Order.{in_order};
-ghost use Rattle.sk_quant.specs.Stored.{lists_of};
+ghost use Rattle.sk_quant.specs.Stored.{lists_of, held_in, CanCarry};
 
 use crate::coins::Coins;
 
@@ -44,15 +44,13 @@ fn merge(items: &mut Vec<u64>, others: &[u64])
     }
 }
 
-/// Takes rising items up: the half that a coin takes to the first level, and where that was not empty on from
-/// there, with what lay in it. Of the items nothing is to be read afterwards.
-pub fn carry(k: usize, items: &mut Vec<u64>, levels: &mut [Vec<u64>], coins: &mut Coins)
+// Takes rising items up: the half that a coin takes to the first level, and where that was not empty on from
+// there, with what lay in it. What is left of the items means nothing.
+fn carry(k: usize, items: &mut Vec<u64>, levels: &mut [Vec<u64>], coins: &mut Coins)
     requires few { vec_len items.old ≤ 2 * k }
     requires rise { IsNonDecreasing items.old.items }
     requires room { 2 * k ≤ vec_capacity items.old }
-    requires short { All (λ level. (length level ≤ k) × IsNonDecreasing level) (lists_of levels.old) }
-    requires rooms { All (λ level. k ≤ vec_capacity level) levels.old }
-    requires place { coins.old.taken + length levels.old < 2 ^ 68 }
+    requires levels { CanCarry k levels.old coins.old }
     ensures key { coins.new.key ≡ coins.old.key }
     ensures up { (lists_of levels.new, coins.new.taken)
         ≡ carried (coin_of coins.old.key) coins.old.taken items.old.items (lists_of levels.old) }
@@ -67,5 +65,41 @@ pub fn carry(k: usize, items: &mut Vec<u64>, levels: &mut [Vec<u64>], coins: &mu
         }
         merge(items, level);
         level.clear();
+    }
+}
+
+// Takes the items of a full base up, in order, and leaves it empty.
+#[inline(never)]
+fn compact(k: usize, base: &mut Vec<u64>, levels: &mut [Vec<u64>], coins: &mut Coins)
+    requires few { vec_len base.old ≤ 2 * k }
+    requires room { 2 * k ≤ vec_capacity base.old }
+    requires levels { CanCarry k levels.old coins.old }
+    ensures key { coins.new.key ≡ coins.old.key }
+    ensures up { (lists_of levels.new, coins.new.taken)
+        ≡ carried (coin_of coins.old.key) coins.old.taken (in_order base.old.items) (lists_of levels.old) }
+    ensures empty { base.new.items ≡ [] }
+    ensures room { vec_capacity base.old ≤ vec_capacity base.new }
+    ensures rooms { All (λ level. k ≤ vec_capacity level) levels.new }
+{
+    base.sort_unstable();
+    carry(k, base, levels, coins);
+    base.clear();
+}
+
+/// Puts an item into the base, and takes a full base up.
+#[inline]
+pub fn put(k: usize, base: &mut Vec<u64>, levels: &mut [Vec<u64>], coins: &mut Coins, x: u64)
+    requires few { vec_len base.old < 2 * k }
+    requires room { 2 * k ≤ vec_capacity base.old }
+    requires levels { CanCarry k levels.old coins.old }
+    ensures key { coins.new.key ≡ coins.old.key }
+    ensures held { held_in base.new levels.new coins.new
+        ≡ held_with (coin_of coins.old.key) k (held_in base.old levels.old coins.old) x }
+    ensures room { 2 * k ≤ vec_capacity base.new }
+    ensures rooms { All (λ level. k ≤ vec_capacity level) levels.new }
+{
+    base.push_reserved(x);
+    if base.len() == 2 * k {
+        compact(k, base, levels, coins);
     }
 }

@@ -30,7 +30,7 @@ pub fn one_more()
         → held_after coins k (items ++ x ∷ []) ≡ held_with coins k (held_after coins k items) x }
 {}
 
-/// Where how much lies of a list: what is in the base and in each level is told by the list's length.
+/// The length of a list tells how much lies in the base and in each level, and how many coins were taken.
 pub fn held_is_filled()
     ensures { (coins : ℕ → ℕ) (k : ℕ) (items : List ℕ) → 1 ≤ k → length items ≤ most_items
         → IsFilled k (length items) (held_after coins k items) }

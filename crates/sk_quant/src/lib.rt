@@ -10,3 +10,6 @@ mod sketch;
 
 pub use sk_model::OutOfMemory;
 pub use sketch::Quant;
+
+#[cfg(test)]
+mod tests;

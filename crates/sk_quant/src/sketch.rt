@@ -8,7 +8,7 @@ ghost use Rattle.sk_quant.specs.Ranks.{rank_of, weighted_rank, rank_error};
 ghost use Rattle.sk_quant.specs.Stored.{lists_of};
 
 use crate::coins::Coins;
-use crate::compaction::carry;
+use crate::compaction::put;
 use crate::limits::LEVEL_COUNT;
 use crate::ranks::{error_of, rank, rank_in_levels};
 use sk_model::OutOfMemory;
@@ -57,23 +57,20 @@ impl Quant {
     }
 
     /// Puts an item to the end of the list.
+    #[inline]
     pub fn update(&mut self, x: u64)
         requires { self.old.count < most_items }
         ensures left { self.new ≡ updated self.old x }
         ensures list { (items : List ℕ) → IsSketchOf self.old items → IsSketchOf self.new (items ++ x ∷ []) }
     {
-        self.base.push_reserved(x);
+        put(
+            self.k as usize,
+            &mut self.base,
+            &mut self.levels,
+            &mut self.coins,
+            x,
+        );
         self.count += 1;
-        if self.base.len() == 2 * self.k as usize {
-            self.base.sort_unstable();
-            carry(
-                self.k as usize,
-                &mut self.base,
-                &mut self.levels,
-                &mut self.coins,
-            );
-            self.base.clear();
-        }
     }
 
     /// The weighted number of the held items below x, by which the number of the list's items below x is

@@ -2,7 +2,7 @@
 ghost use Rattle.std.specs.Prelude.{◌≡◌, ℕ, List, [], ◌∷◌, map, replicate};
 ghost use Rattle.sk_quant.specs.Coins.{coin_of};
 ghost use Rattle.sk_quant.specs.Held.{Held, held_after, layers_of};
-ghost use Rattle.sk_quant.specs.Ranks.{weighted_rank, rank_error};
+ghost use Rattle.sk_quant.specs.Ranks.{compactions, weighted_rank, rank_error};
 
 /// Of 1, 2, 3 with k 2 nothing has gone up: two are below 3.
 pub fn three_items()
@@ -30,6 +30,7 @@ pub fn levels_of_items()
         ≡ record { base = []; levels = (2 ∷ 4 ∷ []) ∷ replicate 47 []; place = 1 } }
     ensures twice { held_after (λ place. place) 2 (8 ∷ 3 ∷ 5 ∷ 3 ∷ 1 ∷ 7 ∷ 2 ∷ 9 ∷ 6 ∷ [])
         ≡ record { base = 6 ∷ []; levels = [] ∷ (3 ∷ 9 ∷ []) ∷ replicate 46 []; place = 3 } }
+    ensures coins { compactions 9 2 48 ≡ 3 }
 {}
 
 /// The errors at a thousand items.

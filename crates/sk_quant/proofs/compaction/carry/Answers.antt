@@ -13,7 +13,7 @@ use Rattle.sk_quant.proofs.compaction.carry.Goals as goal
 
 pub unwrap-requires : goal.unwrap-requires
 unwrap-requires c =
-    let it = there c.args.k c.levels.level-index c.args.levels.now c.levels.levels c.level-item.result (omega arith) c.levels.auto.levels c.requires.short c.levels.invariant.rooms c.levels.invariant.carrying in
+    let it = there c.args.k c.levels.level-index c.args.levels.now c.levels.levels c.level-item.result (omega arith) c.levels.auto.levels c.requires.levels.short c.levels.invariant.rooms c.levels.invariant.carrying in
     let none = eqb-true (vec_len (get_or c.levels.levels c.levels.level-index c.level-item.result)) 0 (sym c.is_empty.ensures ∙ c.if-is_empty.true) in
     let half = ap (λ (l : List ℕ). length l) c.halve.ensures.items ∙ length-halved c.toss.result c.levels.items.items in
     c.extend_from_slice.ensures.succeeds (omega (arith, none, half, it.room, c.deref.ensures.len))
@@ -21,7 +21,7 @@ unwrap-requires c =
 pub returns-then-is_empty-clause-up : goal.returns-then-is_empty-clause-up
 returns-then-is_empty-clause-up c =
     let level = get_or c.levels.levels c.levels.level-index c.level-item.result in
-    let it = there c.args.k c.levels.level-index c.args.levels.now c.levels.levels c.level-item.result (omega arith) c.levels.auto.levels c.requires.short c.levels.invariant.rooms c.levels.invariant.carrying in
+    let it = there c.args.k c.levels.level-index c.args.levels.now c.levels.levels c.level-item.result (omega arith) c.levels.auto.levels c.requires.levels.short c.levels.invariant.rooms c.levels.invariant.carrying in
     let none = eqb-true (vec_len level) 0 (sym c.is_empty.ensures ∙ c.if-is_empty.true) in
     let nothing = nil_from_length level.items (omega (arith, none, level.ok.0)) in
     let coin = c.toss.ensures.coin ∙ ap (λ (key : ℕ). coin_of key c.levels.coins.taken) c.levels.invariant.key in
@@ -37,19 +37,19 @@ merge-requires-clause-items c =
 
 pub merge-requires-clause-others : goal.merge-requires-clause-others
 merge-requires-clause-others c =
-    let it = there c.args.k c.levels.level-index c.args.levels.now c.levels.levels c.level-item.result (omega arith) c.levels.auto.levels c.requires.short c.levels.invariant.rooms c.levels.invariant.carrying in
+    let it = there c.args.k c.levels.level-index c.args.levels.now c.levels.levels c.level-item.result (omega arith) c.levels.auto.levels c.requires.levels.short c.levels.invariant.rooms c.levels.invariant.carrying in
     subst (λ (l : List ℕ). IsNonDecreasing l) (sym c.deref-in-levels.ensures.value) it.rises
 
 pub merge-requires-clause-room : goal.merge-requires-clause-room
 merge-requires-clause-room c =
-    let it = there c.args.k c.levels.level-index c.args.levels.now c.levels.levels c.level-item.result (omega arith) c.levels.auto.levels c.requires.short c.levels.invariant.rooms c.levels.invariant.carrying in
+    let it = there c.args.k c.levels.level-index c.args.levels.now c.levels.levels c.level-item.result (omega arith) c.levels.auto.levels c.requires.levels.short c.levels.invariant.rooms c.levels.invariant.carrying in
     let half = ap (λ (l : List ℕ). length l) c.halve.ensures.items ∙ length-halved c.toss.result c.levels.items.items in
     omega (arith, half, it.short, ap (λ (l : List ℕ). length l) c.deref-in-levels.ensures.value)
 
 pub levels-preserved : goal.levels-preserved
 levels-preserved c =
     let level = get_or c.levels.levels c.levels.level-index c.level-item.result in
-    let it = there c.args.k c.levels.level-index c.args.levels.now c.levels.levels c.level-item.result (omega arith) c.levels.auto.levels c.requires.short c.levels.invariant.rooms c.levels.invariant.carrying in
+    let it = there c.args.k c.levels.level-index c.args.levels.now c.levels.levels c.level-item.result (omega arith) c.levels.auto.levels c.requires.levels.short c.levels.invariant.rooms c.levels.invariant.carrying in
     let some = eqb-false (vec_len level) 0 (sym c.is_empty.ensures ∙ c.if-is_empty.false) in
     let coin = c.toss.ensures.coin ∙ ap (λ (key : ℕ). coin_of key c.levels.coins.taken) c.levels.invariant.key in
     let half = c.halve.ensures.items ∙ ap (λ (n : ℕ). halved n c.levels.items.items) coin in
