@@ -1,0 +1,105 @@
+//! Rising items go up, half of them at each level.
+ghost use Rattle.std.specs.Prelude.{◌≡◌, ◌+◌, ◌*◌, ◌<◌, ◌≤◌, ◌++◌, [], length, All, vec_len, vec_capacity};
+ghost use Rattle.std.specs.List.Sorted.{IsNonDecreasing};
+ghost use Rattle.sk_quant.specs.Coins.{coin_of};
+ghost use Rattle.sk_quant.specs.Held.{halved, carried, held_with};
+ghost use Rattle.sk_quant.specs.Order.{in_order};
+ghost use Rattle.sk_quant.specs.Stored.{lists_of, held_in, CanCarry};
+
+use crate::coins::Coins;
+
+// Keeps of each two items the first, by coin 0, or the second.
+fn halve(items: &mut Vec<u64>, coin: usize)
+    requires { coin < 2 }
+    ensures items { items.new.items ≡ halved coin items.old.items }
+    ensures room { vec_capacity items.new ≡ vec_capacity items.old }
+{
+    let half = items.len() / 2;
+    'halve: for i in 0..half {
+        items[i] = items[2 * i + coin];
+    }
+    items.truncate(half);
+}
+
+// Puts rising items among others that rise, from the greatest down.
+fn merge(items: &mut Vec<u64>, others: &[u64])
+    requires items { IsNonDecreasing items.old.items }
+    requires others { IsNonDecreasing others.now }
+    requires room { vec_len items.old + length others.now ≤ vec_capacity items.old }
+    ensures items { items.new.items ≡ in_order (others.now ++ items.old.items) }
+    ensures room { vec_capacity items.old ≤ vec_capacity items.new }
+{
+    let mut left = items.len();
+    let mut right = others.len();
+    items.extend_from_slice(others).unwrap();
+    'merge: while right > 0 {
+        let at = left + right - 1;
+        if left > 0 && items[left - 1] > others[right - 1] {
+            left -= 1;
+            items[at] = items[left];
+        } else {
+            right -= 1;
+            items[at] = others[right];
+        }
+    }
+}
+
+// Takes rising items up: the half that a coin takes to the first level, and where that was not empty on from
+// there, with what lay in it. What is left of the items means nothing.
+fn carry(k: usize, items: &mut Vec<u64>, levels: &mut [Vec<u64>], coins: &mut Coins)
+    requires few { vec_len items.old ≤ 2 * k }
+    requires rise { IsNonDecreasing items.old.items }
+    requires room { 2 * k ≤ vec_capacity items.old }
+    requires levels { CanCarry k levels.old coins.old }
+    ensures key { coins.new.key ≡ coins.old.key }
+    ensures up { (lists_of levels.new, coins.new.taken)
+        ≡ carried (coin_of coins.old.key) coins.old.taken items.old.items (lists_of levels.old) }
+    ensures room { vec_capacity items.old ≤ vec_capacity items.new }
+    ensures rooms { All (λ level. k ≤ vec_capacity level) levels.new }
+{
+    'levels: for level in levels.iter_mut() {
+        halve(items, coins.toss() as usize);
+        if level.is_empty() {
+            level.extend_from_slice(items).unwrap();
+            return;
+        }
+        merge(items, level);
+        level.clear();
+    }
+}
+
+// Takes the items of a full base up, in order, and leaves it empty.
+#[inline(never)]
+fn compact(k: usize, base: &mut Vec<u64>, levels: &mut [Vec<u64>], coins: &mut Coins)
+    requires few { vec_len base.old ≤ 2 * k }
+    requires room { 2 * k ≤ vec_capacity base.old }
+    requires levels { CanCarry k levels.old coins.old }
+    ensures key { coins.new.key ≡ coins.old.key }
+    ensures up { (lists_of levels.new, coins.new.taken)
+        ≡ carried (coin_of coins.old.key) coins.old.taken (in_order base.old.items) (lists_of levels.old) }
+    ensures empty { base.new.items ≡ [] }
+    ensures room { vec_capacity base.old ≤ vec_capacity base.new }
+    ensures rooms { All (λ level. k ≤ vec_capacity level) levels.new }
+{
+    base.sort_unstable();
+    carry(k, base, levels, coins);
+    base.clear();
+}
+
+/// Puts an item into the base, and takes a full base up.
+#[inline]
+pub fn put(k: usize, base: &mut Vec<u64>, levels: &mut [Vec<u64>], coins: &mut Coins, x: u64)
+    requires few { vec_len base.old < 2 * k }
+    requires room { 2 * k ≤ vec_capacity base.old }
+    requires levels { CanCarry k levels.old coins.old }
+    ensures key { coins.new.key ≡ coins.old.key }
+    ensures held { held_in base.new levels.new coins.new
+        ≡ held_with (coin_of coins.old.key) k (held_in base.old levels.old coins.old) x }
+    ensures room { 2 * k ≤ vec_capacity base.new }
+    ensures rooms { All (λ level. k ≤ vec_capacity level) levels.new }
+{
+    base.push_reserved(x);
+    if base.len() == 2 * k {
+        compact(k, base, levels, coins);
+    }
+}

@@ -1,0 +1,15 @@
+//! The quantiles sketch on one thread (Agarwal and others, "Mergeable Summaries", PODS 2012).
+#![tactic(auto)]
+
+mod coins;
+mod compaction;
+pub mod laws;
+pub mod limits;
+mod ranks;
+mod sketch;
+
+pub use sk_model::OutOfMemory;
+pub use sketch::Quant;
+
+#[cfg(test)]
+mod tests;
