@@ -1,21 +1,29 @@
 //! Windows of lines, and how their items are fed to the updaters of a hub.
 #![tactic(auto)]
 
+mod at_once;
 mod block;
 mod drain;
 mod feed;
 mod feeder;
 mod feeders;
+mod ingesting;
 pub mod laws;
+mod report;
+mod turns;
+mod ways;
 mod window;
+mod windowed;
 mod word;
 
 pub use block::Block;
 pub use drain::drain_all;
 pub use feed::feed_block;
 pub use feeders::Feeders;
+pub use ingesting::ingest;
+pub use report::{Report, Stop};
 pub use sk_model::OutOfMemory;
-pub use sk_read::Kind;
+pub use sk_read::{Fault, Intake, Kind};
 pub use window::Window;
 pub use word::{feed_windows, word_of_windows};
 
