@@ -4,7 +4,7 @@ use Rattle.std.specs.List.{concat}
 use Rattle.std.proofs.lemmas.List.{get_or_read}
 use Rattle.std.proofs.lemmas.Bool.{eqb-false, leb-false, or_parts}
 use Rattle.std.proofs.lemmas.Bool.Decides.{eqb_tells}
-use Rattle.sk_ingest.specs.Windows.{WindowState, is_full, cut_at, cut_from, Rises, AreCuts, IsWindow}
+use Rattle.sk_ingest.specs.Windows.{WindowState, most_lines, full_bytes, is_full, cut_at, cut_from, Rises, AreCuts, IsWindow}
 use Rattle.sk_ingest.proofs.Cuts.{places_of, joined, cuts_at, piece_at, cuts_more, cut_more, cuts_none, cut_none}
 use Rattle.sk_model.specs.Limits.{line_limit}
 
@@ -12,26 +12,26 @@ abbrev shown : List ℕ → List ℕ → ℕ → WindowState
 shown places bytes most = record { lines = cut_at places bytes; most = most }
 
 -- a window that is not full has fewer lines than it may, and fewer bytes than make it full
-not_full : (places bytes : List ℕ) (most : ℕ) → IsWindow places bytes most → is_full (shown places bytes most) ≡ false → (length places ≤ most) × (length bytes < 67108864)
+not_full : (places bytes : List ℕ) (most : ℕ) → IsWindow places bytes most → is_full (shown places bytes most) ≡ false → (length places ≤ most) × (length bytes < full_bytes)
 not_full places bytes most w room =
-    let parts = or_parts (length (cut_at places bytes) == most) (nat_le 67108864 (length (concat (cut_at places bytes)))) room in
+    let parts = or_parts (length (cut_at places bytes) == most) (nat_le full_bytes (length (concat (cut_at places bytes)))) room in
     let fewer : length (cut_at places bytes) ≢ most = eqb-false (length (cut_at places bytes)) most parts.0 in
-    let short : length (concat (cut_at places bytes)) < 67108864 = leb-false 67108864 (length (concat (cut_at places bytes))) parts.1 in
+    let short : length (concat (cut_at places bytes)) < full_bytes = leb-false full_bytes (length (concat (cut_at places bytes))) parts.1 in
     let all = places_of places bytes w.cuts in
     let count = w.count in
-    (omega arith, subst (λ l. length l < 67108864) (joined places bytes w.cuts) short)
+    (omega arith, subst (λ l. length l < full_bytes) (joined places bytes w.cuts) short)
 
 pub pushed : (places places' bytes bytes' line : List ℕ) (end most : ℕ) → IsWindow places bytes most → is_full (shown places bytes most) ≡ false → length line ≤ line_limit → places' ≡ places ++ end ∷ [] → bytes' ≡ bytes ++ line → end ≡ length bytes'
     → IsWindow places' bytes' most
 pushed places places' bytes bytes' line end most w room short p b is =
     let fewer = not_full places bytes most w room in
     let few : length places + 1 ≤ most + 1 = omega arith in
-    let size : length bytes + length line ≤ 67174400 = omega arith in record {
+    let size : length bytes + length line ≤ full_bytes + line_limit = omega arith in record {
       cuts = subst (λ z. AreCuts z bytes') (sym p) (subst (AreCuts (places ++ end ∷ [])) (sym b) (cuts_more places bytes line end w.cuts (is ∙ ap length b)));
       least = w.least;
       highest = w.highest;
       count = subst (λ z. length z ≤ most + 1) (sym p) (omega (arith, length-append places (end ∷ [])));
-      size = subst (λ z. length z ≤ 67174400) (sym b) (omega (arith, length-append bytes line));
+      size = subst (λ z. length z ≤ full_bytes + line_limit) (sym b) (omega (arith, length-append bytes line));
     }
 
 pub line_pushed : (places places' bytes bytes' line : List ℕ) (end : ℕ) → AreCuts places bytes → places' ≡ places ++ end ∷ [] → bytes' ≡ bytes ++ line → end ≡ length bytes' → cut_at places' bytes' ≡ cut_at places bytes ++ line ∷ []
@@ -43,18 +43,18 @@ cleared places places' bytes bytes' most w p b = record {
   least = w.least;
   highest = w.highest;
   count = let low = w.least in subst (λ z. length z ≤ most + 1) (sym p) (omega (arith, length-take 1 places));
-  size = subst (λ z. length z ≤ 67174400) (sym b) (omega arith);
+  size = subst (λ z. length z ≤ full_bytes + line_limit) (sym b) (omega arith);
 }
 
 pub lines_cleared : (places places' bytes : List ℕ) → places' ≡ take 1 places → cut_at places' bytes ≡ []
 lines_cleared places places' bytes p = ap (λ z. cut_at z bytes) p ∙ cut_none places bytes
 
 -- where the lines are fewer than they may be, the bytes tell whether it is full
-pub full_by_bytes : (places bytes : List ℕ) (most n : ℕ) → AreCuts places bytes → n ≡ length bytes → length (cut_at places bytes) ≢ most → nat_le 67108864 n ≡ is_full (shown places bytes most)
+pub full_by_bytes : (places bytes : List ℕ) (most n : ℕ) → AreCuts places bytes → n ≡ length bytes → length (cut_at places bytes) ≢ most → nat_le full_bytes n ≡ is_full (shown places bytes most)
 full_by_bytes places bytes most n c is fewer = elim (eqb_tells (length (cut_at places bytes)) most) [
   | inl t ↦ absurd (fewer t.1)
   | inr f ↦
-      ap (nat_le 67108864) (is ∙ sym (ap length (joined places bytes c))) ∙ ap (λ b. b || nat_le 67108864 (length (concat (cut_at places bytes)))) (sym f.0)
+      ap (nat_le full_bytes) (is ∙ sym (ap length (joined places bytes c))) ∙ ap (λ b. b || nat_le full_bytes (length (concat (cut_at places bytes)))) (sym f.0)
 ]
 
 -- ---- a line
@@ -79,7 +79,7 @@ piece_read places bytes i from to c within f t =
     let to_is = get_or_read places (i + 1) to next t 0 in
     (λ e. slice_range bytes (from_is e) (to_is e)) ∙ sym (piece_at places bytes i next)
 
-pub first_place : (places bytes : List ℕ) (most : ℕ) → 1 ≤ most → most ≤ 1000000 → places ≡ 0 ∷ [] → bytes ≡ [] → IsWindow places bytes most
+pub first_place : (places bytes : List ℕ) (most : ℕ) → 1 ≤ most → most ≤ most_lines → places ≡ 0 ∷ [] → bytes ≡ [] → IsWindow places bytes most
 unfolding Rises
 first_place places bytes most least highest p b =
     let w : IsWindow (0 ∷ []) [] most = record { cuts = (refl, refl); least = least; highest = highest; count = omega arith; size = omega arith } in

@@ -12,3 +12,6 @@ pub mod Drained
 pub mod Room
 pub mod Moved
 pub mod New
+pub mod Cutting
+pub mod HubLaws
+pub mod Ingestion

@@ -4,14 +4,15 @@ use Rattle.sk_model.specs.Entries.{Entry}
 use Rattle.sk_hub.specs.Updaters.{UpdaterState}
 use Rattle.sk_read.specs.declared.kind.Kind.{Kind}
 use Rattle.sk_ingest.specs.Rounds.{block_of, HaveRoom, HaveRoomFor}
-use Rattle.sk_ingest.specs.Shares.{share, all_lines, TakeShares}
+use Rattle.sk_ingest.specs.Shares.{share, TakeShares}
+use Rattle.sk_ingest.specs.Windows.{all_lines}
 use Rattle.sk_ingest.proofs.Blocks.{places_within}
 use Rattle.sk_ingest.proofs.Items.{few_items}
 use Rattle.sk_ingest.proofs.Rounds.{block_length}
 use Rattle.sk_ingest.proofs.Shares.{share_one}
 use Rattle.sk_ingest.proofs.Updaters.{takes_few}
 
-block_within : (lines : List (List ℕ)) (i n : ℕ) → i < n → length (block_of lines i n) ≤ length lines
+pub block_within : (lines : List (List ℕ)) (i n : ℕ) → i < n → length (block_of lines i n) ≤ length lines
 block_within lines i n within = let to = places_within (length lines) (i + 1) n (omega arith) in omega (arith, block_length lines i n within)
 
 pub room_next : (lines : List (List ℕ)) (rest : List (List (List ℕ))) (us : List UpdaterState) → HaveRoomFor (length (all_lines (lines ∷ rest))) us → HaveRoom lines us

@@ -5,3 +5,6 @@ pub mod Calls
 pub mod Rounds
 pub mod Shares
 pub mod Drained
+pub mod Hubs
+pub mod Ingests
+pub mod Takers

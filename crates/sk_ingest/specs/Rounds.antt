@@ -24,6 +24,10 @@ HaveRoom lines us = (i : ℕ) (d : UpdaterState) → i < length us → length (k
 abbrev pub HaveRoomFor : ℕ → List UpdaterState → Type 0
 HaveRoomFor count us = (i : ℕ) (d : UpdaterState) → i < length us → length (kept_of (slice_index_or us i d)) + count ≤ most_kept
 
+-- no updater has kept more than one item each of so many units, the rest not counted
+abbrev pub HaveFew : ℕ → List (List ℕ) → List UpdaterState → Type 0
+HaveFew count rest us = (i : ℕ) (d : UpdaterState) → i < length us → length (kept_of (slice_index_or us i d)) + length rest ≤ count
+
 -- it took the items of the first of these lines
 abbrev pub TakesFront : (ℕ → ℕ → Bool) → (List ℕ → List Entry → ℕ) → Kind → List (List ℕ) → UpdaterState → UpdaterState → Type 0
 TakesFront keeps hint_of kind lines u u' = (n : ℕ) × (n ≤ length lines) × Takes keeps hint_of u (items_in kind (take n lines)) u'

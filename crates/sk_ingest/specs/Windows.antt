@@ -1,6 +1,7 @@
 -- What contracts see of a window, and the items of its lines.
-use Rattle.std.specs.Prelude.{◌≡◌, ℕ, ◌+◌, ◌≤◌, ◌==◌, ◌||◌, nat_le, Bool, List, [], ◌∷◌, length, slice_range, Option, None, filter_map}
+use Rattle.std.specs.Prelude.{◌≡◌, ℕ, ◌+◌, ◌<◌, ◌≤◌, ◌==◌, ◌||◌, nat_le, Bool, true, false, List, [], ◌∷◌, ◌++◌, length, take, slice_range, Option, None, filter_map, flat_map, All}
 use Rattle.std.specs.List.{concat}
+use Rattle.sk_model.specs.Limits.{line_limit}
 use Rattle.sk_read.specs.Items.{item_of}
 use Rattle.sk_read.specs.declared.kind.Kind.{Kind}
 
@@ -9,9 +10,41 @@ pub record WindowState : Type 0 where
   -- how many lines it takes at most
   pub most : ℕ
 
--- it has as many lines as it may, or its lines have so many bytes or more in all
+-- a window is of at most so many lines
+abbrev pub most_lines : ℕ
+most_lines = 1000000
+
+-- as many bytes of lines as this fill it
+abbrev pub full_bytes : ℕ
+full_bytes = 67108864
+
+-- there are as many lines as a window takes, or they have so many bytes or more in all
+abbrev pub fills : ℕ → List (List ℕ) → Bool
+fills most lines = (length lines == most) || nat_le full_bytes (length (concat lines))
+
 abbrev pub is_full : WindowState → Bool
-is_full w = (length w.lines == w.most) || nat_le 67108864 (length (concat w.lines))
+is_full w = fills w.most w.lines
+
+-- ---- a list of units as windows
+
+-- neither these lines nor a beginning of them fill a window
+abbrev pub FillsNone : ℕ → List (List ℕ) → Type 0
+FillsNone most lines = (n : ℕ) → n ≤ length lines → fills most (take n lines) ≡ false
+
+-- they fill a window, and no shorter beginning of them does
+pub record IsFullWindow (most : ℕ) (lines : List (List ℕ)) : Type 0 where
+  pub full : fills most lines ≡ true
+  pub first : (n : ℕ) → n < length lines → fills most (take n lines) ≡ false
+
+-- the lines of windows, in order
+abbrev pub all_lines : List (List (List ℕ)) → List (List ℕ)
+all_lines windows = flat_map (λ lines. lines) windows
+
+-- units as windows that are full, in order, and a rest that is not
+pub record AreWindows (most : ℕ) (units : List (List ℕ)) (windows : List (List (List ℕ))) (rest : List (List ℕ)) : Type 0 where
+  pub joined : units ≡ all_lines windows ++ rest
+  pub full : All (IsFullWindow most) windows
+  pub unfilled : FillsNone most rest
 
 -- ---- items
 
@@ -49,6 +82,6 @@ AreCuts (from ∷ more) text = (from ≡ 0) × Rises from more (length text)
 pub record IsWindow (places bytes : List ℕ) (most : ℕ) : Type 0 where
   pub cuts : AreCuts places bytes
   pub least : 1 ≤ most
-  pub highest : most ≤ 1000000
+  pub highest : most ≤ most_lines
   pub count : length places ≤ most + 1
-  pub size : length bytes ≤ 67174400
+  pub size : length bytes ≤ full_bytes + line_limit

@@ -1,6 +1,7 @@
 //! The blocks of a window, one for each updater.
 ghost use Rattle.std.specs.Prelude.{◌≡◌, ◌<◌, ◌≤◌, ◌+◌};
 ghost use Rattle.sk_ingest.specs.Blocks.{place_of};
+ghost use Rattle.sk_ingest.specs.Windows.{most_lines};
 ghost use Rattle.sk_model.specs.Limits.{most_updaters};
 
 /// The places from one up to, not including, another.
@@ -13,7 +14,7 @@ pub struct Block {
 impl Block {
     /// Block i of so many lines that are cut into n blocks, from 1 to 64. They differ by at most one line.
     pub fn of(lines: u32, i: u32, n: u32) -> Block
-        requires most { lines ≤ 1000000 }
+        requires most { lines ≤ most_lines }
         requires few { n ≤ most_updaters }
         requires within { i < n }
         ensures from { result.from ≡ place_of lines i n }

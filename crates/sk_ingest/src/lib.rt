@@ -6,7 +6,10 @@ mod drain;
 mod feed;
 mod feeder;
 mod feeders;
+mod ingesting;
 pub mod laws;
+mod report;
+mod turns;
 mod window;
 mod word;
 
@@ -14,8 +17,10 @@ pub use block::Block;
 pub use drain::drain_all;
 pub use feed::feed_block;
 pub use feeders::Feeders;
+pub use ingesting::ingest;
+pub use report::{Report, Stop};
 pub use sk_model::OutOfMemory;
-pub use sk_read::Kind;
+pub use sk_read::{Fault, Intake, Kind};
 pub use window::Window;
 pub use word::{feed_windows, word_of_windows};
 

@@ -2,7 +2,7 @@ ghost use Rattle.std.specs.Prelude.{◌≡◌, ◌≤◌, [], length, map, IfOk}
 ghost use Rattle.sk_model.specs.Entries.{items_of_entries};
 ghost use Rattle.sk_model.specs.Limits.{most_k, most_kept};
 ghost use Rattle.sk_theta.specs.Kept.{StandsFor};
-ghost use Rattle.sk_ingest.specs.Shares.{all_lines};
+ghost use Rattle.sk_ingest.specs.Windows.{all_lines};
 
 use super::*;
 use sk_compose::Composable;

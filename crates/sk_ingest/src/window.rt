@@ -1,6 +1,6 @@
 //! A window: lines that are kept until they are fed.
 ghost use Rattle.std.specs.Prelude.{◌≡◌, ◌<◌, ◌≤◌, ◌++◌, ◌∷◌, ◌==◌, [], length, slice_index_or, false, OnOk, OnErr, IfOk, IfSome};
-ghost use Rattle.sk_ingest.specs.Windows.{is_full, item_in};
+ghost use Rattle.sk_ingest.specs.Windows.{most_lines, is_full, item_in};
 ghost use Rattle.sk_model.specs.Width.{IsItem};
 
 use sk_model::OutOfMemory;
@@ -35,7 +35,7 @@ impl Window {
     /// A window of at most so many lines, from 1 to 1,000,000. Memory is taken as they come.
     pub fn new(alloc: Global, lines: u32) -> Result<Window, OutOfMemory>
         requires least { 1 ≤ lines }
-        requires most { lines ≤ 1000000 }
+        requires most { lines ≤ most_lines }
         ensures lines { IfOk result (λ w. w.lines ≡ []) }
         ensures most { IfOk result (λ w. w.most ≡ lines) }
     {
@@ -66,7 +66,7 @@ impl Window {
     pub fn len(&self) -> u32
         ensures value { result ≡ length self.now.lines }
         ensures within { result ≤ self.now.most }
-        ensures most { self.now.most ≤ 1000000 }
+        ensures most { self.now.most ≤ most_lines }
     {
         (self.places.len() - 1) as u32
     }

@@ -3,9 +3,9 @@ ghost use Rattle.std.specs.Prelude.{◌≡◌, ◌<◌, ◌≤◌, [], length, m
 ghost use Rattle.sk_model.specs.Sketch.{packed_of};
 ghost use Rattle.sk_model.specs.Limits.{most_updaters, most_kept};
 ghost use Rattle.sk_compose.specs.Numbers.{k_of};
-ghost use Rattle.sk_ingest.specs.Windows.{items_in};
+ghost use Rattle.sk_ingest.specs.Windows.{all_lines, items_in};
 ghost use Rattle.sk_ingest.specs.Rounds.{HaveRoomFor};
-ghost use Rattle.sk_ingest.specs.Shares.{all_lines, TakeShares};
+ghost use Rattle.sk_ingest.specs.Shares.{TakeShares};
 
 use crate::drain::drain_all;
 use crate::feeders::Feeders;

@@ -6,9 +6,9 @@ ghost use Rattle.sk_model.specs.Sketch.{packed_of};
 ghost use Rattle.sk_compose.specs.Numbers.{k_of};
 ghost use Rattle.sk_hub.specs.Updaters.{UpdaterState};
 ghost use Rattle.sk_read.specs.declared.kind.Kind.{Kind};
-ghost use Rattle.sk_ingest.specs.Windows.{items_in};
+ghost use Rattle.sk_ingest.specs.Windows.{all_lines, items_in};
 ghost use Rattle.sk_ingest.specs.Rounds.{TakeBlocks};
-ghost use Rattle.sk_ingest.specs.Shares.{share, all_lines, TakeShares, HaveKeptNone, HasAllOf};
+ghost use Rattle.sk_ingest.specs.Shares.{share, KeepShares, TakeShares, HaveKeptNone, HasAllOf};
 
 use sk_compose::ThetaKind;
 use std::marker::PhantomData;
@@ -41,10 +41,16 @@ pub fn shares_are_all_items()
         ↔ Contains (items_in kind (all_lines windows)) x }
 {}
 
+/// What was taken was kept, but for what is filtered.
+pub fn what_was_taken_is_kept()
+    ensures { (keeps : ℕ → ℕ → Bool) (hint_of : List ℕ → List Entry → ℕ) (kind : Kind) (windows : List (List (List ℕ)))
+        (us us' : List UpdaterState) → TakeShares keeps hint_of kind windows us us' → KeepShares keeps hint_of kind windows us us' }
+{}
+
 /// The word of a list that has all that updaters kept is one thread's, over the items of all lines.
 pub fn the_word_is_of_all_that_was_taken<C: ThetaKind>(_sketch: PhantomData<C>)
     ensures { (numbers : List ℕ) (list : List Entry) (kind : Kind) (windows : List (List (List ℕ)))
         (us us' : List UpdaterState) → 0 < length us → HaveKeptNone numbers us
-        → TakeShares C.keeps_of C.hint_of kind windows us us' → HasAllOf list us'
+        → KeepShares C.keeps_of C.hint_of kind windows us us' → HasAllOf list us'
         → C.packed_of numbers list ≡ packed_of (k_of numbers) (items_in kind (all_lines windows)) }
 {}

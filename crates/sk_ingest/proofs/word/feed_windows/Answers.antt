@@ -1,6 +1,7 @@
 use Rattle.std.proofs.Common.{◌+◌, ◌∷◌, [], length, take, drop, map, sym, ap, subst, ◌∙◌, arith}
 use Rattle.sk_ingest.specs.Rounds.{HaveRoomFor}
-use Rattle.sk_ingest.specs.Shares.{all_lines, TakeShares}
+use Rattle.sk_ingest.specs.Shares.{TakeShares}
+use Rattle.sk_ingest.specs.Windows.{all_lines}
 use Rattle.sk_ingest.proofs.Room.{room_next, room_later, from_this, up_to_this}
 use Rattle.sk_ingest.proofs.Shares.{no_shares, add_up}
 use Rattle.sk_ingest.proofs.word.feed_windows.Goals as goal

@@ -1,6 +1,7 @@
 use Rattle.std.proofs.Common.{◌≡◌, length, map, take, drop}
 use Rattle.sk_ingest.specs.Rounds.{HaveRoomFor}
-use Rattle.sk_ingest.specs.Shares.{all_lines, TakeShares}
+use Rattle.sk_ingest.specs.Shares.{TakeShares}
+use Rattle.sk_ingest.specs.Windows.{all_lines}
 use Rattle.sk_ingest.proofs.word.feed_windows.Given as goal
 
 abbrev pub invariant-window : goal.invariant-window

@@ -1,8 +1,8 @@
 use Rattle.std.proofs.Common.{◌<◌, length, map, refl, ap, ◌∙◌, arith}
 use Rattle.sk_model.specs.Sketch.{packed_of}
 use Rattle.sk_compose.specs.Numbers.{k_of}
-use Rattle.sk_ingest.specs.Windows.{items_in}
-use Rattle.sk_ingest.specs.Shares.{all_lines}
+use Rattle.sk_ingest.specs.Windows.{all_lines, items_in}
+use Rattle.sk_ingest.proofs.Shares.{shares_kept}
 use Rattle.sk_ingest.proofs.New.{new_have_room, new_have_kept_none, stay_numbered, stay_at_table, word_then}
 use Rattle.sk_ingest.proofs.word.word_of_windows.Goals as goal
 
@@ -28,6 +28,7 @@ returns g c =
     let some : 0 < length o.updaters.items = omega (arith, c.in_ok-heart.ensures.count, c.n-updaters.ensures.value, c.n-updaters.ensures.limits.0) in
     record {
       word = word_then c.drain_all.result (k.packed_of numbers seen) (packed_of (k_of (k.numbers c.args.global)) (items_in c.args.kind (all_lines windows))) c.drain_all.ensures.word c.drain_all.ensures.seen
-          (λ has. c.the_word_is_of_all_that_was_taken.ensures numbers seen c.args.kind windows o.updaters.items c.feed_windows.new.updaters.items some (new_have_kept_none _ _ o.heart o.updaters.items c.in_ok-heart.ensures.updaters numbers refl) c.in_ok-feed_windows.ensures.taken has
+          (λ has. c.the_word_is_of_all_that_was_taken.ensures numbers seen c.args.kind windows o.updaters.items c.feed_windows.new.updaters.items some (new_have_kept_none _ _ o.heart o.updaters.items c.in_ok-heart.ensures.updaters numbers refl)
+          (shares_kept k.keeps_of k.hint_of c.args.kind windows o.updaters.items c.feed_windows.new.updaters.items c.in_ok-feed_windows.ensures.taken) has
           ∙ ap (λ n. packed_of (k_of n) (items_in c.args.kind (all_lines windows))) c.in_ok-heart.ensures.heart.numbers_are);
     }

@@ -2,8 +2,7 @@ use Rattle.std.proofs.Common.{◌∙◌}
 use Rattle.sk_model.specs.Entries.{items_of_entries}
 use Rattle.sk_compose.specs.Numbers.{k_of}
 use Rattle.sk_compose.proofs.Smallest.{same_word}
-use Rattle.sk_ingest.specs.Windows.{items_in}
-use Rattle.sk_ingest.specs.Shares.{all_lines}
+use Rattle.sk_ingest.specs.Windows.{all_lines, items_in}
 use Rattle.sk_ingest.proofs.Shares.{smallest_of_shares}
 use Rattle.sk_ingest.proofs.laws.shares.the_word_is_of_all_that_was_taken.Goals as goal
 

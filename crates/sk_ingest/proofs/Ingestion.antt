@@ -1,0 +1,257 @@
+-- Units that are fed to a hub, one after another.
+use Rattle.std.proofs.Common.{◌≡◌, ◌≢◌, ◌⊎◌, inl, inr, ℕ, ◌+◌, ◌<◌, ◌≤◌, Bool, true, false, List, [], ◌∷◌, ◌++◌, length, get_or, take, drop, slice_range, Option, Result, Ok, Err, IfSome, IsSome, All, sym, ap, refl, ◌∙◌, subst, arith, append-nil, append_assoc, length-append}
+use Rattle.std.proofs.lemmas.List.Elements.{All-nil, All-push}
+use Rattle.sk_model.specs.Entries.{Entry}
+use Rattle.sk_read.specs.Items.{item_of, IsGood}
+use Rattle.sk_read.specs.Reads.{Reads, ReadsAll, ReadsSome, BreaksOff, StopsAt, Ends}
+use Rattle.sk_read.specs.declared.fault.Fault.{Fault}
+use Rattle.sk_read.specs.declared.fault.Fault.TheVariants as fault
+use Rattle.sk_read.specs.declared.units.Units.{Units}
+use Rattle.sk_read.specs.Units.{units_of, complete_units_of, IsSoundUpTo, IsLongBehind, IsUnevenBehind}
+use Rattle.sk_model.specs.Missing.{Begins}
+use Rattle.sk_model.specs.Lines.{lines_of}
+use Rattle.sk_model.specs.Limits.{line_limit, most_kept}
+use Rattle.std.proofs.KnownBytes.{Consumes-nil}
+use Rattle.sk_read.specs.declared.units.Units.TheVariants.{Lines, Column}
+use Rattle.sk_read.specs.Records.{records_of, complete_records_of, fields_in, AreSoundRows}
+use Rattle.sk_read.proofs.Readings.{nothing_read}
+use Rattle.sk_read.proofs.PartLaws.{none_complete}
+use Rattle.sk_read.proofs.ColumnLaws.{none_sound}
+use Rattle.sk_read.specs.declared.kind.Kind.{Kind}
+use Rattle.sk_hub.specs.Updaters.{UpdaterState}
+use Rattle.sk_ingest.specs.Windows.{fills, AreWindows, all_lines}
+use Rattle.sk_ingest.specs.Rounds.{block_of, TakeBlocks, HaveFew}
+use Rattle.sk_ingest.specs.Feeds.{Takes}
+use Rattle.sk_ingest.specs.Hubs.{Hub, IsHub, HeartGoesOn, IsLeft, FeedsWindow}
+use Rattle.sk_ingest.specs.Shares.{KeepsMore, KeepShares}
+use Rattle.sk_ingest.specs.Ingests.{Terms, Feeds, IsReported, Reported, GoesThrough, Ingests, StopsAtReport, GoesSoFar, StopsAtUnit}
+use Rattle.sk_ingest.specs.Takers.{WindowsWent}
+use Rattle.sk_ingest.specs.declared.report.Stop.{Stop}
+use Rattle.sk_ingest.proofs.Cutting.{no_units, unit_left, unit_fills, all_lines_more}
+use Rattle.sk_ingest.proofs.HubLaws.{heart_waits, heart_goes, hub_fed, kept_left, few_left, few_fed, few_stay}
+use Rattle.sk_ingest.proofs.Shares.{share_none, shares_kept, no_shares_kept, kept_add_up, keeps_left}
+
+-- ---- one window more
+
+pub no_windows : {R : Type 0} (t : Terms R) (before : ℕ) (a : Hub) (r : R) → Reported t before [] a r a r
+unfolding Reported
+no_windows t before a r = (refl, refl)
+
+pub reported_next : {R : Type 0} (t : Terms R) (before : ℕ) (windows : List (List (List ℕ))) (lines : List (List ℕ)) (a b x y : Hub) (r s p : R) → Reported t before windows a r b s → Feeds t lines b x → IsReported t.plan.interim t.reports (before + (length (all_lines windows) + length lines)) x s y p → Reported t before (windows ++ lines ∷ []) a r y p
+unfolding Reported
+reported_next {R} t before [] lines a b x y r s p none fed told =
+    let place : before + (0 + length lines) ≡ before + length lines = omega arith in
+    (x, y, p, subst (λ h. Feeds t lines h x) none.0 fed, subst (λ (z : R). IsReported t.plan.interim t.reports (before + length lines) x z y p) none.1 (subst (λ n. IsReported t.plan.interim t.reports n x s y p) place told), (refl, refl))
+reported_next {R} t before (first ∷ more) lines a b x y r s p has fed told =
+    (has.0, has.1, has.2, has.3, has.4, reported_next t (before + length first) more lines has.1 b x y has.2 s p has.5 fed (subst (λ n. IsReported t.plan.interim t.reports n x s y p) place told))
+  where
+    place : before + (length (all_lines (first ∷ more)) + length lines) ≡ before + length first + (length (all_lines more) + length lines)
+    place = omega (arith, length-append first (all_lines more))
+
+-- ---- one unit more
+
+pub windows_start : {R : Type 0} (t : Terms R) (a : Hub) (r : R) → 1 ≤ t.plan.window → IsHub a → HaveFew 0 [] a.updaters → WindowsWent t [] a r [] a r
+windows_start t a r least hub few = record {
+  goes = record { windows = []; cut = no_units t.plan.window least; good = All-nil (IsGood t.plan.kind); reported = no_windows t 0 a r };
+  hub = hub;
+  small = omega arith;
+  few = few;
+}
+
+pub one_unit_more : (units : List (List ℕ)) (unit : List ℕ) → length (units ++ unit ∷ []) ≡ length units + 1
+one_unit_more units unit = omega (arith, length-append units (unit ∷ []))
+
+-- it goes to the rest
+pub unit_waits : {R : Type 0} (t : Terms R) (units : List (List ℕ)) (unit : List ℕ) (a b : Hub) (r s : R) (rest : List (List ℕ)) → WindowsWent t units a r rest b s → length units + 1 ≤ most_kept → IsGood t.plan.kind unit → fills t.plan.window (rest ++ unit ∷ []) ≡ false → WindowsWent t (units ++ unit ∷ []) a r (rest ++ unit ∷ []) b s
+unit_waits t units unit a b r s rest went small good still = record {
+  goes = record {
+    windows = went.goes.windows;
+    cut = unit_left t.plan.window units unit went.goes.windows rest went.goes.cut still;
+    good = All-push (IsGood t.plan.kind) units unit went.goes.good good;
+    reported = went.goes.reported;
+  };
+  hub = went.hub;
+  small = omega (arith, small, one_unit_more units unit);
+  few = subst (λ n. HaveFew n (rest ++ unit ∷ []) b.updaters) (sym (one_unit_more units unit)) (few_left (length units) rest unit b.updaters went.few);
+}
+
+-- where a unit fills a window, that window ends behind it
+pub place_is : (most : ℕ) (units : List (List ℕ)) (unit : List ℕ) (windows : List (List (List ℕ))) (rest : List (List ℕ)) → AreWindows most units windows rest → length (units ++ unit ∷ []) ≡ 0 + (length (all_lines windows) + length (rest ++ unit ∷ []))
+place_is most units unit windows rest cut =
+    omega (arith, ap length cut.joined, length-append units (unit ∷ []), length-append (all_lines windows) rest, length-append rest (unit ∷ []))
+
+-- what a report leaves where it went well
+reported_hub : {R : Type 0} (interim : Bool) (reports : R → ℕ → Hub → Hub → R → Type 0) (line count : ℕ) (x y : Hub) (s p : R) → IsHub x → HaveFew count [] x.updaters → IsReported interim reports line x s y p → IsHub y × HaveFew count [] y.updaters
+reported_hub true reports line count x y s p hub few told = (told.2, few_stay count x y few told.1)
+reported_hub false reports line count x y s p hub few told = (subst IsHub (sym told.0) hub, subst (λ h. HaveFew count [] h.updaters) (sym told.0) few)
+
+-- it fills the window, which is fed and reported
+pub unit_goes : {R : Type 0} (t : Terms R) (units : List (List ℕ)) (unit : List ℕ) (a b x y : Hub) (r s p : R) (rest : List (List ℕ)) → WindowsWent t units a r rest b s → length units + 1 ≤ most_kept → IsGood t.plan.kind unit → 1 ≤ t.plan.window → fills t.plan.window (rest ++ unit ∷ []) ≡ true
+    → Feeds t (rest ++ unit ∷ []) b x → IsReported t.plan.interim t.reports (length units + 1) x s y p → WindowsWent t (units ++ unit ∷ []) a r [] y p
+unit_goes t units unit a b x y r s p rest went small good least full fed told = record {
+  goes = record {
+    windows = went.goes.windows ++ (rest ++ unit ∷ []) ∷ [];
+    cut = unit_fills t.plan.window units unit went.goes.windows rest least went.goes.cut full;
+    good = All-push (IsGood t.plan.kind) units unit went.goes.good good;
+    reported = reported_next t 0 went.goes.windows (rest ++ unit ∷ []) a b x y r s p went.goes.reported fed
+        (subst (λ n. IsReported t.plan.interim t.reports n x s y p) (sym (one_unit_more units unit) ∙ place_is t.plan.window units unit went.goes.windows rest went.goes.cut) told);
+  };
+  hub = left.0;
+  small = omega (arith, small, one_unit_more units unit);
+  few = left.1;
+}
+  where
+    few : HaveFew (length (units ++ unit ∷ [])) [] x.updaters
+    few = few_fed t.keeps t.hint_of t.plan.kind (length (units ++ unit ∷ [])) (rest ++ unit ∷ []) b.updaters x.updaters
+        (subst (λ n. HaveFew n (rest ++ unit ∷ []) b.updaters) (sym (one_unit_more units unit)) (few_left (length units) rest unit b.updaters went.few)) fed.updaters
+
+    left : IsHub y × HaveFew (length (units ++ unit ∷ [])) [] y.updaters
+    left = reported_hub t.plan.interim t.reports (length units + 1) (length (units ++ unit ∷ [])) x y s p (hub_fed t.keeps t.hint_of t.plan.kind (rest ++ unit ∷ []) b x went.hub fed) few told
+
+-- and where its report stopped
+pub report_stops : {R : Type 0} (t : Terms R) (how : Stop) (units : List (List ℕ)) (unit : List ℕ) (a b x y : Hub) (r s p : R) (rest : List (List ℕ)) → WindowsWent t units a r rest b s → IsGood t.plan.kind unit → 1 ≤ t.plan.window → fills t.plan.window (rest ++ unit ∷ []) ≡ true
+    → Feeds t (rest ++ unit ∷ []) b x → t.plan.interim ≡ true → t.breaks s how (length units + 1) x y p → StopsAtReport t how (units ++ unit ∷ []) a r p
+report_stops t how units unit a b x y r s p rest went good least full fed interim stops = record {
+  windows = went.goes.windows;
+  lines = rest ++ unit ∷ [];
+  cut = unit_fills t.plan.window units unit went.goes.windows rest least went.goes.cut full;
+  good = All-push (IsGood t.plan.kind) units unit went.goes.good good;
+  interim = interim;
+  before = b;
+  report = s;
+  reported = went.goes.reported;
+  fed = x;
+  feeds = fed;
+  hub = hub_fed t.keeps t.hint_of t.plan.kind (rest ++ unit ∷ []) b x went.hub fed;
+  left = y;
+  stops = subst (λ n. t.breaks s how n x y p) (sym (one_unit_more units unit)) stops;
+}
+
+-- ---- the rest
+
+pub rest_fed : {R : Type 0} (t : Terms R) (units : List (List ℕ)) (a b x : Hub) (r s : R) (rest : List (List ℕ)) → WindowsWent t units a r rest b s → Feeds t rest b x → Ingests t units a r x s
+rest_fed t units a b x r s rest went fed = record {
+  rest = rest;
+  between = b;
+  goes = went.goes;
+  last = fed;
+  hub = hub_fed t.keeps t.hint_of t.plan.kind rest b x went.hub fed;
+}
+
+-- ---- readings
+
+all_by : (units : Units) (most n : ℕ) (Gave Gave' : List (List ℕ) → Type 0) (old new : Option (List ℕ)) → ((given : List (List ℕ)) → Gave given → Gave' given) → ReadsAll units most n Gave old new → ReadsAll units most n Gave' old new
+all_by units most n Gave Gave' old new more all = record { taken = all.taken; consumed = all.consumed; end = all.end; size = all.size; sound = all.sound; number = all.number; gave = more (units_of units all.taken) all.gave }
+
+some_by : (units : Units) (IsSize : ℕ → Type 0) (Gave Gave' : List (List ℕ) → Type 0) (old new : Option (List ℕ)) → ((given : List (List ℕ)) → Gave given → Gave' given) → ReadsSome units IsSize Gave old new → ReadsSome units IsSize Gave' old new
+some_by units IsSize Gave Gave' old new more all = record { taken = all.taken; consumed = all.consumed; size = all.size; sound = all.sound; gave = more (complete_units_of units all.taken) all.gave }
+
+breaks_by : (units : Units) (most : ℕ) (Known Known' : List (List ℕ) → Type 0) (Comes : List (List ℕ) → List ℕ → Type 0) (old new : Option (List ℕ)) → ((given : List (List ℕ)) → Known given → Known' given) → BreaksOff units most Known Comes old new → BreaksOff units most Known' Comes old new
+breaks_by units most Known Known' Comes old new more off = record { given = off.given; taken = off.taken; consumed = off.consumed; size = off.size; in_time = off.in_time; known = more off.given off.known; comes = off.comes }
+
+stops_by : (units : Units) (most : ℕ) (P Q : List (List ℕ) → List ℕ → Type 0) (old new : Option (List ℕ)) → ((given : List (List ℕ)) (unit : List ℕ) → P given unit → Q given unit) → StopsAt units most P old new → StopsAt units most Q old new
+stops_by units most P Q old new more stops =
+    (stops.0, breaks_by units most (λ given. P given stops.0) (λ given. Q given stops.0) (λ given text. Begins (given ++ stops.0 ∷ []) (units_of units text) × IsSoundUpTo units (length given + 1) text) old new (λ given. more given stops.0) stops.1)
+
+-- the same ending, where what is known says as much
+pub ends_by : (units : Units) (most : ℕ) (Gave Gave' : List (List ℕ) → Type 0) (Stopped Stopped' : Fault → List (List ℕ) → List ℕ → Type 0) (old new : Option (List ℕ)) (why : Fault)
+    → ((given : List (List ℕ)) → Gave given → Gave' given) → ((why : Fault) (given : List (List ℕ)) (unit : List ℕ) → Stopped why given unit → Stopped' why given unit) → Ends units most Gave Stopped old new why → Ends units most Gave' Stopped' old new why
+ends_by units most Gave Gave' Stopped Stopped' old new fault.OutOfMemory more at (inl off) = inl (breaks_by units most Gave Gave' (λ given text. IsSoundUpTo units (length given) text) old new more off)
+ends_by units most Gave Gave' Stopped Stopped' old new fault.OutOfMemory more at (inr stops) = inr (stops_by units most (Stopped fault.OutOfMemory) (Stopped' fault.OutOfMemory) old new (at fault.OutOfMemory) stops)
+ends_by units most Gave Gave' Stopped Stopped' old new fault.ReadFault more at some = some_by units (λ size. size < most) Gave Gave' old new more some
+ends_by units most Gave Gave' Stopped Stopped' old new fault.TooMuch more at some = some_by units (λ size. size ≡ most) Gave Gave' old new more some
+ends_by units most Gave Gave' Stopped Stopped' old new (fault.LongLine n) more at off = breaks_by units most Gave Gave' (λ given text. (n ≡ length given + 1) × IsLongBehind units (length given) text) old new more off
+ends_by units most Gave Gave' Stopped Stopped' old new (fault.BadCsv n) more at off = breaks_by units most Gave Gave' (λ given text. (n ≡ length given + 1) × IsUnevenBehind units (length given) text) old new more off
+ends_by units most Gave Gave' Stopped Stopped' old new (fault.BadItem n) more at stops = stops_by units most (λ given unit. (n ≡ length given + 1) × Stopped (fault.BadItem n) given unit) (λ given unit. (n ≡ length given + 1) × Stopped' (fault.BadItem n) given unit) old new (λ given unit is. (is.0, at (fault.BadItem n) given unit is.1)) stops
+ends_by units most Gave Gave' Stopped Stopped' old new fault.WriteFault more at stops = stops_by units most (Stopped fault.WriteFault) (Stopped' fault.WriteFault) old new (at fault.WriteFault) stops
+
+-- what is known of a taker whatever it was given, and wherever it stopped
+pub ends_give : (Q : Fault → Type 0) (units : Units) (most : ℕ) (Gave : List (List ℕ) → Type 0) (Stopped : Fault → List (List ℕ) → List ℕ → Type 0) (old new : Option (List ℕ)) (why : Fault)
+    → ((given : List (List ℕ)) → Gave given → (q : Fault) → q ≢ fault.WriteFault → Q q) → ((q : Fault) (given : List (List ℕ)) (unit : List ℕ) → Stopped q given unit → Q q) → Ends units most Gave Stopped old new why → Q why
+ends_give Q units most Gave Stopped old new fault.OutOfMemory more at (inl off) = more off.given off.known fault.OutOfMemory (λ e. cc)
+ends_give Q units most Gave Stopped old new fault.OutOfMemory more at (inr stops) = at fault.OutOfMemory stops.1.given stops.0 stops.1.known
+ends_give Q units most Gave Stopped old new fault.ReadFault more at some = more (complete_units_of units some.taken) some.gave fault.ReadFault (λ e. cc)
+ends_give Q units most Gave Stopped old new fault.TooMuch more at some = more (complete_units_of units some.taken) some.gave fault.TooMuch (λ e. cc)
+ends_give Q units most Gave Stopped old new (fault.LongLine n) more at off = more off.given off.known (fault.LongLine n) (λ e. cc)
+ends_give Q units most Gave Stopped old new (fault.BadCsv n) more at off = more off.given off.known (fault.BadCsv n) (λ e. cc)
+ends_give Q units most Gave Stopped old new (fault.BadItem n) more at stops = at (fault.BadItem n) stops.1.given stops.0 stops.1.known.1
+ends_give Q units most Gave Stopped old new fault.WriteFault more at stops = at fault.WriteFault stops.1.given stops.0 stops.1.known
+
+-- ---- no memory was found before anything was read
+
+pub nothing_came : (Gave : List (List ℕ) → Type 0) (Stopped : Fault → List (List ℕ) → List ℕ → Type 0) (units : Units) (most : ℕ) (left : Option (List ℕ)) → Gave [] → Ends units most Gave Stopped left left fault.OutOfMemory
+unfolding lines_of
+nothing_came Gave Stopped Lines most left gave = inl (record {
+  given = [];
+  taken = [];
+  consumed = Consumes-nil left;
+  size = omega arith;
+  in_time = nothing_read;
+  known = gave;
+  comes = inl (λ later. ((lines_of later, refl), All-nil (λ (l : List ℕ). length l ≤ line_limit)));
+})
+nothing_came Gave Stopped (Column column) most left gave = inl (record {
+  given = [];
+  taken = [];
+  consumed = Consumes-nil left;
+  size = omega arith;
+  in_time = record {
+    front = [];
+    piece = [];
+    joined = refl;
+    size = omega arith;
+    sound = subst (AreSoundRows column) (sym none) (none_sound column);
+    earlier = ([], sym (ap (λ rows. fields_in column rows ++ []) none));
+  };
+  known = gave;
+  comes = inl (λ later. ((fields_in column (records_of later), refl), none_sound column));
+})
+  where
+    none : complete_records_of [] ≡ []
+    none = none_complete [] refl
+
+-- ---- what was kept on the way
+
+heart_told : {R : Type 0} (interim : Bool) (reports : R → ℕ → Hub → Hub → R → Type 0) (line : ℕ) (x y : Hub) (s p : R) → IsReported interim reports line x s y p → HeartGoesOn x.heart y.heart
+heart_told true reports line x y s p told = told.1.heart
+heart_told false reports line x y s p told = subst (λ h. HeartGoesOn x.heart h.heart) (sym told.0) (heart_waits x.heart)
+
+pub heart_by_reported : {R : Type 0} (t : Terms R) (before : ℕ) (windows : List (List (List ℕ))) (a b : Hub) (r s : R) → Reported t before windows a r b s → HeartGoesOn a.heart b.heart
+unfolding Reported
+heart_by_reported t before [] a b r s has = subst (λ h. HeartGoesOn a.heart h.heart) (sym has.0) (heart_waits a.heart)
+heart_by_reported t before (lines ∷ more) a b r s has =
+    heart_goes a.heart has.0.heart b.heart has.3.heart
+    (heart_goes has.0.heart has.1.heart b.heart (heart_told t.plan.interim t.reports (before + length lines) has.0 has.1 r has.2 has.4) (heart_by_reported t (before + length lines) more has.1 b has.2 s has.5))
+
+left_kept : (keeps : ℕ → ℕ → Bool) (hint_of : List ℕ → List Entry → ℕ) (u u' : UpdaterState) → IsLeft u u' → KeepsMore keeps hint_of u [] u'
+left_kept keeps hint_of u u' left = keeps_left keeps hint_of u u' (ap (λ z. z.number) left.stays) (ap (λ z. z.size) left.stays) (ap (λ z. z.table) left.stays) left.numbers left.base (kept_left u u' left)
+
+kept_told : {R : Type 0} (keeps : ℕ → ℕ → Bool) (hint_of : List ℕ → List Entry → ℕ) (kind : Kind) (interim : Bool) (reports : R → ℕ → Hub → Hub → R → Type 0) (line : ℕ) (x y : Hub) (s p : R) → IsReported interim reports line x s y p → KeepShares keeps hint_of kind [] x.updaters y.updaters
+kept_told keeps hint_of kind true reports line x y s p told = record {
+  count = told.1.count;
+  each = λ i d within. subst (λ l. KeepsMore keeps hint_of (get_or x.updaters i d) l (get_or y.updaters i d)) (sym (share_none kind (length x.updaters) i)) (left_kept keeps hint_of (get_or x.updaters i d) (get_or y.updaters i d) (told.1.updaters i d within));
+}
+kept_told keeps hint_of kind false reports line x y s p told = subst (λ h. KeepShares keeps hint_of kind [] x.updaters h.updaters) (sym told.0) (no_shares_kept keeps hint_of kind x.updaters)
+
+-- each updater has kept of its share of all windows what is not filtered
+pub kept_by_reported : {R : Type 0} (t : Terms R) (before : ℕ) (windows : List (List (List ℕ))) (a b : Hub) (r s : R) → Reported t before windows a r b s → KeepShares t.keeps t.hint_of t.plan.kind windows a.updaters b.updaters
+unfolding Reported
+kept_by_reported t before [] a b r s has = subst (λ h. KeepShares t.keeps t.hint_of t.plan.kind [] a.updaters h.updaters) (sym has.0) (no_shares_kept t.keeps t.hint_of t.plan.kind a.updaters)
+kept_by_reported t before (lines ∷ more) a b r s has =
+    kept_add_up t.keeps t.hint_of t.plan.kind (lines ∷ []) more a.updaters has.1.updaters b.updaters
+    (kept_add_up t.keeps t.hint_of t.plan.kind (lines ∷ []) [] a.updaters has.0.updaters has.1.updaters (shares_kept t.keeps t.hint_of t.plan.kind (lines ∷ []) a.updaters has.0.updaters has.3.updaters)
+    (kept_told t.keeps t.hint_of t.plan.kind t.plan.interim t.reports (before + length lines) has.0 has.1 r has.2 has.4))
+    (kept_by_reported t (before + length lines) more has.1 b has.2 s has.5)
+
+-- and so with the rest
+pub kept_by_ingest : {R : Type 0} (t : Terms R) (units : List (List ℕ)) (a b : Hub) (r s : R) (i : Ingests t units a r b s) → KeepShares t.keeps t.hint_of t.plan.kind (i.goes.windows ++ i.rest ∷ []) a.updaters b.updaters
+kept_by_ingest t units a b r s i =
+    kept_add_up t.keeps t.hint_of t.plan.kind i.goes.windows (i.rest ∷ []) a.updaters i.between.updaters b.updaters (kept_by_reported t 0 i.goes.windows a i.between r s i.goes.reported)
+    (shares_kept t.keeps t.hint_of t.plan.kind (i.rest ∷ []) i.between.updaters b.updaters i.last.updaters)
+
+pub heart_by_ingest : {R : Type 0} (t : Terms R) (units : List (List ℕ)) (a b : Hub) (r s : R) → Ingests t units a r b s → HeartGoesOn a.heart b.heart
+heart_by_ingest t units a b r s i = heart_goes a.heart i.between.heart b.heart (heart_by_reported t 0 i.goes.windows a i.between r s i.goes.reported) i.last.heart
+
+-- these windows have all units
+pub windows_ingested : {R : Type 0} (t : Terms R) (units : List (List ℕ)) (a b : Hub) (r s : R) (i : Ingests t units a r b s) → all_lines (i.goes.windows ++ i.rest ∷ []) ≡ units
+windows_ingested t units a b r s i = all_lines_more i.goes.windows i.rest ∙ sym i.goes.cut.joined

@@ -1,0 +1,74 @@
+-- What is known of a hub, a window and a report while a source's units are fed.
+use Rattle.std.specs.Prelude.{◌≡◌, ◌≢◌, ◌⊎◌, ℕ, ◌≤◌, Bool, true, false, List, [], length, Option, IfSome}
+use Rattle.sk_model.specs.Causes.{Rose}
+use Rattle.sk_model.specs.Entries.{Entry}
+use Rattle.sk_model.specs.Limits.{most_kept}
+use Rattle.sk_read.specs.declared.fault.Fault.{Fault}
+use Rattle.sk_read.specs.declared.fault.Fault.TheVariants as fault
+use Rattle.sk_read.specs.declared.items.Intake.{Intake}
+use Rattle.sk_ingest.specs.declared.report.Stop.{Stop}
+use Rattle.sk_ingest.specs.declared.report.Stop.TheVariants as stop
+use Rattle.sk_ingest.specs.Windows.{WindowState}
+use Rattle.sk_ingest.specs.Rounds.{FeedersState, HaveFew}
+use Rattle.sk_ingest.specs.Hubs.{Hub, IsHub}
+use Rattle.sk_ingest.specs.Ingests.{Terms, terms_of, Feeds, GoesThrough, Ingests}
+
+-- the window is the plan's, there is room for all feeders, and the report is of the hub's sketch
+pub record IsSetUp (plan : Intake) (window : WindowState) (feeders : FeedersState) (hub : Hub) (sketch : Option (List ℕ)) : Type 0 where
+  pub least : 1 ≤ plan.window
+  pub most : window.most ≡ plan.window
+  pub places : length hub.updaters ≤ feeders.most
+  pub named : IfSome sketch (λ name. hub.heart.view.name ≡ name)
+
+-- the windows that units fill were fed and reported, and the rest lies in the window
+pub record WindowsWent {R : Type 0} (t : Terms R) (units : List (List ℕ)) (a : Hub) (r : R) (rest : List (List ℕ)) (b : Hub) (s : R) : Type 0 where
+  pub goes : GoesThrough t units a r rest b s
+  pub hub : IsHub b
+  pub small : length units ≤ most_kept
+  pub few : HaveFew (length units) rest b.updaters
+
+-- all units were fed
+pub record UnitsWent {R : Type 0} (t : Terms R) (units : List (List ℕ)) (a : Hub) (r : R) (b : Hub) (s : R) : Type 0 where
+  pub ingests : Ingests t units a r b s
+  pub few : HaveFew (length units) [] b.updaters
+
+-- ---- the report
+
+-- no call of it failed, and what no call changes
+pub record SameReport {R : Type 0} (faults : R → ℕ) (stands_on : R → List ℕ) (sketch : R → Option (List ℕ)) (r s : R) : Type 0 where
+  pub steady : faults s ≡ faults r
+  pub stands : stands_on s ≡ stands_on r
+  pub named : sketch s ≡ sketch r
+
+-- a call failed where the fault says so
+pub record ReportStops {R : Type 0} (faults : R → ℕ) (stands_on : R → List ℕ) (sketch : R → Option (List ℕ)) (r s : R) (why : Fault) : Type 0 where
+  pub steady : why ≢ fault.WriteFault → faults s ≡ faults r
+  pub failed : why ≡ fault.WriteFault → Rose (faults r) (faults s)
+  pub stands : stands_on s ≡ stands_on r
+  pub named : sketch s ≡ sketch r
+
+-- a window was fed, and its report stopped
+abbrev pub StopsTelling : {R : Type 0} → Terms R → Stop → List (List ℕ) → ℕ → Hub → R → R → Type 0
+StopsTelling t how lines line a r s = (x : Hub) × (y : Hub) × Feeds t lines a x × (t.plan.interim ≡ true) × t.breaks r how line x y s
+
+-- why a full window was not passed on: no memory was found, or its report stopped
+abbrev pub StopsPassing : {R : Type 0} → Terms R → List (List ℕ) → ℕ → Hub → R → R → Fault → Type 0
+StopsPassing t lines line a r s fault.OutOfMemory = (s ≡ r) ⊎ StopsTelling t stop.OutOfMemory lines line a r s
+StopsPassing t lines line a r s fault.WriteFault = StopsTelling t stop.Failed lines line a r s
+StopsPassing t lines line a r s fault.ReadFault = ⊥
+StopsPassing t lines line a r s fault.TooMuch = ⊥
+StopsPassing t lines line a r s (fault.LongLine n) = ⊥
+StopsPassing t lines line a r s (fault.BadItem n) = ⊥
+StopsPassing t lines line a r s (fault.BadCsv n) = ⊥
+
+-- ---- one updater that takes units at once
+
+-- the hub has one updater, which takes units of windows that are not reported
+pub record IsAlone (plan : Intake) (hub : Hub) : Type 0 where
+  pub least : 1 ≤ plan.window
+  pub untold : plan.interim ≡ false
+  pub one : length hub.updaters ≡ 1
+
+-- the terms of a run without a report
+abbrev pub untold : (ℕ → ℕ → Bool) → (List ℕ → List Entry → ℕ) → Intake → Terms (Unit {0})
+untold keeps hint_of plan = terms_of keeps hint_of (λ r line a b s. ⊥) (λ r how line a b s. ⊥) plan

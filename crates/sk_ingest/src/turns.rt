@@ -1,0 +1,79 @@
+//! A window that is fed in one thread, to one updater after another; the heart propagates where one is busy.
+ghost use Rattle.std.specs.Prelude.{◌∷◌, ◌+◌, ◌-◌, ◌≤◌, [], length, slice_range, OnOk, OnErr, IsTrue};
+ghost use Rattle.sk_hub.specs.Updaters.{kept_of};
+ghost use Rattle.sk_ingest.specs.Windows.{items_in};
+ghost use Rattle.sk_ingest.specs.Feeds.{Takes};
+ghost use Rattle.sk_ingest.specs.Rounds.{HaveRoom};
+ghost use Rattle.sk_ingest.specs.Shares.{TakeShares};
+ghost use Rattle.sk_ingest.specs.Hubs.{HeartGoesOn};
+ghost use Rattle.sk_model.specs.Limits.{most_updaters, most_kept};
+
+use crate::block::Block;
+use crate::feed::feed_block;
+use crate::window::Window;
+use sk_compose::Composable;
+use sk_hub::{Heart, Sweep, Updater};
+use sk_model::OutOfMemory;
+use sk_read::Kind;
+use std::sync::Wait;
+
+// Feeds a window to the updaters, one after another. The heart propagates where one is busy.
+pub(crate) fn feed_in_turn<C: Composable, R: Wait>(
+    rt: &R,
+    heart: &mut Heart<C>,
+    updaters: &mut Vec<Updater<C>>,
+    window: &Window,
+    kind: Kind,
+) -> Result<(), OutOfMemory>
+    requires most { length updaters.old.items ≤ most_updaters }
+    requires room { HaveRoom window.now.lines updaters.old.items }
+    ensures taken { OnOk result (TakeShares C.keeps_of C.hint_of kind (window.now.lines ∷ []) updaters.old.items updaters.new.items) }
+    ensures heart { HeartGoesOn heart.old heart.new }
+    ensures cause { OnErr result (IsTrue C.TAKES_MEMORY) }
+{
+    let n = updaters.len();
+    'updater: for i in 0..n {
+        let block = Block::of(window.len(), i as u32, n as u32);
+        let updater = &mut updaters[i];
+        feed_sweeping(rt, heart, updater, window, kind, block)?;
+    }
+    Ok(())
+}
+
+// Feeds a block. The heart propagates each time the updater is busy.
+fn feed_sweeping<C: Composable, R: Wait>(
+    rt: &R,
+    heart: &mut Heart<C>,
+    u: &mut Updater<C>,
+    window: &Window,
+    kind: Kind,
+    block: Block,
+) -> Result<(), OutOfMemory>
+    requires order { block.from ≤ block.to }
+    requires within { block.to ≤ length window.now.lines }
+    requires room { length (kept_of u.old) + (block.to - block.from) ≤ most_kept }
+    ensures taken { OnOk result (Takes C.keeps_of C.hint_of u.old (items_in kind (slice_range window.now.lines block.from block.to)) u.new) }
+    ensures heart { HeartGoesOn heart.old heart.new }
+    ensures cause { OnErr result (IsTrue C.TAKES_MEMORY) }
+{
+    let mut place = block.from;
+    'again: for _ in rt.forever() {
+        place = feed_block(rt, u, window, place, block.to, kind, false)?;
+        if place == block.to {
+            return Ok(());
+        }
+        sweep(rt, heart)?;
+    }
+    unreachable!()
+}
+
+// Propagates once for all.
+fn sweep<C: Composable, R: Wait>(rt: &R, heart: &mut Heart<C>) -> Result<(), OutOfMemory>
+    ensures heart { HeartGoesOn heart.old heart.new }
+    ensures cause { OnErr result (IsTrue C.TAKES_MEMORY) }
+{
+    match heart.sweep(rt) {
+        Sweep::Swept(_) | Sweep::Elsewhere(_) => Ok(()),
+        Sweep::OutOfMemory => Err(OutOfMemory),
+    }
+}
