@@ -7,10 +7,30 @@ ghost use Rattle.sk_watch.specs.Watching.{armed};
 use crate::watcher::Watcher;
 use sk_theta::Reply;
 
-/// A board as contracts see it.
+/// A board as contracts see it. A function that hands one on takes any `B: Seen`.
 pub trait Seen {
     /// The places in order, each with its watcher as contracts see it.
     ghost places: { Self → List Place };
+
+    /// Arms the watcher at a place.
+    fn arm_at(&mut self, place: u32, k: u32, mark: u64)
+        requires { IsLive place (places self.old) }
+        ensures { places self.new ≡ armed_at place k mark (places self.old) };
+
+    /// Lets the watcher at a place go, if there is one.
+    fn let_go(&mut self, place: u32)
+        requires { place < length (places self.old) }
+        ensures { places self.new ≡ slice_set (places self.old) place None };
+
+    /// The places with a watcher, as the bits of a number.
+    fn mask(&self) -> u64
+        ensures { result ≡ mask_of (map is_some (places self.now)) };
+
+    /// Shows a reply to each watcher, in order. Those that answer true are let go, and their places are the
+    /// answer, as the bits of a number.
+    fn show(&mut self, reply: Reply) -> u64
+        ensures mask { result ≡ mask_of (map (answers_at reply) (places self.old)) }
+        ensures places { places self.new ≡ map (told reply) (places self.old) };
 }
 
 /// At most 64 places, each with a watcher or with none.
@@ -22,6 +42,22 @@ pub struct Board {
 
 impl Seen for Board {
     ghost places = { λ board. map (option_map (λ b. (Watcher-box b).watching b.value)) board.boxes.items };
+
+    fn arm_at(&mut self, place: u32, k: u32, mark: u64) {
+        self.arm(place, k, mark);
+    }
+
+    fn let_go(&mut self, place: u32) {
+        self.drop_at(place);
+    }
+
+    fn mask(&self) -> u64 {
+        self.live()
+    }
+
+    fn show(&mut self, reply: Reply) -> u64 {
+        self.tell(reply)
+    }
 }
 
 impl Board {

@@ -1,0 +1,192 @@
+-- Where a count ends, concluded from where its feeding ended.
+use Rattle.std.proofs.Common.{◌≡◌, ◌⊎◌, inl, inr, ℕ, ◌+◌, ◌<◌, ◌≤◌, nat_lt, List, [], ◌∷◌, ◌++◌, length, get_or, flat_map, All, Contains, Option, None, Some, is_some, MatchBool, true, false, refl, sym, ap, subst, ◌∙◌, arith, append-nil}
+use Rattle.std.specs.List.{range_with_len}
+use Rattle.std.specs.Io.KnownBytes.{Appends}
+use Rattle.std.proofs.lemmas.List.Elements.{All-nil, All-append, All-get_or, All-from_get_or}
+use Rattle.sk_model.specs.Causes.{AppendsPart}
+use Rattle.sk_model.specs.Entries.{Entry, items_of_entries, entries_by}
+use Rattle.sk_model.specs.Limits.{least_k}
+use Rattle.sk_model.specs.Missing.{Begins}
+use Rattle.sk_model.specs.Sketch.{k_smallest, theta_of, packed_of, unpacked, count_of, estimate_of, fraction_of}
+use Rattle.sk_model.specs.Width.{IsItem, AreItems}
+use Rattle.sk_model.proofs.Missing.{begins_trans}
+use Rattle.sk_model.proofs.Sketch.{packed_reads_back}
+use Rattle.sk_compose.specs.Numbers.{k_of}
+use Rattle.sk_compose.specs.Kept.{AreKept}
+use Rattle.sk_compose.proofs.Kept.{kept_longer}
+use Rattle.sk_compose.proofs.Smallest.{smallest_of_all, same_members, same_word}
+use Rattle.sk_machine.specs.declared.views.Move.{Move}
+use Rattle.sk_machine.specs.declared.views.Move.TheVariants.{Ask}
+use Rattle.sk_gate.specs.Views.{known_of}
+use Rattle.sk_gate.specs.Hands.{TokenState}
+use Rattle.sk_hub.specs.Hearts.{HeartState}
+use Rattle.sk_hub.specs.Updaters.{UpdaterState, base_of, kept_of}
+use Rattle.sk_read.specs.Items.{items_by, IsGood}
+use Rattle.sk_read.specs.Reads.{BreaksOff, StopsAt, ReadsSome, ReadsAll, Ends}
+use Rattle.sk_read.specs.Units.{units_by}
+use Rattle.sk_read.specs.declared.units.Units.{Units}
+use Rattle.sk_read.specs.declared.fault.Fault.{Fault}
+use Rattle.sk_read.specs.declared.fault.Fault.TheVariants as fault
+use Rattle.sk_read.specs.declared.kind.Kind.{Kind}
+use Rattle.sk_watch.specs.Places.{Place}
+use Rattle.sk_ingest.specs.Windows.{items_in, all_lines, AreWindows}
+use Rattle.sk_ingest.specs.Rounds.{block_of}
+use Rattle.sk_ingest.specs.Shares.{share, HasAllOf}
+use Rattle.sk_ingest.specs.Hubs.{Hub, IsHub}
+use Rattle.sk_ingest.proofs.Items.{items_below, good_items}
+use Rattle.sk_ingest.proofs.Shares.{all_items}
+use Rattle.sk_count.specs.declared.plan.Plan.{Plan}
+use Rattle.sk_count.specs.declared.remains.Remains.{Remains}
+use Rattle.sk_count.specs.Plans.{lines_of_window}
+use Rattle.sk_count.specs.Moments.{Moment, kept_by, AreKeptOver, AreMoments, start}
+use Rattle.sk_count.specs.Texts.{interim_text, places_after, armed_with}
+use Rattle.sk_count.specs.Hubs.{AsksAtEach, ShowsAll, ShowsMoments}
+use Rattle.sk_count.specs.Reports.{Showing, showing}
+use Rattle.sk_count.specs.Steps.{keeps, TookAll, KeepsAll, Passes, PassesUnits}
+use Rattle.sk_count.specs.Opened.{IsOpened, FeedsAll, FeedsSome, FeedsPart, FeedStops, FeedsEarly, DrainsAndAsks}
+use Rattle.sk_count.specs.Counts.{Setting, setting, Course, TellsSoFar, TellsAll, TellsPart, TellsPartOfAll, StopsFor, EndsBefore, EndsBehind, Counts, last_line, interim_by}
+use Rattle.sk_count.proofs.Fronts.{part_behind}
+use Rattle.sk_count.proofs.Course.{lines_one, took_fed, keeps_more, kept_fed, heart_same}
+
+-- ---- ends of a reading
+
+module _ (units : Units) (most : ℕ) (G G' : List (List ℕ) → Type 0) (S S' : Fault → List (List ℕ) → List ℕ → Type 0) (gave : (given : List (List ℕ)) → G given → G' given) (stopped : (f : Fault) (given : List (List ℕ)) (unit : List ℕ) → S f given unit → S' f given unit) where
+  breaks_so : (K K' : List (List ℕ) → Type 0) (C : List (List ℕ) → List ℕ → Type 0) (old new : Option (List ℕ)) → ((given : List (List ℕ)) → K given → K' given) → BreaksOff units most K C old new → BreaksOff units most K' C old new
+  breaks_so K K' C old new so b = record { given = b.given; taken = b.taken; consumed = b.consumed; size = b.size; in_time = b.in_time; known = so b.given b.known; comes = b.comes }
+
+  stops_so : (T T' : List (List ℕ) → List ℕ → Type 0) (old new : Option (List ℕ)) → ((given : List (List ℕ)) (unit : List ℕ) → T given unit → T' given unit) → StopsAt units most T old new → StopsAt units most T' old new
+  stops_so T T' old new so s = (s.0, breaks_so (λ given. T given s.0) (λ given. T' given s.0) _ old new (λ given t. so given s.0 t) s.1)
+
+  some_so : (P : ℕ → Type 0) (old new : Option (List ℕ)) → ReadsSome units P G old new → ReadsSome units P G' old new
+  some_so P old new r = record { taken = r.taken; consumed = r.consumed; size = r.size; sound = r.sound; gave = gave _ r.gave }
+
+  pub all_so : (n : ℕ) (old new : Option (List ℕ)) → ReadsAll units most n G old new → ReadsAll units most n G' old new
+  all_so n old new r = record { taken = r.taken; consumed = r.consumed; end = r.end; size = r.size; sound = r.sound; number = r.number; gave = gave _ r.gave }
+
+  pub ends_so : (old new : Option (List ℕ)) (f : Fault) → Ends units most G S old new f → Ends units most G' S' old new f
+  ends_so old new fault.OutOfMemory (inl b) = inl (breaks_so G G' _ old new gave b)
+  ends_so old new fault.OutOfMemory (inr s) = inr (stops_so (S fault.OutOfMemory) (S' fault.OutOfMemory) old new (stopped fault.OutOfMemory) s)
+  ends_so old new fault.ReadFault r = some_so (λ size. size < most) old new r
+  ends_so old new fault.TooMuch r = some_so (λ size. size ≡ most) old new r
+  ends_so old new (fault.LongLine n) b = breaks_so G G' _ old new gave b
+  ends_so old new (fault.BadCsv n) b = breaks_so G G' _ old new gave b
+  ends_so old new (fault.BadItem n) s = stops_so (λ given unit. (n ≡ length given + 1) × S (fault.BadItem n) given unit) (λ given unit. (n ≡ length given + 1) × S' (fault.BadItem n) given unit) old new
+      (λ given unit t. (t.0, stopped (fault.BadItem n) given unit t.1)) s
+  ends_so old new fault.WriteFault s = stops_so (S fault.WriteFault) (S' fault.WriteFault) old new (stopped fault.WriteFault) s
+
+-- ---- the course of a count
+
+abbrev course_of : (plan : Plan) (units rest : List (List ℕ)) (a b : Hub) (r s : Showing) → PassesUnits plan units a r rest b s → Course plan units
+course_of plan units rest a b r s p = record { windows = p.windows; rest = rest; moments = p.passes.moments; good = p.good; cut = p.cut; asks = p.asks }
+
+module _ (plan : Plan) (a : Hub) (left left' w w' : Option (List ℕ)) (places armed places' : List Place) (is_armed : armed ≡ armed_with plan.k plan.alarms places) where
+  old : Setting
+  old = setting left w places
+
+  new : Setting
+  new = setting left' w' places'
+
+  r : Showing
+  r = showing plan.k w armed
+
+  s : Showing
+  s = showing plan.k w' places'
+
+  pub so_far : (units : List (List ℕ)) → FeedsSome plan a (showing plan.k w armed) (showing plan.k w' places') units → TellsSoFar plan (setting left w places) (setting left' w' places') units
+  so_far units (rest, b, p) = record {
+    course = course_of plan units rest a b (showing plan.k w armed) (showing plan.k w' places') p;
+    written = subst (λ z. Appends w w' (interim_text plan.k z p.passes.moments)) is_armed p.passes.written;
+    places = p.passes.places ∙ ap (λ z. places_after plan.k z p.passes.moments) is_armed;
+  }
+
+  pub part : (units : List (List ℕ)) → FeedsPart plan units (showing plan.k w armed) (showing plan.k w' places') → TellsPart plan (setting left w places) (setting left' w' places') units
+  part units f = record {
+    course = record { windows = f.windows; rest = []; moments = f.moments; good = f.good; cut = f.cut; asks = subst (λ c. MatchBool c (AreMoments plan [] start f.windows f.moments) (f.moments ≡ [])) (sym f.interim) f.are };
+    full = refl;
+    written = subst (λ z. AppendsPart w w' (interim_text plan.k z f.moments)) is_armed f.written;
+  }
+
+  stops : (f : Fault) (units : List (List ℕ)) (unit : List ℕ) → FeedStops plan a (showing plan.k w armed) (showing plan.k w' places') f units unit → StopsFor plan (setting left w places) (setting left' w' places') f units unit
+  stops (fault.BadItem n) units unit t = (so_far units t.0, t.1, t.2)
+  stops fault.WriteFault units unit t = part (units ++ unit ∷ []) t
+  stops fault.OutOfMemory units unit t = so_far units t
+  stops fault.ReadFault units unit t = absurd t
+  stops fault.TooMuch units unit t = absurd t
+  stops (fault.LongLine n) units unit t = absurd t
+  stops (fault.BadCsv n) units unit t = absurd t
+
+  pub early : (most : ℕ) (f : Fault) → FeedsEarly plan most a (showing plan.k w armed) (showing plan.k w' places') left left' f → EndsBefore plan most (setting left w places) (setting left' w' places') f ⊎ EndsBehind plan most (setting left w places) (setting left' w' places') f
+  early most f (inl ends) = inl (ends_so (units_by plan.column) most _ _ _ _ so_far stops left left' f ends)
+  early most f (inr (is, (n, reads))) = inr (subst (EndsBehind plan most (setting left w places) (setting left' w' places')) (sym is) (n, all_so (units_by plan.column) most _ _ _ _ so_far stops n left left' reads))
+
+-- ---- all items
+
+share_below : (kind : Kind) (windows : List (List (List ℕ))) (n i : ℕ) → AreItems (share kind windows n i)
+unfolding share
+share_below kind [] n i = All-nil IsItem
+share_below kind (lines ∷ windows) n i = All-append IsItem (items_in kind (block_of lines i n)) (share kind windows n i) (items_below kind (block_of lines i n)) (share_below kind windows n i)
+
+at_some : {A P : Type 0} (xs : List A) (i : ℕ) → i < length xs → (A → P) → P
+at_some [] i within f = absurd (omega arith)
+at_some (x ∷ xs) i within f = f x
+
+-- what updaters kept of windows has the word of all their items
+word_of_all : (plan : Plan) (windows : List (List (List ℕ))) (us : List UpdaterState) (list : List Entry) → 0 < plan.updaters → TookAll plan windows us → HasAllOf list us → packed_of plan.k (items_of_entries list) ≡ packed_of plan.k (items_in plan.kind (all_lines windows))
+word_of_all plan windows us list some took has = same_word plan.k (items_of_entries list) (items_in plan.kind (all_lines windows))
+    (smallest_of_all plan.k keeps (λ front. theta_of plan.k (items_of_entries front)) list plan.updaters (λ i. share plan.kind windows plan.updaters i) (λ h item. refl) (λ l. refl)
+    (subst (λ n. All (λ entry. entry.0 < n) list) took.count has.only)
+    (λ i within. share_below plan.kind windows plan.updaters i)
+    (λ i within. let within' : i < length us = omega (arith, took.count) in at_some us i within' (λ d.
+    subst (AreKeptOver plan.k list (share plan.kind windows plan.updaters i)) (sym (has.kept i d within'))
+    (kept_longer keeps (λ front. theta_of plan.k (items_of_entries front)) (base_of (get_or us i d)) list (share plan.kind windows plan.updaters i) (kept_of (get_or us i d)) (has.bases i d within') (took.each i d within').kept)))
+    ∙ same_members plan.k (flat_map (λ i. share plan.kind windows plan.updaters i) (range_with_len 0 plan.updaters)) (items_in plan.kind (all_lines windows))
+    (λ z h. (all_items plan.kind windows plan.updaters z some).0 h) (λ z h. (all_items plan.kind windows plan.updaters z some).1 h))
+
+-- ---- a count that ended well
+
+module _ (plan : Plan) (a : Hub) (opened : IsOpened plan a) (least : least_k ≤ plan.k) (some : 0 < plan.updaters) (units : List (List ℕ)) (r s : Showing) (b : Hub) (fed : FeedsAll plan units a r b s) (word : ℕ) (h : HeartState) (d : DrainsAndAsks b.heart b.updaters word h) where
+  windows : List (List (List ℕ))
+  windows = fed.passes.windows ++ fed.rest ∷ []
+
+  took : TookAll plan (fed.passes.windows ++ fed.rest ∷ []) b.updaters
+  took = took_fed plan fed.passes.windows fed.rest fed.between.updaters b.updaters fed.passes.passes.stands.took fed.last.updaters
+
+  lines_are : all_lines (fed.passes.windows ++ fed.rest ∷ []) ≡ units
+  lines_are = lines_one fed.passes.windows fed.rest ∙ sym fed.passes.cut.joined
+
+  items_are : items_in plan.kind (all_lines (fed.passes.windows ++ fed.rest ∷ [])) ≡ items_by plan.kind units
+  items_are = ap (items_in plan.kind) lines_are ∙ good_items plan.kind units fed.passes.good
+
+  numbers : k_of b.heart.view.numbers ≡ plan.k
+  numbers = ap k_of (ap (λ v. v.numbers) fed.last.heart.knows.view ∙ fed.passes.passes.heart.numbers ∙ opened.numbers)
+
+  pub the_word : word ≡ packed_of plan.k (items_by plan.kind units)
+  the_word = d.word_is ∙ ap (λ k. packed_of k (items_of_entries h.view.seen)) numbers ∙ word_of_all plan (fed.passes.windows ++ fed.rest ∷ []) b.updaters h.view.seen some took d.has ∙ ap (packed_of plan.k) items_are
+
+  pub the_estimate : fraction_of plan.k (unpacked word).0 (unpacked word).1 ≡ estimate_of plan.k (items_by plan.kind units)
+  the_estimate =
+      let items : AreItems (items_by plan.kind units) = subst AreItems items_are (items_below plan.kind (all_lines (fed.passes.windows ++ fed.rest ∷ []))) in
+      let is : unpacked word ≡ (count_of plan.k (items_by plan.kind units), theta_of plan.k (items_by plan.kind units)) = ap unpacked the_word ∙ packed_reads_back plan.k (items_by plan.kind units) least items in
+      ap (λ z. fraction_of plan.k z.0 z.1) is
+
+  pub shows_all : ShowsAll plan (items_by plan.kind units) (fed.passes.windows ++ fed.rest ∷ []) fed.passes.passes.moments h
+  shows_all = record {
+    drained = d.drains.drained ∙ ap (λ l. l ++ range_with_len 0 (length b.updaters)) (ap (λ v. v.drained) fed.last.heart.knows.view ∙ fed.passes.passes.heart.drained ∙ opened.drained) ∙ ap (range_with_len 0) took.count;
+    kept = λ i within. let within' : i < length b.updaters = omega (arith, took.count) in at_some b.updaters i within' (λ e.
+        subst (AreKeptOver plan.k h.view.seen (share plan.kind (fed.passes.windows ++ fed.rest ∷ []) plan.updaters i)) (sym (d.drains.known i e within'))
+        (kept_longer keeps (λ front. theta_of plan.k (items_of_entries front)) (base_of (get_or b.updaters i e)) h.view.seen (share plan.kind (fed.passes.windows ++ fed.rest ∷ []) plan.updaters i) (kept_of (get_or b.updaters i e)) (d.has.bases i e within') (took.each i e within').kept));
+    sees = λ i within. let within' : i < length b.updaters = omega (arith, took.count) in at_some b.updaters i within' (λ e. d.has.kept i e within' ∙ sym (d.drains.known i e within'));
+    later = λ j m inside. λ i within. let within' : i < length b.updaters = omega (arith, took.count) in at_some b.updaters i within' (λ e.
+        subst (Begins (kept_by (get_or fed.passes.passes.moments j m) i)) (sym (d.drains.known i e within'))
+        (keeps_more fed.between.updaters b.updaters (get_or fed.passes.passes.moments j m) fed.last.updaters.count (fed.passes.passes.kept j m inside) (kept_fed plan.kind fed.rest fed.between.updaters b.updaters fed.last.updaters) i e within'));
+    steps = (d.steps.0, d.steps.1 ∙ ap (λ n. d.steps.0 ++ Ask n ∷ []) the_word);
+  }
+
+  pub shows_moments : ShowsMoments plan fed.passes.passes.moments b.token
+  shows_moments = record {
+    steps = (a.token.view.steps, fed.passes.passes.steps.0, ap (λ t. t.view.steps) fed.last.token ∙ fed.passes.passes.steps.1, fed.passes.passes.steps.2);
+    seen = λ j m inside. subst (λ t. Begins (get_or fed.passes.passes.moments j m).seen t.view.seen) (sym fed.last.token) (fed.passes.passes.seen j m inside);
+  }
+
+  pub same_hub : b.token.table ≡ h.table
+  same_hub = fed.hub.table ∙ sym d.drains.table

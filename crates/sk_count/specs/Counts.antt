@@ -1,0 +1,108 @@
+-- How a count goes: what it wrote and left behind where it ends well, and at each other end.
+use Rattle.std.specs.Prelude.{◌≡◌, ◌⊎◌, ℕ, ◌<◌, List, [], ◌∷◌, ◌++◌, length, All, Option, Some, None, Result, MatchResult, IsNone}
+use Rattle.std.specs.Io.KnownBytes.{Appends}
+use Rattle.sk_model.specs.Causes.{AppendsPart}
+use Rattle.sk_model.specs.Sketch.{estimate_of}
+use Rattle.sk_lines.specs.Fractions.{estimate_line}
+use Rattle.sk_gate.specs.Hands.{TokenState}
+use Rattle.sk_hub.specs.Hearts.{HeartState}
+use Rattle.sk_read.specs.Items.{item_of, items_by, IsGood}
+use Rattle.sk_read.specs.Reads.{ReadsAll, Ends}
+use Rattle.sk_read.specs.Units.{units_by}
+use Rattle.sk_read.specs.declared.fault.Fault.{Fault}
+use Rattle.sk_read.specs.declared.fault.Fault.TheVariants.{OutOfMemory, ReadFault, LongLine, BadItem, BadCsv, TooMuch, WriteFault}
+use Rattle.sk_watch.specs.Places.{Place}
+use Rattle.sk_ingest.specs.Windows.{AreWindows}
+use Rattle.sk_count.specs.declared.plan.Plan.{Plan}
+use Rattle.sk_count.specs.declared.remains.Remains.{Remains}
+use Rattle.sk_count.specs.Plans.{lines_of_window}
+use Rattle.sk_count.specs.Moments.{Moment, AreMomentsOf}
+use Rattle.sk_count.specs.Texts.{interim_text, places_after, armed_with}
+use Rattle.sk_count.specs.Hubs.{ShowsAll, ShowsMoments}
+
+-- what is around a count: what its source has left, what its sink was written, both where they tell it, and the places of
+-- its board
+pub record Setting : Type 0 where
+  pub left : Option (List ℕ)
+  pub written : Option (List ℕ)
+  pub places : List Place
+
+abbrev pub setting : Option (List ℕ) → Option (List ℕ) → List Place → Setting
+setting left written places = record { left = left; written = written; places = places }
+
+-- ---- the course of it
+
+-- none of these units is refused; they are cut into full windows and a rest, with a moment behind each window
+pub record Course (plan : Plan) (units : List (List ℕ)) : Type 0 where
+  pub windows : List (List (List ℕ))
+  pub rest : List (List ℕ)
+  pub moments : List Moment
+  pub good : All (IsGood plan.kind) units
+  pub cut : AreWindows (lines_of_window plan) units windows rest
+  pub asks : AreMomentsOf plan windows moments
+
+-- the places as they are armed at the start
+abbrev pub armed_by : Plan → List Place → List Place
+armed_by plan places = armed_with plan.k plan.alarms places
+
+-- what is due for moments
+abbrev pub interim_by : Plan → Setting → List Moment → List ℕ
+interim_by plan old moments = interim_text plan.k (armed_by plan old.places) moments
+
+-- one thread's estimate of all items
+abbrev pub last_line : Plan → List (List ℕ) → List ℕ
+last_line plan units = estimate_line (estimate_of plan.k (items_by plan.kind units))
+
+-- ---- its ends
+
+-- the interim text of these units was written, and nothing more
+pub record TellsSoFar (plan : Plan) (old new : Setting) (units : List (List ℕ)) : Type 0 where
+  pub course : Course plan units
+  pub written : Appends old.written new.written (interim_by plan old course.moments)
+  pub places : new.places ≡ places_after plan.k (armed_by plan old.places) course.moments
+
+-- the interim text and the last line were written; the heart and the token of the hub are left behind, and show this run
+pub record TellsAll (plan : Plan) (old new : Setting) (remains : Remains) (units : List (List ℕ)) : Type 0 where
+  pub course : Course plan units
+  pub written : Appends old.written new.written (interim_by plan old course.moments ++ last_line plan units)
+  pub places : new.places ≡ places_after plan.k (armed_by plan old.places) course.moments
+  pub heart : HeartState
+  pub token : TokenState
+  pub left : remains ≡ record { heart = Some heart; token = Some token }
+  pub hub : token.table ≡ heart.table
+  pub shows : ShowsAll plan (items_by plan.kind units) (course.windows ++ course.rest ∷ []) course.moments heart
+  pub asked : ShowsMoments plan course.moments token
+
+-- these units end with a full window, and of the interim text for them only a part was written
+pub record TellsPart (plan : Plan) (old new : Setting) (units : List (List ℕ)) : Type 0 where
+  pub course : Course plan units
+  pub full : course.rest ≡ []
+  pub written : AppendsPart old.written new.written (interim_by plan old course.moments)
+
+-- of the whole text only a part was written
+pub record TellsPartOfAll (plan : Plan) (old new : Setting) (units : List (List ℕ)) : Type 0 where
+  pub course : Course plan units
+  pub written : AppendsPart old.written new.written (interim_by plan old course.moments ++ last_line plan units)
+
+-- what was told where a count stopped at a unit behind these: the unit is no item, or it fills a window and a write failed
+abbrev pub StopsFor : Plan → Setting → Setting → Fault → List (List ℕ) → List ℕ → Type 0
+StopsFor plan old new (BadItem n) units unit = TellsSoFar plan old new units × (0 < length unit) × IsNone (item_of plan.kind unit)
+StopsFor plan old new WriteFault units unit = TellsPart plan old new (units ++ unit ∷ [])
+StopsFor plan old new OutOfMemory units unit = TellsSoFar plan old new units
+StopsFor plan old new other units unit = ⊥
+
+-- where a count ends before its source
+abbrev pub EndsBefore : Plan → ℕ → Setting → Setting → Fault → Type 0
+EndsBefore plan most old new fault = Ends (units_by plan.column) most (TellsSoFar plan old new) (StopsFor plan old new) old.left new.left fault
+
+-- where it read all, and then found no memory, or failed to write
+abbrev pub EndsBehind : Plan → ℕ → Setting → Setting → Fault → Type 0
+EndsBehind plan most old new WriteFault = (n : ℕ) × ReadsAll (units_by plan.column) most n (TellsPartOfAll plan old new) old.left new.left
+EndsBehind plan most old new OutOfMemory = (n : ℕ) × ReadsAll (units_by plan.column) most n (TellsSoFar plan old new) old.left new.left
+EndsBehind plan most old new other = ⊥
+
+-- how a count went
+abbrev pub Counts : Plan → ℕ → Setting → Setting → Remains → Result (Unit {0}) Fault → Type 0
+Counts plan most old new remains result = MatchResult result
+    (λ _. (n : ℕ) × ReadsAll (units_by plan.column) most n (TellsAll plan old new remains) old.left new.left)
+    (λ fault. EndsBefore plan most old new fault ⊎ EndsBehind plan most old new fault)

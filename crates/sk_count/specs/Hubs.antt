@@ -1,0 +1,64 @@
+-- What a token learns of a hub by asking it, and what the heart and the token show when all is counted.
+use Rattle.std.specs.Prelude.{◌≡◌, ℕ, zero, suc, ◌*◌, ◌<◌, List, [], ◌∷◌, ◌++◌, length, All, slice_index_or}
+use Rattle.std.specs.List.{range_with_len}
+use Rattle.sk_model.specs.Entries.{Entry, items_of_entries, entries_by}
+use Rattle.sk_model.specs.Missing.{Begins, LacksAtMost}
+use Rattle.sk_model.specs.Sketch.{packed_of}
+use Rattle.sk_compose.specs.Numbers.{k_of}
+use Rattle.sk_machine.specs.Coarse.{IsEntry}
+use Rattle.sk_machine.specs.declared.views.Move.{Move}
+use Rattle.sk_machine.specs.declared.views.Move.TheVariants.{Join, Ask}
+use Rattle.sk_gate.specs.Views.{known_of}
+use Rattle.sk_gate.specs.Hands.{TokenState}
+use Rattle.sk_hub.specs.Hearts.{HeartState}
+use Rattle.sk_hub.specs.Updaters.{UpdaterState, base_of, kept_of}
+use Rattle.sk_ingest.specs.Hubs.{Hub}
+use Rattle.sk_ingest.specs.Shares.{share}
+use Rattle.sk_count.specs.declared.plan.Plan.{Plan}
+use Rattle.sk_count.specs.Moments.{Moment, kept_by, AreKeptOver}
+
+-- ---- steps
+
+-- n notes were met, each by a join that an ask follows
+unfoldable pub MeetsNotes : ℕ → List Move → Type 0
+MeetsNotes zero steps = steps ≡ []
+MeetsNotes (suc n) steps = (earlier : List Move) × (word : ℕ) × (steps ≡ earlier ++ Join ∷ Ask word ∷ []) × MeetsNotes n earlier
+
+-- n notes were met, and one ask more loaded this word
+abbrev pub MeetsAndAsks : ℕ → ℕ → List Move → Type 0
+MeetsAndAsks n word steps = (earlier : List Move) × MeetsNotes n earlier × (steps ≡ earlier ++ Ask word ∷ [])
+
+-- so it was at each of these moments, in order
+unfoldable pub AsksAtEach : ℕ → ℕ → List Moment → List Move → Type 0
+AsksAtEach k n [] steps = steps ≡ []
+AsksAtEach k n (m ∷ moments) steps =
+    (now : List Move) × (later : List Move) × (steps ≡ now ++ later) × MeetsAndAsks n (packed_of k (items_of_entries m.seen)) now × AsksAtEach k n moments later
+
+-- ---- an ask of a hub
+
+-- the token met a note of every updater, and asked: the list that it saw goes on from what it had seen and from each
+-- updater's base, lacks of what each kept at most its last two buffers, and has only entries of these updaters
+pub record AsksHub (a : Hub) (word : ℕ) (b : Hub) : Type 0 where
+  pub grows : Begins a.token.view.seen b.token.view.seen
+  pub bases : (i : ℕ) (d : UpdaterState) → i < length a.updaters → Begins (base_of (slice_index_or a.updaters i d)) b.token.view.seen
+  pub lacks : (i : ℕ) (d : UpdaterState) → i < length a.updaters
+      → LacksAtMost (kept_of (slice_index_or a.updaters i d)) (entries_by i b.token.view.seen) (2 * (slice_index_or a.updaters i d).size)
+  pub entries : All (IsEntry (length a.updaters)) b.token.view.seen
+  pub word_is : word ≡ packed_of (k_of a.token.view.numbers) (items_of_entries b.token.view.seen)
+  pub steps : (steps : List Move) × MeetsAndAsks (length a.updaters) word steps × (b.token.view.steps ≡ a.token.view.steps ++ steps)
+
+-- ---- what is left behind
+
+-- the heart drained all updaters, in number order; of each it knows what that kept of its share of all windows, no less
+-- than at any moment; and its last step loaded the word of all units
+pub record ShowsAll (plan : Plan) (items : List ℕ) (windows : List (List (List ℕ))) (moments : List Moment) (h : HeartState) : Type 0 where
+  pub drained : h.view.drained ≡ range_with_len 0 plan.updaters
+  pub kept : (i : ℕ) → i < plan.updaters → AreKeptOver plan.k h.view.seen (share plan.kind windows plan.updaters i) (known_of h.view i)
+  pub sees : (i : ℕ) → i < plan.updaters → entries_by i h.view.seen ≡ known_of h.view i
+  pub later : All (λ m. (i : ℕ) → i < plan.updaters → Begins (kept_by m i) (known_of h.view i)) moments
+  pub steps : (earlier : List Move) × (h.view.steps ≡ earlier ++ Ask (packed_of plan.k items) ∷ [])
+
+-- the token's last steps are those of these moments, and it has seen what it saw at each
+pub record ShowsMoments (plan : Plan) (moments : List Moment) (t : TokenState) : Type 0 where
+  pub steps : (earlier : List Move) × (asks : List Move) × (t.view.steps ≡ earlier ++ asks) × AsksAtEach plan.k plan.updaters moments asks
+  pub seen : All (λ m. Begins m.seen t.view.seen) moments

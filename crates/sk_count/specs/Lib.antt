@@ -1,0 +1,11 @@
+pub mod Limits
+pub mod Rows
+pub mod Plans
+pub mod Moments
+pub mod Texts
+pub mod Hubs
+pub mod Meets
+pub mod Reports
+pub mod Steps
+pub mod Opened
+pub mod Counts
