@@ -4,8 +4,9 @@ ghost use Rattle.std.specs.Option.{option_copied};
 ghost use Rattle.sk_model.specs.Causes.{HasCauseIn};
 ghost use Rattle.sk_model.specs.Limits.{source_limit};
 ghost use Rattle.sk_io.specs.Files.{IsMissing};
+ghost use Rattle.sk_cli.specs.Beside.{Beside};
 ghost use Rattle.sk_cli.specs.Command.{behaviour_of, IsWithin};
-ghost use Rattle.sk_cli.specs.Outside.{streams_of, streams_on, outside_of};
+ghost use Rattle.sk_cli.specs.Outside.{streams_of, outside_of};
 ghost use Rattle.sk_cli.specs.Run.{Executes, HasCauses, Over, Performs};
 
 use crate::command::Command;
@@ -15,7 +16,7 @@ use crate::commands::hash::hash;
 use crate::commands::replay::replay;
 use crate::fault::Fault;
 use crate::write::write_text;
-use sk_io::{OnShelf, Shelf, Sink, Source};
+use sk_io::{OpenFile, Shelf, Sink, Source};
 use std::alloc::Global;
 
 /// Does what a command asks, over the standard input or the file of this name, of fewer than `most`
@@ -31,9 +32,9 @@ pub fn perform<S: Source, O: Sink, F: Shelf>(
 ) -> Result<(), Fault>
     requires within { IsWithin command }
     requires bound { most ≤ source_limit }
-    ensures done { let old = outside_of S.Source O.Sink F.Shelf input.old out.old shelf.old in
+    ensures done { (from to : Beside) → let old = outside_of S.Source O.Sink F.Shelf input.old out.old shelf.old in
         let new = outside_of S.Source O.Sink F.Shelf input.new out.new shelf.new in
-        Performs (record { command = command; file = option_copied file.entry }) most old new result }
+        Performs (record { command = command; file = option_copied file.entry }) most from to old new result }
 
     // A count rises by one at its own fault, and stands else.
     ensures causes { let old = outside_of S.Source O.Sink F.Shelf input.old out.old shelf.old in
@@ -53,37 +54,11 @@ pub fn perform<S: Source, O: Sink, F: Shelf>(
 {
     match file {
         None => execute(alloc, command, most, input, out),
-        Some(name) => match shelf.open(name) {
-            Ok(mut file) => execute_on(alloc, command, most, shelf, &mut file, out),
-            Err(_) => Err(Fault::OpenFault),
+        Some(name) => match OpenFile::open(shelf, name) {
+            Ok(mut file) => execute(alloc, command, most, &mut file, out),
+            Err(_refused) => Err(Fault::OpenFault),
         },
     }
-}
-
-/// Does what a command asks, over an open file, the one that was opened last.
-fn execute_on<F: Shelf, O: Sink>(
-    alloc: Global,
-    command: Command,
-    most: u64,
-    shelf: &mut F,
-    file: &mut F::File,
-    out: &mut O,
-) -> Result<(), Fault>
-    requires within { IsWithin command }
-    requires bound { most ≤ source_limit }
-    requires rest { F.rest shelf.old ≡ F.left shelf.old file.old }
-    ensures done { let old = streams_on F.Shelf O.Sink shelf.old file.old out.old in
-        let new = streams_on F.Shelf O.Sink shelf.new file.new out.new in Executes (behaviour_of command) most old new result }
-    ensures causes { let old = streams_on F.Shelf O.Sink shelf.old file.old out.old in
-        let new = streams_on F.Shelf O.Sink shelf.new file.new out.new in HasCauses old new result }
-    ensures last { (behaviour_of command).writes_last ≡ true → IfErr result (λ fault. fault ≢ Fault.WriteFault → out.new ≡ out.old) }
-    ensures opened { result ≢ Err Fault.OpenFault }
-    ensures rest { F.rest shelf.new ≡ F.left shelf.new file.new }
-    ensures opens { F.open_faults shelf.new ≡ F.open_faults shelf.old }
-    ensures files { F.files shelf.new ≡ F.files shelf.old }
-{
-    let mut source = OnShelf::new(shelf, file);
-    execute(alloc, command, most, &mut source, out)
 }
 
 /// Does what a command asks, over a source of fewer than `most` bytes.
@@ -96,8 +71,8 @@ pub fn execute<S: Source, O: Sink>(
 ) -> Result<(), Fault>
     requires within { IsWithin command }
     requires bound { most ≤ source_limit }
-    ensures done { let old = streams_of S.Source O.Sink source.old out.old in
-        let new = streams_of S.Source O.Sink source.new out.new in Executes (behaviour_of command) most old new result }
+    ensures done { (from to : Beside) → let old = streams_of S.Source O.Sink source.old out.old in
+        let new = streams_of S.Source O.Sink source.new out.new in Executes (behaviour_of command) most from to old new result }
     ensures causes { let old = streams_of S.Source O.Sink source.old out.old in
         let new = streams_of S.Source O.Sink source.new out.new in HasCauses old new result }
     ensures idle { (behaviour_of command).reads ≡ false → source.new ≡ source.old }

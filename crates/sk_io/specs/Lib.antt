@@ -1,4 +1,5 @@
 pub mod Base
 pub mod Files
 pub mod Memory
+pub mod Opening
 pub mod Standard

@@ -47,19 +47,17 @@ pub trait Shelf {
         ensures files { files self.new ≡ files self.old };
 }
 
-/// An open file of a shelf as a source, the file that was opened or read last. It stands on both borrows
-/// and on what the shelf has beside its count of failed reads.
+/// An open file of a shelf as a source, also one of several. It stands on both borrows and on what the
+/// shelf has beside its count of failed reads.
 #[derive(Drop)]
 pub struct OnShelf<'a, F: Shelf> {
     pub shelf: &'a mut F,
     pub file: &'a mut F::File,
-    pub ghost last: { F.rest shelf.now ≡ F.left shelf.now file.now },
 }
 
 impl<'a, F: Shelf> OnShelf<'a, F> {
     /// The source of what `file` has left, which is a file of `shelf`.
     pub fn new(shelf: &'a mut F, file: &'a mut F::File) -> Self
-        requires { F.rest shelf.old ≡ F.left shelf.old file.old }
         ensures shelf { result.shelf.ghost_name ≡ shelf.entry.ghost_name }
         ensures shelf_now { result.shelf.now ≡ shelf.old }
         ensures file { result.file.ghost_name ≡ file.entry.ghost_name }

@@ -106,19 +106,18 @@ fn piece_of<S: Source>(source: &mut S, piece: &mut [u8]) -> Result<usize, Failed
     source.read(piece)
 }
 
+// What a caller of a shelf knows of it after it read an open file as a source.
 fn piece_on<F: Shelf>(shelf: &mut F, file: &mut F::File, piece: &mut [u8]) -> Result<usize, Failed>
-    requires room { 0 < length piece.old }
-    requires last { F.rest shelf.old ≡ F.left shelf.old file.old }
+    requires { 0 < length piece.old }
     ensures bytes { ReadConsumes (F.left shelf.old file.old) (F.left shelf.new file.new) result piece.new }
     ensures cause { HasCause (F.read_faults shelf.old) (F.read_faults shelf.new) result }
-    ensures last { F.rest shelf.new ≡ F.left shelf.new file.new }
     ensures opens { F.open_faults shelf.new ≡ F.open_faults shelf.old }
     ensures files { F.files shelf.new ≡ F.files shelf.old }
 {
     piece_of(&mut OnShelf::new(shelf, file), piece)
 }
 
-// What a caller of a shelf knows of it after a file was opened and read as a source.
+// What a caller of a shelf knows of it after a file was opened, read as a source and closed.
 fn front_of<F: Shelf>(shelf: &mut F, name: &str, piece: &mut [u8]) -> Result<usize, Failed>
     requires { 0 < length piece.old }
     ensures content { IfOk result (λ n.
@@ -131,28 +130,59 @@ fn front_of<F: Shelf>(shelf: &mut F, name: &str, piece: &mut [u8]) -> Result<usi
         ⊎ Rose (F.read_faults shelf.old) (F.read_faults shelf.new)) }
     ensures files { F.files shelf.new ≡ F.files shelf.old }
 {
-    let mut file = shelf.open(name)?;
-    piece_on(shelf, &mut file, piece)
+    match OpenFile::open(shelf, name) {
+        Ok(mut file) => piece_of(&mut file, piece),
+        Err(_refused) => Err(Failed),
+    }
+}
+
+// All that a file of a shelf has.
+fn text_of<F: Shelf>(alloc: Global, shelf: &mut F, name: &str) -> Result<Vec<u8>, Fail> {
+    match OpenFile::open(shelf, name) {
+        Ok(mut file) => drained(alloc, &mut file),
+        Err(_refused) => Err(Fail::from("no file")),
+    }
+}
+
+fn two_files(alloc: Global) -> Result<Vec<(String, Vec<u8>)>, Fail> {
+    let mut files = Vec::new(alloc);
+    files.push((String::from_str(alloc, "one")?, b"first".to_vec(alloc)?))?;
+    files.push((String::from_str(alloc, "two")?, b"second".to_vec(alloc)?))?;
+    Ok(files)
 }
 
 #[test]
 fn a_shelf_in_memory_opens_what_it_has(rt: HostRuntime) -> Result<(), Fail> {
     let alloc = rt.alloc();
-    let mut files = Vec::new(alloc);
-    files.push((String::from_str(alloc, "one")?, b"first".to_vec(alloc)?))?;
-    files.push((String::from_str(alloc, "two")?, b"second".to_vec(alloc)?))?;
     let opens = [1].to_vec(alloc)?;
     let reads = [1].to_vec(alloc)?;
-    let mut shelf = MemShelf::new(files, opens, reads);
+    let mut shelf = MemShelf::new(two_files(alloc)?, opens, reads);
     let mut piece = [0; 4];
     assert_eq!(rt; front_of(&mut shelf, "two", &mut piece), Ok(4));
     assert_eq!(rt; piece, *b"seco");
     assert_eq!(rt; front_of(&mut shelf, "two", &mut piece), Err(Failed));
     assert_eq!(rt; front_of(&mut shelf, "one", &mut piece), Err(Failed));
     assert_eq!(rt; front_of(&mut shelf, "three", &mut piece), Err(Failed));
-    let mut file = shelf.open("one").map_err(|_| "no file")?;
-    let text = drained(alloc, &mut OnShelf::new(&mut shelf, &mut file))?;
+    let text = text_of(alloc, &mut shelf, "one")?;
     assert_eq!(rt; text.as_slice(), b"first".as_slice());
+    Ok(())
+}
+
+#[test]
+fn two_files_of_a_shelf_are_read_in_turn(rt: HostRuntime) -> Result<(), Fail> {
+    let alloc = rt.alloc();
+    let mut shelf = MemShelf::new(two_files(alloc)?, Vec::new(alloc), Vec::new(alloc));
+    let mut one = shelf.open("one").map_err(|_| "no file")?;
+    let mut two = shelf.open("two").map_err(|_| "no file")?;
+    let mut piece = [0; 4];
+    assert_eq!(rt; piece_on(&mut shelf, &mut one, &mut piece), Ok(4));
+    assert_eq!(rt; piece, *b"firs");
+    assert_eq!(rt; piece_on(&mut shelf, &mut two, &mut piece), Ok(4));
+    assert_eq!(rt; piece, *b"seco");
+    let text = drained(alloc, &mut OnShelf::new(&mut shelf, &mut one))?;
+    assert_eq!(rt; text.as_slice(), b"t".as_slice());
+    let text = drained(alloc, &mut OnShelf::new(&mut shelf, &mut two))?;
+    assert_eq!(rt; text.as_slice(), b"nd".as_slice());
     Ok(())
 }
 

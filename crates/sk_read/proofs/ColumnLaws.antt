@@ -1,5 +1,5 @@
 -- Records that a table takes, one after another.
-use Rattle.std.proofs.Common.{Bor, ◌≡◌, ℕ, zero, suc, ◌<◌, ◌≤◌, List, [], ◌∷◌, ◌++◌, length, get_or, Option, Some, None, Result, Ok, Err, OnOk, OnErr, unwrap_or, refl, sym, ap, ◌∙◌, subst, append_assoc}
+use Rattle.std.proofs.Common.{Bor, ◌≡◌, ℕ, zero, suc, ◌+◌, ◌<◌, ◌≤◌, List, [], ◌∷◌, ◌++◌, length, get_or, Option, Some, None, Result, Ok, Err, OnOk, inr, unwrap_or, refl, sym, ap, ◌∙◌, subst, append_assoc}
 use Rattle.std.specs.Result.{IfErr}
 use Rattle.std.specs.Prelude.{MatchResult}
 use Rattle.std.specs.Option.{option_map}
@@ -12,6 +12,7 @@ use Rattle.sk_read.specs.declared.fault.Fault.TheVariants as fault
 use Rattle.sk_model.specs.Lines.{AreWithin}
 use Rattle.sk_read.specs.Records.{Row, field_of, fields_in, width_of, AreEven, AreSoundRows}
 use Rattle.sk_read.specs.Columns.{Refuses, Breaks}
+use Rattle.sk_read.specs.Faults.{IsOfTaker}
 use Rattle.sk_model.specs.Limits.{line_limit}
 
 pub field_at_is : (fields : Row) (i : ℕ) → unwrap_or (field_at fields i) [] ≡ get_or fields i []
@@ -20,10 +21,10 @@ field_at_is [] i = refl
 field_at_is (field ∷ fields) zero = refl
 field_at_is (field ∷ fields) (suc i) = field_at_is fields i
 
--- what is known of a call, of its value or its one fault
-pub took : {A : Type 0} (r : Result A Fault) (f : Fault) (P R S : Type 0) (Q : Fault → Type 0) → IfErr r (λ (e : Fault). e ≡ f) → OnOk r R → (R → P) → OnErr r S → (S → Q f) → MatchResult r (λ _. P) Q
-took (Ok a) f P R S Q is good so bad then = so good
-took (Err e) f P R S Q is good so bad then = subst Q (sym is) (then bad)
+-- what is known of a call, of its value or its fault
+pub took : {A : Type 0} (r : Result A Fault) (P R : Type 0) (Q S T : Fault → Type 0) → OnOk r R → (R → P) → IfErr r S → IfErr r T → ((f : Fault) → S f → T f → Q f) → MatchResult r (λ _. P) Q
+took (Ok a) P R Q S T good so why bad then = so good
+took (Err e) P R Q S T good so why bad then = then e why bad
 
 pub fields_more : (column : ℕ) (rows : List Row) (row : Row) → fields_in column (rows ++ row ∷ []) ≡ fields_in column rows ++ field_of column row ∷ []
 fields_more column rows row = map-append (field_of column) rows (row ∷ [])
@@ -50,15 +51,19 @@ none_sound column = record {
   within = All-nil (λ (l : List ℕ). length l ≤ line_limit);
 }
 
+-- a taker stopped at the field of a sound record
+pub refused_by : (Gave : List (List ℕ) → Type 0) (Stopped : Fault → List (List ℕ) → List ℕ → Type 0) (column : ℕ) (rows : List Row) (row : Row) (n : ℕ) (f : Fault) → n ≡ length rows + 1 → IsOfTaker n f →
+    AreSoundRows column (rows ++ row ∷ []) → Stopped f (fields_in column rows) (field_of column row) → Refuses column Gave Stopped rows row f
+refused_by Gave Stopped column rows row n (fault.BadItem m) place of sound stopped = (of ∙ place, (sound, stopped))
+refused_by Gave Stopped column rows row n fault.OutOfMemory place of sound stopped = (sound, stopped)
+refused_by Gave Stopped column rows row n fault.WriteFault place of sound stopped = (sound, stopped)
+refused_by Gave Stopped column rows row n _ place of sound stopped = absurd of
+
 -- a record that is refused ends the taking there
-pub ends_at : (Gave : List (List ℕ) → Type 0) (Missed : List (List ℕ) → List ℕ → Type 0) (column : ℕ) (rows more some : List Row) (row : Row) (f : Fault) → Begins (some ++ row ∷ []) more → AreSoundRows column (rows ++ some) →
-    Refuses column Gave Missed (rows ++ some) row f → Breaks column Gave Missed rows more f
-ends_at Gave Missed column rows more some row (fault.LongLine n) begins sound refused = record { some = some; next = row; begins = begins; sound = sound; refused = refused }
-ends_at Gave Missed column rows more some row (fault.BadItem n) begins sound refused = record { some = some; next = row; begins = begins; sound = sound; refused = refused }
-ends_at Gave Missed column rows more some row (fault.BadCsv n) begins sound refused = record { some = some; next = row; begins = begins; sound = sound; refused = refused }
-ends_at Gave Missed column rows more some row fault.OutOfMemory begins sound refused = absurd refused
-ends_at Gave Missed column rows more some row fault.ReadFault begins sound refused = absurd refused
-ends_at Gave Missed column rows more some row fault.TooMuch begins sound refused = absurd refused
+pub ends_at : (Gave : List (List ℕ) → Type 0) (Stopped : Fault → List (List ℕ) → List ℕ → Type 0) (column : ℕ) (rows more some : List Row) (row : Row) (f : Fault) → Begins (some ++ row ∷ []) more → AreSoundRows column (rows ++ some) →
+    Refuses column Gave Stopped (rows ++ some) row f → Breaks column Gave Stopped rows more f
+ends_at Gave Stopped column rows more some row fault.OutOfMemory begins sound refused = inr (record { some = some; next = row; begins = begins; sound = sound; refused = refused })
+ends_at Gave Stopped column rows more some row f begins sound refused = record { some = some; next = row; begins = begins; sound = sound; refused = refused }
 
 -- a field, or an empty one where there is none
 pub field_or_empty : (o : Option (Bor (List ℕ))) (d : Bor (List ℕ)) (fields : Row) (i : ℕ) → option_map (λ (s : Bor (List ℕ)). s.now) o ≡ field_at fields i → d.now ≡ [] →

@@ -1,12 +1,18 @@
 -- Items of lines, and where a text is refused.
-use Rattle.std.proofs.Common.{◌≡◌, ℕ, ◌<◌, ◌≤◌, List, [], ◌∷◌, ◌++◌, length, take, Option, Some, Bool, true, false, unwrap_or, refl, sym, ap, ◌∙◌, subst, arith, length-append, append-nil}
+use Rattle.std.proofs.Common.{◌≡◌, ◌≢◌, ℕ, ◌<◌, ◌≤◌, List, [], ◌∷◌, ◌++◌, length, take, Option, Some, Result, Err, Bool, true, false, unwrap_or, refl, sym, ap, ◌∙◌, subst, arith, length-append, append-nil}
 use Rattle.sk_model.specs.Missing.{Begins}
-use Rattle.sk_model.specs.Lines.{items_of, filled}
+use Rattle.sk_model.specs.Lines.{AreWithin, items_of, filled}
 use Rattle.sk_model.proofs.Lines.{items_append, item_of_one, item_of_empty, items_are_few, lines_are_few}
 use Rattle.sk_read.specs.declared.kind.Kind.{Kind}
 use Rattle.sk_read.specs.Reading.{Reading, HasGiven}
-use Rattle.sk_read.specs.Items.{item_of, items_by, IsGood, Gave}
+use Rattle.sk_read.specs.Items.{item_of, items_by, IsGood, Gave, Missed}
+use Rattle.sk_read.specs.Reads.{Reads}
+use Rattle.sk_read.specs.declared.fault.Fault.{Fault}
+use Rattle.sk_read.specs.declared.fault.Fault.TheVariants.{BadItem, WriteFault}
+use Rattle.sk_read.specs.declared.units.Units.{Units}
 use Rattle.std.proofs.lemmas.List.Elements.{All-nil}
+use Rattle.std.proofs.lemmas.Result.{MatchResult-at_err}
+use Rattle.std.proofs.Math.Seq.{get_or-append_seam}
 
 pub no_items : (kind : Kind) → items_by kind [] ≡ []
 unfolding items_by items_of filled
@@ -49,3 +55,15 @@ has_few r given taken has = go r.ended refl
     go false not_ended =
         let f = has.follows not_ended in
         omega (arith, ap length f.lines, lines_are_few f.front, ap length f.joined, length-append f.front r.cutter.rest)
+
+-- the last line too is within the limit
+pub last_within : (limit : ℕ) (given : List (List ℕ)) (line : List ℕ) → AreWithin limit (given ++ line ∷ []) → length line ≤ limit
+last_within limit given line within =
+    subst (λ (l : List ℕ). length l ≤ limit) (get_or-append_seam given line [] []) (within (length given) [] (omega (arith, length-append given (line ∷ []))))
+
+not_written : (n : ℕ) → WriteFault ≡ BadItem n → ⊥
+not_written n is = cc
+
+-- a taker of items never stops for a write
+pub no_write : (kind : Kind) (Stands : List ℕ → Type 0) (units : Units) (most : ℕ) (old new : Option (List ℕ)) (r : Result ℕ Fault) → Reads units most (Gave kind Stands) (Missed kind Stands) old new r → r ≢ Err WriteFault
+no_write kind Stands units most old new r reads is = not_written _ (MatchResult-at_err _ _ WriteFault is reads).1.known.0

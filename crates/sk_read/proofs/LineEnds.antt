@@ -13,9 +13,9 @@ use Rattle.sk_read.specs.declared.fault.Fault.{Fault}
 use Rattle.sk_read.specs.declared.fault.Fault.TheVariants as fault
 use Rattle.sk_read.specs.declared.units.Units.{Units}
 use Rattle.sk_read.specs.declared.units.Units.TheVariants.{Lines}
-use Rattle.sk_read.specs.Faults.{fault_by}
+use Rattle.sk_read.specs.Faults.{fault_by, IsOfTaker}
 use Rattle.sk_read.specs.Reading.{Reading, HasRead, Goes}
-use Rattle.sk_read.specs.Reads.{IsSettled, IsInTime, ReadsAll, Ends, Reads}
+use Rattle.sk_read.specs.Reads.{IsSettled, IsInTime, ReadsAll, StopsAt, Ends, Reads}
 use Rattle.sk_read.specs.Units.{IsSoundUpTo}
 use Rattle.sk_read.proofs.ItemLaws.{front_is, has_few}
 use Rattle.sk_read.proofs.Readings.{given_settled, nothing_read}
@@ -24,15 +24,49 @@ pub settled_so : (P Q : List ℕ → Type 0) (left : Option (List ℕ)) (taken :
 settled_so P Q left taken so (inl always) = inl (λ later. so (taken ++ later) (always later))
 settled_so P Q left taken so (inr here) = inr (here.0, so taken here.1)
 
-module _ (Gave : List (List ℕ) → Type 0) (Missed : List (List ℕ) → List ℕ → Type 0) (most : ℕ) where
+-- a taker stopped at a line
+line_stops : (Stopped : List (List ℕ) → List ℕ → Type 0) (most : ℕ) (r : Reading) (old left : Option (List ℕ)) (given : List (List ℕ)) (line taken : List ℕ) → r.most ≡ most → Consumes old left taken → Stopped given line →
+    HasRead r left (given ++ line ∷ []) taken → IsInTime Lines given taken → StopsAt Lines most Stopped old left
+line_stops Stopped most r old left given line taken is consumed stopped read in_time = (
+  line,
+  record {
+    given = given;
+    taken = taken;
+    consumed = consumed;
+    size = omega (arith, read.has.count, read.bound, is);
+    in_time = in_time;
+    known = stopped;
+    comes = settled_so (λ (text : List ℕ). Begins (given ++ line ∷ []) (lines_of text))
+        (λ (text : List ℕ). Begins given (lines_of text) × (Begins (given ++ line ∷ []) (lines_of text) × IsSoundUpTo Lines (length given + 1) text)) left taken (λ text begins. (
+          begins_trans given (given ++ line ∷ []) (lines_of text) (begins_append given (line ∷ [])) begins,
+          (begins, within text begins),
+        )) (given_settled r left (given ++ line ∷ []) taken read);
+  },
+)
+  where
+    within : (text : List ℕ) → Begins (given ++ line ∷ []) (lines_of text) → IsSoundUpTo Lines (length given + 1) text
+    within text begins =
+        let front : take (length given + 1) (lines_of text) ≡ given ++ line ∷ [] =
+        ap (λ (m : ℕ). take m (lines_of text)) (omega (arith, length-append given (line ∷ []))) ∙ front_is (given ++ line ∷ []) (lines_of text) begins in
+        subst (AreWithin line_limit) (sym front) (subst (λ (m : ℕ). AreWithin m (given ++ line ∷ [])) read.limit read.has.within)
+
+module _ (Gave : List (List ℕ) → Type 0) (Stopped : Fault → List (List ℕ) → List ℕ → Type 0) (most : ℕ) where
+  -- a taker stopped at a unit, for this fault
+  pub taker_ends : (units : Units) (old new : Option (List ℕ)) (given : List (List ℕ)) (unit : List ℕ) (n : ℕ) (f : Fault) → n ≡ length given + 1 → IsOfTaker n f → Stopped f given unit →
+      ((Known : List (List ℕ) → List ℕ → Type 0) → Known given unit → StopsAt units most Known old new) → Ends units most Gave Stopped old new f
+  taker_ends units old new given unit n (fault.BadItem m) place of stopped stops = stops (λ given unit. (m ≡ length given + 1) × Stopped (fault.BadItem m) given unit) (of ∙ place, stopped)
+  taker_ends units old new given unit n fault.OutOfMemory place of stopped stops = inr (stops (Stopped fault.OutOfMemory) stopped)
+  taker_ends units old new given unit n fault.WriteFault place of stopped stops = stops (Stopped fault.WriteFault) stopped
+  taker_ends units old new given unit n _ place of stopped stops = absurd of
+
   -- the fault of the whole
-  pub ends_read : (units : Units) (old new : Option (List ℕ)) (f : Fault) (r : Result ℕ Fault) → IsErrAnd r (λ (x : Fault). x ≡ f) → Ends units most Gave Missed old new f → Reads units most Gave Missed old new r
+  pub ends_read : (units : Units) (old new : Option (List ℕ)) (f : Fault) (r : Result ℕ Fault) → IsErrAnd r (λ (x : Fault). x ≡ f) → Ends units most Gave Stopped old new f → Reads units most Gave Stopped old new r
   ends_read units old new f (Ok n) is ends = absurd is
-  ends_read units old new f (Err e) is ends = subst (λ (x : Fault). Ends units most Gave Missed old new x) (sym is) ends
+  ends_read units old new f (Err e) is ends = subst (λ (x : Fault). Ends units most Gave Stopped old new x) (sym is) ends
 
   -- no memory before the first read
-  pub nothing_came : (left : Option (List ℕ)) → Gave [] → Ends Lines most Gave Missed left left fault.OutOfMemory
-  nothing_came left gave = record {
+  pub nothing_came : (left : Option (List ℕ)) → Gave [] → Ends Lines most Gave Stopped left left fault.OutOfMemory
+  nothing_came left gave = inl (record {
     given = [];
     taken = [];
     consumed = Consumes-nil left;
@@ -40,11 +74,11 @@ module _ (Gave : List (List ℕ) → Type 0) (Missed : List (List ℕ) → List 
     in_time = nothing_read;
     known = gave;
     comes = inl (λ later. ((lines_of later, refl), All-nil (λ (l : List ℕ). length l ≤ line_limit)));
-  }
+  })
 
   -- no line came
   pub no_line : (r : Reading) (old left : Option (List ℕ)) (given : List (List ℕ)) (taken : List ℕ) (s : LineFault) → r.most ≡ most → Consumes old left taken → Gave given → Goes r left given taken (Err s) →
-      Ends Lines most Gave Missed old left (fault_by s)
+      Ends Lines most Gave Stopped old left (fault_by s)
   no_line r old left given taken stop.ReadFault is consumed gave goes = record {
     taken = taken;
     consumed = consumed;
@@ -70,31 +104,11 @@ module _ (Gave : List (List ℕ) → Type 0) (Missed : List (List ℕ) → List 
         (λ (text : List ℕ). Begins given (lines_of text) × ((n ≡ length given + 1) × IsFirstLong line_limit (length given) (lines_of text))) left taken (λ text first. (first.0, (goes.0, first.1))) goes.3;
   }
 
-  -- a line was no item
-  pub line_missed : (r : Reading) (old left : Option (List ℕ)) (given : List (List ℕ)) (line taken : List ℕ) (n : ℕ) → r.most ≡ most → Consumes old left taken → n ≡ length given + 1 → Missed given line →
-      HasRead r left (given ++ line ∷ []) taken → IsInTime Lines given taken → Ends Lines most Gave Missed old left (fault.BadItem n)
-  line_missed r old left given line taken n is consumed place missed read in_time = (
-    line,
-    record {
-      given = given;
-      taken = taken;
-      consumed = consumed;
-      size = omega (arith, read.has.count, read.bound, is);
-      in_time = in_time;
-      known = missed;
-      comes = settled_so (λ (text : List ℕ). Begins (given ++ line ∷ []) (lines_of text))
-          (λ (text : List ℕ). Begins given (lines_of text) × ((n ≡ length given + 1) × Begins (given ++ line ∷ []) (lines_of text) × IsSoundUpTo Lines n text)) left taken (λ text begins. (
-            begins_trans given (given ++ line ∷ []) (lines_of text) (begins_append given (line ∷ [])) begins,
-            (place, begins, within text begins),
-          )) (given_settled r left (given ++ line ∷ []) taken read);
-    },
-  )
-    where
-      within : (text : List ℕ) → Begins (given ++ line ∷ []) (lines_of text) → IsSoundUpTo Lines n text
-      within text begins =
-          let front : take n (lines_of text) ≡ given ++ line ∷ [] =
-          ap (λ (m : ℕ). take m (lines_of text)) (omega (arith, place, length-append given (line ∷ []))) ∙ front_is (given ++ line ∷ []) (lines_of text) begins in
-          subst (AreWithin line_limit) (sym front) (subst (λ (m : ℕ). AreWithin m (given ++ line ∷ [])) read.limit read.has.within)
+  -- a taker stopped at a line, for this fault
+  pub line_missed : (r : Reading) (old left : Option (List ℕ)) (given : List (List ℕ)) (line taken : List ℕ) (n : ℕ) (f : Fault) → r.most ≡ most → Consumes old left taken → n ≡ length given + 1 → IsOfTaker n f →
+      Stopped f given line → HasRead r left (given ++ line ∷ []) taken → IsInTime Lines given taken → Ends Lines most Gave Stopped old left f
+  line_missed r old left given line taken n f is consumed place of stopped read in_time =
+      taker_ends Lines old left given line n f place of stopped (λ (Known : List (List ℕ) → List ℕ → Type 0) known. line_stops Known most r old left given line taken is consumed known read in_time)
 
   -- the last line was given
   pub all_lines : (r : Reading) (old left : Option (List ℕ)) (given : List (List ℕ)) (taken : List ℕ) (n : ℕ) → r.most ≡ most → Consumes old left taken → Gave given → Goes r left given taken (Ok false) →

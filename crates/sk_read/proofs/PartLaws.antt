@@ -298,9 +298,7 @@ lacks_row p left rows taken more most fault.OutOfMemory held one going is size l
     ap records_of (append_assoc taken more later) ∙ held.has.follows (more ++ later) (λ over. absurd (false≢true (sym going ∙ over))),
   ),
 )
-lacks_row p left rows taken more most (fault.LongLine n) held one going is size lacks = absurd lacks
-lacks_row p left rows taken more most (fault.BadItem n) held one going is size lacks = absurd lacks
-lacks_row p left rows taken more most (fault.BadCsv n) held one going is size lacks = absurd lacks
+lacks_row p left rows taken more most _ held one going is size lacks = absurd lacks
 
 -- no byte came behind the first of a byte order mark
 pub lacks_mark : (p : Parts) (taken more : List ℕ) (most : ℕ) (f : Fault) → is_mark_front taken ≡ true → length taken ≤ 3 → length taken ≡ p.taken → most ≡ p.most → length more ≤ 1 → LacksBytes p more f →
@@ -316,9 +314,7 @@ lacks_mark p taken more most fault.OutOfMemory front small count is size lacks =
   rows_in_time [] taken more (none_complete taken front) (omega (arith, size)),
   λ later. (records_of ((taken ++ more) ++ later), refl),
 )
-lacks_mark p taken more most (fault.LongLine n) front small count is size lacks = absurd lacks
-lacks_mark p taken more most (fault.BadItem n) front small count is size lacks = absurd lacks
-lacks_mark p taken more most (fault.BadCsv n) front small count is size lacks = absurd lacks
+lacks_mark p taken more most _ front small count is size lacks = absurd lacks
 
 -- the first bytes
 pub first_in_time : (taken : List ℕ) → length taken ≤ 3 → AreInTime [] taken

@@ -18,9 +18,9 @@ use Rattle.sk_read.specs.declared.records.parts.Parts.{Parts}
 use Rattle.sk_read.specs.declared.units.Units.TheVariants.{Column}
 use Rattle.sk_read.specs.Parts.{HasTaken, HasHeld, AreInTime, Lacks, Refills}
 use Rattle.sk_read.specs.Scan.{state_after}
-use Rattle.sk_read.specs.Reads.{IsSettled, IsInTime, BreaksOff, Ends}
+use Rattle.sk_read.specs.Reads.{IsSettled, IsInTime, BreaksOff, StopsAt, Ends}
 use Rattle.sk_read.specs.Records.{Row, records_of, complete_records_of, field_of, fields_in, width_of, AreEven, AreSoundRows, IsUneven}
-use Rattle.sk_read.specs.Columns.{Breaks}
+use Rattle.sk_read.specs.Columns.{StopsBehind, EndsAt, Breaks}
 use Rattle.sk_read.specs.Units.{IsSoundUpTo, IsLongBehind, IsUnevenBehind}
 use Rattle.sk_read.proofs.ItemLaws.{front_is}
 use Rattle.sk_read.proofs.LineEnds.{settled_so}
@@ -181,9 +181,9 @@ uneven_behind column given all next begins sound why = record {
 
 -- ---- where the reading ended
 
-module _ (Gave : List (List ℕ) → Type 0) (Missed : List (List ℕ) → List ℕ → Type 0) (column most : ℕ) (old left : Option (List ℕ)) (taken : List ℕ) (consumed : Consumes old left taken) where
+module _ (Gave : List (List ℕ) → Type 0) (Stopped : Fault → List (List ℕ) → List ℕ → Type 0) (column most : ℕ) (old left : Option (List ℕ)) (taken : List ℕ) (consumed : Consumes old left taken) where
   abbrev E : Fault → Type 0
-  E f = Ends (Column column) most Gave Missed old left f
+  E f = Ends (Column column) most Gave Stopped old left f
 
   -- the reading broke off behind these records
   off : (Known : List (List ℕ) → Type 0) (Comes : List (List ℕ) → List ℕ → Type 0) (rows given : List Row) → length taken ≤ most → AreInTime rows taken → AreSoundRows column rows → Begins rows given →
@@ -215,28 +215,48 @@ module _ (Gave : List (List ℕ) → Type 0) (Missed : List (List ℕ) → List 
     sound = subst (AreSoundRows column) (sym lacks.0) sound;
     gave = subst (λ (l : List Row). Gave (fields_in column l)) (sym lacks.0) gave;
   }
-  no_row rows fault.OutOfMemory sound gave lacks =
+  no_row rows fault.OutOfMemory sound gave lacks = inl (
       off Gave (λ given text. IsSoundUpTo (Column column) (length given) text) rows rows lacks.0 lacks.1 sound ([], sym (append-nil rows)) gave (inl (λ later. (
         fields_begin column rows (records_of (taken ++ later)) (lacks.2 later),
         subst (AreSoundRows column) (sym (front_rows column (length (fields_in column rows)) rows (records_of (taken ++ later)) (length_fields column rows) (lacks.2 later))) sound,
-      )))
-  no_row rows (fault.LongLine n) sound gave lacks = absurd lacks
-  no_row rows (fault.BadItem n) sound gave lacks = absurd lacks
-  no_row rows (fault.BadCsv n) sound gave lacks = absurd lacks
+      ))))
+  no_row rows _ sound gave lacks = absurd lacks
+
+  -- a taker stopped at the field of one of some more records
+  stops_at : (rows more : List Row) (f : Fault) (Known : List (List ℕ) → List ℕ → Type 0) → length taken ≤ most → AreInTime rows taken → AreSoundRows column rows → IsSettled (λ (text : List ℕ). Begins (rows ++ more) (records_of text)) left taken →
+      (at : EndsAt column Gave Stopped rows more f) → StopsBehind column Stopped (rows ++ at.some) at.next f → Known (fields_in column (rows ++ at.some)) (field_of column at.next) → StopsAt (Column column) most Known old left
+  stops_at rows more f Known size in_time sound settled at behind known =
+      let given = rows ++ at.some in
+      let unit = field_of column at.next in
+      let place : length (fields_in column given) + 1 ≡ length (given ++ at.next ∷ []) = omega (arith, length_fields column given, length-append given (at.next ∷ [])) in (
+        unit,
+        off (λ given. Known given unit) (λ given text. Begins (given ++ unit ∷ []) (fields_in column (records_of text)) × IsSoundUpTo (Column column) (length given + 1) text) rows given size in_time sound (begins_append rows at.some) known
+            (settled_so (λ (text : List ℕ). Begins (rows ++ more) (records_of text))
+            (λ (text : List ℕ). Begins (fields_in column given) (fields_in column (records_of text)) × (Begins (fields_in column given ++ unit ∷ []) (fields_in column (records_of text)) × IsSoundUpTo (Column column) (length (fields_in column given) + 1) text)) left taken (λ text first.
+            let begins = reaches rows at.some more (records_of text) at.next at.begins first in (
+              fields_begin column given (records_of text) (begins_trans given (given ++ at.next ∷ []) (records_of text) (begins_append given (at.next ∷ [])) begins),
+              (
+                subst (λ (l : List (List ℕ)). Begins l (fields_in column (records_of text))) (fields_more column given at.next) (fields_begin column (given ++ at.next ∷ []) (records_of text) begins),
+                subst (AreSoundRows column) (sym (front_rows column (length (fields_in column given) + 1) (given ++ at.next ∷ []) (records_of text) place begins)) behind.0,
+              ),
+            )) settled),
+      )
 
   -- one of some more records was refused, or memory was wanting behind some of them
   pub broke : (rows more : List Row) (f : Fault) → length taken ≤ most → AreInTime rows taken → AreSoundRows column rows → IsSettled (λ (text : List ℕ). Begins (rows ++ more) (records_of text)) left taken →
-      Breaks column Gave Missed rows more f → E f
-  broke rows more fault.OutOfMemory size in_time sound settled breaks =
+      Breaks column Gave Stopped rows more f → E f
+  broke rows more fault.OutOfMemory size in_time sound settled (inl breaks) =
       let given = rows ++ breaks.some in
-      off Gave (λ given text. IsSoundUpTo (Column column) (length given) text) rows given size in_time sound (begins_append rows breaks.some) breaks.gave
+      inl (off Gave (λ given text. IsSoundUpTo (Column column) (length given) text) rows given size in_time sound (begins_append rows breaks.some) breaks.gave
       (settled_so (λ (text : List ℕ). Begins (rows ++ more) (records_of text)) (λ (text : List ℕ). Begins (fields_in column given) (fields_in column (records_of text)) × AreSoundRows column (take (length (fields_in column given)) (records_of text))) left taken (λ text first.
       let begins = begins_trans given (rows ++ more) (records_of text) (begins_under rows breaks.some more breaks.begins) first in (
         fields_begin column given (records_of text) begins,
         subst (AreSoundRows column) (sym (front_rows column (length (fields_in column given)) given (records_of text) (length_fields column given) begins)) breaks.sound,
-      )) settled)
-  broke rows more fault.ReadFault size in_time sound settled breaks = absurd breaks
-  broke rows more fault.TooMuch size in_time sound settled breaks = absurd breaks
+      )) settled))
+  broke rows more fault.OutOfMemory size in_time sound settled (inr breaks) = inr (stops_at rows more fault.OutOfMemory (Stopped fault.OutOfMemory) size in_time sound settled breaks breaks.refused breaks.refused.1)
+  broke rows more fault.WriteFault size in_time sound settled breaks = stops_at rows more fault.WriteFault (Stopped fault.WriteFault) size in_time sound settled breaks breaks.refused breaks.refused.1
+  broke rows more fault.ReadFault size in_time sound settled breaks = absurd breaks.refused
+  broke rows more fault.TooMuch size in_time sound settled breaks = absurd breaks.refused
   broke rows more (fault.LongLine n) size in_time sound settled breaks =
       let given = rows ++ breaks.some in
       let place : n ≡ length (fields_in column given) + 1 = omega (arith, breaks.refused.0, length_fields column given) in
@@ -256,22 +276,8 @@ module _ (Gave : List (List ℕ) → Type 0) (Missed : List (List ℕ) → List 
         (place, uneven_behind column given (records_of text) breaks.next begins breaks.sound breaks.refused.1),
       )) settled)
   broke rows more (fault.BadItem n) size in_time sound settled breaks =
-      let given = rows ++ breaks.some in
-      let unit = field_of column breaks.next in
-      let place : n ≡ length (fields_in column given) + 1 = omega (arith, breaks.refused.0, length_fields column given) in (
-        unit,
-        off (λ given. Missed given unit) (λ given text. (n ≡ length given + 1) × Begins (given ++ unit ∷ []) (fields_in column (records_of text)) × IsSoundUpTo (Column column) n text) rows given size in_time sound (begins_append rows breaks.some) breaks.refused.2
-            (settled_so (λ (text : List ℕ). Begins (rows ++ more) (records_of text))
-            (λ (text : List ℕ). Begins (fields_in column given) (fields_in column (records_of text)) × ((n ≡ length (fields_in column given) + 1) × Begins (fields_in column given ++ unit ∷ []) (fields_in column (records_of text)) × IsSoundUpTo (Column column) n text)) left taken (λ text first.
-            let begins = reaches rows breaks.some more (records_of text) breaks.next breaks.begins first in (
-              fields_begin column given (records_of text) (begins_trans given (given ++ breaks.next ∷ []) (records_of text) (begins_append given (breaks.next ∷ [])) begins),
-              (
-                place,
-                subst (λ (l : List (List ℕ)). Begins l (fields_in column (records_of text))) (fields_more column given breaks.next) (fields_begin column (given ++ breaks.next ∷ []) (records_of text) begins),
-                subst (AreSoundRows column) (sym (front_rows column n (given ++ breaks.next ∷ []) (records_of text) (omega (arith, breaks.refused.0, length-append given (breaks.next ∷ []))) begins)) breaks.refused.1,
-              ),
-            )) settled),
-      )
+      let place : n ≡ length (fields_in column (rows ++ breaks.some)) + 1 = omega (arith, breaks.refused.0, length_fields column (rows ++ breaks.some)) in
+      stops_at rows more (fault.BadItem n) (λ given unit. (n ≡ length given + 1) × Stopped (fault.BadItem n) given unit) size in_time sound settled breaks breaks.refused.1 (place, breaks.refused.1.1)
 
 -- what a refill leaves
 pub held_by : (p : Parts) (left : Option (List ℕ)) (rows : List Row) (taken : List ℕ) (b : Bool) → Refills p left rows taken (Ok b) → HasHeld p left rows taken

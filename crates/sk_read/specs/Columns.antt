@@ -19,25 +19,28 @@ pub record HasRows (t : ColumnReader) (Gave : List (List ℕ) → Type 0) (rows 
   pub sound : AreSoundRows t.column rows
   pub gave : Gave (fields_in t.column rows)
 
+-- the next record behind these is sound, and a taker stopped at its field, for this fault
+abbrev pub StopsBehind : ℕ → (Fault → List (List ℕ) → List ℕ → Type 0) → List Row → Row → Fault → Type 0
+StopsBehind column Stopped rows row fault = AreSoundRows column (rows ++ row ∷ []) × Stopped fault (fields_in column rows) (field_of column row)
+
 -- why the next record behind these is refused
-abbrev pub Refuses : ℕ → (List (List ℕ) → Type 0) → (List (List ℕ) → List ℕ → Type 0) → List Row → Row → Fault → Type 0
-Refuses column Gave Missed rows row (fault.BadCsv n) =
+abbrev pub Refuses : ℕ → (List (List ℕ) → Type 0) → (Fault → List (List ℕ) → List ℕ → Type 0) → List Row → Row → Fault → Type 0
+Refuses column Gave Stopped rows row (fault.BadCsv n) =
     (n ≡ length rows + 1) × ((length row ≢ width_of (rows ++ row ∷ [])) ⊎ (length row ≤ column)) × Gave (fields_in column rows)
-Refuses column Gave Missed rows row (fault.LongLine n) =
+Refuses column Gave Stopped rows row (fault.LongLine n) =
     (n ≡ length rows + 1) × AreEven column (rows ++ row ∷ []) × (line_limit < length (field_of column row)) × Gave (fields_in column rows)
-Refuses column Gave Missed rows row (fault.BadItem n) =
-    (n ≡ length rows + 1) × AreSoundRows column (rows ++ row ∷ []) × Missed (fields_in column rows) (field_of column row)
-Refuses column Gave Missed rows row fault.OutOfMemory = ⊥
-Refuses column Gave Missed rows row fault.ReadFault = ⊥
-Refuses column Gave Missed rows row fault.TooMuch = ⊥
+Refuses column Gave Stopped rows row (fault.BadItem n) = (n ≡ length rows + 1) × StopsBehind column Stopped rows row (fault.BadItem n)
+Refuses column Gave Stopped rows row fault.OutOfMemory = StopsBehind column Stopped rows row fault.OutOfMemory
+Refuses column Gave Stopped rows row fault.WriteFault = StopsBehind column Stopped rows row fault.WriteFault
+Refuses column Gave Stopped rows row _ = ⊥
 
 -- behind these records, the first of some more that is refused, by this fault
-pub record EndsAt (column : ℕ) (Gave : List (List ℕ) → Type 0) (Missed : List (List ℕ) → List ℕ → Type 0) (rows more : List Row) (fault : Fault) : Type 0 where
+pub record EndsAt (column : ℕ) (Gave : List (List ℕ) → Type 0) (Stopped : Fault → List (List ℕ) → List ℕ → Type 0) (rows more : List Row) (fault : Fault) : Type 0 where
   pub some : List Row
   pub next : Row
   pub begins : Begins (some ++ next ∷ []) more
   pub sound : AreSoundRows column (rows ++ some)
-  pub refused : Refuses column Gave Missed (rows ++ some) next fault
+  pub refused : Refuses column Gave Stopped (rows ++ some) next fault
 
 -- behind these records some of these were given
 pub record GivesSome (column : ℕ) (Gave : List (List ℕ) → Type 0) (rows more : List Row) : Type 0 where
@@ -46,11 +49,7 @@ pub record GivesSome (column : ℕ) (Gave : List (List ℕ) → Type 0) (rows mo
   pub sound : AreSoundRows column (rows ++ some)
   pub gave : Gave (fields_in column (rows ++ some))
 
--- how the taking of some more records ended: at one that is refused, or for want of memory
-abbrev pub Breaks : ℕ → (List (List ℕ) → Type 0) → (List (List ℕ) → List ℕ → Type 0) → List Row → List Row → Fault → Type 0
-Breaks column Gave Missed rows more fault.OutOfMemory = GivesSome column Gave rows more
-Breaks column Gave Missed rows more fault.ReadFault = ⊥
-Breaks column Gave Missed rows more fault.TooMuch = ⊥
-Breaks column Gave Missed rows more (fault.LongLine n) = EndsAt column Gave Missed rows more (fault.LongLine n)
-Breaks column Gave Missed rows more (fault.BadItem n) = EndsAt column Gave Missed rows more (fault.BadItem n)
-Breaks column Gave Missed rows more (fault.BadCsv n) = EndsAt column Gave Missed rows more (fault.BadCsv n)
+-- how the taking of some more records ended: at one that is refused, or for want of memory behind some
+abbrev pub Breaks : ℕ → (List (List ℕ) → Type 0) → (Fault → List (List ℕ) → List ℕ → Type 0) → List Row → List Row → Fault → Type 0
+Breaks column Gave Stopped rows more fault.OutOfMemory = GivesSome column Gave rows more ⊎ EndsAt column Gave Stopped rows more fault.OutOfMemory
+Breaks column Gave Stopped rows more other = EndsAt column Gave Stopped rows more other

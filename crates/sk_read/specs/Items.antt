@@ -1,11 +1,13 @@
 -- How lines become items.
-use Rattle.std.specs.Prelude.{ℕ, ◌-◌, ◌<◌, List, length, take, All, Option, Some, IsSome, IsNone, unwrap_or}
+use Rattle.std.specs.Prelude.{◌≡◌, ℕ, ◌+◌, ◌-◌, ◌<◌, List, length, take, All, Option, Some, IsSome, IsNone, unwrap_or}
 use Rattle.sk_model.specs.Murmur.{hash_of}
 use Rattle.sk_model.specs.Numbers.{number_of}
 use Rattle.sk_model.specs.Lines.{open_lines_of, items_of}
 use Rattle.sk_read.specs.declared.kind.Kind.{Kind}
 use Rattle.sk_read.specs.declared.kind.Kind.TheVariants.{Hash, Raw}
 use Rattle.sk_model.specs.Width.{item_end}
+use Rattle.sk_read.specs.declared.fault.Fault.{Fault}
+use Rattle.sk_read.specs.declared.fault.Fault.TheVariants.{BadItem}
 
 -- the item of a line that is not empty, where it is one
 abbrev pub item_of : Kind → List ℕ → Option ℕ
@@ -24,9 +26,10 @@ IsGood kind line = 0 < length line → IsSome (item_of kind line)
 abbrev pub Gave : Kind → (List ℕ → Type 0) → List (List ℕ) → Type 0
 Gave kind Stands units = All (IsGood kind) units × Stands (items_by kind units)
 
--- behind such units comes one that is neither
-abbrev pub Missed : Kind → (List ℕ → Type 0) → List (List ℕ) → List ℕ → Type 0
-Missed kind Stands given unit = Gave kind Stands given × (0 < length unit) × IsNone (item_of kind unit)
+-- behind such units comes one that is neither, and is refused by its number, counted from 1
+abbrev pub Missed : Kind → (List ℕ → Type 0) → Fault → List (List ℕ) → List ℕ → Type 0
+Missed kind Stands fault given unit =
+    (fault ≡ BadItem (length given + 1)) × Gave kind Stands given × (0 < length unit) × IsNone (item_of kind unit)
 
 -- the lines of a text that may go on which LF has ended
 abbrev pub complete_lines_of : List ℕ → List (List ℕ)

@@ -86,18 +86,14 @@ abbrev pub LacksBytes : Parts → List ℕ → Fault → Type 0
 LacksBytes old more fault.ReadFault = (more ≡ []) × (old.taken < old.most)
 LacksBytes old more fault.TooMuch = (more ≡ []) × (old.taken ≡ old.most)
 LacksBytes old more fault.OutOfMemory = old.taken + length more ≤ old.most
-LacksBytes old more (fault.LongLine n) = ⊥
-LacksBytes old more (fault.BadItem n) = ⊥
-LacksBytes old more (fault.BadCsv n) = ⊥
+LacksBytes old more _ = ⊥
 
 -- why no record came behind these, where these bytes were taken
 abbrev pub Lacks : ℕ → List Row → List ℕ → Fault → Type 0
 Lacks most rows taken fault.ReadFault = (complete_records_of taken ≡ rows) × (length taken < most)
 Lacks most rows taken fault.TooMuch = (complete_records_of taken ≡ rows) × (length taken ≡ most)
 Lacks most rows taken fault.OutOfMemory = (length taken ≤ most) × AreInTime rows taken × ((later : List ℕ) → Begins rows (records_of (taken ++ later)))
-Lacks most rows taken (fault.LongLine n) = ⊥
-Lacks most rows taken (fault.BadItem n) = ⊥
-Lacks most rows taken (fault.BadCsv n) = ⊥
+Lacks most rows taken _ = ⊥
 
 -- how a call of `refill` went behind these records: a whole record is held, or the source has ended
 abbrev pub Refills : Parts → Option (List ℕ) → List Row → List ℕ → Result Bool Fault → Type 0

@@ -4,7 +4,7 @@ use Rattle.std.specs.Io.KnownBytes.{Consumes, IsAtEnd}
 use Rattle.sk_model.specs.Missing.{Begins}
 use Rattle.sk_read.specs.declared.units.Units.{Units}
 use Rattle.sk_read.specs.declared.fault.Fault.{Fault}
-use Rattle.sk_read.specs.declared.fault.Fault.TheVariants.{OutOfMemory, ReadFault, LongLine, BadItem, BadCsv, TooMuch}
+use Rattle.sk_read.specs.declared.fault.Fault.TheVariants.{OutOfMemory, ReadFault, LongLine, BadItem, BadCsv, TooMuch, WriteFault}
 use Rattle.sk_read.specs.Units.{units_of, complete_units_of, IsSound, IsSoundUpTo, IsSoundSoFar, IsLongBehind, IsUnevenBehind}
 
 -- one read takes at most so many bytes
@@ -53,16 +53,22 @@ pub record BreaksOff (units : Units) (most : ℕ) (Known : List (List ℕ) → T
   pub known : Known given
   pub comes : IsSettled (λ text. Begins given (units_of units text) × Comes given text) new taken
 
--- why it ended before the source
-abbrev pub Ends : Units → ℕ → (List (List ℕ) → Type 0) → (List (List ℕ) → List ℕ → Type 0) → Option (List ℕ) → Option (List ℕ) → Fault → Type 0
-Ends units most Gave Missed old new OutOfMemory = BreaksOff units most Gave (λ given text. IsSoundUpTo units (length given) text) old new
-Ends units most Gave Missed old new ReadFault = ReadsSome units (λ size. size < most) Gave old new
-Ends units most Gave Missed old new TooMuch = ReadsSome units (λ size. size ≡ most) Gave old new
-Ends units most Gave Missed old new (LongLine n) = BreaksOff units most Gave (λ given text. (n ≡ length given + 1) × IsLongBehind units (length given) text) old new
-Ends units most Gave Missed old new (BadCsv n) = BreaksOff units most Gave (λ given text. (n ≡ length given + 1) × IsUnevenBehind units (length given) text) old new
-Ends units most Gave Missed old new (BadItem n) = (unit : List ℕ) × BreaksOff units most (λ given. Missed given unit)
-    (λ given text. (n ≡ length given + 1) × Begins (given ++ unit ∷ []) (units_of units text) × IsSoundUpTo units n text) old new
+-- the reading broke off at the unit behind those given, at which the taker stopped: up to it all are sound
+abbrev pub StopsAt : Units → ℕ → (List (List ℕ) → List ℕ → Type 0) → Option (List ℕ) → Option (List ℕ) → Type 0
+StopsAt units most Stopped old new = (unit : List ℕ) × BreaksOff units most (λ given. Stopped given unit)
+    (λ given text. Begins (given ++ unit ∷ []) (units_of units text) × IsSoundUpTo units (length given + 1) text) old new
 
--- how the reading went, where a taker was given these units, or missed one behind those given
-abbrev pub Reads : Units → ℕ → (List (List ℕ) → Type 0) → (List (List ℕ) → List ℕ → Type 0) → Option (List ℕ) → Option (List ℕ) → Result ℕ Fault → Type 0
-Reads units most Gave Missed old new result = MatchResult result (λ n. ReadsAll units most n Gave old new) (λ fault. Ends units most Gave Missed old new fault)
+-- why it ended before the source
+abbrev pub Ends : Units → ℕ → (List (List ℕ) → Type 0) → (Fault → List (List ℕ) → List ℕ → Type 0) → Option (List ℕ) → Option (List ℕ) → Fault → Type 0
+Ends units most Gave Stopped old new OutOfMemory =
+    BreaksOff units most Gave (λ given text. IsSoundUpTo units (length given) text) old new ⊎ StopsAt units most (Stopped OutOfMemory) old new
+Ends units most Gave Stopped old new ReadFault = ReadsSome units (λ size. size < most) Gave old new
+Ends units most Gave Stopped old new TooMuch = ReadsSome units (λ size. size ≡ most) Gave old new
+Ends units most Gave Stopped old new (LongLine n) = BreaksOff units most Gave (λ given text. (n ≡ length given + 1) × IsLongBehind units (length given) text) old new
+Ends units most Gave Stopped old new (BadCsv n) = BreaksOff units most Gave (λ given text. (n ≡ length given + 1) × IsUnevenBehind units (length given) text) old new
+Ends units most Gave Stopped old new (BadItem n) = StopsAt units most (λ given unit. (n ≡ length given + 1) × Stopped (BadItem n) given unit) old new
+Ends units most Gave Stopped old new WriteFault = StopsAt units most (Stopped WriteFault) old new
+
+-- how the reading went, where a taker was given these units, or stopped for a fault at one behind them
+abbrev pub Reads : Units → ℕ → (List (List ℕ) → Type 0) → (Fault → List (List ℕ) → List ℕ → Type 0) → Option (List ℕ) → Option (List ℕ) → Result ℕ Fault → Type 0
+Reads units most Gave Stopped old new result = MatchResult result (λ n. ReadsAll units most n Gave old new) (λ fault. Ends units most Gave Stopped old new fault)

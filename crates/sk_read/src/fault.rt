@@ -22,6 +22,8 @@ pub enum Fault {
     BadCsv(u64),
     /// As many bytes were taken as are too much.
     TooMuch,
+    /// Who takes the units could not write.
+    WriteFault,
 }
 
 impl From<OutOfMemory> for Fault {

@@ -40,11 +40,7 @@ fn read(
 fn intake(kind: Kind, column: u32) -> Intake
     ensures { result.most ≤ source_limit }
 {
-    Intake {
-        kind,
-        column,
-        most: 1 << 40,
-    }
+    Intake::of_items(kind, column, 1 << 40)
 }
 
 // In pieces of several lengths, the column has these fields that are not empty, in so many records.

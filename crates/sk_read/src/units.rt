@@ -1,10 +1,13 @@
 // What a source is read into, and who takes that.
-ghost use Rattle.std.specs.Prelude.{◌≡◌, ◌≤◌, ◌<◌, ℕ, List, [], ◌∷◌, ◌++◌, OnOk, OnErr, IfErr, length};
+ghost use Rattle.std.specs.Prelude.{◌≡◌, ◌≤◌, ◌+◌, ℕ, List, [], ◌∷◌, ◌++◌, OnOk, IfErr, length};
 ghost use Rattle.sk_model.specs.Causes.{HasCauseIn};
-ghost use Rattle.sk_model.specs.Limits.{source_limit, most_kept};
+ghost use Rattle.sk_model.specs.Limits.{line_limit, source_limit, most_kept};
+ghost use Rattle.sk_read.specs.Faults.{IsOfTaker};
 ghost use Rattle.sk_read.specs.Reads.{Reads};
 ghost use Rattle.sk_read.specs.Standing.{Standing};
 ghost use Rattle.sk_read.specs.Units.{units_by};
+ghost use Rattle.sk_read.specs.declared.fault.Fault.{Fault};
+ghost use Rattle.sk_read.specs.declared.fault.Fault.TheVariants as fault;
 
 use crate::fault::Fault;
 use crate::lines::read_lines;
@@ -35,21 +38,26 @@ impl Units {
 
 /// Who takes units, one after another, and may stop at one.
 pub trait UnitTaker {
-    /// The lists of units that it was given.
-    ghost gave: { Self → List (List ℕ) → Type 0 };
+    /// From one state to another it was given these units, in order.
+    ghost went: { Self → Self → List (List ℕ) → Type 0 };
 
-    /// The lists of units that it was given, and the next one, which it did not take.
-    ghost missed: { Self → List (List ℕ) → List ℕ → Type 0 };
+    /// From one state to another it was given these units, and stopped at the next one, for this fault.
+    ghost stopped: { Self → Self → Fault → List (List ℕ) → List ℕ → Type 0 };
 
     /// What no `take` changes.
     ghost stands_on: { Self → Standing };
 
-    /// Takes the unit of this number, counted from 1, behind those that it was given.
+    /// Takes the unit of this number, counted from 1, behind those that it was given. After an error
+    /// it is not used again.
     fn take(&mut self, unit: &[u8], number: u64) -> Result<(), Fault>
-        requires room { (units : List (List ℕ)) × (length units < most_kept) × gave self.old units }
-        ensures gave { OnOk result ((units : List (List ℕ)) → length units < most_kept → gave self.old units → gave self.new (units ++ unit.now ∷ [])) }
-        ensures missed { OnErr result ((units : List (List ℕ)) → gave self.old units → missed self.new units unit.now) }
-        ensures err { IfErr result (λ fault. fault ≡ Fault.BadItem number) }
+        requires short { length unit.now ≤ line_limit }
+        requires room { number ≤ most_kept }
+        requires behind { (start : _) × (units : List (List ℕ)) × (length units + 1 ≡ number) × went start self.old units }
+        ensures went { OnOk result ((start : _) (units : List (List ℕ)) → length units + 1 ≡ number → went start self.old units
+            → went start self.new (units ++ unit.now ∷ [])) }
+        ensures stopped { IfErr result (λ why. (start : _) (units : List (List ℕ)) → length units + 1 ≡ number → went start self.old units
+            → stopped start self.new why units unit.now) }
+        ensures fault { IfErr result (IsOfTaker number) }
         ensures stays { stands_on self.new ≡ stands_on self.old };
 }
 
@@ -63,9 +71,9 @@ pub fn read_units<S: Source, T: UnitTaker>(
     taker: &mut T,
 ) -> Result<u64, Fault>
     requires bound { most ≤ source_limit }
-    requires empty { T.gave taker.old [] }
-    ensures read { Reads units most (T.gave taker.new) (T.missed taker.new) (S.left source.old) (S.left source.new) result }
-    ensures cause { HasCauseIn Fault.ReadFault (S.faults source.old) (S.faults source.new) result }
+    requires start { T.went taker.old taker.old [] }
+    ensures read { Reads units most (T.went taker.old taker.new) (T.stopped taker.old taker.new) (S.left source.old) (S.left source.new) result }
+    ensures cause { HasCauseIn fault.ReadFault (S.faults source.old) (S.faults source.new) result }
     ensures stays { S.stands_on source.new ≡ S.stands_on source.old }
     ensures taker { T.stands_on taker.new ≡ T.stands_on taker.old }
 {

@@ -52,10 +52,10 @@ impl ColumnReader {
         taker: &mut T,
     ) -> Result<(), Fault>
         requires plain { strip_bom text.now ≡ text.now }
-        requires room { (rows : List Row) × (length rows + length (records default_config text.now) ≤ most_kept) × HasRows self.old (T.gave taker.old) rows }
-        ensures goes { (rows : List Row) → length rows + length (records default_config text.now) ≤ most_kept → HasRows self.old (T.gave taker.old) rows
-            → MatchResult result (λ _. HasRows self.new (T.gave taker.new) (rows ++ records default_config text.now))
-            (λ fault. Breaks self.old.column (T.gave taker.new) (T.missed taker.new) rows (records default_config text.now) fault) }
+        requires room { (start : _) × (rows : List Row) × (length rows + length (records default_config text.now) ≤ most_kept) × HasRows self.old (T.went start taker.old) rows }
+        ensures goes { (start : _) (rows : List Row) → length rows + length (records default_config text.now) ≤ most_kept → HasRows self.old (T.went start taker.old) rows
+            → MatchResult result (λ _. HasRows self.new (T.went start taker.new) (rows ++ records default_config text.now))
+            (λ fault. Breaks self.old.column (T.went start taker.new) (T.stopped start taker.new) rows (records default_config text.now) fault) }
         ensures column { self.new.column ≡ self.old.column }
         ensures taker { T.stands_on taker.new ≡ T.stands_on taker.old }
     {
@@ -69,10 +69,10 @@ impl ColumnReader {
 
     // Gives the field of one record to the taker.
     fn give_record<T: UnitTaker>(&mut self, row: &ByteRecord, taker: &mut T) -> Result<(), Fault>
-        requires room { (rows : List Row) × (length rows < most_kept) × HasRows self.old (T.gave taker.old) rows }
-        ensures goes { (rows : List Row) → length rows < most_kept → HasRows self.old (T.gave taker.old) rows
-            → MatchResult result (λ _. HasRows self.new (T.gave taker.new) (rows ++ fields_of row.now ∷ []))
-            (λ fault. Refuses self.old.column (T.gave taker.new) (T.missed taker.new) rows (fields_of row.now) fault) }
+        requires room { (start : _) × (rows : List Row) × (length rows < most_kept) × HasRows self.old (T.went start taker.old) rows }
+        ensures goes { (start : _) (rows : List Row) → length rows < most_kept → HasRows self.old (T.went start taker.old) rows
+            → MatchResult result (λ _. HasRows self.new (T.went start taker.new) (rows ++ fields_of row.now ∷ []))
+            (λ fault. Refuses self.old.column (T.went start taker.new) (T.stopped start taker.new) rows (fields_of row.now) fault) }
         ensures column { self.new.column ≡ self.old.column }
         ensures taker { T.stands_on taker.new ≡ T.stands_on taker.old }
     {

@@ -5,11 +5,11 @@ use Rattle.sk_read.specs.declared.units.Units.{Units}
 use Rattle.sk_read.specs.Items.{Gave, Missed}
 use Rattle.sk_read.specs.Reads.{Reads}
 use Rattle.sk_read.specs.Standing.{Standing}
-use Rattle.sk_read.proofs.ItemLaws.{gave_none}
+use Rattle.sk_read.proofs.ItemLaws.{gave_none, no_write}
 use Rattle.sk_read.proofs.items.read_items.Goals as goal
 
-pub read_units-requires-clause-empty : goal.read_units-requires-clause-empty
-read_units-requires-clause-empty g c = gave_none c.args.intake.now.kind (g.T.Taker.stands_for c.args.taker.now) c.requires.empty
+pub read_units-requires-clause-start : goal.read_units-requires-clause-start
+read_units-requires-clause-start g c = gave_none c.args.intake.now.kind (g.T.Taker.stands_for c.args.taker.now) c.requires.empty
 
 same_kind : (k l : Kind) → Some k ≡ Some l → k ≡ l
 same_kind k l same = cc
@@ -25,3 +25,9 @@ pub returns-clause-read : goal.returns-clause-read
 returns-clause-read g c =
     let kind : c.read_units.new.taker.kind ≡ c.args.intake.now.kind = same_kind _ _ (ap (λ (s : Standing). s.kind) c.read_units.ensures.taker) in
     under _ _ _ _ _ _ g.T.Taker.stands_for _ _ _ _ c.of-units.ensures kind (search rules) c.read_units.ensures.read
+
+pub returns-clause-writes_nothing : goal.returns-clause-writes_nothing
+returns-clause-writes_nothing g c =
+    let taker = c.read_units.new.taker in
+    no_write taker.kind (g.T.Taker.stands_for taker.taker.now) c.of-units.result c.args.intake.now.most (g.S.Source.left c.args.source.now) (g.S.Source.left c.read_units.new.source) c.read_units.result
+    c.read_units.ensures.read

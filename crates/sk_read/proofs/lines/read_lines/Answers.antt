@@ -1,15 +1,15 @@
-use Rattle.std.proofs.Common.{◌≡◌, ◌<◌, ◌+◌, ℕ, List, ◌++◌, ◌∷◌, [], length, Ok, Err, IsErrAnd, Bool, true, false, refl, ap, ◌∙◌, subst, arith, length-append}
+use Rattle.std.proofs.Common.{◌≡◌, ◌<◌, ◌≤◌, ◌+◌, ℕ, List, ◌++◌, ◌∷◌, [], length, Ok, Err, Bool, true, false, refl, sym, ap, ◌∙◌, subst, arith, length-append}
 use Rattle.std.specs.Io.KnownBytes.{Consumes}
 use Rattle.std.proofs.KnownBytes.{Consumes-nil, Consumes-trans}
-use Rattle.sk_model.specs.Limits.{source_limit}
-use Rattle.sk_read.specs.declared.fault.Fault.{Fault}
+use Rattle.sk_model.specs.Limits.{line_limit, source_limit}
 use Rattle.sk_read.specs.declared.fault.Fault.TheVariants as fault
 use Rattle.sk_read.specs.Faults.{fault_by}
 use Rattle.sk_read.specs.Reading.{Goes, HasRead}
 use Rattle.sk_read.specs.Reads.{IsInTime}
 use Rattle.sk_read.specs.declared.units.Units.TheVariants.{Lines}
 use Rattle.sk_read.proofs.CauseLaws.{steady_ok}
-use Rattle.sk_read.proofs.ItemLaws.{has_few}
+use Rattle.sk_read.proofs.FaultLaws.{given_fault, no_read_fault}
+use Rattle.sk_read.proofs.ItemLaws.{has_few, last_within}
 use Rattle.sk_read.proofs.LineEnds.{ends_read, nothing_came, no_line, line_missed, all_lines}
 use Rattle.sk_read.proofs.lines.read_lines.Given.{Over}
 use Rattle.sk_read.proofs.lines.read_lines.Goals.{In_ok-next}
@@ -31,13 +31,24 @@ room g c is =
     let few = has_few c.next.new.self _ _ read.has in
     omega (arith, few, read.has.count, read.bound, read.few, length-append inv.given (c.next.new.self.cutter.line ∷ []))
 
+-- its number
+numbered : (g : Over) (c : In_ok-next g) → c.in_ok-next.field-0 ≡ true → (n : ℕ) → n ≡ c.next.new.self.cutter.number → n ≡ length c.line.invariant.given + 1
+numbered g c is n count =
+    let given = c.line.invariant.given in
+    omega (arith, count, (next_line g c is).2.0.has.number, room g c is, length-append given (c.next.new.self.cutter.line ∷ []))
+
+short : (g : Over) (c : In_ok-next g) → c.in_ok-next.field-0 ≡ true → length c.next.new.self.cutter.line ≤ line_limit
+short g c is =
+    let read = (next_line g c is).2.0 in
+    subst (λ (m : ℕ). length c.next.new.self.cutter.line ≤ m) read.limit (last_within c.next.new.self.cutter.limit c.line.invariant.given c.next.new.self.cutter.line read.has.within)
+
 pub returns-in_err-reader-clause-read : goal.returns-in_err-reader-clause-read
 returns-in_err-reader-clause-read g c =
     let left = g.S.Source.left c.args.source.now in
-    let Gave = g.T.UnitTaker.gave c.args.taker.now in
-    let Missed = g.T.UnitTaker.missed c.args.taker.now in
-    ends_read Gave Missed c.args.most Lines left left fault.OutOfMemory c.from_residual.result c.from_residual.ensures.1
-    (nothing_came Gave Missed c.args.most left c.requires.empty)
+    let Gave = g.T.UnitTaker.went c.args.taker.now c.args.taker.now in
+    let Stopped = g.T.UnitTaker.stopped c.args.taker.now c.args.taker.now in
+    ends_read Gave Stopped c.args.most Lines left left fault.OutOfMemory c.from_residual.result c.from_residual.ensures.1
+    (nothing_came Gave Stopped c.args.most left c.requires.start)
 
 pub line-init : goal.line-init
 line-init g c = record {
@@ -45,7 +56,7 @@ line-init g c = record {
   taken = [];
   read = c.in_ok-reader.ensures.read (g.S.Source.left c.args.source.now);
   consumed = Consumes-nil (g.S.Source.left c.args.source.now);
-  gave = c.requires.empty;
+  gave = c.requires.start;
   most = c.in_ok-reader.ensures.most;
   steady = refl;
   stays = refl;
@@ -57,32 +68,39 @@ returns-in_err-next-clause-read g c =
     let inv = c.line.invariant in
     let old = g.S.Source.left c.args.source.now in
     let left = g.S.Source.left c.next.new.source in
-    let Gave = g.T.UnitTaker.gave c.line.taker in
-    let Missed = g.T.UnitTaker.missed c.line.taker in
+    let Gave = g.T.UnitTaker.went c.args.taker.now c.line.taker in
+    let Stopped = g.T.UnitTaker.stopped c.args.taker.now c.line.taker in
     let s = c.in_err-next.field-0.0 in
     let next = c.next.ensures.goes inv.given inv.taken inv.read in
     let goes : Goes c.next.new.self left inv.given (inv.taken ++ next.0) (Err s) = subst (Goes c.next.new.self left inv.given (inv.taken ++ next.0)) c.in_err-next.was next.2 in
-    ends_read Gave Missed c.args.most Lines old left (fault_by s) c.from_residual-in_err-next.result c.from_residual-in_err-next.ensures.1
-    (no_line Gave Missed c.args.most c.next.new.self old left inv.given (inv.taken ++ next.0) s (c.next.ensures.most ∙ inv.most)
+    ends_read Gave Stopped c.args.most Lines old left (fault_by s) c.from_residual-in_err-next.result c.from_residual-in_err-next.ensures.1
+    (no_line Gave Stopped c.args.most c.next.new.self old left inv.given (inv.taken ++ next.0) s (c.next.ensures.most ∙ inv.most)
     (Consumes-trans _ _ _ _ _ inv.consumed next.1) inv.gave goes)
 
 pub take-requires : goal.take-requires
 take-requires g c =
     let inv = c.line.invariant in
-    record { room = (inv.given, room g (goal.at.take-requires g c).In_ok-next c.if-branch.true, inv.gave) }
+    let at = (goal.at.take-requires g c).In_ok-next in
+    let few = room g at c.if-branch.true in
+    let place = numbered g at c.if-branch.true c.number.result c.number.ensures in
+    record {
+      short = subst (λ (l : List ℕ). length l ≤ line_limit) (sym c.line-in-line.ensures) (short g at c.if-branch.true);
+      room = omega (arith, place, few);
+      behind = (c.args.taker.now, inv.given, sym place, inv.gave);
+    }
 
 pub line-preserved : goal.line-preserved
 line-preserved g c =
     let inv = c.line.invariant in
     let at = (goal.at.line-preserved g c).In_ok-next in
     let next = next_line g at c.if-branch.true in
-    let gave = c.in_ok-take.ensures.gave inv.given (room g at c.if-branch.true) inv.gave in
+    let gave = c.in_ok-take.ensures.went c.args.taker.now inv.given (sym (numbered g at c.if-branch.true c.number.result c.number.ensures)) inv.gave in
     record {
       given = inv.given ++ c.next.new.self.cutter.line ∷ [];
       taken = inv.taken ++ next.0;
       read = next.2.0;
       consumed = Consumes-trans _ _ _ _ _ inv.consumed next.1;
-      gave = subst (λ (l : List ℕ). g.T.UnitTaker.gave c.take.new.self (inv.given ++ l ∷ [])) c.line-in-line.ensures gave;
+      gave = subst (λ (l : List ℕ). g.T.UnitTaker.went c.args.taker.now c.take.new.self (inv.given ++ l ∷ [])) c.line-in-line.ensures gave;
       most = c.next.ensures.most ∙ inv.most;
       steady = steady_ok _ _ _ _ _ c.next.ensures.cause c.in_ok-next.was ∙ inv.steady;
       stays = c.next.ensures.stays ∙ inv.stays;
@@ -94,28 +112,33 @@ returns-in_err-take-clause-read g c =
     let inv = c.line.invariant in
     let old = g.S.Source.left c.args.source.now in
     let left = g.S.Source.left c.next.new.source in
-    let Gave = g.T.UnitTaker.gave c.take.new.self in
-    let Missed = g.T.UnitTaker.missed c.take.new.self in
+    let Gave = g.T.UnitTaker.went c.args.taker.now c.take.new.self in
+    let Stopped = g.T.UnitTaker.stopped c.args.taker.now c.take.new.self in
     let own = c.next.new.self.cutter.line in
     let at = (goal.at.returns-in_err-take-clause-read g c).In_ok-next in
     let next = next_line g at c.if-branch.true in
-    let few = room g at c.if-branch.true in
     let n = c.number.result in
-    let place : n ≡ length inv.given + 1 = omega (arith, c.number.ensures, next.2.0.has.number, few, length-append inv.given (own ∷ [])) in
-    let missed : Missed inv.given own = subst (Missed inv.given) c.line-in-line.ensures (c.in_err-take.ensures.missed inv.given inv.gave) in
-    ends_read Gave Missed c.args.most Lines old left (fault.BadItem n) c.from_residual-in_err-take.result
-    (subst (λ (f : Fault). IsErrAnd c.from_residual-in_err-take.result (λ (x : Fault). x ≡ f)) c.in_err-take.ensures.err c.from_residual-in_err-take.ensures.1)
-    (line_missed Gave Missed c.args.most c.next.new.self old left inv.given own (inv.taken ++ next.0) n (c.next.ensures.most ∙ inv.most)
-    (Consumes-trans _ _ _ _ _ inv.consumed next.1) place missed next.2.0 next.2.1)
+    let f = c.in_err-take.field-0.0 in
+    let place = numbered g at c.if-branch.true n c.number.ensures in
+    let stopped : Stopped f inv.given own = subst (Stopped f inv.given) c.line-in-line.ensures (c.in_err-take.ensures.stopped c.args.taker.now inv.given (sym place) inv.gave) in
+    ends_read Gave Stopped c.args.most Lines old left f c.from_residual-in_err-take.result c.from_residual-in_err-take.ensures.1
+    (line_missed Gave Stopped c.args.most c.next.new.self old left inv.given own (inv.taken ++ next.0) n f (c.next.ensures.most ∙ inv.most)
+    (Consumes-trans _ _ _ _ _ inv.consumed next.1) place c.in_err-take.ensures.fault stopped next.2.0 next.2.1)
+
+pub returns-in_err-take-clause-cause : goal.returns-in_err-take-clause-cause
+returns-in_err-take-clause-cause g c = record {
+  steady = λ _. steady_ok _ _ _ _ _ c.next.ensures.cause c.in_ok-next.was ∙ c.line.invariant.steady;
+  failed = λ is. absurd (no_read_fault _ _ c.in_err-take.ensures.fault (given_fault _ c.in_err-take.field-0.0 _ c.from_residual-in_err-take.ensures.1 is));
+}
 
 pub returns-clause-read : goal.returns-clause-read
 returns-clause-read g c =
     let inv = c.line.invariant in
-    let Gave = g.T.UnitTaker.gave c.line.taker in
-    let Missed = g.T.UnitTaker.missed c.line.taker in
+    let Gave = g.T.UnitTaker.went c.args.taker.now c.line.taker in
+    let Stopped = g.T.UnitTaker.stopped c.args.taker.now c.line.taker in
     let left = g.S.Source.left c.next.new.source in
     let none : c.next.result ≡ Ok false = c.in_ok-next.was ∙ ap (λ (b : Bool). Ok b) c.if-branch.false in
     let next = c.next.ensures.goes inv.given inv.taken inv.read in
     let goes : Goes c.next.new.self left inv.given (inv.taken ++ next.0) (Ok false) = subst (Goes c.next.new.self left inv.given (inv.taken ++ next.0)) none next.2 in
-    all_lines Gave Missed c.args.most c.next.new.self (g.S.Source.left c.args.source.now) left inv.given (inv.taken ++ next.0) c.number-2.result
+    all_lines Gave Stopped c.args.most c.next.new.self (g.S.Source.left c.args.source.now) left inv.given (inv.taken ++ next.0) c.number-2.result
     (c.next.ensures.most ∙ inv.most) (Consumes-trans _ _ _ _ _ inv.consumed next.1) inv.gave goes c.number-2.ensures

@@ -9,7 +9,7 @@ invariant-line g l = record {
   taken : List ℕ;
   read : HasRead l.reader (g.S.Source.left l.source) given taken;
   consumed : Consumes (g.S.Source.left l.initial.source) (g.S.Source.left l.source) taken;
-  gave : g.T.UnitTaker.gave l.taker given;
+  gave : g.T.UnitTaker.went l.initial.taker l.taker given;
   most : l.reader.most ≡ l.most;
   steady : g.S.Source.faults l.source ≡ g.S.Source.faults l.initial.source;
   stays : g.S.Source.stands_on l.source ≡ g.S.Source.stands_on l.initial.source;

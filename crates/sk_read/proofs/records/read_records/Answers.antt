@@ -19,11 +19,11 @@ use Rattle.sk_read.proofs.records.read_records.Goals as goal
 
 pub returns-in_err-parts-clause-read : goal.returns-in_err-parts-clause-read
 returns-in_err-parts-clause-read g c =
-    let Gave = g.T.UnitTaker.gave c.args.taker.now in
-    let Missed = g.T.UnitTaker.missed c.args.taker.now in
+    let Gave = g.T.UnitTaker.went c.args.taker.now c.args.taker.now in
+    let Stopped = g.T.UnitTaker.stopped c.args.taker.now c.args.taker.now in
     let starts = c.in_err-parts.ensures.starts in
-    ends_read Gave Missed c.args.most (Column c.args.column) _ _ c.in_err-parts.field-0.0 c.from_residual.result c.from_residual.ensures.1
-    (no_row Gave Missed c.args.column c.args.most _ _ starts.0 starts.1 [] c.in_err-parts.field-0.0 (none_sound c.args.column) c.requires.empty starts.2)
+    ends_read Gave Stopped c.args.most (Column c.args.column) _ _ c.in_err-parts.field-0.0 c.from_residual.result c.from_residual.ensures.1
+    (no_row Gave Stopped c.args.column c.args.most _ _ starts.0 starts.1 [] c.in_err-parts.field-0.0 (none_sound c.args.column) c.requires.start starts.2)
 
 pub part-init : goal.part-init
 part-init g c =
@@ -37,7 +37,7 @@ part-init g c =
         number = c.new-table.ensures.none.0;
         width = c.new-table.ensures.none.1;
         sound = none_sound c.new-table.result.column;
-        gave = c.requires.empty;
+        gave = c.requires.start;
       };
       column = c.new-table.ensures.column;
       most = start.3;
@@ -60,13 +60,13 @@ filled g c =
 pub returns-in_err-refill-clause-read : goal.returns-in_err-refill-clause-read
 returns-in_err-refill-clause-read g c =
     let inv = c.part.invariant in
-    let Gave = g.T.UnitTaker.gave c.part.taker in
-    let Missed = g.T.UnitTaker.missed c.part.taker in
+    let Gave = g.T.UnitTaker.went c.args.taker.now c.part.taker in
+    let Stopped = g.T.UnitTaker.stopped c.args.taker.now c.part.taker in
     let at = c.refill.ensures.goes inv.rows inv.taken inv.held in
     let f = c.in_err-refill.field-0.0 in
     let lacks : Lacks c.refill.new.self.most inv.rows (inv.taken ++ at.0) f = subst (Refills c.refill.new.self (g.S.Source.left c.refill.new.source) inv.rows (inv.taken ++ at.0)) c.in_err-refill.was at.2 in
-    ends_read Gave Missed c.args.most (Column c.args.column) _ _ f c.from_residual-in_err-refill.result c.from_residual-in_err-refill.ensures.1
-    (no_row Gave Missed c.args.column c.args.most _ _ (inv.taken ++ at.0) (Consumes-trans _ _ _ _ _ inv.consumed at.1) inv.rows f
+    ends_read Gave Stopped c.args.most (Column c.args.column) _ _ f c.from_residual-in_err-refill.result c.from_residual-in_err-refill.ensures.1
+    (no_row Gave Stopped c.args.column c.args.most _ _ (inv.taken ++ at.0) (Consumes-trans _ _ _ _ _ inv.consumed at.1) inv.rows f
     (subst (λ (n : ℕ). AreSoundRows n inv.rows) inv.column inv.table.sound)
     (subst (λ (n : ℕ). Gave (fields_in n inv.rows)) inv.column inv.table.gave)
     (subst (λ (m : ℕ). Lacks m inv.rows (inv.taken ++ at.0) f) (c.refill.ensures.most ∙ inv.most) lacks))
@@ -91,21 +91,21 @@ give-requires-clause-room g c =
     let inv = c.part.invariant in
     let at = filled g (goal.at.give-requires-clause-room g c).In_ok-refill in
     let held = held_by c.refill.new.self _ inv.rows (inv.taken ++ at.0) c.in_ok-refill.field-0 at.2 in
-    (inv.rows, subst (λ (l : List ℕ). length inv.rows + length (records default_config l) ≤ most_kept) (sym c.whole.ensures.bytes) (room_whole c.refill.new.self inv.rows (inv.taken ++ at.0) held.has), inv.table)
+    (c.args.taker.now, inv.rows, subst (λ (l : List ℕ). length inv.rows + length (records default_config l) ≤ most_kept) (sym c.whole.ensures.bytes) (room_whole c.refill.new.self inv.rows (inv.taken ++ at.0) held.has), inv.table)
 
 pub give-requires-2-clause-room : goal.give-requires-2-clause-room
 give-requires-2-clause-room g c =
     let inv = c.part.invariant in
     let at = filled g (goal.at.give-requires-2-clause-room g c).In_ok-refill in
     let held = held_by c.refill.new.self _ inv.rows (inv.taken ++ at.0) c.in_ok-refill.field-0 at.2 in
-    (inv.rows, subst (λ (l : List ℕ). length inv.rows + length (records default_config l) ≤ most_kept) (sym c.rest.ensures.bytes) (room_rest c.refill.new.self inv.rows (inv.taken ++ at.0) held.has), inv.table)
+    (c.args.taker.now, inv.rows, subst (λ (l : List ℕ). length inv.rows + length (records default_config l) ≤ most_kept) (sym c.rest.ensures.bytes) (room_rest c.refill.new.self inv.rows (inv.taken ++ at.0) held.has), inv.table)
 
 pub returns-in_err-give-clause-read : goal.returns-in_err-give-clause-read
 returns-in_err-give-clause-read g c =
     let inv = c.part.invariant in
     let column = c.args.column in
-    let Gave = g.T.UnitTaker.gave c.give.new.taker in
-    let Missed = g.T.UnitTaker.missed c.give.new.taker in
+    let Gave = g.T.UnitTaker.went c.args.taker.now c.give.new.taker in
+    let Stopped = g.T.UnitTaker.stopped c.args.taker.now c.give.new.taker in
     let at = filled g (goal.at.returns-in_err-give-clause-read g c).In_ok-refill in
     let now = inv.taken ++ at.0 in
     let parts = c.refill.new.self in
@@ -113,19 +113,19 @@ returns-in_err-give-clause-read g c =
     let f = c.in_err-give.field-0.0 in
     let room : length inv.rows + length (records default_config c.whole.result.now) ≤ most_kept =
     subst (λ (l : List ℕ). length inv.rows + length (records default_config l) ≤ most_kept) (sym c.whole.ensures.bytes) (room_whole parts inv.rows now held.has) in
-    let breaks : Breaks column Gave Missed inv.rows (records default_config (take parts.cut parts.bytes.items)) f =
-    subst (λ (l : List ℕ). Breaks column Gave Missed inv.rows (records default_config l) f) c.whole.ensures.bytes
-    (subst (λ (n : ℕ). Breaks n Gave Missed inv.rows (records default_config c.whole.result.now) f) inv.column (c.in_err-give.ensures.goes inv.rows room inv.table)) in
-    ends_read Gave Missed c.args.most (Column column) _ _ f c.from_residual-in_err-give.result c.from_residual-in_err-give.ensures.1
-    (broke Gave Missed column c.args.most _ _ now (Consumes-trans _ _ _ _ _ inv.consumed at.1) inv.rows _ f (omega (arith, held.has.count, held.has.bound, c.refill.ensures.most, inv.most)) held.in_time
+    let breaks : Breaks column Gave Stopped inv.rows (records default_config (take parts.cut parts.bytes.items)) f =
+    subst (λ (l : List ℕ). Breaks column Gave Stopped inv.rows (records default_config l) f) c.whole.ensures.bytes
+    (subst (λ (n : ℕ). Breaks n Gave Stopped inv.rows (records default_config c.whole.result.now) f) inv.column (c.in_err-give.ensures.goes c.args.taker.now inv.rows room inv.table)) in
+    ends_read Gave Stopped c.args.most (Column column) _ _ f c.from_residual-in_err-give.result c.from_residual-in_err-give.ensures.1
+    (broke Gave Stopped column c.args.most _ _ now (Consumes-trans _ _ _ _ _ inv.consumed at.1) inv.rows _ f (omega (arith, held.has.count, held.has.bound, c.refill.ensures.most, inv.most)) held.in_time
     (subst (λ (n : ℕ). AreSoundRows n inv.rows) inv.column inv.table.sound) (whole_settled parts _ inv.rows now held) breaks)
 
 pub returns-in_err-give-2-clause-read : goal.returns-in_err-give-2-clause-read
 returns-in_err-give-2-clause-read g c =
     let inv = c.part.invariant in
     let column = c.args.column in
-    let Gave = g.T.UnitTaker.gave c.give-2.new.taker in
-    let Missed = g.T.UnitTaker.missed c.give-2.new.taker in
+    let Gave = g.T.UnitTaker.went c.args.taker.now c.give-2.new.taker in
+    let Stopped = g.T.UnitTaker.stopped c.args.taker.now c.give-2.new.taker in
     let at = filled g (goal.at.returns-in_err-give-2-clause-read g c).In_ok-refill in
     let now = inv.taken ++ at.0 in
     let parts = c.refill.new.self in
@@ -134,11 +134,11 @@ returns-in_err-give-2-clause-read g c =
     let f = c.in_err-give-2.field-0.0 in
     let room : length inv.rows + length (records default_config c.rest.result.now) ≤ most_kept =
     subst (λ (l : List ℕ). length inv.rows + length (records default_config l) ≤ most_kept) (sym c.rest.ensures.bytes) (room_rest parts inv.rows now held.has) in
-    let breaks : Breaks column Gave Missed inv.rows (records default_config (parts.bytes.items)) f =
-    subst (λ (l : List ℕ). Breaks column Gave Missed inv.rows (records default_config l) f) c.rest.ensures.bytes
-    (subst (λ (n : ℕ). Breaks n Gave Missed inv.rows (records default_config c.rest.result.now) f) inv.column (c.in_err-give-2.ensures.goes inv.rows room inv.table)) in
-    ends_read Gave Missed c.args.most (Column column) _ _ f c.from_residual-in_err-give-2.result c.from_residual-in_err-give-2.ensures.1
-    (broke Gave Missed column c.args.most _ _ now (Consumes-trans _ _ _ _ _ inv.consumed at.1) inv.rows _ f (omega (arith, held.has.count, held.has.bound, c.refill.ensures.most, inv.most)) held.in_time
+    let breaks : Breaks column Gave Stopped inv.rows (records default_config (parts.bytes.items)) f =
+    subst (λ (l : List ℕ). Breaks column Gave Stopped inv.rows (records default_config l) f) c.rest.ensures.bytes
+    (subst (λ (n : ℕ). Breaks n Gave Stopped inv.rows (records default_config c.rest.result.now) f) inv.column (c.in_err-give-2.ensures.goes c.args.taker.now inv.rows room inv.table)) in
+    ends_read Gave Stopped c.args.most (Column column) _ _ f c.from_residual-in_err-give-2.result c.from_residual-in_err-give-2.ensures.1
+    (broke Gave Stopped column c.args.most _ _ now (Consumes-trans _ _ _ _ _ inv.consumed at.1) inv.rows _ f (omega (arith, held.has.count, held.has.bound, c.refill.ensures.most, inv.most)) held.in_time
     (subst (λ (n : ℕ). AreSoundRows n inv.rows) inv.column inv.table.sound) (rest_settled parts _ inv.rows now held over.1) breaks)
 
 pub returns-in_err-give-clause-cause : goal.returns-in_err-give-clause-cause
@@ -150,8 +150,8 @@ returns-in_err-give-clause-cause g c =
     subst (λ (l : List ℕ). length inv.rows + length (records default_config l) ≤ most_kept) (sym c.whole.ensures.bytes) (room_whole c.refill.new.self inv.rows (inv.taken ++ at.0) held.has) in
     record {
       steady = λ _. steady_ok _ _ _ _ _ c.refill.ensures.cause c.in_ok-refill.was ∙ inv.steady;
-      failed = λ is. absurd (subst (λ (f : Fault). Breaks c.part.table.column (g.T.UnitTaker.gave c.give.new.taker) (g.T.UnitTaker.missed c.give.new.taker) inv.rows (records default_config c.whole.result.now) f)
-          (given_fault _ c.in_err-give.field-0.0 _ c.from_residual-in_err-give.ensures.1 is) (c.in_err-give.ensures.goes inv.rows room inv.table));
+      failed = λ is. absurd ((subst (λ (f : Fault). Breaks c.part.table.column (g.T.UnitTaker.went c.args.taker.now c.give.new.taker) (g.T.UnitTaker.stopped c.args.taker.now c.give.new.taker) inv.rows (records default_config c.whole.result.now) f)
+          (given_fault _ c.in_err-give.field-0.0 _ c.from_residual-in_err-give.ensures.1 is) (c.in_err-give.ensures.goes c.args.taker.now inv.rows room inv.table)).refused);
     }
 
 pub returns-in_err-give-2-clause-cause : goal.returns-in_err-give-2-clause-cause
@@ -163,8 +163,8 @@ returns-in_err-give-2-clause-cause g c =
     subst (λ (l : List ℕ). length inv.rows + length (records default_config l) ≤ most_kept) (sym c.rest.ensures.bytes) (room_rest c.refill.new.self inv.rows (inv.taken ++ at.0) held.has) in
     record {
       steady = λ _. steady_ok _ _ _ _ _ c.refill.ensures.cause c.in_ok-refill.was ∙ inv.steady;
-      failed = λ is. absurd (subst (λ (f : Fault). Breaks c.part.table.column (g.T.UnitTaker.gave c.give-2.new.taker) (g.T.UnitTaker.missed c.give-2.new.taker) inv.rows (records default_config c.rest.result.now) f)
-          (given_fault _ c.in_err-give-2.field-0.0 _ c.from_residual-in_err-give-2.ensures.1 is) (c.in_err-give-2.ensures.goes inv.rows room inv.table));
+      failed = λ is. absurd ((subst (λ (f : Fault). Breaks c.part.table.column (g.T.UnitTaker.went c.args.taker.now c.give-2.new.taker) (g.T.UnitTaker.stopped c.args.taker.now c.give-2.new.taker) inv.rows (records default_config c.rest.result.now) f)
+          (given_fault _ c.in_err-give-2.field-0.0 _ c.from_residual-in_err-give-2.ensures.1 is) (c.in_err-give-2.ensures.goes c.args.taker.now inv.rows room inv.table)).refused);
     }
 
 pub part-smaller : goal.part-smaller
@@ -192,7 +192,7 @@ part-preserved g c =
       held = held_on parts c.drop_whole.new.self left inv.rows (records default_config part) now held (c.drop_whole.ensures.given inv.rows now held.has)
           c.drop_whole.ensures.same.0 c.drop_whole.ensures.same.1 c.drop_whole.ensures.same.2;
       consumed = Consumes-trans _ _ _ _ _ inv.consumed at.1;
-      table = subst (λ (l : List ℕ). HasRows c.give.new.self (g.T.UnitTaker.gave c.give.new.taker) (inv.rows ++ records default_config l)) c.whole.ensures.bytes (c.in_ok-give.ensures.goes inv.rows room inv.table);
+      table = subst (λ (l : List ℕ). HasRows c.give.new.self (g.T.UnitTaker.went c.args.taker.now c.give.new.taker) (inv.rows ++ records default_config l)) c.whole.ensures.bytes (c.in_ok-give.ensures.goes c.args.taker.now inv.rows room inv.table);
       column = c.give.ensures.column ∙ inv.column;
       most = c.drop_whole.ensures.same.0 ∙ c.refill.ensures.most ∙ inv.most;
       steady = steady_ok _ _ _ _ _ c.refill.ensures.cause c.in_ok-refill.was ∙ inv.steady;
@@ -204,8 +204,8 @@ pub returns-clause-read : goal.returns-clause-read
 returns-clause-read g c =
     let inv = c.part.invariant in
     let column = c.args.column in
-    let Gave = g.T.UnitTaker.gave c.give-2.new.taker in
-    let Missed = g.T.UnitTaker.missed c.give-2.new.taker in
+    let Gave = g.T.UnitTaker.went c.args.taker.now c.give-2.new.taker in
+    let Stopped = g.T.UnitTaker.stopped c.args.taker.now c.give-2.new.taker in
     let at = filled g (goal.at.returns-clause-read g c).In_ok-refill in
     let now = inv.taken ++ at.0 in
     let parts = c.refill.new.self in
@@ -217,7 +217,7 @@ returns-clause-read g c =
     subst (λ (l : List ℕ). length inv.rows + length (records default_config l) ≤ most_kept) (sym c.rest.ensures.bytes) (room_rest parts inv.rows now held.has) in
     let whole : inv.rows ++ records default_config c.rest.result.now ≡ records_of now =
     ap (λ (l : List ℕ). inv.rows ++ records default_config l) c.rest.ensures.bytes ∙ sym (rest_is parts left inv.rows now held) in
-    let table : HasRows c.give-2.new.self Gave (records_of now) = subst (HasRows c.give-2.new.self Gave) whole (c.in_ok-give-2.ensures.goes inv.rows room inv.table) in
+    let table : HasRows c.give-2.new.self Gave (records_of now) = subst (HasRows c.give-2.new.self Gave) whole (c.in_ok-give-2.ensures.goes c.args.taker.now inv.rows room inv.table) in
     record {
       taken = now;
       consumed = Consumes-trans _ _ _ _ _ inv.consumed at.1;

@@ -11,7 +11,7 @@ invariant-part g l = record {
   taken : List ℕ;
   held : HasHeld l.parts (g.S.Source.left l.source) rows taken;
   consumed : Consumes (g.S.Source.left l.fn.source) (g.S.Source.left l.source) taken;
-  table : HasRows l.table (g.T.UnitTaker.gave l.taker) rows;
+  table : HasRows l.table (g.T.UnitTaker.went l.fn.taker l.taker) rows;
   column : l.table.column ≡ l.column;
   most : l.parts.most ≡ l.most;
   steady : g.S.Source.faults l.source ≡ g.S.Source.faults l.fn.source;

@@ -19,8 +19,8 @@ invariant-row g l = record {
   stands : StandsAt l.reader state rest;
   between : settled state ≡ st.StartRecord;
   split : records default_config l.fn.text ≡ given ++ run state [] [] rest;
-  has : (rows : List Row) → length rows + length (records default_config l.fn.text) ≤ most_kept → HasRows l.initial.self (g.T.UnitTaker.gave l.initial.taker) rows →
-      HasRows l.self (g.T.UnitTaker.gave l.taker) (rows ++ given);
+  has : (start : _) (rows : List Row) → length rows + length (records default_config l.fn.text) ≤ most_kept → HasRows l.initial.self (g.T.UnitTaker.went start l.initial.taker) rows →
+      HasRows l.self (g.T.UnitTaker.went start l.taker) (rows ++ given);
   column : l.self.column ≡ l.initial.self.column;
   standing : g.T.UnitTaker.stands_on l.taker ≡ g.T.UnitTaker.stands_on l.initial.taker;
 }
