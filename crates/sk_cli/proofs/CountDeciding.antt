@@ -10,7 +10,7 @@ use Rattle.sk_read.specs.Units.{units_of, IsSound, IsSoundUpTo, IsLongBehind, Is
 use Rattle.sk_read.specs.declared.kind.Kind.{Kind}
 use Rattle.sk_read.specs.declared.units.Units.{Units}
 use Rattle.sk_read.specs.declared.units.Units.TheVariants.{Lines, Column}
-use Rattle.sk_cli.specs.Behaviour.{IsDecided}
+use Rattle.sk_cli.specs.Behaviour.{IsDecided, WritesOneText}
 use Rattle.sk_cli.specs.Fault.{bad_unit}
 use Rattle.sk_cli.specs.commands.Count.{counted, counting, IsReadable, IsRefusedBy}
 use Rattle.sk_cli.specs.declared.commands.count.CountPlan.{CountPlan}
@@ -212,17 +212,11 @@ field_is zero n some = absurd (omega (arith, some))
 field_is (suc c) n some = refl
 
 breaks : (plan : CountPlan) (f : Fault) (text : List ℕ) → IsRefusedBy plan f text → Breaks plan.kind plan.column (counted plan) text f
-breaks plan fault.OutOfMemory text is = absurd is
-breaks plan fault.Usage text is = absurd is
-breaks plan fault.ReadFault text is = absurd is
-breaks plan fault.WriteFault text is = absurd is
 breaks plan (fault.LongLine n) text is = long_breaks plan.kind plan.column (counted plan) text n is.0.0 is.0.1 is.1
 breaks plan (fault.BadItem n) text is = bad_breaks plan.kind plan.column (counted plan) text n (fault.BadItem n) is.1.before.0 is.1.before.1 is.1.sound is.1.to is.1.filled is.1.bad (item_is plan.column n is.0)
 breaks plan (fault.BadField n) text is = bad_breaks plan.kind plan.column (counted plan) text n (fault.BadField n) is.1.before.0 is.1.before.1 is.1.sound is.1.to is.1.filled is.1.bad (field_is plan.column n is.0)
-breaks plan (fault.BadEvent n) text is = absurd is
-breaks plan fault.OpenFault text is = absurd is
 breaks plan (fault.BadCsv n) text is = uneven_breaks plan.kind plan.column (counted plan) text n is.0.0 is.0.1 is.1
-breaks plan fault.TooMuch text is = absurd is
+breaks plan f text is = absurd is
 
 readable_or_refused : (plan : CountPlan) (f : Fault) (text : List ℕ) → IsReadable plan text → IsRefusedBy plan f text → ⊥
 readable_or_refused plan f text readable is =
@@ -236,7 +230,12 @@ readable_or_refused plan f text readable is =
 
 pub count_decides : (plan : CountPlan) → IsDecided (counting plan)
 count_decides plan = record {
-  due = λ text due other one two. one.1 ∙ sym two.1;
-  refused = λ f g text due other one two. (breaks_once plan.kind plan.column (counted plan) text f g (breaks plan f text one.0) (breaks plan g text two.0), one.1 ∙ sym two.1);
-  apart = λ f text due other one two. readable_or_refused plan f text one.0 two.0;
+  refused = λ f g text one two. breaks_once plan.kind plan.column (counted plan) text f g (breaks plan f text one) (breaks plan g text two);
+  apart = λ f text one two. readable_or_refused plan f text one two;
+}
+
+pub one_estimate : (plan : CountPlan) → WritesOneText (counting plan)
+one_estimate plan = record {
+  due = λ from text due other one two. one ∙ sym two;
+  refused = λ from f text due other one two. one ∙ sym two;
 }

@@ -1,5 +1,5 @@
 -- How `count` goes.
-use Rattle.std.proofs.Common.{◌≡◌, inl, ℕ, zero, suc, ◌+◌, ◌-◌, ◌<◌, List, [], ◌∷◌, ◌++◌, length, take, get_or, All, IsNone, Option, Result, Ok, Err, OnOk, OnErr, IfErr, refl, sym, ap, ◌∙◌, subst, arith, append_assoc, length-append}
+use Rattle.std.proofs.Common.{◌≡◌, inl, inr, ℕ, zero, suc, ◌+◌, ◌-◌, ◌<◌, List, [], ◌∷◌, ◌++◌, length, take, get_or, All, IsNone, Option, Result, Ok, Err, OnOk, OnErr, IfErr, refl, sym, ap, ◌∙◌, subst, arith, append_assoc, length-append}
 use Rattle.std.specs.Result.{MatchResult}
 use Rattle.std.specs.Io.KnownBytes.{Appends}
 use Rattle.std.proofs.KnownBytes.{Appends-nil}
@@ -14,7 +14,8 @@ use Rattle.sk_read.specs.declared.fault.Fault.{Fault as ReadingFault}
 use Rattle.sk_read.specs.declared.fault.Fault.TheVariants as reading
 use Rattle.sk_read.proofs.ItemLaws.{front_is}
 use Rattle.sk_read.proofs.LineEnds.{settled_so}
-use Rattle.sk_cli.specs.commands.Count.{counted, estimate_text, counting, AreGoodBefore, IsBadUnit}
+use Rattle.sk_cli.specs.Beside.{Beside}
+use Rattle.sk_cli.specs.commands.Count.{counted, estimate_text, counting, IsReadable, IsReadableSoFar, IsRefusedBy, AreGoodBefore, IsBadUnit}
 use Rattle.sk_cli.specs.declared.commands.count.CountPlan.{CountPlan}
 use Rattle.sk_cli.specs.Fault.{fault_by, bad_unit}
 use Rattle.sk_cli.specs.Outside.{Streams}
@@ -22,10 +23,10 @@ use Rattle.sk_cli.specs.Run.{Finishes, Stops, IsInTime, Refuses, GivesUp, Ends, 
 use Rattle.sk_cli.specs.declared.fault.Fault.{Fault}
 use Rattle.sk_cli.specs.declared.fault.Fault.TheVariants as fault
 use Rattle.sk_cli.proofs.Endings.{ends_writing, nothing_more, nothing_yet, on_ok_then}
-use Rattle.sk_cli.proofs.Fronts.{on_err_then}
+use Rattle.sk_cli.proofs.Fronts.{on_err_then, part_of_all}
 
-pub no_count_yet : (plan : CountPlan) (most : ℕ) (a : Streams) → GivesUp (counting plan) most a a
-no_count_yet plan most a = nothing_yet (counting plan) most a [] (λ text. refl)
+pub no_count_yet : (plan : CountPlan) (most : ℕ) (from : Beside) (a : Streams) → GivesUp (counting plan) most from a a
+no_count_yet plan most from a = nothing_yet (counting plan) most from a [] (λ text. refl)
 
 abbrev counted_or : Fault → Result ℕ Fault
 counted_or f = Err f
@@ -61,18 +62,24 @@ all_front : (P : List ℕ → Type 0) (front given : List (List ℕ)) → Begins
 all_front P front given begins all = λ k d below.
     subst P (get_or_append_left front begins.0 d k below) (subst (λ (l : List (List ℕ)). P (get_or l k d)) begins.1 (all k d (omega (arith, ap length begins.1, length-append front begins.0, below))))
 
-module _ (plan : CountPlan) (most : ℕ) (a b : Streams) (same : b.written ≡ a.written) where
+-- a taker of items stops at what is no item alone
+no_memory_is_no_item : (n : ℕ) → reading.OutOfMemory ≡ reading.BadItem n → ⊥
+no_memory_is_no_item n is = cc
+
+no_write_is_no_item : (n : ℕ) → reading.WriteFault ≡ reading.BadItem n → ⊥
+no_write_is_no_item n is = cc
+
+module _ (plan : CountPlan) (most : ℕ) (from : Beside) (a b : Streams) (same : b.written ≡ a.written) where
   nothing : Appends a.written b.written []
   nothing = subst (λ (w : Option (List ℕ)). Appends a.written w []) (sym same) (Appends-nil a.written)
 
-  in_time : (given : List (List ℕ)) (taken : List ℕ) → IsReadInTime (counted plan) given taken → All (IsGood plan.kind) given → IsInTime (counting plan) taken
+  in_time : (given : List (List ℕ)) (taken : List ℕ) → IsReadInTime (counted plan) given taken → All (IsGood plan.kind) given → IsInTime (IsReadableSoFar plan) taken
   in_time given taken is good = record {
     front = is.front;
     piece = is.piece;
-    due = [];
     joined = is.joined;
     size = is.size;
-    so_far = ((is.sound, all_front (IsGood plan.kind) (complete_units_of (counted plan) is.front) given is.earlier good), refl);
+    so_far = (is.sound, all_front (IsGood plan.kind) (complete_units_of (counted plan) is.front) given is.earlier good);
   }
 
   -- the first units of a text are those that were given
@@ -83,14 +90,14 @@ module _ (plan : CountPlan) (most : ℕ) (a b : Streams) (same : b.written ≡ a
 
   -- a text that is refused, behind the units given
   refused : (f : Fault) (Known : List (List ℕ) → Type 0) (Comes : List (List ℕ) → List ℕ → Type 0) → (off : ReadingBreaksOff (counted plan) most Known Comes a.left b.left) → All (IsGood plan.kind) off.given →
-      ((text : List ℕ) → Begins off.given (units_of (counted plan) text) → Comes off.given text → (counting plan).Refuses f text []) → Refuses (counting plan) most f a b
+      ((text : List ℕ) → Begins off.given (units_of (counted plan) text) → Comes off.given text → IsRefusedBy plan f text) → Refuses (counting plan) most f from a b
   refused f Known Comes off good is = record {
     taken = off.taken;
     due = [];
     consumed = off.consumed;
     size = off.size;
     in_time = in_time off.given off.taken off.in_time good;
-    refused = settled_so (λ (text : List ℕ). Begins off.given (units_of (counted plan) text) × Comes off.given text) (λ (text : List ℕ). (counting plan).Refuses f text []) b.left off.taken (λ text found. is text found.0 found.1) off.comes;
+    refused = settled_so (λ (text : List ℕ). Begins off.given (units_of (counted plan) text) × Comes off.given text) (λ (text : List ℕ). (counting plan).Refuses f text × (counting plan).IsDueAt from f text []) b.left off.taken (λ text found. (is text found.0 found.1, refl)) off.comes;
     written = nothing;
   }
 
@@ -109,42 +116,53 @@ module _ (plan : CountPlan) (most : ℕ) (a b : Streams) (same : b.written ≡ a
         bad = subst (λ (l : List ℕ). IsNone (item_of plan.kind l)) (sym here) bad;
       }
 
-  stops : (IsSize : ℕ → Type 0) (Stands : List ℕ → Type 0) → ReadsSome (counted plan) IsSize (Gave plan.kind Stands) a.left b.left → Stops (counting plan) IsSize a b
-  stops IsSize Stands some = record { taken = some.taken; due = []; reads = refl; consumed = some.consumed; size = some.size; is_due = ((some.sound, some.gave.0), refl); written = nothing }
+  stops : (IsSize : ℕ → Type 0) (Stands : List ℕ → Type 0) → ReadsSome (counted plan) IsSize (Gave plan.kind Stands) a.left b.left → Stops (counting plan) IsSize from a b
+  stops IsSize Stands some = record { taken = some.taken; due = []; reads = refl; consumed = some.consumed; size = some.size; fine = (some.sound, some.gave.0); is_due = refl; written = nothing }
 
   -- a count that ends while it reads has written nothing
-  pub counting_ended : (Stands : List ℕ → Type 0) (f : ReadingFault) → ReadingEnds (counted plan) most (Gave plan.kind Stands) (Missed plan.kind Stands) a.left b.left f → Ends (counting plan) most a b (fault_by plan.column f)
-  counting_ended Stands reading.OutOfMemory off = nothing_more (counting plan) most a b off.taken [] off.consumed off.size same (λ text. refl)
+  pub counting_ended : (Stands : List ℕ → Type 0) (f : ReadingFault) → ReadingEnds (counted plan) most (Gave plan.kind Stands) (Missed plan.kind Stands) a.left b.left f → Ends (counting plan) most from a b (fault_by plan.column f)
+  counting_ended Stands reading.OutOfMemory (inl off) = nothing_more (counting plan) most from a b off.taken [] off.consumed off.size same (λ text. refl)
+  counting_ended Stands reading.OutOfMemory (inr stop) = absurd (no_memory_is_no_item _ stop.1.known.0)
+  counting_ended Stands reading.WriteFault stop = absurd (no_write_is_no_item _ stop.1.known.0)
   counting_ended Stands reading.ReadFault some = stops (λ size. size < most) Stands some
   counting_ended Stands reading.TooMuch some = stops (λ size. size ≡ most) Stands some
   counting_ended Stands (reading.LongLine n) off =
       refused (fault.LongLine n) (Gave plan.kind Stands) (λ given text. (n ≡ length given + 1) × IsLongBehind (counted plan) (length given) text) off off.known.0
-      (λ text begins comes. ((good_before n text off.given comes.0 off.known.0 begins, subst (λ (m : ℕ). IsLongBehind (counted plan) m text) (omega (arith, comes.0)) comes.1), refl))
+      (λ text begins comes. (good_before n text off.given comes.0 off.known.0 begins, subst (λ (m : ℕ). IsLongBehind (counted plan) m text) (omega (arith, comes.0)) comes.1))
   counting_ended Stands (reading.BadCsv n) off =
       refused (fault.BadCsv n) (Gave plan.kind Stands) (λ given text. (n ≡ length given + 1) × IsUnevenBehind (counted plan) (length given) text) off off.known.0
-      (λ text begins comes. ((good_before n text off.given comes.0 off.known.0 begins, subst (λ (m : ℕ). IsUnevenBehind (counted plan) m text) (omega (arith, comes.0)) comes.1), refl))
-  counting_ended Stands (reading.BadItem n) missed = bad plan.column refl
+      (λ text begins comes. (good_before n text off.given comes.0 off.known.0 begins, subst (λ (m : ℕ). IsUnevenBehind (counted plan) m text) (omega (arith, comes.0)) comes.1))
+  counting_ended Stands (reading.BadItem n) stop = bad plan.column refl
     where
       unit : List ℕ
-      unit = missed.0
+      unit = stop.0
 
-      off : ReadingBreaksOff (counted plan) most (λ given. Missed plan.kind Stands given unit) (λ given text. (n ≡ length given + 1) × Begins (given ++ unit ∷ []) (units_of (counted plan) text) × IsSoundUpTo (counted plan) n text) a.left b.left
-      off = missed.1
+      off : ReadingBreaksOff (counted plan) most (λ given. (n ≡ length given + 1) × Missed plan.kind Stands (reading.BadItem n) given unit)
+          (λ given text. Begins (given ++ unit ∷ []) (units_of (counted plan) text) × IsSoundUpTo (counted plan) (length given + 1) text) a.left b.left
+      off = stop.1
 
-      is_bad : (text : List ℕ) → (n ≡ length off.given + 1) × Begins (off.given ++ unit ∷ []) (units_of (counted plan) text) × IsSoundUpTo (counted plan) n text → IsBadUnit plan n text
-      is_bad text comes = bad_at n off.given unit text comes.0 off.known.0.0 off.known.1 off.known.2 comes.1 comes.2
+      is_bad : (text : List ℕ) → Begins (off.given ++ unit ∷ []) (units_of (counted plan) text) × IsSoundUpTo (counted plan) (length off.given + 1) text → IsBadUnit plan n text
+      is_bad text comes = bad_at n off.given unit text off.known.0 off.known.1.1.0 off.known.1.2 off.known.1.3 comes.0 (subst (λ (m : ℕ). IsSoundUpTo (counted plan) m text) (sym off.known.0) comes.1)
 
-      bad : (c : ℕ) → plan.column ≡ c → Ends (counting plan) most a b (bad_unit c n)
-      bad zero is = refused (fault.BadItem n) (λ given. Missed plan.kind Stands given unit) _ off off.known.0.0 (λ text begins comes. ((is, is_bad text comes), refl))
-      bad (suc c) is = refused (fault.BadField n) (λ given. Missed plan.kind Stands given unit) _ off off.known.0.0 (λ text begins comes. ((omega (arith, is), is_bad text comes), refl))
+      bad : (c : ℕ) → plan.column ≡ c → Ends (counting plan) most from a b (bad_unit c n)
+      bad zero is = refused (fault.BadItem n) _ _ off off.known.1.1.0 (λ text begins comes. (is, is_bad text comes))
+      bad (suc c) is = refused (fault.BadField n) _ _ off off.known.1.1.0 (λ text begins comes. (omega (arith, is), is_bad text comes))
 
 -- the estimate is written once the source has ended
-pub estimated : (plan : CountPlan) (most n : ℕ) (Stands : List ℕ → Type 0) (a b : Streams) (line : List ℕ) (r : Result (Unit {0}) Fault) → (all : ReadsAll (counted plan) most n (Gave plan.kind Stands) a.left b.left) →
-    line ≡ estimate_text plan all.taken → OnOk r (Appends a.written b.written line) → OnErr r (AppendsPart a.written b.written line) → IfErr r (λ (f : Fault). f ≡ fault.WriteFault) → Executes (counting plan) most a b r
-estimated plan most n Stands a b line r all is ok part only =
-    let readable : (counting plan).IsDue all.taken line = ((all.sound, all.gave.0), is) in
-    ends_writing (counting plan) most a b r
-    (on_ok_then r (Appends a.written b.written line) (Finishes (counting plan) most a b)
-    (λ appended. record { text = all.taken; due = line; consumed = all.consumed; end = all.end; size = all.size; is_due = readable; written = appended }) ok)
-    (on_err_then r (AppendsPart a.written b.written line) (Ends (counting plan) most a b fault.WriteFault)
-    (λ part. record { taken = all.taken; due = line; consumed = all.consumed; size = omega (arith, all.size); is_due = inl (all.end, readable); written = part }) part) only
+pub estimated : (plan : CountPlan) (most n : ℕ) (Stands : List ℕ → Type 0) (from to : Beside) (a b : Streams) (line : List ℕ) (r : Result (Unit {0}) Fault) → (all : ReadsAll (counted plan) most n (Gave plan.kind Stands) a.left b.left) →
+    line ≡ estimate_text plan all.taken → OnOk r (Appends a.written b.written line) → OnErr r (AppendsPart a.written b.written line) → IfErr r (λ (f : Fault). f ≡ fault.WriteFault) → Executes (counting plan) most from to a b r
+estimated plan most n Stands from to a b line r all is ok part only =
+    let readable : IsReadable plan all.taken = (all.sound, all.gave.0) in
+    ends_writing (counting plan) most from to a b r
+    (on_ok_then r (Appends a.written b.written line) (Finishes (counting plan) most from to a b)
+    (λ appended. record { text = all.taken; due = line; consumed = all.consumed; end = all.end; size = all.size; fine = readable; is_due = is; leaves = tt; written = appended }) ok)
+    (on_err_then r (AppendsPart a.written b.written line) (Ends (counting plan) most from a b fault.WriteFault)
+    (λ part. record {
+      taken = all.taken;
+      earlier = [];
+      due = line;
+      consumed = all.consumed;
+      size = omega (arith, all.size);
+      is_due = inl (record { end = all.end; fine = readable; is_due = is });
+      written = part_of_all a.written b.written line part;
+    }) part) only

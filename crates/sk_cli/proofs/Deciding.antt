@@ -5,16 +5,17 @@ use Rattle.std.proofs.Math.Seq.{drop-cons}
 use Rattle.std.proofs.lemmas.Bool.{cases_lt}
 use Rattle.sk_model.specs.Limits.{line_limit}
 use Rattle.sk_model.specs.Lines.{lines_of, AreWithin}
-use Rattle.sk_cli.specs.Behaviour.{IsDecided}
-use Rattle.sk_cli.specs.Lines.{IsLongLine, line_at}
+use Rattle.sk_cli.specs.Behaviour.{IsDecided, WritesOneText}
+use Rattle.sk_cli.specs.Lines.{IsLongLine, line_at, lines_before}
 use Rattle.sk_cli.specs.commands.About.{about}
-use Rattle.sk_cli.specs.commands.Hash.{hash_text, hashing}
-use Rattle.sk_cli.specs.commands.Replay.{IsAnswered, IsBadLine, replaying}
+use Rattle.sk_cli.specs.commands.Hash.{hashing}
+use Rattle.sk_cli.specs.commands.Hash as hash
+use Rattle.sk_cli.specs.commands.Replay.{IsAnswered, IsSchedule, IsBadLine, replaying}
 use Rattle.sk_cli.specs.commands.Replay as replay
 use Rattle.sk_cli.specs.declared.commands.hash.HashPlan.{HashPlan}
 use Rattle.sk_cli.specs.declared.fault.Fault.{Fault}
 use Rattle.sk_cli.specs.declared.fault.Fault.TheVariants as fault
-use Rattle.sk_cli.proofs.Schedules.{no_more_is_last, answered_once}
+use Rattle.sk_cli.proofs.Schedules.{no_more_is_last, schedule_before, answered_once}
 
 -- ---- lines that are too long
 
@@ -43,45 +44,23 @@ one_long n m lines one two =
 
 -- ---- hash
 
-module _ (plan : HashPlan) where
-  hash_once : (f g : Fault) (text due other : List ℕ) → (hashing plan).Refuses f text due → (hashing plan).Refuses g text other → (f ≡ g) × (due ≡ other)
-  hash_once fault.OutOfMemory g text due other one two = absurd one
-  hash_once fault.Usage g text due other one two = absurd one
-  hash_once fault.ReadFault g text due other one two = absurd one
-  hash_once fault.WriteFault g text due other one two = absurd one
-  hash_once (fault.LongLine n) fault.OutOfMemory text due other one two = absurd two
-  hash_once (fault.LongLine n) fault.Usage text due other one two = absurd two
-  hash_once (fault.LongLine n) fault.ReadFault text due other one two = absurd two
-  hash_once (fault.LongLine n) fault.WriteFault text due other one two = absurd two
-  hash_once (fault.LongLine n) (fault.LongLine m) text due other one two = let same = one_long n m (lines_of text) one.0 two.0 in (ap (λ (l : ℕ). fault.LongLine l) same, one.1 ∙ ap (λ (l : ℕ). hash_text plan.seed (take (l - 1) (lines_of text))) same ∙ sym two.1)
-  hash_once (fault.LongLine n) (fault.BadItem m) text due other one two = absurd two
-  hash_once (fault.LongLine n) (fault.BadField m) text due other one two = absurd two
-  hash_once (fault.LongLine n) (fault.BadEvent m) text due other one two = absurd two
-  hash_once (fault.LongLine n) fault.OpenFault text due other one two = absurd two
-  hash_once (fault.LongLine n) (fault.BadCsv m) text due other one two = absurd two
-  hash_once (fault.LongLine n) fault.TooMuch text due other one two = absurd two
-  hash_once (fault.BadItem n) g text due other one two = absurd one
-  hash_once (fault.BadField n) g text due other one two = absurd one
-  hash_once (fault.BadEvent n) g text due other one two = absurd one
-  hash_once fault.OpenFault g text due other one two = absurd one
-  hash_once (fault.BadCsv n) g text due other one two = absurd one
-  hash_once fault.TooMuch g text due other one two = absurd one
+hash_once : (f g : Fault) (lines : List (List ℕ)) → hash.IsRefusedBy f lines → hash.IsRefusedBy g lines → f ≡ g
+hash_once (fault.LongLine n) (fault.LongLine m) lines one two = ap (λ (l : ℕ). fault.LongLine l) (one_long n m lines one two)
+hash_once (fault.LongLine n) g lines one two = absurd two
+hash_once f g lines one two = absurd one
 
-  hash_apart : (f : Fault) (text due other : List ℕ) → (hashing plan).IsDue text due → (hashing plan).Refuses f text other → ⊥
-  hash_apart fault.OutOfMemory text due other one two = absurd two
-  hash_apart fault.Usage text due other one two = absurd two
-  hash_apart fault.ReadFault text due other one two = absurd two
-  hash_apart fault.WriteFault text due other one two = absurd two
-  hash_apart (fault.LongLine n) text due other one two = no_long n (lines_of text) one.0 two.0
-  hash_apart (fault.BadItem n) text due other one two = absurd two
-  hash_apart (fault.BadField n) text due other one two = absurd two
-  hash_apart (fault.BadEvent n) text due other one two = absurd two
-  hash_apart fault.OpenFault text due other one two = absurd two
-  hash_apart (fault.BadCsv n) text due other one two = absurd two
-  hash_apart fault.TooMuch text due other one two = absurd two
+hash_apart : (f : Fault) (lines : List (List ℕ)) → AreWithin line_limit lines → hash.IsRefusedBy f lines → ⊥
+hash_apart (fault.LongLine n) lines within refused = no_long n lines within refused
+hash_apart f lines within refused = refused
 
-  pub hash_decides : IsDecided (hashing plan)
-  hash_decides = record { due = λ text due other one two. one.1 ∙ sym two.1; refused = hash_once; apart = hash_apart }
+pub hash_decides : (plan : HashPlan) → IsDecided (hashing plan)
+hash_decides plan = record { refused = λ f g text one two. hash_once f g (lines_of text) one two; apart = λ f text one two. hash_apart f (lines_of text) one two }
+
+pub one_hashes : (plan : HashPlan) → WritesOneText (hashing plan)
+one_hashes plan = record {
+  due = λ from text due other one two. one ∙ sym two;
+  refused = λ from f text due other one two. one ∙ sym two;
+}
 
 -- ---- replay
 
@@ -103,74 +82,55 @@ not_beyond n j lines due bad near all answered =
     (subst (λ (l : List (List ℕ)). replay.IsNoMore l (get_or (take j lines) (n - 1) [])) (sym front) (subst (λ (l : List ℕ). replay.IsNoMore (take (n - 1) lines) l) (sym here) bad.bad))
     (subst (λ (l : List (List ℕ)). IsAnswered l due) (sym split) answered)
 
-not_before : (n m : ℕ) (lines : List (List ℕ)) (due : List ℕ) → IsBadLine n lines → IsBadLine m lines → IsAnswered (take (m - 1) lines) due → m ≤ n
-not_before n m lines due one two answered = by_order (cases_lt n m)
+-- a schedule that goes up to line m has no line before it that is refused
+not_before : (n m : ℕ) (lines : List (List ℕ)) → IsBadLine n lines → m - 1 ≤ length lines → IsSchedule (take (m - 1) lines) → m ≤ n
+not_before n m lines bad to schedule = by_order (cases_lt n m)
   where
     by_order : (n < m) ⊎ (m ≤ n) → m ≤ n
-    by_order (inl less) = absurd (not_beyond n (m - 1) lines due one (omega (arith, less)) (omega (arith, two.to)) answered)
+    by_order (inl less) = absurd (not_beyond n (m - 1) lines schedule.0 bad (omega (arith, less)) to schedule.1)
     by_order (inr most) = most
 
-one_bad : (n m : ℕ) (lines : List (List ℕ)) (due other : List ℕ) → IsBadLine n lines → IsAnswered (take (n - 1) lines) due → IsBadLine m lines → IsAnswered (take (m - 1) lines) other → n ≡ m
-one_bad n m lines due other one before two until =
-    let most = not_before n m lines other one two until in
-    let least = not_before m n lines due two one before in
+one_bad : (n m : ℕ) (lines : List (List ℕ)) → IsBadLine n lines → IsBadLine m lines → n ≡ m
+one_bad n m lines one two =
+    let most = not_before n m lines one (omega (arith, two.to)) (schedule_before (take (m - 1) lines) (line_at m lines) two.bad) in
+    let least = not_before m n lines two (omega (arith, one.to)) (schedule_before (take (n - 1) lines) (line_at n lines) one.bad) in
     omega (arith, most, least)
 
-bad_or_long : (n m : ℕ) (lines : List (List ℕ)) (due : List ℕ) → IsBadLine n lines → IsLongLine m lines → IsAnswered (take (m - 1) lines) due → ⊥
-bad_or_long n m lines due bad long answered =
+bad_or_long : (n m : ℕ) (lines : List (List ℕ)) → IsBadLine n lines → IsLongLine m lines → IsSchedule (take (m - 1) lines) → ⊥
+bad_or_long n m lines bad long schedule =
     let behind = long_behind m n lines bad.within long in
-    not_beyond n (m - 1) lines due bad (omega (arith, behind)) (omega (arith, long.1.0)) answered
+    let most = not_before n m lines bad (omega (arith, long.1.0)) schedule in
+    absurd (omega (arith, behind, most))
 
-replay_once : (f g : Fault) (text due other : List ℕ) → replaying.Refuses f text due → replaying.Refuses g text other → (f ≡ g) × (due ≡ other)
-replay_once fault.OutOfMemory g text due other one two = absurd one
-replay_once fault.Usage g text due other one two = absurd one
-replay_once fault.ReadFault g text due other one two = absurd one
-replay_once fault.WriteFault g text due other one two = absurd one
-replay_once (fault.LongLine n) fault.OutOfMemory text due other one two = absurd two
-replay_once (fault.LongLine n) fault.Usage text due other one two = absurd two
-replay_once (fault.LongLine n) fault.ReadFault text due other one two = absurd two
-replay_once (fault.LongLine n) fault.WriteFault text due other one two = absurd two
-replay_once (fault.LongLine n) (fault.LongLine m) text due other one two = let same = one_long n m (lines_of text) one.0 two.0 in (ap (λ (l : ℕ). fault.LongLine l) same, answered_once (take (m - 1) (lines_of text)) due other (subst (λ (l : ℕ). IsAnswered (take (l - 1) (lines_of text)) due) same one.1) two.1)
-replay_once (fault.LongLine n) (fault.BadItem m) text due other one two = absurd two
-replay_once (fault.LongLine n) (fault.BadField m) text due other one two = absurd two
-replay_once (fault.LongLine n) (fault.BadEvent m) text due other one two = absurd (bad_or_long m n (lines_of text) due two.0 one.0 one.1)
-replay_once (fault.LongLine n) fault.OpenFault text due other one two = absurd two
-replay_once (fault.LongLine n) (fault.BadCsv m) text due other one two = absurd two
-replay_once (fault.LongLine n) fault.TooMuch text due other one two = absurd two
-replay_once (fault.BadItem n) g text due other one two = absurd one
-replay_once (fault.BadField n) g text due other one two = absurd one
-replay_once (fault.BadEvent n) fault.OutOfMemory text due other one two = absurd two
-replay_once (fault.BadEvent n) fault.Usage text due other one two = absurd two
-replay_once (fault.BadEvent n) fault.ReadFault text due other one two = absurd two
-replay_once (fault.BadEvent n) fault.WriteFault text due other one two = absurd two
-replay_once (fault.BadEvent n) (fault.LongLine m) text due other one two = absurd (bad_or_long n m (lines_of text) other one.0 two.0 two.1)
-replay_once (fault.BadEvent n) (fault.BadItem m) text due other one two = absurd two
-replay_once (fault.BadEvent n) (fault.BadField m) text due other one two = absurd two
-replay_once (fault.BadEvent n) (fault.BadEvent m) text due other one two = let same = one_bad n m (lines_of text) due other one.0 one.1 two.0 two.1 in (ap (λ (l : ℕ). fault.BadEvent l) same, answered_once (take (m - 1) (lines_of text)) due other (subst (λ (l : ℕ). IsAnswered (take (l - 1) (lines_of text)) due) same one.1) two.1)
-replay_once (fault.BadEvent n) fault.OpenFault text due other one two = absurd two
-replay_once (fault.BadEvent n) (fault.BadCsv m) text due other one two = absurd two
-replay_once (fault.BadEvent n) fault.TooMuch text due other one two = absurd two
-replay_once fault.OpenFault g text due other one two = absurd one
-replay_once (fault.BadCsv n) g text due other one two = absurd one
-replay_once fault.TooMuch g text due other one two = absurd one
+replay_once : (f g : Fault) (lines : List (List ℕ)) → replay.IsRefusedBy f lines → replay.IsRefusedBy g lines → f ≡ g
+replay_once (fault.LongLine n) (fault.LongLine m) lines one two = ap (λ (l : ℕ). fault.LongLine l) (one_long n m lines one.0 two.0)
+replay_once (fault.LongLine n) (fault.BadEvent m) lines one two = absurd (bad_or_long m n lines two one.0 one.1)
+replay_once (fault.LongLine n) g lines one two = absurd two
+replay_once (fault.BadEvent n) (fault.LongLine m) lines one two = absurd (bad_or_long n m lines one two.0 two.1)
+replay_once (fault.BadEvent n) (fault.BadEvent m) lines one two = ap (λ (l : ℕ). fault.BadEvent l) (one_bad n m lines one two)
+replay_once (fault.BadEvent n) g lines one two = absurd two
+replay_once f g lines one two = absurd one
 
-replay_apart : (f : Fault) (text due other : List ℕ) → replaying.IsDue text due → replaying.Refuses f text other → ⊥
-replay_apart fault.OutOfMemory text due other one two = absurd two
-replay_apart fault.Usage text due other one two = absurd two
-replay_apart fault.ReadFault text due other one two = absurd two
-replay_apart fault.WriteFault text due other one two = absurd two
-replay_apart (fault.LongLine n) text due other one two = no_long n (lines_of text) one.0 two.0
-replay_apart (fault.BadItem n) text due other one two = absurd two
-replay_apart (fault.BadField n) text due other one two = absurd two
-replay_apart (fault.BadEvent n) text due other one two = not_beyond n (length (lines_of text)) (lines_of text) due two.0 (omega (arith, two.0.to, one.2)) (omega arith) (subst (λ (l : List (List ℕ)). IsAnswered l due) (sym (take_all (length (lines_of text)) (lines_of text) (omega arith))) one.1)
-replay_apart fault.OpenFault text due other one two = absurd two
-replay_apart (fault.BadCsv n) text due other one two = absurd two
-replay_apart fault.TooMuch text due other one two = absurd two
+replay_apart : (f : Fault) (lines : List (List ℕ)) → AreWithin line_limit lines → IsSchedule lines → 0 < length lines → replay.IsRefusedBy f lines → ⊥
+replay_apart (fault.LongLine n) lines within schedule some refused = no_long n lines within refused.0
+replay_apart (fault.BadEvent n) lines within schedule some refused =
+    not_beyond n (length lines) lines schedule.0 refused (omega (arith, refused.to, some)) (omega arith)
+    (subst (λ (l : List (List ℕ)). IsAnswered l schedule.0) (sym (take_all (length lines) lines (omega arith))) schedule.1)
+replay_apart f lines within schedule some refused = refused
 
 pub replay_decides : IsDecided replaying
-replay_decides = record { due = λ text due other one two. answered_once (lines_of text) due other one.1 two.1; refused = replay_once; apart = replay_apart }
+replay_decides = record {
+  refused = λ f g text one two. replay_once f g (lines_of text) one two;
+  apart = λ f text one two. replay_apart f (lines_of text) one.0 one.1 one.2 two;
+}
+
+pub one_answers : WritesOneText replaying
+one_answers = record {
+  due = λ from text due other one two. answered_once (lines_of text) due other one two;
+  refused = λ from f text due other one two. answered_once (lines_before f (lines_of text)) due other one two;
+}
 
 -- ---- a text about the program
 
 pub about_decides : (page : List ℕ) → IsDecided (about page)
-about_decides page = record { due = λ text due other one two. one ∙ sym two; refused = λ f g text due other one two. absurd one; apart = λ f text due other one two. absurd two }
+about_decides page = record { refused = λ f g text one two. absurd one; apart = λ f text one two. absurd two }

@@ -1,9 +1,11 @@
 -- Texts that were written in part.
-use Rattle.std.proofs.Common.{◌≡◌, ℕ, suc, ◌+◌, List, [], ◌∷◌, ◌++◌, length, take, Option, Result, Ok, Err, OnErr, sym, ap, ◌∙◌, subst, arith, length-append}
+use Rattle.std.proofs.Common.{◌≡◌, ℕ, suc, ◌+◌, List, [], ◌∷◌, ◌++◌, length, take, Option, Result, Ok, Err, OnErr, refl, sym, ap, ◌∙◌, subst, arith, append_assoc, length-append}
 use Rattle.std.proofs.lemmas.List.{take-append-le}
 use Rattle.std.specs.Io.KnownBytes.{Appends}
 use Rattle.std.proofs.KnownBytes.{Appends-trans}
 use Rattle.sk_model.specs.Causes.{AppendsFront, AppendsPart}
+use Rattle.sk_model.specs.Missing.{Begins}
+use Rattle.sk_cli.specs.Run.{AppendsPartBehind}
 
 -- a part of a text is one of a longer text
 pub part_longer : (a b : Option (List ℕ)) (xs ys : List ℕ) → AppendsPart a b xs → AppendsPart a b (xs ++ ys)
@@ -33,6 +35,20 @@ part_behind a b c xs ys whole part = (
   omega (arith, part.1, length-append xs ys),
   subst (Appends a c) (sym (take_behind xs ys part.0)) (Appends-trans a b c xs (take part.0 ys) whole part.2),
 )
+
+-- a text that was written whole, and then a part of another
+pub part_on : (a b c : Option (List ℕ)) (front xs ys : List ℕ) → Begins front xs → Appends a b xs → AppendsPart b c ys → AppendsPartBehind front a c (xs ++ ys)
+part_on a b c front xs ys begins whole part = record {
+  size = length xs + part.0;
+  begins = (begins.0 ++ ys, ap (λ (l : List ℕ). l ++ ys) begins.1 ∙ append_assoc front begins.0 ys);
+  least = omega (arith, ap length begins.1, length-append front begins.0);
+  most = omega (arith, part.1, length-append xs ys);
+  written = subst (Appends a c) (sym (take_behind xs ys part.0)) (Appends-trans a b c xs (take part.0 ys) whole part.2);
+}
+
+-- a part of a text, where nothing was written before
+pub part_of_all : (a b : Option (List ℕ)) (xs : List ℕ) → AppendsPart a b xs → AppendsPartBehind [] a b xs
+part_of_all a b xs part = record { size = part.0; begins = (xs, refl); least = omega arith; most = part.1; written = part.2 }
 
 -- what holds anyhow holds of an error
 pub on_err : {T E : Type 0} (r : Result T E) (P : Type 0) → P → OnErr r P

@@ -4,6 +4,8 @@ use Rattle.std.proofs.lemmas.Grind.{flat_map-append}
 use Rattle.sk_model.specs.Murmur.{hash_of}
 use Rattle.sk_model.specs.Lines.{filled}
 use Rattle.sk_model.proofs.Lines.{filled_append, filled_of_one, filled_of_empty}
+use Rattle.sk_model.specs.Missing.{Begins}
+use Rattle.sk_cli.specs.Beside.{Beside}
 use Rattle.sk_cli.specs.declared.commands.hash.HashPlan.{HashPlan}
 use Rattle.sk_lines.specs.Hashes.{hash_line}
 use Rattle.sk_cli.specs.commands.Hash.{hash_text, hashing}
@@ -31,9 +33,19 @@ pub no_hash_text : (seed : ℕ) → hash_text seed [] ≡ []
 unfolding hash_text filled
 no_hash_text seed = refl
 
--- `hash` examines line by line
-pub hash_by_lines : (plan : HashPlan) → ByLines (hashing plan) (λ lines due. due ≡ hash_text plan.seed lines)
-hash_by_lines plan = record { reads_it = refl; so_far = λ taken due within is. (within, is); before = λ n text due within is. (n, within, is); long = λ n text due long is. (long, is); front = λ lines rest due is. (hash_text plan.seed lines, refl) }
+hash_text_front : (seed : ℕ) (lines rest : List (List ℕ)) (due : List ℕ) → due ≡ hash_text seed (lines ++ rest) → Begins (hash_text seed lines) due
+hash_text_front seed lines rest due is = (hash_text seed rest, is ∙ hash_text_append seed lines rest)
 
-pub no_hash_yet : (plan : HashPlan) (text : List ℕ) → (hashing plan).IsDueBefore text (hash_text plan.seed [])
-no_hash_yet plan text = (0, none_within, refl)
+-- `hash` examines line by line
+pub hash_by_lines : (plan : HashPlan) (from : Beside) → ByLines (hashing plan) from (λ lines due. due ≡ hash_text plan.seed lines)
+hash_by_lines plan from = record {
+  reads_it = refl;
+  fine = λ taken due within is. within;
+  so_far = λ taken due is. is;
+  before = λ n text due within is. (n, within, is);
+  long = λ n text due long is. (long, is);
+  front = λ lines rest due is. (hash_text plan.seed lines, refl, hash_text_front plan.seed lines rest due is);
+}
+
+pub no_hash_yet : (plan : HashPlan) (from : Beside) (text : List ℕ) → (hashing plan).IsDueBefore from text (hash_text plan.seed [])
+no_hash_yet plan from text = (0, none_within, refl)

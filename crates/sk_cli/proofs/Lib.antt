@@ -7,8 +7,11 @@ pub mod Fronts
 pub mod Hashing
 pub mod Moves
 pub mod OptionLaws
+pub mod Performing
 pub mod Reading
 pub mod Replaying
 pub mod Reporting
 pub mod Schedules
 pub mod Telling
+pub mod ValueLaws
+pub mod WatcherLaws

@@ -43,8 +43,6 @@ elsewhere a b f no_read no_write stay = record {
 }
 
 pub causes_of : (a b : Streams) (f : Fault) → Moves a b f → HasCauses a b (Err f)
-causes_of a b fault.OutOfMemory stay = elsewhere a b fault.OutOfMemory (λ is. cc) (λ is. cc) stay
-causes_of a b fault.Usage stay = elsewhere a b fault.Usage (λ is. cc) (λ is. cc) stay
 causes_of a b fault.ReadFault moves = record {
   read = caused fault.ReadFault fault.ReadFault a.read_faults b.read_faults refl moves.0;
   write = uncaused fault.WriteFault fault.ReadFault a.write_faults b.write_faults (λ is. cc) moves.1;
@@ -53,13 +51,7 @@ causes_of a b fault.WriteFault moves = record {
   read = uncaused fault.ReadFault fault.WriteFault a.read_faults b.read_faults (λ is. cc) moves.0;
   write = caused fault.WriteFault fault.WriteFault a.write_faults b.write_faults refl moves.1;
 }
-causes_of a b (fault.LongLine n) stay = elsewhere a b (fault.LongLine n) (λ is. cc) (λ is. cc) stay
-causes_of a b (fault.BadItem n) stay = elsewhere a b (fault.BadItem n) (λ is. cc) (λ is. cc) stay
-causes_of a b (fault.BadField n) stay = elsewhere a b (fault.BadField n) (λ is. cc) (λ is. cc) stay
-causes_of a b (fault.BadEvent n) stay = elsewhere a b (fault.BadEvent n) (λ is. cc) (λ is. cc) stay
-causes_of a b fault.OpenFault stay = elsewhere a b fault.OpenFault (λ is. cc) (λ is. cc) stay
-causes_of a b (fault.BadCsv n) stay = elsewhere a b (fault.BadCsv n) (λ is. cc) (λ is. cc) stay
-causes_of a b fault.TooMuch stay = elsewhere a b fault.TooMuch (λ is. cc) (λ is. cc) stay
+causes_of a b f stay = elsewhere a b f (λ is. cc) (λ is. cc) stay
 
 -- a command that was given a fault
 pub caused_by : (a b : Streams) (r : Result (Unit {0}) Fault) (f : Fault) → IsErrAnd r (λ (e : Fault). e ≡ f) → Moves a b f → HasCauses a b r
@@ -105,15 +97,13 @@ reading_other T f differs is = differs (one f is)
     one f is = cc
 
 -- a fault of reading
-pub reading_moves : (T : Type 0) (a b : Streams) (column : ℕ) (r : Result T ReadingFault) (f : ReadingFault) → r ≡ Err f → HasCauseIn reading.ReadFault a.read_faults b.read_faults r → b.write_faults ≡ a.write_faults →
-    Moves a b (fault_by column f)
-reading_moves T a b column r reading.OutOfMemory is cause write = (cause.steady (λ failed. reading_other T reading.OutOfMemory (λ e. cc) (sym is ∙ failed)), write)
-reading_moves T a b column r reading.ReadFault is cause write = (cause.failed is, write)
-reading_moves T a b column r (reading.LongLine n) is cause write = (cause.steady (λ failed. reading_other T (reading.LongLine n) (λ e. cc) (sym is ∙ failed)), write)
-reading_moves T a b column r (reading.BadItem n) is cause write = bad column (cause.steady (λ failed. reading_other T (reading.BadItem n) (λ e. cc) (sym is ∙ failed)), write)
+pub reading_moves : (T : Type 0) (a b : Streams) (column : ℕ) (r : Result T ReadingFault) (f : ReadingFault) → r ≡ Err f → HasCauseIn reading.ReadFault a.read_faults b.read_faults r → (r ≡ Err reading.WriteFault → ⊥) →
+    b.write_faults ≡ a.write_faults → Moves a b (fault_by column f)
+reading_moves T a b column r reading.ReadFault is cause none write = (cause.failed is, write)
+reading_moves T a b column r reading.WriteFault is cause none write = absurd (none is)
+reading_moves T a b column r (reading.BadItem n) is cause none write = bad column (cause.steady (λ failed. reading_other T (reading.BadItem n) (λ e. cc) (sym is ∙ failed)), write)
   where
     bad : (c : ℕ) → (b.read_faults ≡ a.read_faults) × (b.write_faults ≡ a.write_faults) → Moves a b (bad_unit c n)
     bad zero stay = stay
     bad (suc c) stay = stay
-reading_moves T a b column r (reading.BadCsv n) is cause write = (cause.steady (λ failed. reading_other T (reading.BadCsv n) (λ e. cc) (sym is ∙ failed)), write)
-reading_moves T a b column r reading.TooMuch is cause write = (cause.steady (λ failed. reading_other T reading.TooMuch (λ e. cc) (sym is ∙ failed)), write)
+reading_moves T a b column r f is cause none write = (cause.steady (λ failed. reading_other T f (λ e. cc) (sym is ∙ failed)), write)

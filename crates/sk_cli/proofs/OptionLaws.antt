@@ -3,7 +3,8 @@ use Rattle.std.proofs.Common.{String, Global, length, arith, ◌≡◌, Bool, tr
 use Rattle.std.specs.Option.{option_map}
 use Rattle.sk_cli.specs.declared.options.Verb.{Verb}
 use Rattle.sk_cli.specs.declared.options.Name.{Name}
-use Rattle.sk_cli.specs.Options.{Word, Given, texts_of, known, allowed_by, name_of, allows, takes_value, options_of, alone, led}
+use Rattle.sk_cli.specs.Values.{Word}
+use Rattle.sk_cli.specs.Options.{Given, texts_of, known, allowed_by, name_of, allows, takes_value, options_of, alone, led}
 
 pub known_is : (verb : Verb) (word : Word) (name : Name) → name_of word ≡ Some name → allows verb name ≡ true → known verb word ≡ Some name
 known_is verb word name named allowed = ap (allowed_by verb) named ∙ ap (λ (b : Bool). if b then Some name else None) allowed

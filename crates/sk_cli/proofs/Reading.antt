@@ -17,11 +17,13 @@ use Rattle.sk_read.proofs.ItemLaws.{front_is}
 use Rattle.sk_read.proofs.LineEnds.{settled_so}
 use Rattle.sk_read.proofs.Readings.{given_settled}
 use Rattle.sk_cli.specs.Behaviour.{Behaviour}
+use Rattle.sk_cli.specs.Beside.{Beside}
 use Rattle.sk_cli.specs.Fault.{fault_by_line}
 use Rattle.sk_cli.specs.Lines.{IsLongLine}
 use Rattle.sk_cli.specs.Outside.{Streams}
-use Rattle.sk_cli.specs.Run.{Finishes, IsInTime, BreaksOff, GivesUp, Ends}
+use Rattle.sk_cli.specs.Run.{Finishes, Stops, IsInTime, WasDue, IsDueOnTheWay, BreaksOff, GivesUp, Ends}
 use Rattle.sk_cli.specs.declared.fault.Fault.TheVariants as fault
+use Rattle.sk_cli.proofs.Fronts.{part_on}
 
 -- how far a command has come with the lines of a source
 pub record Reads (r : Reading) (left now : Option (List ℕ)) (most : ℕ) (given : List (List ℕ)) (taken : List ℕ) : Type 0 where
@@ -51,9 +53,29 @@ went old r left now rest most given taken result answer reads goes most_is is =
       most_is = most_is ∙ reads.most_is;
     }
 
+-- a call that answered so
+pub went_so : (old r : Reading) (left now rest : Option (List ℕ)) (most : ℕ) (given : List (List ℕ)) (taken : List ℕ) (result : Result Bool LineFault) (b answer : Bool) → Reads old left now most given taken →
+    ((given : List (List ℕ)) (taken : List ℕ) → HasRead old now given taken → (more : List ℕ) × Consumes now rest more × Goes r rest given (taken ++ more) result) →
+    r.most ≡ old.most → result ≡ Ok b → b ≡ answer → Went r left rest most given (Ok answer)
+went_so old r left now rest most given taken result b answer reads goes most_is was is =
+    went old r left now rest most given taken result (Ok answer) reads goes most_is (was ∙ ap (λ (t : Bool). Ok t) is)
+
 -- one line more was given
 pub reads_line : (r : Reading) (left rest : Option (List ℕ)) (most : ℕ) (given : List (List ℕ)) → (on : Went r left rest most given (Ok true)) → Reads r left rest most (given ++ r.cutter.line ∷ []) on.taken
 reads_line r left rest most given on = record { read = on.goes.0; consumed = on.consumed; most_is = on.most_is }
+
+-- a call of `next` that gave the line behind these
+pub record GotLine (r : Reading) (left rest : Option (List ℕ)) (most : ℕ) (given : List (List ℕ)) : Type 0 where
+  pub taken : List ℕ
+  pub time : IsReadInTime Lines given taken
+  pub reads : Reads r left rest most (given ++ r.cutter.line ∷ []) taken
+
+pub got_line : (old r : Reading) (left now rest : Option (List ℕ)) (most : ℕ) (given : List (List ℕ)) (taken : List ℕ) (result : Result Bool LineFault) (b : Bool) → Reads old left now most given taken →
+    ((given : List (List ℕ)) (taken : List ℕ) → HasRead old now given taken → (more : List ℕ) × Consumes now rest more × Goes r rest given (taken ++ more) result) →
+    r.most ≡ old.most → result ≡ Ok b → b ≡ true → GotLine r left rest most given
+got_line old r left now rest most given taken result b reads goes most_is was is =
+    let on = went_so old r left now rest most given taken result b true reads goes most_is was is in
+    record { taken = on.taken; time = on.goes.1; reads = reads_line r left rest most given on }
 
 -- a text that begins with these lines has them as its first
 pub first_are : (given lines : List (List ℕ)) (n : ℕ) → n ≡ length given → Begins given lines → take n lines ≡ given
@@ -63,58 +85,73 @@ pub within_given : (r : Reading) (left now : Option (List ℕ)) (most : ℕ) (gi
 within_given r left now most given taken reads = subst (λ (m : ℕ). AreWithin m given) reads.read.limit reads.read.has.within
 
 -- a command that examines line by line, with the text that is due for lines of which none is refused
-pub record ByLines (how : Behaviour) (Due : List (List ℕ) → List ℕ → Type 0) : Type 0 where
+pub record ByLines (how : Behaviour) (from : Beside) (Due : List (List ℕ) → List ℕ → Type 0) : Type 0 where
   pub reads_it : how.reads ≡ true
-  pub so_far : (taken due : List ℕ) → AreWithin line_limit (open_lines_of taken) → Due (complete_lines_of taken) due → how.IsDueSoFar taken due
-  pub before : (n : ℕ) (text due : List ℕ) → AreWithin line_limit (take n (lines_of text)) → Due (take n (lines_of text)) due → how.IsDueBefore text due
-  pub long : (n : ℕ) (text due : List ℕ) → IsLongLine n (lines_of text) → Due (take (n - 1) (lines_of text)) due → how.Refuses (fault.LongLine n) text due
-  pub front : (lines rest : List (List ℕ)) (due : List ℕ) → Due (lines ++ rest) due → (part : List ℕ) × Due lines part
+  pub fine : (taken due : List ℕ) → AreWithin line_limit (open_lines_of taken) → Due (complete_lines_of taken) due → how.IsFineSoFar taken
+  pub so_far : (taken due : List ℕ) → Due (complete_lines_of taken) due → how.IsDueSoFar from taken due
+  pub before : (n : ℕ) (text due : List ℕ) → AreWithin line_limit (take n (lines_of text)) → Due (take n (lines_of text)) due → how.IsDueBefore from text due
+  pub long : (n : ℕ) (text due : List ℕ) → IsLongLine n (lines_of text) → Due (take (n - 1) (lines_of text)) due → how.Refuses (fault.LongLine n) text × how.IsDueAt from (fault.LongLine n) text due
+  pub front : (lines rest : List (List ℕ)) (due : List ℕ) → Due (lines ++ rest) due → (part : List ℕ) × Due lines part × Begins part due
 
 pub on_true : (t : Bool) (P : Type 0) → P → OnTrue t P
 on_true true P holds = holds
 on_true false P holds = tt
 
-module _ (how : Behaviour) (Due : List (List ℕ) → List ℕ → Type 0) (by : ByLines how Due) (most : ℕ) (a b : Streams) where
+-- what was due before the last read
+record Earlier (how : Behaviour) (from : Beside) (taken due : List ℕ) : Type 0 where
+  pub text : List ℕ
+  pub begins : Begins text due
+  pub was_due : WasDue how from taken text
+
+module _ (how : Behaviour) (from : Beside) (Due : List (List ℕ) → List ℕ → Type 0) (by : ByLines how from Due) (most : ℕ) (a b : Streams) where
   -- nothing before the last read is refused, since it was given
-  pub in_time : (given : List (List ℕ)) (due taken : List ℕ) → IsReadInTime Lines given taken → Due given due → IsInTime how taken
-  in_time given due taken is is_due =
-      let earlier = by.front (complete_lines_of is.front) is.earlier.0 due (subst (λ (l : List (List ℕ)). Due l due) is.earlier.1 is_due) in
+  earlier : (given : List (List ℕ)) (due taken : List ℕ) → IsReadInTime Lines given taken → Due given due → Earlier how from taken due
+  earlier given due taken is is_due =
+      let part = by.front (complete_lines_of is.front) is.earlier.0 due (subst (λ (l : List (List ℕ)). Due l due) is.earlier.1 is_due) in
       record {
-        front = is.front;
-        piece = is.piece;
-        due = earlier.0;
-        joined = is.joined;
-        size = is.size;
-        so_far = by.so_far is.front earlier.0 is.sound earlier.1;
+        text = part.0;
+        begins = part.2;
+        was_due = record {
+          front = is.front;
+          piece = is.piece;
+          joined = is.joined;
+          size = is.size;
+          so_far = (by.fine is.front part.0 is.sound part.1, by.so_far is.front part.0 part.1);
+        };
       }
 
+  pub in_time : (given : List (List ℕ)) (due taken : List ℕ) → IsReadInTime Lines given taken → Due given due → IsInTime how.IsFineSoFar taken
+  in_time given due taken is is_due =
+      let was = (earlier given due taken is is_due).was_due in
+      record { front = was.front; piece = was.piece; joined = was.joined; size = was.size; so_far = was.so_far.0 }
+
   -- no line came
-  pub failed : (r : Reading) (given : List (List ℕ)) (due : List ℕ) (f : LineFault) → Went r a.left b.left most given (Err f) → Due given due → Appends a.written b.written due → Ends how most a b (fault_by_line f)
-  failed r given due stop.ReadFault on is_due written = record {
-    taken = on.taken;
-    due = due;
-    reads = by.reads_it;
-    consumed = on.consumed;
-    size = omega (arith, on.goes.1, on.most_is);
-    is_due = by.so_far on.taken due on.goes.0.1 (subst (λ (l : List (List ℕ)). Due l due) (sym on.goes.0.0) is_due);
-    written = written;
-  }
-  failed r given due stop.TooMuch on is_due written = record {
-    taken = on.taken;
-    due = due;
-    reads = by.reads_it;
-    consumed = on.consumed;
-    size = on.goes.1 ∙ on.most_is;
-    is_due = by.so_far on.taken due on.goes.0.1 (subst (λ (l : List (List ℕ)). Due l due) (sym on.goes.0.0) is_due);
-    written = written;
-  }
+  stopped : (IsSize : ℕ → Type 0) (r : Reading) (given : List (List ℕ)) (due taken : List ℕ) → Consumes a.left b.left taken → IsSize (length taken) → complete_lines_of taken ≡ given → AreWithin line_limit (open_lines_of taken) →
+      Due given due → Appends a.written b.written due → Stops how IsSize from a b
+  stopped IsSize r given due taken consumed size is within is_due written =
+      let here : Due (complete_lines_of taken) due = subst (λ (l : List (List ℕ)). Due l due) (sym is) is_due in
+      record {
+        taken = taken;
+        due = due;
+        reads = by.reads_it;
+        consumed = consumed;
+        size = size;
+        fine = by.fine taken due within here;
+        is_due = by.so_far taken due here;
+        written = written;
+      }
+
+  pub failed : (r : Reading) (given : List (List ℕ)) (due : List ℕ) (f : LineFault) → Went r a.left b.left most given (Err f) → Due given due → Appends a.written b.written due → Ends how most from a b (fault_by_line f)
+  failed r given due stop.ReadFault on is_due written =
+      stopped (λ size. size < most) r given due on.taken on.consumed (omega (arith, on.goes.1, on.most_is)) on.goes.0.0 on.goes.0.1 is_due written
+  failed r given due stop.TooMuch on is_due written = stopped (λ size. size ≡ most) r given due on.taken on.consumed (on.goes.1 ∙ on.most_is) on.goes.0.0 on.goes.0.1 is_due written
   failed r given due (stop.LongLine n) on is_due written = record {
     taken = on.taken;
     due = due;
     consumed = on.consumed;
     size = omega (arith, on.goes.1, on.most_is);
     in_time = in_time given due on.taken on.goes.2 is_due;
-    refused = settled_so (λ (text : List ℕ). Begins given (lines_of text) × IsFirstLong line_limit (length given) (lines_of text)) (λ (text : List ℕ). how.Refuses (fault.LongLine n) text due) b.left on.taken
+    refused = settled_so (λ (text : List ℕ). Begins given (lines_of text) × IsFirstLong line_limit (length given) (lines_of text)) (λ (text : List ℕ). how.Refuses (fault.LongLine n) text × how.IsDueAt from (fault.LongLine n) text due) b.left on.taken
         (λ text found.
         let place : length given ≡ n - 1 = omega (arith, on.goes.0) in
         by.long n text due (omega (arith, on.goes.0), subst (λ (m : ℕ). IsFirstLong line_limit m (lines_of text)) place found.1)
@@ -123,9 +160,9 @@ module _ (how : Behaviour) (Due : List (List ℕ) → List ℕ → Type 0) (by :
   }
 
   -- what is due for the lines given is due for the first lines of each text that goes on so
-  due_before : (r : Reading) (given : List (List ℕ)) (due taken : List ℕ) → Reads r a.left b.left most given taken → Due given due → IsSettled (λ (text : List ℕ). how.IsDueBefore text due) b.left taken
+  due_before : (r : Reading) (given : List (List ℕ)) (due taken : List ℕ) → Reads r a.left b.left most given taken → Due given due → IsDueOnTheWay how from b.left taken due
   due_before r given due taken reads is_due =
-      settled_so (λ (text : List ℕ). Begins given (lines_of text)) (λ (text : List ℕ). how.IsDueBefore text due) b.left taken
+      settled_so (λ (text : List ℕ). Begins given (lines_of text)) (λ (text : List ℕ). how.IsDueBefore from text due) b.left taken
       (λ text begins.
       let first : take (length given) (lines_of text) ≡ given = first_are given (lines_of text) (length given) refl begins in
       by.before (length given) text due (subst (AreWithin line_limit) (sym first) (within_given r a.left b.left most given taken reads)) (subst (λ (l : List (List ℕ)). Due l due) (sym first) is_due))
@@ -134,19 +171,23 @@ module _ (how : Behaviour) (Due : List (List ℕ) → List ℕ → Type 0) (by :
   few_bytes : (r : Reading) (given : List (List ℕ)) (taken : List ℕ) → Reads r a.left b.left most given taken → length taken ≤ most
   few_bytes r given taken reads = omega (arith, reads.read.has.count, reads.read.bound, reads.most_is)
 
-  -- a write that ends early
-  pub cut_short : (r : Reading) (given : List (List ℕ)) (due taken : List ℕ) → Reads r a.left b.left most given taken → IsReadInTime Lines given taken → Due given due → AppendsPart a.written b.written due → BreaksOff how most a b
-  cut_short r given due taken reads time is_due part = record {
-    taken = taken;
-    due = due;
-    consumed = reads.consumed;
-    size = few_bytes r given taken reads;
-    is_due = inr (on_true how.reads (IsInTime how taken) (in_time given due taken time is_due), due_before r given due taken reads is_due);
-    written = part;
-  }
+  -- a write that ends early, of what is due for one line more
+  pub cut_short : (r : Reading) (given : List (List ℕ)) (line due more taken : List ℕ) (mid : Option (List ℕ)) → Reads r a.left b.left most (given ++ line ∷ []) taken → IsReadInTime Lines given taken → Due given due →
+      Due (given ++ line ∷ []) (due ++ more) → Appends a.written mid due → AppendsPart mid b.written more → BreaksOff how most from a b
+  cut_short r given line due more taken mid reads time was_due is_due whole part =
+      let before = earlier given due taken time was_due in
+      record {
+        taken = taken;
+        earlier = before.text;
+        due = due ++ more;
+        consumed = reads.consumed;
+        size = few_bytes r (given ++ line ∷ []) taken reads;
+        is_due = inr (on_true how.reads (WasDue how from taken before.text) before.was_due, due_before r (given ++ line ∷ []) (due ++ more) taken reads is_due);
+        written = part_on a.written mid b.written before.text due more before.begins whole part;
+      }
 
   -- no memory for what is due next
-  pub gives_up : (r : Reading) (given : List (List ℕ)) (due taken : List ℕ) → Reads r a.left b.left most given taken → Due given due → AppendsFront a.written b.written due → GivesUp how most a b
+  pub gives_up : (r : Reading) (given : List (List ℕ)) (due taken : List ℕ) → Reads r a.left b.left most given taken → Due given due → AppendsFront a.written b.written due → GivesUp how most from a b
   gives_up r given due taken reads is_due front = record {
     taken = taken;
     due = due;
@@ -157,16 +198,19 @@ module _ (how : Behaviour) (Due : List (List ℕ) → List ℕ → Type 0) (by :
   }
 
   -- the source has ended
-  pub read_to_end : (r : Reading) (given : List (List ℕ)) (due : List ℕ) → (on : Went r a.left b.left most given (Ok false)) → ((text : List ℕ) → lines_of text ≡ given → how.IsDue text due) → Appends a.written b.written due →
-      Finishes how most a b
-  read_to_end r given due on is_due written =
+  pub read_to_end : (to : Beside) (r : Reading) (given : List (List ℕ)) (due : List ℕ) → (on : Went r a.left b.left most given (Ok false)) → ((text : List ℕ) → lines_of text ≡ given → how.IsFine text × how.IsDue from text due × how.Leaves from text due to) →
+      Appends a.written b.written due → Finishes how most from to a b
+  read_to_end to r given due on is_due written =
       let read = on.goes.0 in
+      let here = is_due on.taken (read.has.whole on.goes.1) in
       record {
         text = on.taken;
         due = due;
         consumed = on.consumed;
         end = on_true how.reads (IsAtEnd b.left) (read.end on.goes.1);
         size = on_true how.reads (length on.taken < most) (omega (arith, read.has.size on.goes.1, read.has.count, on.most_is));
-        is_due = is_due on.taken (read.has.whole on.goes.1);
+        fine = here.0;
+        is_due = here.1;
+        leaves = here.2;
         written = written;
       }

@@ -1,5 +1,5 @@
 -- How `replay` goes.
-use Rattle.std.proofs.Common.{◌≡◌, inr, ℕ, ◌+◌, ◌-◌, List, [], ◌∷◌, ◌++◌, length, take, map, flat_map, get_or, Option, Some, None, Ok, false, refl, sym, ap, ◌∙◌, subst, arith, append-nil, append_assoc, length-append}
+use Rattle.std.proofs.Common.{◌≡◌, inr, ℕ, ◌+◌, ◌-◌, ◌<◌, List, [], ◌∷◌, ◌++◌, length, take, map, flat_map, get_or, Option, Some, None, Ok, false, refl, sym, ap, ◌∙◌, subst, arith, append-nil, append_assoc, length-append}
 use Rattle.std.proofs.lemmas.Grind.{flat_map-append}
 use Rattle.std.proofs.lemmas.List.{map-append}
 use Rattle.std.specs.Io.KnownBytes.{Appends}
@@ -18,7 +18,8 @@ use Rattle.sk_read.specs.Reading.{Reading}
 use Rattle.sk_read.specs.Reads.{IsInTime as IsReadInTime}
 use Rattle.sk_read.specs.declared.units.Units.TheVariants.{Lines}
 use Rattle.sk_read.proofs.LineEnds.{settled_so}
-use Rattle.sk_read.proofs.Readings.{given_settled, in_time_more}
+use Rattle.sk_read.proofs.Readings.{given_settled}
+use Rattle.sk_cli.specs.Beside.{Beside}
 use Rattle.sk_cli.specs.commands.Replay.{start_of, IsPlay, Played, answer_line, answers_text, IsAnswered, IsNoMore, IsBadLine, replaying}
 use Rattle.sk_cli.specs.Outside.{Streams}
 use Rattle.sk_cli.specs.Run.{Refuses, BreaksOff, GivesUp}
@@ -66,11 +67,24 @@ pub answered : (k : ℕ) (first : List ℕ) (lines : List (List ℕ)) (answers :
 answered k first lines answers reached played = (k, answers, reached, played, refl)
 
 -- `replay` examines line by line
-pub replay_by_lines : ByLines replaying IsAnswered
-replay_by_lines = record { reads_it = refl; so_far = λ taken due within is. (within, is); before = λ n text due within is. (n, within, is); long = λ n text due long is. (long, is); front = answered_front }
+pub replay_by_lines : (from : Beside) → ByLines replaying from IsAnswered
+replay_by_lines from = record {
+  reads_it = refl;
+  fine = λ taken due within is. (within, (due, is));
+  so_far = λ taken due is. is;
+  before = λ n text due within is. (n, within, is);
+  long = λ n text due long is. ((long, (due, is)), is);
+  front = answered_front;
+}
 
-pub no_answer_yet : (text : List ℕ) → replaying.IsDueBefore text []
-no_answer_yet text = (0, none_within, refl)
+pub no_answer_yet : (from : Beside) (text : List ℕ) → replaying.IsDueBefore from text []
+no_answer_yet from text = (0, none_within, refl)
+
+-- a schedule that was played to its end
+pub whole_schedule : (from to : Beside) (lines : List (List ℕ)) (due text : List ℕ) → lines_of text ≡ lines → AreWithin line_limit lines → IsAnswered lines due → 0 < length lines → replaying.IsFine text × replaying.IsDue from text due × replaying.Leaves from text due to
+whole_schedule from to lines due text is within so_far some =
+    let here : IsAnswered (lines_of text) due = subst (λ (l : List (List ℕ)). IsAnswered l due) (sym is) so_far in
+    ((subst (AreWithin line_limit) (sym is) within, (due, here), omega (arith, ap length is, some)), here, tt)
 
 -- ---- refusals
 
@@ -96,15 +110,15 @@ bad_line n given line lines is within bad begins =
     )
 
 -- a line that is refused, behind those that were played
-pub refuses : (a b : Streams) (most n : ℕ) (r : Reading) (given : List (List ℕ)) (line due taken : List ℕ) → Reads r a.left b.left most (given ++ line ∷ []) taken → IsReadInTime Lines given taken → n ≡ length given + 1 →
-    IsAnswered given due → Appends a.written b.written due → IsNoMore given line → Refuses replaying most (fault.BadEvent n) a b
-refuses a b most n r given line due taken reads time is so_far written bad = record {
+pub refuses : (from : Beside) (a b : Streams) (most n : ℕ) (r : Reading) (given : List (List ℕ)) (line due taken : List ℕ) → Reads r a.left b.left most (given ++ line ∷ []) taken → IsReadInTime Lines given taken → n ≡ length given + 1 →
+    IsAnswered given due → Appends a.written b.written due → IsNoMore given line → Refuses replaying most (fault.BadEvent n) from a b
+refuses from a b most n r given line due taken reads time is so_far written bad = record {
   taken = taken;
   due = due;
   consumed = reads.consumed;
   size = omega (arith, reads.read.has.count, reads.read.bound, reads.most_is);
-  in_time = in_time replaying IsAnswered replay_by_lines most a b given due taken time so_far;
-  refused = settled_so (λ (text : List ℕ). Begins (given ++ line ∷ []) (lines_of text)) (λ (text : List ℕ). replaying.Refuses (fault.BadEvent n) text due) b.left taken
+  in_time = in_time replaying from IsAnswered (replay_by_lines from) most a b given due taken time so_far;
+  refused = settled_so (λ (text : List ℕ). Begins (given ++ line ∷ []) (lines_of text)) (λ (text : List ℕ). replaying.Refuses (fault.BadEvent n) text × replaying.IsDueAt from (fault.BadEvent n) text due) b.left taken
       (λ text begins.
       let found = bad_line n given line (lines_of text) is (within_given r a.left b.left most (given ++ line ∷ []) taken reads) bad begins in
       (found.0, subst (λ (l : List (List ℕ)). IsAnswered l due) (sym found.1) so_far))
@@ -117,8 +131,8 @@ unfolding fields_of
 no_first_line = refl
 
 -- a text of no line
-pub refuses_nothing : (a b : Streams) (most : ℕ) (r : Reading) → (on : Went r a.left b.left most [] (Ok false)) → b.written ≡ a.written → Refuses replaying most (fault.BadEvent 1) a b
-refuses_nothing a b most r on same =
+pub refuses_nothing : (from : Beside) (a b : Streams) (most : ℕ) (r : Reading) → (on : Went r a.left b.left most [] (Ok false)) → b.written ≡ a.written → Refuses replaying most (fault.BadEvent 1) from a b
+refuses_nothing from a b most r on same =
     let read = on.goes.0 in
     let bad : IsBadLine 1 [] = record { from = omega arith; to = omega arith; within = none_within; bad = no_first_line } in
     record {
@@ -126,23 +140,22 @@ refuses_nothing a b most r on same =
       due = [];
       consumed = on.consumed;
       size = omega (arith, read.has.count, read.bound, on.most_is);
-      in_time = in_time replaying IsAnswered replay_by_lines most a b [] [] on.taken read.in_time refl;
+      in_time = in_time replaying from IsAnswered (replay_by_lines from) most a b [] [] on.taken read.in_time refl;
       refused = inr (read.end on.goes.1, subst (λ (lines : List (List ℕ)). IsBadLine 1 lines × IsAnswered (take 0 lines) []) (sym (read.has.whole on.goes.1)) (bad, refl));
       written = subst (λ (w : Option (List ℕ)). Appends a.written w []) (sym same) (Appends-nil a.written);
     }
 
 -- a line that was played, and whose answer was written in part or not at all
-module _ (a b : Streams) (most k : ℕ) (r : Reading) (first : List ℕ) (lines : List (List ℕ)) (answers : List Answer) (from to : Fine) (line taken : List ℕ) (said : Answer) (played : Played k first lines answers from)
-    (play : IsPlay line k from said to) (reads : Reads r a.left b.left most (first ∷ (lines ++ line ∷ [])) taken) where
-  due_is : IsAnswered (first ∷ (lines ++ line ∷ [])) (answers_text (answers ++ said ∷ []))
-  due_is = answered k first (lines ++ line ∷ []) (answers ++ said ∷ []) to (played_more k first lines answers from line said to played play)
+module _ (from : Beside) (a b : Streams) (most k : ℕ) (r : Reading) (first : List ℕ) (lines : List (List ℕ)) (answers : List Answer) (here to : Fine) (line taken : List ℕ) (said : Answer) (played : Played k first lines answers here)
+    (play : IsPlay line k here said to) (reads : Reads r a.left b.left most (first ∷ (lines ++ line ∷ [])) taken) where
+  due_is : IsAnswered (first ∷ (lines ++ line ∷ [])) (answers_text answers ++ answer_line said)
+  due_is =
+      subst (λ (l : List ℕ). IsAnswered (first ∷ (lines ++ line ∷ [])) l) (answers_more answers said)
+      (answered k first (lines ++ line ∷ []) (answers ++ said ∷ []) to (played_more k first lines answers here line said to played play))
 
-  pub answer_cut_short : IsReadInTime Lines (first ∷ lines) taken → AppendsPart a.written b.written (answers_text answers ++ answer_line said) → BreaksOff replaying most a b
-  answer_cut_short time part =
-      cut_short replaying IsAnswered replay_by_lines most a b r (first ∷ (lines ++ line ∷ [])) (answers_text (answers ++ said ∷ [])) taken reads (in_time_more Lines (first ∷ lines) line taken time) due_is
-      (subst (λ (l : List ℕ). AppendsPart a.written b.written l) (sym (answers_more answers said)) part)
+  pub answer_cut_short : (mid : Option (List ℕ)) → IsReadInTime Lines (first ∷ lines) taken → Appends a.written mid (answers_text answers) → AppendsPart mid b.written (answer_line said) → BreaksOff replaying most from a b
+  answer_cut_short mid time whole part =
+      cut_short replaying from IsAnswered (replay_by_lines from) most a b r (first ∷ lines) line (answers_text answers) (answer_line said) taken mid reads time (answered k first lines answers here played) due_is whole part
 
-  pub answer_given_up : AppendsFront a.written b.written (answers_text answers ++ answer_line said) → GivesUp replaying most a b
-  answer_given_up front =
-      gives_up replaying IsAnswered replay_by_lines most a b r (first ∷ (lines ++ line ∷ [])) (answers_text (answers ++ said ∷ [])) taken reads due_is
-      (subst (λ (l : List ℕ). AppendsFront a.written b.written l) (sym (answers_more answers said)) front)
+  pub answer_given_up : AppendsFront a.written b.written (answers_text answers ++ answer_line said) → GivesUp replaying most from a b
+  answer_given_up front = gives_up replaying from IsAnswered (replay_by_lines from) most a b r (first ∷ (lines ++ line ∷ [])) (answers_text answers ++ answer_line said) taken reads due_is front

@@ -1,5 +1,5 @@
 -- What standard error is told, and where the words are no command.
-use Rattle.std.proofs.Common.{◌≡◌, ◌⊎◌, inl, inr, ℕ, List, Option, Some, None, Result, Ok, Err, OnOk, OnErr, refl, subst}
+use Rattle.std.proofs.Common.{◌≡◌, ◌⊎◌, inl, inr, ℕ, List, Option, Some, None, Result, Ok, Err, OnOk, OnErr, refl, ◌∙◌, subst}
 use Rattle.std.specs.Option.{IfSome, MatchOption}
 use Rattle.std.specs.Io.KnownBytes.{Appends}
 use Rattle.sk_model.specs.Causes.{Rose, HasCause, AppendsPart}
@@ -22,3 +22,13 @@ no_request (Some a) P is = absurd (differ a is)
 -- a fact of what the words ask for
 pub of_request : (asked : Option Asked) (a : Asked) (P : Asked → Type 0) → Some a ≡ asked → P a → IfSome asked P
 of_request asked a P is holds = subst (λ (o : Option Asked). IfSome o P) is holds
+
+-- where the words ask for something, that is no case of the words that ask for nothing
+pub of_this_request : (asked : Option Asked) (a : Asked) (N : Type 0) (P : Asked → Type 0) → Some a ≡ asked → P a → MatchOption asked N P
+of_this_request asked a N P is holds = subst (λ (o : Option Asked). MatchOption o N P) is holds
+
+pub some_request : (asked : Option Asked) (a : Asked) → Some a ≡ asked → asked ≡ None → ⊥
+some_request asked a is none = differ a (is ∙ none)
+  where
+    differ : (a : Asked) → Some a ≡ None → ⊥
+    differ a is = cc

@@ -1,13 +1,15 @@
 -- A schedule is answered in one way, and ends at one line.
-use Rattle.std.proofs.Common.{◌≡◌, ℕ, List, [], ◌∷◌, ◌++◌, map, Option, Some, None, refl, sym, ap, ◌∙◌, subst}
+use Rattle.std.proofs.Common.{◌≡◌, ℕ, List, [], ◌∷◌, ◌++◌, map, flat_map, Option, Some, None, refl, sym, ap, ◌∙◌, subst}
+use Rattle.std.proofs.lemmas.Grind.{flat_map-append}
 use Rattle.std.specs.Option.{IfSome}
+use Rattle.sk_model.specs.Missing.{Begins}
 use Rattle.sk_machine.specs.Fine.{Fine}
 use Rattle.sk_core.specs.Events.{IsEnabled, after}
 use Rattle.sk_core.specs.Runs.{MeetsAll, IsRun}
 use Rattle.sk_core.specs.Texts.{event_of}
 use Rattle.sk_core.specs.declared.event.Event.{Event}
 use Rattle.sk_core.specs.declared.event.Answer.{Answer}
-use Rattle.sk_cli.specs.commands.Replay.{IsAnswered, IsNoMore, answers_text}
+use Rattle.sk_cli.specs.commands.Replay.{answer_line, answers_text, IsAnswered, IsSchedule, IsNoMore}
 
 -- the machine after these events
 reached_by : ℕ → List Event → Fine → Fine
@@ -104,6 +106,11 @@ no_more_is_last (first ∷ lines) line rest due bad answered =
     let no : ¬ IsEnabled on.event bad.2 = subst (λ (o : Option Event). IfSome o (λ (e : Event). ¬ IsEnabled e bad.2)) on.named disabled in
     no (subst (λ (f : Fine). IsEnabled on.event f) here enabled)
 
+-- what a line does not go on with is a schedule
+pub schedule_before : (lines : List (List ℕ)) (line : List ℕ) → IsNoMore lines line → IsSchedule lines
+schedule_before [] line bad = ([], refl)
+schedule_before (first ∷ lines) line bad = (answers_text bad.1, (bad.0, bad.1, bad.2, bad.3, refl))
+
 -- ---- the answers are these
 
 answers_are : (k : ℕ) (es : List Event) (answers others : List Answer) (from to end : Fine) → IsRun k es answers from to → IsRun k es others from end → answers ≡ others
@@ -161,29 +168,41 @@ splits (l ∷ lines) rest (e ∷ events) named =
       named = ap (λ (o : Option Event). o ∷ map event_of lines) head ∙ ap (λ (l : List (Option Event)). Some e ∷ l) more.named;
     }
 
-record Runs (k : ℕ) (es : List Event) (from : Fine) : Type 0 where
+record Runs (k : ℕ) (es : List Event) (from : Fine) (all : List Answer) : Type 0 where
   answers : List Answer
   to : Fine
   run : IsRun k es answers from to
   invariant : MeetsAll k to
+  begins : Begins answers all
 
-front_runs : (k : ℕ) (es fs : List Event) (answers : List Answer) (from to : Fine) → IsRun k (es ++ fs) answers from to → MeetsAll k to → Runs k es from
+front_runs : (k : ℕ) (es fs : List Event) (answers : List Answer) (from to : Fine) → IsRun k (es ++ fs) answers from to → MeetsAll k to → Runs k es from answers
 unfolding IsRun
-front_runs k [] [] [] from to run invariant = record { answers = []; to = from; run = refl; invariant = subst (MeetsAll k) run invariant }
+front_runs k [] [] [] from to run invariant = record { answers = []; to = from; run = refl; invariant = subst (MeetsAll k) run invariant; begins = ([], refl) }
 front_runs k [] [] (a ∷ answers) from to run invariant = absurd run
 front_runs k [] (f ∷ fs) [] from to run invariant = absurd run
-front_runs k [] (f ∷ fs) (a ∷ answers) from to run invariant = record { answers = []; to = from; run = refl; invariant = run.0.invariant }
+front_runs k [] (f ∷ fs) (a ∷ answers) from to run invariant = record { answers = []; to = from; run = refl; invariant = run.0.invariant; begins = (a ∷ answers, refl) }
 front_runs k (e ∷ es) fs [] from to run invariant = absurd run
 front_runs k (e ∷ es) fs (a ∷ answers) from to run invariant =
     let more = front_runs k es fs answers (after k e from) to run.1 invariant in
-    record { answers = a ∷ more.answers; to = more.to; run = (run.0, more.run); invariant = more.invariant }
+    record {
+      answers = a ∷ more.answers;
+      to = more.to;
+      run = (run.0, more.run);
+      invariant = more.invariant;
+      begins = (more.begins.0, ap (λ (l : List Answer). a ∷ l) more.begins.1);
+    }
 
-pub answered_front : (lines rest : List (List ℕ)) (due : List ℕ) → IsAnswered (lines ++ rest) due → (front : List ℕ) × IsAnswered lines front
-answered_front [] rest due answered = ([], refl)
+answers_begin : (front answers : List Answer) → Begins front answers → Begins (answers_text front) (answers_text answers)
+unfolding answers_text
+answers_begin front answers begins = (flat_map answer_line begins.0, ap (flat_map answer_line) begins.1 ∙ flat_map-append answer_line front begins.0)
+
+pub answered_front : (lines rest : List (List ℕ)) (due : List ℕ) → IsAnswered (lines ++ rest) due → (front : List ℕ) × IsAnswered lines front × Begins front due
+answered_front [] rest due answered = ([], refl, (due, refl))
 answered_front (first ∷ lines) rest due answered =
     let played = answered.3 in
     let split = splits lines rest played.events played.named in
     let run = front_runs answered.0 split.front split.back answered.1 played.start answered.2 (subst (λ (es : List Event). IsRun answered.0 es answered.1 played.start answered.2) split.joined played.run) played.invariant in (
       answers_text run.answers,
       (answered.0, run.answers, run.to, record { start = played.start; events = split.front; named_start = played.named_start; named = split.named; run = run.run; invariant = run.invariant }, refl),
+      subst (λ (l : List ℕ). Begins (answers_text run.answers) l) (sym answered.4) (answers_begin run.answers answered.1 run.begins),
     )

@@ -1,5 +1,6 @@
 -- What a command does with the text that it reads.
 use Rattle.std.specs.Prelude.{◌≡◌, ℕ, Bool, List}
+use Rattle.sk_cli.specs.Beside.{Beside}
 use Rattle.sk_cli.specs.declared.fault.Fault.{Fault}
 
 pub record Behaviour : Type 1 where
@@ -7,17 +8,29 @@ pub record Behaviour : Type 1 where
   pub reads : Bool
   -- whether it writes only once its text has ended
   pub writes_last : Bool
-  -- nothing of a text is refused, and this is due for it
-  pub IsDue : List ℕ → List ℕ → Type 0
-  -- nothing of these bytes of a text that may go on is refused so far, and this is due for what has ended in them
-  pub IsDueSoFar : List ℕ → List ℕ → Type 0
+  -- what decides how it ends: nothing of a text is refused
+  pub IsFine : List ℕ → Type 0
+  -- nothing of these bytes of a text that may go on is refused so far
+  pub IsFineSoFar : List ℕ → Type 0
+  -- a text is refused by this fault
+  pub Refuses : Fault → List ℕ → Type 0
+  -- what it writes, with these beside it as it begins: this is due for a text that is fine
+  pub IsDue : Beside → List ℕ → List ℕ → Type 0
+  -- once this was written for a text, those are left beside it
+  pub Leaves : Beside → List ℕ → List ℕ → Beside → Type 0
+  -- this is due for what has ended in these bytes of a text that may go on
+  pub IsDueSoFar : Beside → List ℕ → List ℕ → Type 0
+  -- where a text is refused by this fault, this is due for what stands before that place
+  pub IsDueAt : Beside → Fault → List ℕ → List ℕ → Type 0
   -- nothing is refused of some first part of a text, and this is due for it before more is read
-  pub IsDueBefore : List ℕ → List ℕ → Type 0
-  -- a text is refused by this fault, and this is due for what stands before that place
-  pub Refuses : Fault → List ℕ → List ℕ → Type 0
+  pub IsDueBefore : Beside → List ℕ → List ℕ → Type 0
 
--- a text is either due one text or refused in one way, behind one text that is due
+-- a text is fine, or is refused in one way
 pub record IsDecided (b : Behaviour) : Type 0 where
-  pub due : (text due other : List ℕ) → b.IsDue text due → b.IsDue text other → due ≡ other
-  pub refused : (f g : Fault) (text due other : List ℕ) → b.Refuses f text due → b.Refuses g text other → (f ≡ g) × (due ≡ other)
-  pub apart : (f : Fault) (text due other : List ℕ) → b.IsDue text due → b.Refuses f text other → ⊥
+  pub refused : (f g : Fault) (text : List ℕ) → b.Refuses f text → b.Refuses g text → f ≡ g
+  pub apart : (f : Fault) (text : List ℕ) → b.IsFine text → b.Refuses f text → ⊥
+
+-- what is written is decided by the text that is read: one text is due for it, or before the place where it is refused
+pub record WritesOneText (b : Behaviour) : Type 0 where
+  pub due : (from : Beside) (text due other : List ℕ) → b.IsDue from text due → b.IsDue from text other → due ≡ other
+  pub refused : (from : Beside) (f : Fault) (text due other : List ℕ) → b.IsDueAt from f text due → b.IsDueAt from f text other → due ≡ other

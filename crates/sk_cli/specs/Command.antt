@@ -7,7 +7,8 @@ use Rattle.sk_cli.specs.declared.command.Command.{Command}
 use Rattle.sk_cli.specs.declared.command.Command.TheVariants.{Count, Hash, Replay, Help, Version}
 use Rattle.sk_cli.specs.declared.commands.about.TheConstants.{HELP, VERSION}
 use Rattle.sk_cli.specs.Behaviour.{Behaviour}
-use Rattle.sk_cli.specs.Options.{Word, Given, spelled_by, file_by}
+use Rattle.sk_cli.specs.Options.{Given, spelled_by, file_by}
+use Rattle.sk_cli.specs.Values.{Word}
 use Rattle.sk_cli.specs.commands.About.{about}
 use Rattle.sk_cli.specs.commands.Count as count
 use Rattle.sk_cli.specs.commands.Hash as hash

@@ -51,6 +51,7 @@ fault_by column (reading.LongLine number) = LongLine number
 fault_by column (reading.BadItem number) = bad_unit column number
 fault_by column (reading.BadCsv number) = BadCsv number
 fault_by column reading.TooMuch = TooMuch
+fault_by column reading.WriteFault = WriteFault
 
 -- the fault that a fault of lines makes
 abbrev pub fault_by_line : LineFault → Fault

@@ -1,8 +1,10 @@
 pub mod Behaviour
+pub mod Beside
 pub mod Command
 pub mod Fault
 pub mod Lines
 pub mod Options
 pub mod Outside
 pub mod Run
+pub mod Values
 pub mod commands

@@ -1,16 +1,14 @@
 -- The options behind a command.
-use Rattle.std.specs.Prelude.{ℕ, ◌+◌, ◌-◌, ◌^◌, nat_le, Bool, true, false, ◌&&◌, List, [], ◌∷◌, map, codes, if◌then◌else◌, Option, Some, None, is_some, option_map, option_and_then, unwrap_or, is_none, ◌==◌, bytes_eq, string_bytes}
+use Rattle.std.specs.Prelude.{ℕ, ◌-◌, ◌^◌, Bool, true, false, ◌&&◌, List, [], ◌∷◌, map, codes, if◌then◌else◌, Option, Some, None, is_some, option_map, option_and_then, unwrap_or, is_none, ◌==◌, bytes_eq, string_bytes}
 use Rattle.std.specs.declared.string.String.{String}
 use Rattle.std.specs.declared.alloc.Global.{Global}
-use Rattle.sk_model.specs.Numbers.{number_of}
+use Rattle.sk_model.specs.Limits.{most_size, most_updaters}
+use Rattle.sk_cli.specs.Beside.{board_places}
+use Rattle.sk_cli.specs.Values.{Word, number_from, number_list, yes_or_no}
 use Rattle.sk_cli.specs.declared.options.Verb.{Verb}
 use Rattle.sk_cli.specs.declared.options.Verb.TheVariants.{Count, Hash, Replay}
 use Rattle.sk_cli.specs.declared.options.Name.{Name}
-use Rattle.sk_cli.specs.declared.options.Name.TheVariants.{Csv, File, K, Raw, Seed}
-
--- a word, as its bytes
-abbrev pub Word : Type 0
-Word = List ℕ
+use Rattle.sk_cli.specs.declared.options.Name.TheVariants.{Alarm, B, Csv, Eager, File, K, Propagator, Raw, Seed, Updaters, Window}
 
 abbrev pub texts_of : List (String Global) → List Word
 texts_of words = map string_bytes words
@@ -18,23 +16,31 @@ texts_of words = map string_bytes words
 -- the option that a word names
 abbrev pub name_of : Word → Option Name
 name_of word =
+    if bytes_eq word (codes "--alarm") then Some Alarm else (
+    if bytes_eq word (codes "--b") then Some B else (
     if bytes_eq word (codes "--csv") then Some Csv else (
+    if bytes_eq word (codes "--eager") then Some Eager else (
     if bytes_eq word (codes "--file") then Some File else (
     if bytes_eq word (codes "--k") then Some K else (
+    if bytes_eq word (codes "--propagator") then Some Propagator else (
     if bytes_eq word (codes "--raw") then Some Raw else (
-    if bytes_eq word (codes "--seed") then Some Seed else None))))
+    if bytes_eq word (codes "--seed") then Some Seed else (
+    if bytes_eq word (codes "--updaters") then Some Updaters else (
+    if bytes_eq word (codes "--window") then Some Window else None))))))))))
 
 -- whether a value stands behind a name
 abbrev pub takes_value : Name → Bool
-takes_value Csv = true
-takes_value File = true
-takes_value K = true
-takes_value Seed = true
 takes_value Raw = false
+takes_value name = true
 
 -- the options that a command has
 abbrev pub allows : Verb → Name → Bool
-allows Count name = true
+allows Count Csv = true
+allows Count File = true
+allows Count K = true
+allows Count Raw = true
+allows Count Seed = true
+allows Count name = false
 allows Hash File = true
 allows Hash Seed = true
 allows Hash name = false
@@ -47,11 +53,17 @@ Given = Name × Word
 
 -- a number for each name, by which names are told apart
 abbrev pub place_of : Name → ℕ
-place_of Csv = 0
-place_of File = 1
-place_of K = 2
-place_of Raw = 3
-place_of Seed = 4
+place_of Alarm = 0
+place_of B = 1
+place_of Csv = 2
+place_of Eager = 3
+place_of File = 4
+place_of K = 5
+place_of Propagator = 6
+place_of Raw = 7
+place_of Seed = 8
+place_of Updaters = 9
+place_of Window = 10
 
 -- the name, where the command has it
 abbrev pub allowed_by : Verb → Option Name → Option Name
@@ -104,11 +116,45 @@ is_given name given = is_some (value_behind name given)
 -- the number in a value from low to high, or the default where there is no value
 abbrev pub number_in : ℕ → ℕ → ℕ → Option Word → Option ℕ
 number_in low high default None = Some default
-number_in low high default (Some word) = option_and_then (λ n. if nat_le low n then Some n else None) (number_of (high + 1) word)
+number_in low high default (Some word) = number_from low high word
+
+-- the numbers in a value, at most so many from low to high, or the default where there is no value
+abbrev pub numbers_in : ℕ → ℕ → ℕ → List ℕ → Option Word → Option (List ℕ)
+numbers_in most low high default None = Some default
+numbers_in most low high default (Some word) = number_list most low high word
+
+-- whether a value is yes, as it is where there is none
+abbrev pub is_yes_in : Option Word → Option Bool
+is_yes_in None = Some true
+is_yes_in (Some word) = yes_or_no word
 
 -- the seed of the hash
 abbrev pub seed_by : List Given → Option ℕ
 seed_by given = number_in 0 (2 ^ 32 - 1) 0 (value_behind Seed given)
+
+-- how many updaters there are
+abbrev pub updaters_by : List Given → Option ℕ
+updaters_by given = number_in 1 most_updaters 1 (value_behind Updaters given)
+
+-- how many items the buffers of the updaters have room for, the last for all further updaters
+abbrev pub sizes_by : List Given → Option (List ℕ)
+sizes_by given = numbers_in most_updaters 1 most_size (64 ∷ []) (value_behind B given)
+
+-- after how many lines an estimate is written, where that is asked for
+abbrev pub window_by : List Given → Option (Option ℕ)
+window_by given = if is_given Window given then option_map (λ n. Some n) (number_in 1 1000000 1 (value_behind Window given)) else Some None
+
+-- whether updaters propagate by themselves while the sketch is small
+abbrev pub eager_by : List Given → Option Bool
+eager_by given = is_yes_in (value_behind Eager given)
+
+-- whether one thread propagates beside the updaters
+abbrev pub propagator_by : List Given → Option Bool
+propagator_by given = is_yes_in (value_behind Propagator given)
+
+-- at which estimates an alarm is written, each once
+abbrev pub alarms_by : List Given → Option (List ℕ)
+alarms_by given = numbers_in board_places 0 (2 ^ 48 - 1) [] (value_behind Alarm given)
 
 -- a name of a file is any word that is not empty
 abbrev pub name_by : Option Word → Option (Option Word)

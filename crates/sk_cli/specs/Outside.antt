@@ -15,10 +15,6 @@ pub record Streams : Type 0 where
 abbrev pub streams_of : {S O : Type 0} → source.Ghosts S → sink.Ghosts O → S → O → Streams
 streams_of s o source out = record { left = s.left source; read_faults = s.faults source; written = o.written out; write_faults = o.faults out }
 
--- an open file and a sink
-abbrev pub streams_on : {F D O : Type 0} → shelf.Ghosts F D → sink.Ghosts O → F → D → O → Streams
-streams_on f o shelf file out = record { left = f.left shelf file; read_faults = f.read_faults shelf; written = o.written out; write_faults = o.faults out }
-
 -- all that a run is handed: the standard input, the files with what is left of the one opened last, and the output
 pub record Outside : Type 0 where
   pub input : Option (List ℕ)

@@ -1,96 +1,120 @@
 -- How a run goes: what it reads and writes, and why it ends.
-use Rattle.std.specs.Prelude.{◌≡◌, ◌≢◌, ◌⊎◌, ℕ, ◌<◌, ◌≤◌, List, ◌++◌, length, true, Option, None, Some, Result, MatchResult}
+use Rattle.std.specs.Prelude.{◌≡◌, ◌≢◌, ◌⊎◌, ℕ, ◌<◌, ◌≤◌, List, ◌++◌, length, take, true, Option, None, Some, Result, MatchResult}
 use Rattle.std.specs.Bool.{OnTrue}
 use Rattle.std.specs.Io.KnownBytes.{Appends, Consumes, IsAtEnd}
 use Rattle.sk_model.specs.Causes.{Rose, HasCauseIn, AppendsFront, AppendsPart}
+use Rattle.sk_model.specs.Missing.{Begins}
 use Rattle.sk_io.specs.Files.{told_file}
 use Rattle.sk_io.specs.declared.stream.Sink as sink
 use Rattle.sk_read.specs.Reads.{piece_limit, IsSettled}
 use Rattle.sk_cli.specs.Behaviour.{Behaviour}
-use Rattle.sk_cli.specs.Options.{Word}
+use Rattle.sk_cli.specs.Beside.{Beside}
+use Rattle.sk_cli.specs.Values.{Word}
 use Rattle.sk_cli.specs.Outside.{Streams, Outside, over_input, over_file}
 use Rattle.sk_cli.specs.Command.{Asked, behaviour_of}
 use Rattle.sk_cli.specs.declared.fault.Fault.{Fault}
 use Rattle.sk_cli.specs.declared.fault.Fault.TheVariants.{OutOfMemory, Usage, ReadFault, WriteFault, OpenFault, TooMuch}
 
+-- known bytes grew by a part of these from their front, by this front at least and not by all
+pub record AppendsPartBehind (front : List ℕ) (old new : Option (List ℕ)) (bytes : List ℕ) : Type 0 where
+  pub size : ℕ
+  pub begins : Begins front bytes
+  pub least : length front ≤ size
+  pub most : size < length bytes
+  pub written : Appends old new (take size bytes)
+
 -- ---- one command over a source and a sink
 
 -- this text was taken, which is all that the source had and fewer bytes than may be, nothing of it is refused, and
--- the whole text that is due for it was written
-pub record Finishes (b : Behaviour) (most : ℕ) (old new : Streams) : Type 0 where
+-- the whole text that is due for it was written; so what is beside it was left
+pub record Finishes (b : Behaviour) (most : ℕ) (from to : Beside) (old new : Streams) : Type 0 where
   pub text : List ℕ
   pub due : List ℕ
   pub consumed : Consumes old.left new.left text
   pub end : OnTrue b.reads (IsAtEnd new.left)
   pub size : OnTrue b.reads (length text < most)
-  pub is_due : b.IsDue text due
+  pub fine : b.IsFine text
+  pub is_due : b.IsDue from text due
+  pub leaves : b.Leaves from text due to
   pub written : Appends old.written new.written due
 
 -- so many bytes were taken, nothing of them is refused so far, and what is due for what has ended in them was written
-pub record Stops (b : Behaviour) (IsSize : ℕ → Type 0) (old new : Streams) : Type 0 where
+pub record Stops (b : Behaviour) (IsSize : ℕ → Type 0) (from : Beside) (old new : Streams) : Type 0 where
   pub taken : List ℕ
   pub due : List ℕ
   pub reads : b.reads ≡ true
   pub consumed : Consumes old.left new.left taken
   pub size : IsSize (length taken)
-  pub is_due : b.IsDueSoFar taken due
+  pub fine : b.IsFineSoFar taken
+  pub is_due : b.IsDueSoFar from taken due
   pub written : Appends old.written new.written due
 
--- of the bytes taken, nothing is refused so far in those before the last read
-pub record IsInTime (b : Behaviour) (taken : List ℕ) : Type 0 where
+-- of the bytes taken, this is so of those before the last read
+pub record IsInTime (P : List ℕ → Type 0) (taken : List ℕ) : Type 0 where
   pub front : List ℕ
   pub piece : List ℕ
-  pub due : List ℕ
   pub joined : taken ≡ front ++ piece
   pub size : length piece ≤ piece_limit
-  pub so_far : b.IsDueSoFar front due
+  pub so_far : P front
 
 -- each text that begins with the bytes taken is refused by this fault, at most one read after the place, and what is
 -- due for what stands before that place was written
-pub record Refuses (b : Behaviour) (most : ℕ) (fault : Fault) (old new : Streams) : Type 0 where
+pub record Refuses (b : Behaviour) (most : ℕ) (fault : Fault) (from : Beside) (old new : Streams) : Type 0 where
   pub taken : List ℕ
   pub due : List ℕ
   pub consumed : Consumes old.left new.left taken
   pub size : length taken ≤ most
-  pub in_time : IsInTime b taken
-  pub refused : IsSettled (λ text. b.Refuses fault text due) new.left taken
+  pub in_time : IsInTime b.IsFineSoFar taken
+  pub refused : IsSettled (λ text. b.Refuses fault text × b.IsDueAt from fault text due) new.left taken
   pub written : Appends old.written new.written due
 
--- what may be due behind these bytes: what is due for the text, where the source has ended, or before it has
-abbrev pub IsDueBehind : Behaviour → Option (List ℕ) → List ℕ → List ℕ → Type 0
-IsDueBehind b left taken due = (IsAtEnd left × b.IsDue taken due) ⊎ (OnTrue b.reads (IsInTime b taken) × IsSettled (λ text. b.IsDueBefore text due) left taken)
+-- this is due for the bytes taken, which are the whole text, and of which nothing is refused
+pub record IsDueWhole (b : Behaviour) (from : Beside) (left : Option (List ℕ)) (taken due : List ℕ) : Type 0 where
+  pub end : IsAtEnd left
+  pub fine : b.IsFine taken
+  pub is_due : b.IsDue from taken due
 
--- of what is due behind the bytes taken a part was written, and not all
-pub record BreaksOff (b : Behaviour) (most : ℕ) (old new : Streams) : Type 0 where
+-- this is due before more is read
+abbrev pub IsDueOnTheWay : Behaviour → Beside → Option (List ℕ) → List ℕ → List ℕ → Type 0
+IsDueOnTheWay b from left taken due = IsSettled (λ text. b.IsDueBefore from text due) left taken
+
+-- nothing was refused before the last read, and this was due by then
+abbrev pub WasDue : Behaviour → Beside → List ℕ → List ℕ → Type 0
+WasDue b from taken due = IsInTime (λ front. b.IsFineSoFar front × b.IsDueSoFar from front due) taken
+
+-- of what is due behind the bytes taken a part was written, and not all; where more was to be read, what was due
+-- before the last read was written whole
+pub record BreaksOff (b : Behaviour) (most : ℕ) (from : Beside) (old new : Streams) : Type 0 where
   pub taken : List ℕ
+  pub earlier : List ℕ
   pub due : List ℕ
   pub consumed : Consumes old.left new.left taken
   pub size : length taken ≤ most
-  pub is_due : IsDueBehind b new.left taken due
-  pub written : AppendsPart old.written new.written due
+  pub is_due : IsDueWhole b from new.left taken due ⊎ (OnTrue b.reads (WasDue b from taken earlier) × IsDueOnTheWay b from new.left taken due)
+  pub written : AppendsPartBehind earlier old.written new.written due
 
 -- of what is due for the bytes taken, or for a first part of each text that begins with them, a front was written
-pub record GivesUp (b : Behaviour) (most : ℕ) (old new : Streams) : Type 0 where
+pub record GivesUp (b : Behaviour) (most : ℕ) (from : Beside) (old new : Streams) : Type 0 where
   pub taken : List ℕ
   pub due : List ℕ
   pub consumed : Consumes old.left new.left taken
   pub size : length taken ≤ most
-  pub is_due : (IsAtEnd new.left × b.IsDue taken due) ⊎ IsSettled (λ text. b.IsDueBefore text due) new.left taken
+  pub is_due : IsDueWhole b from new.left taken due ⊎ IsDueOnTheWay b from new.left taken due
   pub written : AppendsFront old.written new.written due
 
 -- where a command may end by a fault
-abbrev pub Ends : Behaviour → ℕ → Streams → Streams → Fault → Type 0
-Ends b most old new OutOfMemory = GivesUp b most old new
-Ends b most old new Usage = ⊥
-Ends b most old new ReadFault = Stops b (λ size. size < most) old new
-Ends b most old new WriteFault = BreaksOff b most old new
-Ends b most old new OpenFault = ⊥
-Ends b most old new TooMuch = Stops b (λ size. size ≡ most) old new
-Ends b most old new refusal = Refuses b most refusal old new
+abbrev pub Ends : Behaviour → ℕ → Beside → Streams → Streams → Fault → Type 0
+Ends b most from old new OutOfMemory = GivesUp b most from old new
+Ends b most from old new Usage = ⊥
+Ends b most from old new ReadFault = Stops b (λ size. size < most) from old new
+Ends b most from old new WriteFault = BreaksOff b most from old new
+Ends b most from old new OpenFault = ⊥
+Ends b most from old new TooMuch = Stops b (λ size. size ≡ most) from old new
+Ends b most from old new refusal = Refuses b most refusal from old new
 
--- how a command went
-abbrev pub Executes : Behaviour → ℕ → Streams → Streams → Result (Unit {0}) Fault → Type 0
-Executes b most old new result = MatchResult result (λ _. Finishes b most old new) (λ fault. Ends b most old new fault)
+-- how a command went, from what stood beside it to what is left there
+abbrev pub Executes : Behaviour → ℕ → Beside → Beside → Streams → Streams → Result (Unit {0}) Fault → Type 0
+Executes b most from to old new result = MatchResult result (λ _. Finishes b most from to old new) (λ fault. Ends b most from old new fault)
 
 -- only a fault of the source moved its count of faults, and so of the sink
 pub record HasCauses (old new : Streams) (result : Result (Unit {0}) Fault) : Type 0 where
@@ -110,17 +134,17 @@ CannotOpen None old new = ⊥
 CannotOpen (Some name) old new = new.written ≡ old.written
 
 -- what was asked was done whole
-abbrev pub Succeeds : Asked → ℕ → Outside → Outside → Type 0
-Succeeds asked most old new = Over asked.file (λ a b. Finishes (behaviour_of asked.command) most a b) old new
+abbrev pub Succeeds : Asked → ℕ → Beside → Beside → Outside → Outside → Type 0
+Succeeds asked most from to old new = Over asked.file (λ a b. Finishes (behaviour_of asked.command) most from to a b) old new
 
 -- where a run may end by a fault, once its words are accepted
-abbrev pub Fails : Asked → ℕ → Outside → Outside → Fault → Type 0
-Fails asked most old new OpenFault = CannotOpen asked.file old new
-Fails asked most old new fault = Over asked.file (λ a b. Ends (behaviour_of asked.command) most a b fault) old new
+abbrev pub Fails : Asked → ℕ → Beside → Outside → Outside → Fault → Type 0
+Fails asked most from old new OpenFault = CannotOpen asked.file old new
+Fails asked most from old new fault = Over asked.file (λ a b. Ends (behaviour_of asked.command) most from a b fault) old new
 
 -- how a run went
-abbrev pub Performs : Asked → ℕ → Outside → Outside → Result (Unit {0}) Fault → Type 0
-Performs asked most old new result = MatchResult result (λ _. Succeeds asked most old new) (λ fault. Fails asked most old new fault)
+abbrev pub Performs : Asked → ℕ → Beside → Beside → Outside → Outside → Result (Unit {0}) Fault → Type 0
+Performs asked most from to old new result = MatchResult result (λ _. Succeeds asked most from to old new) (λ fault. Fails asked most from old new fault)
 
 -- ---- what contracts see of a status
 

@@ -4,6 +4,7 @@ ghost use Rattle.std.specs.Option.{option_copied};
 ghost use Rattle.sk_model.specs.Causes.{HasCauseIn};
 ghost use Rattle.sk_model.specs.Limits.{source_limit};
 ghost use Rattle.sk_io.specs.Files.{IsMissing};
+ghost use Rattle.sk_cli.specs.Beside.{Beside};
 ghost use Rattle.sk_cli.specs.Command.{behaviour_of, IsWithin};
 ghost use Rattle.sk_cli.specs.Outside.{streams_of, outside_of};
 ghost use Rattle.sk_cli.specs.Run.{Executes, HasCauses, Over, Performs};
@@ -31,9 +32,9 @@ pub fn perform<S: Source, O: Sink, F: Shelf>(
 ) -> Result<(), Fault>
     requires within { IsWithin command }
     requires bound { most ≤ source_limit }
-    ensures done { let old = outside_of S.Source O.Sink F.Shelf input.old out.old shelf.old in
+    ensures done { (from to : Beside) → let old = outside_of S.Source O.Sink F.Shelf input.old out.old shelf.old in
         let new = outside_of S.Source O.Sink F.Shelf input.new out.new shelf.new in
-        Performs (record { command = command; file = option_copied file.entry }) most old new result }
+        Performs (record { command = command; file = option_copied file.entry }) most from to old new result }
 
     // A count rises by one at its own fault, and stands else.
     ensures causes { let old = outside_of S.Source O.Sink F.Shelf input.old out.old shelf.old in
@@ -70,8 +71,8 @@ pub fn execute<S: Source, O: Sink>(
 ) -> Result<(), Fault>
     requires within { IsWithin command }
     requires bound { most ≤ source_limit }
-    ensures done { let old = streams_of S.Source O.Sink source.old out.old in
-        let new = streams_of S.Source O.Sink source.new out.new in Executes (behaviour_of command) most old new result }
+    ensures done { (from to : Beside) → let old = streams_of S.Source O.Sink source.old out.old in
+        let new = streams_of S.Source O.Sink source.new out.new in Executes (behaviour_of command) most from to old new result }
     ensures causes { let old = streams_of S.Source O.Sink source.old out.old in
         let new = streams_of S.Source O.Sink source.new out.new in HasCauses old new result }
     ensures idle { (behaviour_of command).reads ≡ false → source.new ≡ source.old }

@@ -4,8 +4,8 @@ ghost use Rattle.std.specs.Io.KnownBytes.{Appends};
 ghost use Rattle.sk_model.specs.Causes.{HasCause, AppendsPart};
 ghost use Rattle.sk_cli.specs.Fault.{status_of, message_of, unit_message, fault_by};
 
-use itoa::Buffer;
 use sk_io::{Failed, Sink, write_all};
+use sk_lines::put_decimal;
 use sk_model::OutOfMemory;
 use sk_read::{Fault as ReadingFault, LineFault};
 use std::alloc::AllocError;
@@ -79,6 +79,7 @@ impl Fault {
             ReadingFault::BadItem(number) => Fault::BadField(number),
             ReadingFault::BadCsv(number) => Fault::BadCsv(number),
             ReadingFault::TooMuch => Fault::TooMuch,
+            ReadingFault::WriteFault => Fault::WriteFault,
         }
     }
 
@@ -132,7 +133,9 @@ fn tell_unit<E: Sink>(err: &mut E, unit: &[u8], number: u64, what: &[u8]) -> Res
     ensures part { OnErr result (AppendsPart (E.written err.old) (E.written err.new) (unit_message unit.now number what.now)) }
     ensures cause { HasCause (E.faults err.old) (E.faults err.new) result }
 {
+    let mut digits = [0u8; 20];
+    let len = put_decimal(&mut digits, number);
     write_all(err, unit)?;
-    write_all(err, Buffer::new().format(number).as_bytes())?;
+    write_all(err, &digits[..len])?;
     write_all(err, what)
 }

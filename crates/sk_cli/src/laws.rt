@@ -1,6 +1,6 @@
 //! Laws of what is due and what is refused.
 ghost use Rattle.std.specs.Prelude.{ℕ, List, ◌∷◌, ◌++◌};
-ghost use Rattle.sk_cli.specs.Behaviour.{IsDecided};
+ghost use Rattle.sk_cli.specs.Behaviour.{IsDecided, WritesOneText};
 ghost use Rattle.sk_cli.specs.commands.Count.{counting};
 ghost use Rattle.sk_cli.specs.commands.Hash.{hashing};
 ghost use Rattle.sk_cli.specs.commands.Replay.{IsAnswered, IsNoMore, replaying};
@@ -12,17 +12,20 @@ pub fn no_more_is_last()
     ensures { (lines : List (List ℕ)) (line : List ℕ) (rest : List (List ℕ)) (due : List ℕ) → IsNoMore lines line → ¬ IsAnswered (lines ++ line ∷ rest) due }
 {}
 
-/// A text is due one text of hashes, or is refused in one way.
+/// A text is fine or refused in one way, and one text of hashes is due.
 pub fn hash_decides()
-    ensures { (plan : HashPlan) → IsDecided (hashing plan) }
+    ensures decided { (plan : HashPlan) → IsDecided (hashing plan) }
+    ensures one_text { (plan : HashPlan) → WritesOneText (hashing plan) }
 {}
 
-/// A schedule is answered in one way, or is refused in one way.
+/// A schedule is fine or refused in one way, and is answered in one way.
 pub fn replay_decides()
-    ensures { IsDecided replaying }
+    ensures decided { IsDecided replaying }
+    ensures one_text { WritesOneText replaying }
 {}
 
-/// A text is due one estimate, or is refused in one way.
+/// A text is fine or refused in one way, and one estimate is due.
 pub fn count_decides()
-    ensures { (plan : CountPlan) → IsDecided (counting plan) }
+    ensures decided { (plan : CountPlan) → IsDecided (counting plan) }
+    ensures one_text { (plan : CountPlan) → WritesOneText (counting plan) }
 {}

@@ -8,9 +8,14 @@ mod fault;
 pub mod laws;
 mod options;
 mod program;
+mod remains;
+mod values;
+mod watchers;
 mod write;
 
 pub use program::run;
+pub use remains::Remains;
+pub use watchers::{BOARD_PLACES, board_of};
 
 #[cfg(test)]
 mod tests;

@@ -1,10 +1,15 @@
 //! The options behind a command: names with a value, and flags, in any order, each at most once.
 
 ghost use Rattle.std.specs.Prelude.{◌+◌, ◌^◌, ◌≡◌, ◌↔◌, IsTrue, IfSome, IfNone, Some, None, ◌<◌, ◌≤◌, length, drop, option_copied, option_map, is_some, IsSome, ◌∷◌};
-ghost use Rattle.sk_cli.specs.Options.{name_of, takes_value, allows, options_of, texts_of, is_once, value_behind, given_in, spelled_by, is_given, number_in, seed_by};
+ghost use Rattle.sk_cli.specs.Options.{name_of, takes_value, allows, options_of, texts_of, is_once, value_behind, given_in, spelled_by, is_given, number_in, is_yes_in, seed_by, updaters_by, sizes_by, window_by, eager_by, propagator_by, alarms_by};
 
-use sk_lines::read_number;
+use crate::values::{number_from, number_list, yes_or_no};
+use arrayvec::ArrayVec;
+use sk_model::limits::{MOST_SIZE, MOST_UPDATERS};
 use std::marker::Model;
+
+// The greatest mark of an alarm.
+const MOST_MARK: u64 = (1 << 48) - 1;
 
 /// A command that takes options.
 #[derive(Clone, Copy, Debug, PartialEq, Eq)]
@@ -17,11 +22,17 @@ pub enum Verb {
 /// The name of an option.
 #[derive(Clone, Copy, Debug, PartialEq, Eq)]
 pub enum Name {
+    Alarm,
+    B,
     Csv,
+    Eager,
     File,
     K,
+    Propagator,
     Raw,
     Seed,
+    Updaters,
+    Window,
 }
 
 impl Name {
@@ -30,11 +41,17 @@ impl Name {
         ensures { result ≡ name_of word.now }
     {
         match word {
+            "--alarm" => Some(Name::Alarm),
+            "--b" => Some(Name::B),
             "--csv" => Some(Name::Csv),
+            "--eager" => Some(Name::Eager),
             "--file" => Some(Name::File),
             "--k" => Some(Name::K),
+            "--propagator" => Some(Name::Propagator),
             "--raw" => Some(Name::Raw),
             "--seed" => Some(Name::Seed),
+            "--updaters" => Some(Name::Updaters),
+            "--window" => Some(Name::Window),
             _ => None,
         }
     }
@@ -43,10 +60,7 @@ impl Name {
     fn takes_value(self) -> bool
         ensures { result ≡ takes_value self }
     {
-        match self {
-            Name::Csv | Name::File | Name::K | Name::Seed => true,
-            Name::Raw => false,
-        }
+        self != Name::Raw
     }
 }
 
@@ -56,7 +70,10 @@ impl Verb {
         ensures { result ≡ allows self name }
     {
         match self {
-            Verb::Count => true,
+            Verb::Count => matches!(
+                name,
+                Name::Csv | Name::File | Name::K | Name::Raw | Name::Seed
+            ),
             Verb::Hash => name == Name::File || name == Name::Seed,
             Verb::Replay => name == Name::File,
         }
@@ -187,16 +204,83 @@ impl<'a> Options<'a> {
         ensures value { result ≡ number_in low high default (value_behind name self.now) }
         ensures within { IfSome result (λ n. (low ≤ n) × (n ≤ high)) }
     {
-        let Some(word) = self.value(name) else {
-            return Some(default);
-        };
-        let number = read_number(word.as_bytes(), high + 1)?;
-        if low <= number { Some(number) } else { None }
+        match self.value(name) {
+            Some(word) => number_from(word.as_bytes(), low, high),
+            None => Some(default),
+        }
     }
+
     /// The seed of the hash, 0 where it is not given. `None` where the value is out of its limits.
     pub fn seed(&self) -> Option<u32>
         ensures { result ≡ seed_by self.now }
     {
         Some(self.number(Name::Seed, 0, u64::from(u32::MAX), 0)? as u32)
+    }
+
+    /// How many updaters there are, 1 where that is not given.
+    pub fn updaters(&self) -> Option<u32>
+        ensures { result ≡ updaters_by self.now }
+    {
+        Some(self.number(Name::Updaters, 1, u64::from(MOST_UPDATERS), 1)? as u32)
+    }
+
+    /// How many items the buffers of the updaters have room for, 64 where that is not given. The last
+    /// stands for all further updaters.
+    pub fn sizes(&self) -> Option<ArrayVec<u64, 64>>
+        ensures { option_map (λ list. list.items) result ≡ sizes_by self.now }
+    {
+        match self.value(Name::B) {
+            Some(word) => number_list(word.as_bytes(), 1, u64::from(MOST_SIZE)),
+            None => {
+                let mut sizes = ArrayVec::new();
+                sizes.push(64);
+                Some(sizes)
+            }
+        }
+    }
+
+    /// After how many lines an estimate is written, where that is asked for.
+    pub fn window(&self) -> Option<Option<u32>>
+        ensures { result ≡ window_by self.now }
+    {
+        if self.has(Name::Window) {
+            Some(Some(self.number(Name::Window, 1, 1_000_000, 1)? as u32))
+        } else {
+            Some(None)
+        }
+    }
+
+    /// Whether updaters propagate by themselves while the sketch is small.
+    pub fn eager(&self) -> Option<bool>
+        ensures { result ≡ eager_by self.now }
+    {
+        self.is_yes(Name::Eager)
+    }
+
+    /// Whether one thread propagates beside the updaters.
+    pub fn propagator(&self) -> Option<bool>
+        ensures { result ≡ propagator_by self.now }
+    {
+        self.is_yes(Name::Propagator)
+    }
+
+    /// At which estimates an alarm is written.
+    pub fn alarms(&self) -> Option<ArrayVec<u64, 8>>
+        ensures { option_map (λ list. list.items) result ≡ alarms_by self.now }
+    {
+        match self.value(Name::Alarm) {
+            Some(word) => number_list(word.as_bytes(), 0, MOST_MARK),
+            None => Some(ArrayVec::new()),
+        }
+    }
+
+    // Whether the value behind a name is yes, as it is where it is not given.
+    fn is_yes(&self, name: Name) -> Option<bool>
+        ensures { result ≡ is_yes_in (value_behind name self.now) }
+    {
+        match self.value(name) {
+            Some(word) => yes_or_no(word),
+            None => Some(true),
+        }
     }
 }

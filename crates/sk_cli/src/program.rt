@@ -1,7 +1,8 @@
 // The top call: words in, a status out.
-ghost use Rattle.std.specs.Prelude.{◌≡◌, ◌≢◌, ◌⊎◌, ◌↔◌, ◌<◌, ℕ, List, length, None, Some, MatchOption, OnSome, IfNone, IfSome, true, false};
+ghost use Rattle.std.specs.Prelude.{◌≡◌, ◌≢◌, ◌⊎◌, ◌↔◌, ◌<◌, ℕ, List, length, All, None, Some, IsSome, MatchOption, OnSome, IfNone, IfSome, true, false};
 ghost use Rattle.sk_model.specs.Limits.{source_limit};
 ghost use Rattle.sk_io.specs.Files.{IsMissing};
+ghost use Rattle.sk_cli.specs.Beside.{beside_of, board_places, cleared};
 ghost use Rattle.sk_cli.specs.Options.{texts_of};
 ghost use Rattle.sk_cli.specs.Command.{request_of, behaviour_of};
 ghost use Rattle.sk_cli.specs.Fault.{message_of, status_of};
@@ -13,35 +14,48 @@ ghost use Rattle.sk_cli.specs.declared.fault.Fault.TheVariants as fault;
 use crate::command::Request;
 use crate::execute::perform;
 use crate::fault::Fault;
+use crate::remains::Remains;
+use crate::watchers::clear;
 use sk_io::{Shelf, Sink, Source};
 use sk_model::limits::SOURCE_LIMIT;
+use sk_watch::{Board, Seen};
 use std::alloc::Global;
+use std::sync::Wait;
+use std::thread::Threads;
 
 /// Runs the program over the words that stand behind its name, and answers its exit status. What
 /// standard error is told is written as far as it goes, and a fault of that write changes nothing.
-pub fn run<S: Source, O: Sink, E: Sink, F: Shelf>(
+pub fn run<R: Threads + Wait + Sync, S: Source, O: Sink, E: Sink, F: Shelf>(
+    _rt: &R,
     alloc: Global,
     words: &[String],
     input: &mut S,
     out: &mut O,
     err: &mut E,
     shelf: &mut F,
+    board: &mut Board,
+    remains: &mut Remains,
 ) -> u8
+    requires places { length (⟦<Board as Seen>⟧.places board.old) ≡ board_places }
+    requires live { All IsSome (⟦<Board as Seen>⟧.places board.old) }
+    requires no_heart { remains.old.heart ≡ None }
+    requires no_token { remains.old.token ≡ None }
+
     // Words that are no command: nothing is touched, and only the usage line is told.
     ensures usage { (result ≡ 2) ↔ (request_of (texts_of words.now) ≡ None) }
-    ensures usage_alone { result ≡ 2 → (input.new ≡ input.old) × (shelf.new ≡ shelf.old) × (out.new ≡ out.old) }
+    ensures usage_alone { result ≡ 2 → (input.new ≡ input.old) × (shelf.new ≡ shelf.old) × (out.new ≡ out.old) × (board.new ≡ board.old) }
 
     // What the command reads was read to its end, nothing of it is refused, and the whole text was written.
     ensures ok { result ≡ 0 → IfSome (request_of (texts_of words.now)) (λ asked. let old = outside_of S.Source O.Sink F.Shelf input.old out.old shelf.old in
         let new = outside_of S.Source O.Sink F.Shelf input.new out.new shelf.new in
-        Succeeds asked source_limit old new) }
+        Succeeds asked source_limit (beside_of (⟦<Board as Seen>⟧.places board.old) remains.old) (beside_of (⟦<Board as Seen>⟧.places board.new) remains.new) old new) }
     ensures quiet { result ≡ 0 → err.new ≡ err.old }
 
     // Every other status is that of a fault, which has its place, and of which standard error is told.
     ensures fault { result ≢ 0 → (f : Fault) × (result ≡ status_of f) × Reports E.Sink err.old err.new (message_of f)
         × MatchOption (request_of (texts_of words.now)) (f ≡ fault.Usage) (λ asked. let old = outside_of S.Source O.Sink F.Shelf input.old out.old shelf.old in
         let new = outside_of S.Source O.Sink F.Shelf input.new out.new shelf.new in
-        Fails asked source_limit old new f) }
+        Fails asked source_limit (beside_of (⟦<Board as Seen>⟧.places board.old) remains.old) old new f) }
 
     // A count of faults rises by one at the status of its fault, and stands at every other.
     ensures causes { IfSome (request_of (texts_of words.now)) (λ asked. let old = outside_of S.Source O.Sink F.Shelf input.old out.old shelf.old in
@@ -49,14 +63,14 @@ pub fn run<S: Source, O: Sink, E: Sink, F: Shelf>(
         Over asked.file (λ a b. RiseAtTheirs a b result) old new) }
     ensures opens { RisesAt 8 (F.open_faults shelf.old) (F.open_faults shelf.new) result }
 
-    // Where the text that is read is told, it decides: 0 where something is due for it, the status of its refusal where
-    // it is refused, or that of a call that failed.
+    // Where the text that is read is told, it decides: 0 where nothing of it is refused, the status of its refusal where
+    // it is, or that of a call that failed.
     ensures complete { IfSome (request_of (texts_of words.now)) (λ asked. let old = outside_of S.Source O.Sink F.Shelf input.old out.old shelf.old in
-        (text due : List ℕ) → told_text asked.file old ≡ Some text → (behaviour_of asked.command).IsDue text due → length text < source_limit
+        (text : List ℕ) → told_text asked.file old ≡ Some text → (behaviour_of asked.command).IsFine text → length text < source_limit
         → (result ≡ 0) ⊎ IsOfCalls result) }
     ensures refused { IfSome (request_of (texts_of words.now)) (λ asked. let old = outside_of S.Source O.Sink F.Shelf input.old out.old shelf.old in
-        (f : Fault) (text due : List ℕ) → told_text asked.file old ≡ Some text → (behaviour_of asked.command).reads ≡ true
-        → (behaviour_of asked.command).Refuses f text due → length text < source_limit → (result ≡ status_of f) ⊎ IsOfCalls result) }
+        (f : Fault) (text : List ℕ) → told_text asked.file old ≡ Some text → (behaviour_of asked.command).reads ≡ true
+        → (behaviour_of asked.command).Refuses f text → length text < source_limit → (result ≡ status_of f) ⊎ IsOfCalls result) }
 
     // A file that is known not to be there can't be opened.
     ensures missing { IfSome (request_of (texts_of words.now)) (λ asked. IfSome asked.file (λ name. IsMissing (F.files shelf.old) name → result ≡ 8)) }
@@ -72,10 +86,15 @@ pub fn run<S: Source, O: Sink, E: Sink, F: Shelf>(
     ensures last { IfSome (request_of (texts_of words.now)) (λ asked. (behaviour_of asked.command).writes_last ≡ true
         → result ≢ 0 → result ≢ 4 → out.new ≡ out.old) }
     ensures files { F.files shelf.new ≡ F.files shelf.old }
+
+    // No command sets an alarm, and none makes a hub.
+    ensures board { IfSome (request_of (texts_of words.now)) (λ asked. ⟦<Board as Seen>⟧.places board.new ≡ cleared (⟦<Board as Seen>⟧.places board.old)) }
+    ensures remains { remains.new ≡ remains.old }
 {
     let Some(request) = Request::of(words) else {
         return report(Fault::Usage, err);
     };
+    clear(board);
     match perform(
         alloc,
         request.command,

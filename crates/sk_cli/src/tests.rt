@@ -1,5 +1,6 @@
 mod columns;
 mod files;
+mod options;
 mod replays;
 
 use super::*;
@@ -12,11 +13,34 @@ use crate::options::Name;
 use sk_io::{MemShelf, MemSink, MemSource, Shelf};
 use sk_model::limits::{ITEM_END, LEAST_K, LINE_LIMIT, MOST_K};
 use sk_read::Kind;
+use sk_watch::{Alarm, Watcher};
 use std::alloc::Global;
 use std::process::Abort;
+use std::sync::Wait;
 use std::test::Fail;
+use std::thread::Threads;
 
-// What a run over streams in memory ended with, and what it wrote.
+const USAGE: &[u8] = b"usage: sketchd count, hash, replay, image, join, quantile, serve or make\n";
+
+// A call that is never made.
+const NEVER: u64 = 1_000_000;
+
+// How the streams of a run are: the input gives pieces of so many bytes and fails at one read, the
+// output has so much room.
+#[derive(Clone, Copy)]
+struct Streams {
+    piece: usize,
+    fails_at: u64,
+    room: usize,
+}
+
+const FINE: Streams = Streams {
+    piece: 1,
+    fails_at: NEVER,
+    room: 10_000,
+};
+
+// What a run ended with, and what it wrote.
 #[derive(Drop)]
 struct Ran {
     status: u8,
@@ -34,22 +58,38 @@ fn words_of(alloc: Global, line: &str) -> Result<Vec<String>, Fail> {
     Ok(words)
 }
 
-fn run_on(alloc: Global, line: &str, input: MemSource, room: usize) -> Result<Ran, Fail> {
-    let mut shelf = MemShelf::new(Vec::new(alloc), Vec::new(alloc), Vec::new(alloc));
-    run_beside(alloc, line, input, room, &mut shelf)
-}
-
-fn run_beside<F: Shelf>(
+// Runs with eight alarms; standard error has so much room.
+fn run_beside<R: Threads + Wait + Sync, F: Shelf>(
+    rt: &R,
     alloc: Global,
-    line: &str,
-    mut input: MemSource,
+    words: &[String],
+    input: &mut MemSource,
     room: usize,
+    err_room: usize,
     shelf: &mut F,
 ) -> Result<Ran, Fail> {
-    let words = words_of(alloc, line)?;
     let mut out = MemSink::new(alloc, room, 7, Vec::new(alloc))?;
-    let mut err = MemSink::new(alloc, 1000, 1000, Vec::new(alloc))?;
-    let status = run(alloc, &words, &mut input, &mut out, &mut err, shelf);
+    let mut err = MemSink::new(alloc, err_room, 1000, Vec::new(alloc))?;
+    let mut boxes: Vec<Option<Box<dyn Watcher>>> = Vec::new(alloc);
+    'place: for _place in 0..BOARD_PLACES {
+        boxes.push(Some(Box::new(alloc, Alarm::new())?))?;
+    }
+    let mut board = board_of(boxes);
+    let mut remains = Remains {
+        heart: None,
+        token: None,
+    };
+    let status = run(
+        rt,
+        alloc,
+        words,
+        input,
+        &mut out,
+        &mut err,
+        shelf,
+        &mut board,
+        &mut remains,
+    );
     Ok(Ran {
         status,
         out: out.written().to_vec(alloc)?,
@@ -57,28 +97,47 @@ fn run_beside<F: Shelf>(
     })
 }
 
-fn run_over(alloc: Global, line: &str, text: &[u8]) -> Result<Ran, Fail> {
-    let input = MemSource::new(text.to_vec(alloc)?, 1, Vec::new(alloc));
-    run_on(alloc, line, input, 10_000)
+// Runs over a text, beside a shelf with no file.
+fn run_over<R: Threads + Wait + Sync>(
+    rt: &R,
+    alloc: Global,
+    streams: Streams,
+    line: &str,
+    text: &[u8],
+) -> Result<Ran, Fail> {
+    let words = words_of(alloc, line)?;
+    let fails = [streams.fails_at].to_vec(alloc)?;
+    let mut input = MemSource::new(text.to_vec(alloc)?, streams.piece, fails);
+    let mut shelf = MemShelf::new(Vec::new(alloc), Vec::new(alloc), Vec::new(alloc));
+    run_beside(
+        rt,
+        alloc,
+        &words,
+        &mut input,
+        streams.room,
+        1000,
+        &mut shelf,
+    )
 }
 
-fn expect_out(rt: &impl Abort, ran: &Ran, out: &[u8]) {
-    assert_eq!(rt; ran.status, 0);
-    assert_eq!(rt; ran.out.as_slice(), out);
-    assert!(rt; ran.err.is_empty());
-}
-
-fn expect_fault(rt: &impl Abort, ran: &Ran, status: u8, err: &[u8]) {
-    assert_eq!(rt; ran.status, status);
-    assert!(rt; ran.out.is_empty());
-    assert_eq!(rt; ran.err.as_slice(), err);
+fn expect<R: Threads + Wait + Abort + Sync>(
+    rt: &R,
+    ran: &Ran,
+    line: &str,
+    status: u8,
+    out: &[u8],
+    err: &[u8],
+) {
+    assert_eq!(rt; ran.status, status, "{line}");
+    assert_eq!(rt; ran.out.as_slice(), out, "{line}");
+    assert_eq!(rt; ran.err.as_slice(), err, "{line}");
 }
 
 #[test]
-fn estimates(rt: HostRuntime) -> Result<(), Fail> {
+fn runs_that_are_fine(rt: HostRuntime) -> Result<(), Fail> {
     let alloc = rt.alloc();
     let quick = b"hello\nhello, world\nThe quick brown fox jumps over the lazy dog.\n";
-    let cases: [(&str, &[u8], &[u8]); 10] = [
+    let cases: [(&str, &[u8], &[u8]); 15] = [
         ("count --k 4", b"", b"estimate 0/1\n"),
         (
             "count --k 2",
@@ -113,17 +172,6 @@ fn estimates(rt: HostRuntime) -> Result<(), Fail> {
             b"estimate 2/1\n",
         ),
         ("count --raw", b"1\n\n01\n", b"estimate 1/1\n"),
-    ];
-    for (line, text, out) in cases {
-        expect_out(&rt, &run_over(alloc, line, text)?, out);
-    }
-    Ok(())
-}
-
-#[test]
-fn hashes(rt: HostRuntime) -> Result<(), Fail> {
-    let alloc = rt.alloc();
-    let cases: [(&str, &[u8], &[u8]); 3] = [
         (
             "hash",
             b"hello\n\nhello, world\n",
@@ -135,64 +183,12 @@ fn hashes(rt: HostRuntime) -> Result<(), Fail> {
             b"cd99481f9ee9\n",
         ),
         ("hash", b"", b""),
+        ("--version", b"", b"sketchd 0.1.0\n"),
+        ("--help", b"", HELP.as_bytes()),
     ];
     for (line, text, out) in cases {
-        expect_out(&rt, &run_over(alloc, line, text)?, out);
-    }
-    Ok(())
-}
-
-// What was due before a refusal or a fault stands.
-#[test]
-fn hashes_before_a_fault(rt: HostRuntime) -> Result<(), Fail> {
-    let alloc = rt.alloc();
-    let text = b"hello\nhello, world\n".to_vec(alloc)?;
-    let input = MemSource::new(text, 1, [8].to_vec(alloc)?);
-    let ran = run_on(alloc, "hash", input, 100)?;
-    assert_eq!(rt; ran.status, 3);
-    assert_eq!(rt; ran.out.as_slice(), b"cbd8a7b341bd\n".as_slice());
-    let text = b"hello\nhello, world\n".to_vec(alloc)?;
-    let input = MemSource::new(text, 100, Vec::new(alloc));
-    let ran = run_on(alloc, "hash", input, 20)?;
-    assert_eq!(rt; ran.status, 4);
-    assert_eq!(rt; ran.out.as_slice(), b"cbd8a7b341bd\n342fac6".as_slice());
-    assert_eq!(rt; ran.err.as_slice(), b"write fault\n".as_slice());
-    Ok(())
-}
-
-#[test]
-fn long_lines(rt: HostRuntime) -> Result<(), Fail> {
-    let alloc = rt.alloc();
-    let most = vec![in alloc; b'x'; 65_536]?;
-    let fits = MemSource::new(most.clone()?, 65_536, Vec::new(alloc));
-    expect_out(
-        &rt,
-        &run_on(alloc, "count --k 4", fits, 100)?,
-        b"estimate 1/1\n",
-    );
-    let mut over = most;
-    over.push(b'x')?;
-    let long = MemSource::new(over, 65_536, Vec::new(alloc));
-    expect_fault(
-        &rt,
-        &run_on(alloc, "count --k 4", long, 100)?,
-        5,
-        b"line 1: too long\n",
-    );
-    Ok(())
-}
-
-#[test]
-fn no_numbers(rt: HostRuntime) -> Result<(), Fail> {
-    let alloc = rt.alloc();
-    let cases: [(&[u8], &[u8]); 4] = [
-        (b"281474976710656\n", b"line 1: not a number\n"),
-        (b"5\n\nx\n6\n", b"line 3: not a number\n"),
-        (b"5\r", b"line 1: not a number\n"),
-        (b"0000000000000005\n", b"line 1: not a number\n"),
-    ];
-    for (text, err) in cases {
-        expect_fault(&rt, &run_over(alloc, "count --raw", text)?, 6, err);
+        let ran = run_over(&rt, alloc, FINE, line, text)?;
+        expect(&rt, &ran, line, 0, out, b"");
     }
     Ok(())
 }
@@ -200,7 +196,6 @@ fn no_numbers(rt: HostRuntime) -> Result<(), Fail> {
 #[test]
 fn words_that_are_no_command(rt: HostRuntime) -> Result<(), Fail> {
     let alloc = rt.alloc();
-    let usage = b"usage: sketchd count, hash, replay, image, join, quantile, serve or make\n";
     let lines = [
         "",
         "count --k 1",
@@ -232,16 +227,99 @@ fn words_that_are_no_command(rt: HostRuntime) -> Result<(), Fail> {
         "--raw",
     ];
     for line in lines {
-        expect_fault(&rt, &run_over(alloc, line, b"hello\n")?, 2, usage);
+        let ran = run_over(&rt, alloc, FINE, line, b"hello\n")?;
+        expect(&rt, &ran, line, 2, b"", USAGE);
+    }
+    Ok(())
+}
+
+// What was due before a refusal or a fault stands.
+#[test]
+fn runs_that_break_off(rt: HostRuntime) -> Result<(), Fail> {
+    let alloc = rt.alloc();
+    let two = b"hello\nhello, world\n";
+    let many = Streams { piece: 100, ..FINE };
+    let cases: [(Streams, &str, &[u8], u8, &[u8], &[u8]); 7] = [
+        (
+            FINE,
+            "count --raw",
+            b"281474976710656\n",
+            6,
+            b"",
+            b"line 1: not a number\n",
+        ),
+        (
+            FINE,
+            "count --raw",
+            b"5\n\nx\n6\n",
+            6,
+            b"",
+            b"line 3: not a number\n",
+        ),
+        (
+            FINE,
+            "count --raw",
+            b"5\r",
+            6,
+            b"",
+            b"line 1: not a number\n",
+        ),
+        (
+            FINE,
+            "count --raw",
+            b"0000000000000005\n",
+            6,
+            b"",
+            b"line 1: not a number\n",
+        ),
+        (
+            Streams {
+                fails_at: 8,
+                ..FINE
+            },
+            "hash",
+            two,
+            3,
+            b"cbd8a7b341bd\n",
+            b"read fault\n",
+        ),
+        (
+            Streams { room: 20, ..many },
+            "hash",
+            two,
+            4,
+            b"cbd8a7b341bd\n342fac6",
+            b"write fault\n",
+        ),
+        (
+            Streams { room: 5, ..FINE },
+            "count --k 4",
+            b"",
+            4,
+            b"estim",
+            b"write fault\n",
+        ),
+    ];
+    for (streams, line, text, status, out, err) in cases {
+        let ran = run_over(&rt, alloc, streams, line, text)?;
+        expect(&rt, &ran, line, status, out, err);
     }
     Ok(())
 }
 
 #[test]
-fn tells_of_itself(rt: HostRuntime) -> Result<(), Fail> {
+fn long_lines(rt: HostRuntime) -> Result<(), Fail> {
     let alloc = rt.alloc();
-    expect_out(&rt, &run_over(alloc, "--version", b"")?, b"sketchd 0.1.0\n");
-    expect_out(&rt, &run_over(alloc, "--help", b"")?, HELP.as_bytes());
+    let whole = Streams {
+        piece: 65_536,
+        ..FINE
+    };
+    let mut text = vec![in alloc; b'x'; 65_536]?;
+    let ran = run_over(&rt, alloc, whole, "count --k 4", &text)?;
+    expect(&rt, &ran, "fits", 0, b"estimate 1/1\n", b"");
+    text.push(b'x')?;
+    let ran = run_over(&rt, alloc, whole, "count --k 4", &text)?;
+    expect(&rt, &ran, "does not", 5, b"", b"line 1: too long\n");
     Ok(())
 }
 
@@ -290,27 +368,15 @@ fn help_tells_of_each_option(rt: HostRuntime) -> Result<(), Fail> {
 #[test]
 fn reads_that_fail(rt: HostRuntime) -> Result<(), Fail> {
     let alloc = rt.alloc();
-    for call in 0..9u64 {
-        let text = b"a\nb\nc\nd".to_vec(alloc)?;
-        let input = MemSource::new(text, 1, [call].to_vec(alloc)?);
-        let ran = run_on(alloc, "count", input, 100)?;
-        if call < 8 {
-            expect_fault(&rt, &ran, 3, b"read fault\n");
+    for fails_at in 0..9u64 {
+        let streams = Streams { fails_at, ..FINE };
+        let ran = run_over(&rt, alloc, streams, "count", b"a\nb\nc\nd")?;
+        if fails_at < 8 {
+            expect(&rt, &ran, "before the end", 3, b"", b"read fault\n");
         } else {
-            expect_out(&rt, &ran, b"estimate 4/1\n");
+            expect(&rt, &ran, "behind it", 0, b"estimate 4/1\n", b"");
         }
     }
-    Ok(())
-}
-
-#[test]
-fn a_sink_that_is_full(rt: HostRuntime) -> Result<(), Fail> {
-    let alloc = rt.alloc();
-    let input = MemSource::new(Vec::new(alloc), 1, Vec::new(alloc));
-    let ran = run_on(alloc, "count --k 4", input, 5)?;
-    assert_eq!(rt; ran.status, 4);
-    assert_eq!(rt; ran.out.as_slice(), b"estim".as_slice());
-    assert_eq!(rt; ran.err.as_slice(), b"write fault\n".as_slice());
     Ok(())
 }
 
@@ -351,15 +417,13 @@ fn an_error_output_that_is_full(rt: HostRuntime) -> Result<(), Fail> {
         ("count --csv 2", b"a\n", 9, 100, 12),
         ("count --raw --csv 2", b"a,5\n\nb,x\n", 9, 100, 6),
     ];
-    for (line, text, fails, room, status) in cases {
+    for (line, text, fails_at, room, status) in cases {
         let words = words_of(alloc, line)?;
-        let mut input = MemSource::new(text.to_vec(alloc)?, 100, [fails].to_vec(alloc)?);
+        let mut input = MemSource::new(text.to_vec(alloc)?, 100, [fails_at].to_vec(alloc)?);
         let mut shelf = MemShelf::new(Vec::new(alloc), Vec::new(alloc), Vec::new(alloc));
-        let mut out = MemSink::new(alloc, room, 100, Vec::new(alloc))?;
-        let mut err = MemSink::new(alloc, 0, 100, Vec::new(alloc))?;
-        let got = run(alloc, &words, &mut input, &mut out, &mut err, &mut shelf);
-        assert_eq!(rt; got, status, "{line}");
-        assert!(rt; err.written().is_empty());
+        let ran = run_beside(&rt, alloc, &words, &mut input, room, 0, &mut shelf)?;
+        assert_eq!(rt; ran.status, status, "{line}");
+        assert!(rt; ran.err.is_empty());
     }
     Ok(())
 }

@@ -7,8 +7,12 @@ abbrev pub about : List ℕ → Behaviour
 about page = record {
   reads = false;
   writes_last = true;
-  IsDue = λ text due. due ≡ page;
-  IsDueSoFar = λ taken due. ⊥;
-  IsDueBefore = λ text due. due ≡ page;
-  Refuses = λ fault text due. ⊥;
+  IsFine = λ text. Unit {0};
+  IsFineSoFar = λ taken. ⊥;
+  Refuses = λ fault text. ⊥;
+  IsDue = λ from text due. due ≡ page;
+  Leaves = λ from text due to. Unit {0};
+  IsDueSoFar = λ from taken due. ⊥;
+  IsDueAt = λ from fault text due. ⊥;
+  IsDueBefore = λ from text due. due ≡ page;
 }

@@ -79,8 +79,12 @@ abbrev pub counting : CountPlan → Behaviour
 counting plan = record {
   reads = true;
   writes_last = true;
-  IsDue = λ text due. IsReadable plan text × (due ≡ estimate_text plan text);
-  IsDueSoFar = λ taken due. IsReadableSoFar plan taken × (due ≡ []);
-  IsDueBefore = λ text due. due ≡ [];
-  Refuses = λ fault text due. IsRefusedBy plan fault text × (due ≡ []);
+  IsFine = IsReadable plan;
+  IsFineSoFar = IsReadableSoFar plan;
+  Refuses = IsRefusedBy plan;
+  IsDue = λ from text due. due ≡ estimate_text plan text;
+  Leaves = λ from text due to. Unit {0};
+  IsDueSoFar = λ from taken due. due ≡ [];
+  IsDueAt = λ from fault text due. due ≡ [];
+  IsDueBefore = λ from text due. due ≡ [];
 }

@@ -1,12 +1,12 @@
 -- What `hash` is asked, and what it does.
-use Rattle.std.specs.Prelude.{◌≡◌, ℕ, ◌-◌, true, false, flat_map, List, take, Option, option_map}
+use Rattle.std.specs.Prelude.{◌≡◌, ℕ, true, false, flat_map, List, take, Option, option_map}
 use Rattle.sk_model.specs.Limits.{line_limit}
 use Rattle.sk_model.specs.Lines.{lines_of, open_lines_of, AreWithin, filled}
 use Rattle.sk_model.specs.Murmur.{hash_of}
 use Rattle.sk_lines.specs.Hashes.{hash_line}
 use Rattle.sk_read.specs.Items.{complete_lines_of}
 use Rattle.sk_cli.specs.Behaviour.{Behaviour}
-use Rattle.sk_cli.specs.Lines.{IsLongLine}
+use Rattle.sk_cli.specs.Lines.{IsLongLine, lines_before}
 use Rattle.sk_cli.specs.Options.{Given, seed_by}
 use Rattle.sk_cli.specs.declared.commands.hash.HashPlan.{HashPlan}
 use Rattle.sk_cli.specs.declared.fault.Fault.{Fault}
@@ -20,18 +20,22 @@ plan_by given = option_map (λ seed. record { seed = seed }) (seed_by given)
 unfoldable pub hash_text : ℕ → List (List ℕ) → List ℕ
 hash_text seed lines = flat_map (λ line. hash_line (hash_of seed line)) (filled lines)
 
--- the first line of a text that is refused is refused by this fault, and this is due for the lines before it
-abbrev pub IsRefusedBy : ℕ → Fault → List (List ℕ) → List ℕ → Type 0
-IsRefusedBy seed (LongLine n) lines due = IsLongLine n lines × (due ≡ hash_text seed (take (n - 1) lines))
-IsRefusedBy seed other lines due = ⊥
+-- the first line of a text that is refused is refused by this fault
+abbrev pub IsRefusedBy : Fault → List (List ℕ) → Type 0
+IsRefusedBy (LongLine n) lines = IsLongLine n lines
+IsRefusedBy other lines = ⊥
 
 -- it writes the hash of each line before the next one is examined
 abbrev pub hashing : HashPlan → Behaviour
 hashing plan = record {
   reads = true;
   writes_last = false;
-  IsDue = λ text due. AreWithin line_limit (lines_of text) × (due ≡ hash_text plan.seed (lines_of text));
-  IsDueSoFar = λ taken due. AreWithin line_limit (open_lines_of taken) × (due ≡ hash_text plan.seed (complete_lines_of taken));
-  IsDueBefore = λ text due. (n : ℕ) × AreWithin line_limit (take n (lines_of text)) × (due ≡ hash_text plan.seed (take n (lines_of text)));
-  Refuses = λ fault text due. IsRefusedBy plan.seed fault (lines_of text) due;
+  IsFine = λ text. AreWithin line_limit (lines_of text);
+  IsFineSoFar = λ taken. AreWithin line_limit (open_lines_of taken);
+  Refuses = λ fault text. IsRefusedBy fault (lines_of text);
+  IsDue = λ from text due. due ≡ hash_text plan.seed (lines_of text);
+  Leaves = λ from text due to. Unit {0};
+  IsDueSoFar = λ from taken due. due ≡ hash_text plan.seed (complete_lines_of taken);
+  IsDueAt = λ from fault text due. due ≡ hash_text plan.seed (lines_before fault (lines_of text));
+  IsDueBefore = λ from text due. (n : ℕ) × AreWithin line_limit (take n (lines_of text)) × (due ≡ hash_text plan.seed (take n (lines_of text)));
 }

@@ -4,7 +4,7 @@ use Rattle.sk_model.specs.Limits.{line_limit}
 use Rattle.sk_model.specs.Lines.{lines_of, open_lines_of, AreWithin}
 use Rattle.sk_read.specs.Items.{complete_lines_of}
 use Rattle.sk_cli.specs.Behaviour.{Behaviour}
-use Rattle.sk_cli.specs.Lines.{IsLongLine, line_at}
+use Rattle.sk_cli.specs.Lines.{IsLongLine, line_at, lines_before}
 use Rattle.sk_cli.specs.declared.fault.Fault.{Fault}
 use Rattle.sk_cli.specs.declared.fault.Fault.TheVariants.{LongLine, BadEvent}
 use Rattle.sk_machine.specs.Fine.{Fine, fine_start}
@@ -76,6 +76,10 @@ abbrev pub IsAnswered : List (List ℕ) → List ℕ → Type 0
 IsAnswered [] due = due ≡ []
 IsAnswered (first ∷ lines) due = (k : ℕ) × (answers : List Answer) × (reached : Fine) × Played k first lines answers reached × (due ≡ answers_text answers)
 
+-- these are lines of a schedule: the first names a start, and each further one goes on with those before it
+abbrev pub IsSchedule : List (List ℕ) → Type 0
+IsSchedule lines = (due : List ℕ) × IsAnswered lines due
+
 -- a line that does not go on with a schedule of these lines: as the first it names no start, and later no event that
 -- is enabled in the state reached
 abbrev pub IsNoMore : List (List ℕ) → List ℕ → Type 0
@@ -91,19 +95,23 @@ pub record IsBadLine (n : ℕ) (lines : List (List ℕ)) : Type 0 where
   pub within : AreWithin line_limit (take n lines)
   pub bad : IsNoMore (take (n - 1) lines) (line_at n lines)
 
--- the first line of a schedule that is refused is refused by this fault, and these are the answers before it
-abbrev pub IsRefusedBy : Fault → List (List ℕ) → List ℕ → Type 0
-IsRefusedBy (LongLine n) lines due = IsLongLine n lines × IsAnswered (take (n - 1) lines) due
-IsRefusedBy (BadEvent n) lines due = IsBadLine n lines × IsAnswered (take (n - 1) lines) due
-IsRefusedBy other lines due = ⊥
+-- the first line of a schedule that is refused is refused by this fault
+abbrev pub IsRefusedBy : Fault → List (List ℕ) → Type 0
+IsRefusedBy (LongLine n) lines = IsLongLine n lines × IsSchedule (take (n - 1) lines)
+IsRefusedBy (BadEvent n) lines = IsBadLine n lines
+IsRefusedBy other lines = ⊥
 
 -- it writes the answer to each line before the next one is examined
 abbrev pub replaying : Behaviour
 replaying = record {
   reads = true;
   writes_last = false;
-  IsDue = λ text due. AreWithin line_limit (lines_of text) × IsAnswered (lines_of text) due × (0 < length (lines_of text));
-  IsDueSoFar = λ taken due. AreWithin line_limit (open_lines_of taken) × IsAnswered (complete_lines_of taken) due;
-  IsDueBefore = λ text due. (n : ℕ) × AreWithin line_limit (take n (lines_of text)) × IsAnswered (take n (lines_of text)) due;
-  Refuses = λ fault text due. IsRefusedBy fault (lines_of text) due;
+  IsFine = λ text. AreWithin line_limit (lines_of text) × IsSchedule (lines_of text) × (0 < length (lines_of text));
+  IsFineSoFar = λ taken. AreWithin line_limit (open_lines_of taken) × IsSchedule (complete_lines_of taken);
+  Refuses = λ fault text. IsRefusedBy fault (lines_of text);
+  IsDue = λ from text due. IsAnswered (lines_of text) due;
+  Leaves = λ from text due to. Unit {0};
+  IsDueSoFar = λ from taken due. IsAnswered (complete_lines_of taken) due;
+  IsDueAt = λ from fault text due. IsAnswered (lines_before fault (lines_of text)) due;
+  IsDueBefore = λ from text due. (n : ℕ) × AreWithin line_limit (take n (lines_of text)) × IsAnswered (take n (lines_of text)) due;
 }

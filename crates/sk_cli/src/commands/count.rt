@@ -2,6 +2,7 @@
 ghost use Rattle.std.specs.Prelude.{◌≡◌, ◌≢◌, ◌≤◌, Ok, Err, IfErr, IfSome, MatchResult};
 ghost use Rattle.sk_model.specs.Limits.{source_limit};
 ghost use Rattle.sk_cli.specs.Fault.{fault_by};
+ghost use Rattle.sk_cli.specs.Beside.{Beside};
 ghost use Rattle.sk_cli.specs.Outside.{streams_of};
 ghost use Rattle.sk_cli.specs.Run.{Executes, HasCauses};
 ghost use Rattle.sk_cli.specs.commands.Count.{plan_by, column_by, IsWithin, counting};
@@ -73,19 +74,15 @@ pub fn count<S: Source, O: Sink>(
 ) -> Result<(), Fault>
     requires within { IsWithin plan.now }
     requires bound { most ≤ source_limit }
-    ensures done { let old = streams_of S.Source O.Sink source.old out.old in
-        let new = streams_of S.Source O.Sink source.new out.new in Executes (counting plan.now) most old new result }
+    ensures done { (from to : Beside) → let old = streams_of S.Source O.Sink source.old out.old in
+        let new = streams_of S.Source O.Sink source.new out.new in Executes (counting plan.now) most from to old new result }
     ensures causes { let old = streams_of S.Source O.Sink source.old out.old in
         let new = streams_of S.Source O.Sink source.new out.new in HasCauses old new result }
     ensures last { IfErr result (λ fault. fault ≢ Fault.WriteFault → out.new ≡ out.old) }
     ensures stays { S.stands_on source.new ≡ S.stands_on source.old }
 {
     let mut sketch = HeapTheta::new(alloc, plan.k)?;
-    let intake = Intake {
-        kind: plan.kind,
-        column: plan.column,
-        most,
-    };
+    let intake = Intake::of_items(plan.kind, plan.column, most);
     answer_of(plan.column, read_items(alloc, &intake, source, &mut sketch))?;
     let (n, d) = sketch.fraction();
     let mut line = [0u8; 64];

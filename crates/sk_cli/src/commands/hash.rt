@@ -3,6 +3,7 @@ ghost use Rattle.std.specs.Prelude.{◌≡◌, ◌≤◌, ◌∷◌, [], OnOk, O
 ghost use Rattle.std.specs.Io.KnownBytes.{Appends};
 ghost use Rattle.sk_model.specs.Causes.{HasCause, AppendsPart};
 ghost use Rattle.sk_model.specs.Limits.{source_limit};
+ghost use Rattle.sk_cli.specs.Beside.{Beside};
 ghost use Rattle.sk_cli.specs.Outside.{streams_of};
 ghost use Rattle.sk_cli.specs.Run.{Executes, HasCauses};
 ghost use Rattle.sk_cli.specs.commands.Hash.{plan_by, hash_text, hashing};
@@ -55,8 +56,8 @@ pub fn hash<S: Source, O: Sink>(
     out: &mut O,
 ) -> Result<(), Fault>
     requires bound { most ≤ source_limit }
-    ensures done { let old = streams_of S.Source O.Sink source.old out.old in
-        let new = streams_of S.Source O.Sink source.new out.new in Executes (hashing plan.now) most old new result }
+    ensures done { (from to : Beside) → let old = streams_of S.Source O.Sink source.old out.old in
+        let new = streams_of S.Source O.Sink source.new out.new in Executes (hashing plan.now) most from to old new result }
     ensures causes { let old = streams_of S.Source O.Sink source.old out.old in
         let new = streams_of S.Source O.Sink source.new out.new in HasCauses old new result }
     ensures stays { S.stands_on source.new ≡ S.stands_on source.old }

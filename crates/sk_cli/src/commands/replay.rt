@@ -3,6 +3,7 @@ ghost use Rattle.std.specs.Prelude.{◌≡◌, ◌≤◌, OnOk, IfOk, MatchOptio
 ghost use Rattle.std.specs.Option.{option_map};
 ghost use Rattle.sk_model.specs.Limits.{source_limit};
 ghost use Rattle.sk_core.specs.Stored.{machine_of};
+ghost use Rattle.sk_cli.specs.Beside.{Beside};
 ghost use Rattle.sk_cli.specs.Outside.{streams_of};
 ghost use Rattle.sk_cli.specs.Run.{Executes, HasCauses};
 ghost use Rattle.sk_cli.specs.commands.Replay.{start_of, started, MeetsThere, answer_line, IsPlay, IsNoPlay, replaying};
@@ -57,8 +58,8 @@ pub fn replay<S: Source, O: Sink>(
     out: &mut O,
 ) -> Result<(), Fault>
     requires bound { most ≤ source_limit }
-    ensures done { let old = streams_of S.Source O.Sink source.old out.old in
-        let new = streams_of S.Source O.Sink source.new out.new in Executes replaying most old new result }
+    ensures done { (from to : Beside) → let old = streams_of S.Source O.Sink source.old out.old in
+        let new = streams_of S.Source O.Sink source.new out.new in Executes replaying most from to old new result }
     ensures causes { let old = streams_of S.Source O.Sink source.old out.old in
         let new = streams_of S.Source O.Sink source.new out.new in HasCauses old new result }
     ensures stays { S.stands_on source.new ≡ S.stands_on source.old }

@@ -1,24 +1,41 @@
 use Rattle.std.proofs.Common.{refl, sym, subst}
+use Rattle.sk_cli.specs.Beside.{Beside}
 use Rattle.sk_cli.specs.Command.{behaviour_of}
 use Rattle.sk_cli.specs.Outside.{Streams, streams_of}
 use Rattle.sk_cli.specs.Run.{Executes}
 use Rattle.sk_cli.specs.declared.command.Command.{Command}
 use Rattle.sk_cli.specs.declared.commands.about.TheConstants.{HELP, VERSION}
+use Rattle.sk_cli.proofs.Endings.{never_opens, nothing_beside}
 use Rattle.sk_cli.proofs.Telling.{about_told}
 use Rattle.sk_cli.proofs.execute.execute.Goals as goal
 
+pub returns-in-Count-clause-done : goal.returns-in-Count-clause-done
+returns-in-Count-clause-done g c = λ from to.
+    let a : Streams = streams_of g.S.Source g.O.Sink c.args.source.now c.args.out.now in
+    let b : Streams = streams_of g.S.Source g.O.Sink c.count.new.source c.count.new.out in
+    subst (λ (command : Command). Executes (behaviour_of command) c.args.most from to a b c.count.result) (sym c.in-Count.is) (c.count.ensures.done from to)
+
+pub returns-in-Count-clause-opened : goal.returns-in-Count-clause-opened
+returns-in-Count-clause-opened g c = never_opens _ _ _ _ _ _ c.count.result (c.count.ensures.done nothing_beside nothing_beside)
+
+pub returns-in-Hash-clause-opened : goal.returns-in-Hash-clause-opened
+returns-in-Hash-clause-opened g c = never_opens _ _ _ _ _ _ c.hash.result (c.hash.ensures.done nothing_beside nothing_beside)
+
+pub returns-in-Replay-clause-opened : goal.returns-in-Replay-clause-opened
+returns-in-Replay-clause-opened g c = never_opens _ _ _ _ _ _ c.replay.result (c.replay.ensures.done nothing_beside nothing_beside)
+
 pub returns-in-Help-clause-done : goal.returns-in-Help-clause-done
-returns-in-Help-clause-done g c =
+returns-in-Help-clause-done g c = λ from to.
     let a : Streams = streams_of g.S.Source g.O.Sink c.args.source.now c.args.out.now in
     let b : Streams = streams_of g.S.Source g.O.Sink c.args.source.now c.write_text.new.out in
     let told = c.write_text.ensures in
-    subst (λ (command : Command). Executes (behaviour_of command) c.args.most a b c.write_text.result) (sym c.in-Help.is)
-    (about_told HELP.now c.as_bytes.result.now c.args.most a b c.write_text.result c.as_bytes.ensures.value refl told.ok told.part told.err)
+    subst (λ (command : Command). Executes (behaviour_of command) c.args.most from to a b c.write_text.result) (sym c.in-Help.is)
+    (about_told HELP.now c.as_bytes.result.now c.args.most from to a b c.write_text.result c.as_bytes.ensures.value refl told.ok told.part told.err)
 
 pub returns-in-Version-clause-done : goal.returns-in-Version-clause-done
-returns-in-Version-clause-done g c =
+returns-in-Version-clause-done g c = λ from to.
     let a : Streams = streams_of g.S.Source g.O.Sink c.args.source.now c.args.out.now in
     let b : Streams = streams_of g.S.Source g.O.Sink c.args.source.now c.write_text-in-Version.new.out in
     let told = c.write_text-in-Version.ensures in
-    subst (λ (command : Command). Executes (behaviour_of command) c.args.most a b c.write_text-in-Version.result) (sym c.in-Version.is)
-    (about_told VERSION.now c.as_bytes-in-Version.result.now c.args.most a b c.write_text-in-Version.result c.as_bytes-in-Version.ensures.value refl told.ok told.part told.err)
+    subst (λ (command : Command). Executes (behaviour_of command) c.args.most from to a b c.write_text-in-Version.result) (sym c.in-Version.is)
+    (about_told VERSION.now c.as_bytes-in-Version.result.now c.args.most from to a b c.write_text-in-Version.result c.as_bytes-in-Version.ensures.value refl told.ok told.part told.err)

@@ -1,5 +1,8 @@
 use Rattle.sk_cli.proofs.Deciding as deciding
 use Rattle.sk_cli.proofs.laws.replay_decides.Goals as goal
 
-pub returns : goal.returns
-returns c = deciding.replay_decides
+pub returns-clause-decided : goal.returns-clause-decided
+returns-clause-decided c = deciding.replay_decides
+
+pub returns-clause-one_text : goal.returns-clause-one_text
+returns-clause-one_text c = deciding.one_answers

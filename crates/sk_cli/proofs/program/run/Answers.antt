@@ -6,12 +6,32 @@ use Rattle.sk_cli.specs.Outside.{Outside, outside_of}
 use Rattle.sk_cli.specs.Run.{told_text, IsOfCalls}
 use Rattle.sk_cli.specs.declared.fault.Fault.{Fault}
 use Rattle.sk_cli.specs.declared.fault.Fault.TheVariants as fault
-use Rattle.sk_cli.proofs.Completing.{due_fails, refusal_fails, refusal_succeeds}
-use Rattle.sk_cli.proofs.Reporting.{no_request, of_request}
+use Rattle.sk_cli.proofs.Completing.{fine_fails, refusal_fails, refusal_succeeds}
+use Rattle.sk_cli.proofs.Endings.{nothing_beside}
+use Rattle.sk_cli.proofs.Performing.{not_usage}
+use Rattle.sk_cli.proofs.Reporting.{no_request, of_request, of_this_request, some_request}
 use Rattle.sk_cli.proofs.program.run.Goals as goal
 
 pub returns-in_default-clause-fault : goal.returns-in_default-clause-fault
 returns-in_default-clause-fault g c = λ other. (fault.Usage, c.report.ensures.status, c.report.ensures.told, no_request _ _ c.in_default.ensures.value)
+
+pub returns-in-Err-clause-usage : goal.returns-in-Err-clause-usage
+returns-in-Err-clause-usage g c = (
+  λ two. absurd (not_usage _ _ nothing_beside nothing_beside _ _ _ c.in-Err.fault (c.in-Err.ensures.done nothing_beside nothing_beside) (sym c.report-in-Err.ensures.status ∙ two)),
+  λ none. absurd (some_request _ _ c.in-Some.ensures.value none),
+)
+
+pub returns-in-Err-clause-usage_alone : goal.returns-in-Err-clause-usage_alone
+returns-in-Err-clause-usage_alone g c = λ two.
+    absurd (not_usage _ _ nothing_beside nothing_beside _ _ _ c.in-Err.fault (c.in-Err.ensures.done nothing_beside nothing_beside) (sym c.report-in-Err.ensures.status ∙ two))
+
+pub returns-in-Err-clause-fault : goal.returns-in-Err-clause-fault
+returns-in-Err-clause-fault g c = λ other. (
+  c.in-Err.fault,
+  c.report-in-Err.ensures.status,
+  c.report-in-Err.ensures.told,
+  of_this_request _ _ _ _ c.in-Some.ensures.value (c.in-Err.ensures.done _ nothing_beside),
+)
 
 pub returns-in-Err-clause-last : goal.returns-in-Err-clause-last
 returns-in-Err-clause-last g c =
@@ -26,10 +46,10 @@ returns-in-Ok-clause-refused g c =
     let new : Outside = outside_of g.S.Source g.O.Sink g.F.Shelf c.perform.new.input c.perform.new.out c.perform.new.shelf in
     let a : Asked = asked_of c.in-Some.request in
     of_request _ a
-    (λ (asked : Asked). (f : Fault) (text due : List ℕ) → told_text asked.file old ≡ Some text → (behaviour_of asked.command).reads ≡ true → (behaviour_of asked.command).Refuses f text due → length text < source_limit →
+    (λ (asked : Asked). (f : Fault) (text : List ℕ) → told_text asked.file old ≡ Some text → (behaviour_of asked.command).reads ≡ true → (behaviour_of asked.command).Refuses f text → length text < source_limit →
     (0 ≡ status_of f) ⊎ IsOfCalls 0)
     c.in-Some.ensures.value
-    (λ f text due told reads is less. absurd (refusal_succeeds a source_limit old new text due f reads told is c.in-Ok.ensures.done))
+    (λ f text told reads is less. absurd (refusal_succeeds a source_limit nothing_beside old new text nothing_beside f reads told is (c.in-Ok.ensures.done nothing_beside nothing_beside)))
 
 pub returns-in-Err-clause-complete : goal.returns-in-Err-clause-complete
 returns-in-Err-clause-complete g c =
@@ -37,9 +57,9 @@ returns-in-Err-clause-complete g c =
     let new : Outside = outside_of g.S.Source g.O.Sink g.F.Shelf c.perform.new.input c.perform.new.out c.perform.new.shelf in
     let a : Asked = asked_of c.in-Some.request in
     of_request _ a
-    (λ (asked : Asked). (text due : List ℕ) → told_text asked.file old ≡ Some text → (behaviour_of asked.command).IsDue text due → length text < source_limit → (c.report-in-Err.result ≡ 0) ⊎ IsOfCalls c.report-in-Err.result)
+    (λ (asked : Asked). (text : List ℕ) → told_text asked.file old ≡ Some text → (behaviour_of asked.command).IsFine text → length text < source_limit → (c.report-in-Err.result ≡ 0) ⊎ IsOfCalls c.report-in-Err.result)
     c.in-Some.ensures.value
-    (λ text due told is less. inr (subst IsOfCalls (sym c.report-in-Err.ensures.status) (due_fails a source_limit old new text due c.in-Err.fault told is less c.in-Err.ensures.done)))
+    (λ text told is less. inr (subst IsOfCalls (sym c.report-in-Err.ensures.status) (fine_fails a source_limit nothing_beside old new text c.in-Err.fault told is less (c.in-Err.ensures.done nothing_beside nothing_beside))))
 
 pub returns-in-Err-clause-refused : goal.returns-in-Err-clause-refused
 returns-in-Err-clause-refused g c =
@@ -47,8 +67,8 @@ returns-in-Err-clause-refused g c =
     let new : Outside = outside_of g.S.Source g.O.Sink g.F.Shelf c.perform.new.input c.perform.new.out c.perform.new.shelf in
     let a : Asked = asked_of c.in-Some.request in
     of_request _ a
-    (λ (asked : Asked). (f : Fault) (text due : List ℕ) → told_text asked.file old ≡ Some text → (behaviour_of asked.command).reads ≡ true → (behaviour_of asked.command).Refuses f text due → length text < source_limit →
+    (λ (asked : Asked). (f : Fault) (text : List ℕ) → told_text asked.file old ≡ Some text → (behaviour_of asked.command).reads ≡ true → (behaviour_of asked.command).Refuses f text → length text < source_limit →
     (c.report-in-Err.result ≡ status_of f) ⊎ IsOfCalls c.report-in-Err.result)
     c.in-Some.ensures.value
-    (λ f text due told reads is less. subst (λ (status : ℕ). (status ≡ status_of f) ⊎ IsOfCalls status) (sym c.report-in-Err.ensures.status)
-    (refusal_fails a source_limit old new text due f c.in-Err.fault told is less c.in-Err.ensures.done))
+    (λ f text told reads is less. subst (λ (status : ℕ). (status ≡ status_of f) ⊎ IsOfCalls status) (sym c.report-in-Err.ensures.status)
+    (refusal_fails a source_limit nothing_beside old new text f c.in-Err.fault told is less (c.in-Err.ensures.done nothing_beside nothing_beside)))

@@ -1,0 +1,28 @@
+// The watchers that a run is handed.
+ghost use Rattle.std.specs.Prelude.{◌≡◌, length, All, IsSome};
+ghost use Rattle.sk_cli.specs.Beside.{board_places, cleared};
+
+use sk_watch::{Board, Seen, Watcher};
+
+/// How many places a board is handed in with.
+pub const BOARD_PLACES: u32 = 8;
+
+/// A board as a run asks for, with a watcher at each of its places.
+pub fn board_of(boxes: Vec<Option<Box<dyn Watcher>>>) -> Board
+    requires places { length boxes.items ≡ board_places }
+    requires live { All IsSome boxes.items }
+    ensures places { length (⟦<Board as Seen>⟧.places result) ≡ board_places }
+    ensures live { All IsSome (⟦<Board as Seen>⟧.places result) }
+{
+    Board::new(boxes)
+}
+
+/// Lets all watchers go.
+pub fn clear(board: &mut Board)
+    requires { length (⟦<Board as Seen>⟧.places board.old) ≡ board_places }
+    ensures { ⟦<Board as Seen>⟧.places board.new ≡ cleared (⟦<Board as Seen>⟧.places board.old) }
+{
+    'clear: for place in 0..BOARD_PLACES {
+        board.drop_at(place);
+    }
+}
