@@ -9,7 +9,7 @@ use Rattle.std.proofs.lemmas.List.Elements.{All-nil, All-cons}
 use Rattle.std.proofs.lemmas.List.Sorted.{IsNonDecreasingBy-short}
 use Rattle.std.proofs.lemmas.List.Sums.{fold_push, count_by-le-length}
 use Rattle.std.proofs.lemmas.Nat.{div-mul-add, mod-mul-add}
-use Rattle.sk_quant.specs.Held.{Held, held_at_first, halved, carried, held_with, held_after, layers_of}
+use Rattle.sk_quant.specs.Held.{Held, nothing_held, halved, carried, held_with, held_after, layers_of}
 use Rattle.sk_quant.specs.Limits.{most_items, level_count}
 use Rattle.sk_quant.specs.Order.{in_order}
 use Rattle.sk_quant.specs.Quantiles.{AreFilled, IsFilled}
@@ -301,15 +301,15 @@ unfolding counts
 counts_none zero = refl
 counts_none (suc l) = omega (arith, counts_none l, zero-div (2 ^ l))
 
-pub after_none : (k : ℕ) → IsAfter k 0 [] held_at_first
+pub after_none : (k : ℕ) → IsAfter k 0 [] nothing_held
 after_none k = record {
   filled = record {
     base = sym (zero-mod (2 * k));
-    levels = subst (λ (m : ℕ). AreFilled k m held_at_first.levels) (sym (zero-div (2 * k))) (none_filled k level_count);
+    levels = subst (λ (m : ℕ). AreFilled k m nothing_held.levels) (sym (zero-div (2 * k))) (none_filled k level_count);
     number = length-replicate {A = List ℕ} level_count [];
     place = sym (compactions-is 0 k level_count ∙ ap (λ (m : ℕ). counts m level_count) (zero-div (2 * k)) ∙ counts_none level_count);
   };
-  near = λ t. let none = weighted_rank-cons t [] held_at_first.levels in let rest = weighted_of_none t level_count in (omega arith, omega arith);
+  near = λ t. let none = weighted_rank-cons t [] nothing_held.levels in let rest = weighted_of_none t level_count in (omega arith, omega arith);
 }
 
 after_more : (coins : ℕ → ℕ) (k n : ℕ) (done more : List ℕ) (held : Held) → 1 ≤ k → n + length more ≤ most_items → IsAfter k n done held
@@ -328,7 +328,7 @@ pub after_all : (coins : ℕ → ℕ) (k : ℕ) (items : List ℕ) → 1 ≤ k �
 unfolding held_after
 after_all coins k items some few =
     let same : 0 + length items ≡ length items = omega arith in
-    subst (λ (m : ℕ). IsAfter k m items (held_after coins k items)) same (after_more coins k 0 [] items held_at_first some (omega arith) (after_none k))
+    subst (λ (m : ℕ). IsAfter k m items (held_after coins k items)) same (after_more coins k 0 [] items nothing_held some (omega arith) (after_none k))
 
 -- the rank in the sketch is off by at most the error
 pub ranks_are_near : (coins : ℕ → ℕ) (k x : ℕ) (items : List ℕ) → 1 ≤ k → length items ≤ most_items
@@ -349,4 +349,4 @@ weights_add_up coins k items some few = weight_of_layers k (length items) (held_
 
 pub held_after_push : (coins : ℕ → ℕ) (k x : ℕ) (items : List ℕ) → held_after coins k (items ++ x ∷ []) ≡ held_with coins k (held_after coins k items) x
 unfolding held_after
-held_after_push coins k x items = fold_push (λ h y. held_with coins k h y) held_at_first items x
+held_after_push coins k x items = fold_push (λ h y. held_with coins k h y) nothing_held items x

@@ -42,8 +42,8 @@ halved_rises coin items up = non_decreasing_from_AscendsFrom 0 (halved coin item
 -- ---- the rank moves by at most one
 
 -- two numbers are at most one apart
-abbrev IsNear : ℕ → ℕ → Type 0
-IsNear a b = (a ≤ b + 1) × (b ≤ a + 1)
+abbrev IsOneOff : ℕ → ℕ → Type 0
+IsOneOff a b = (a ≤ b + 1) × (b ≤ a + 1)
 
 one_below-most : (t x : ℕ) → one_below t x ≤ 1
 one_below-most t x = ⊎_elim (λ less. omega (arith, one_below-lt t x less)) (λ le. omega (arith, one_below-le t x le)) (cases_lt x t)
@@ -52,7 +52,7 @@ taken_between : (coin x y : ℕ) → x ≤ y → (x ≤ cond (eqb coin 0) x y) �
 taken_between coin x y le = elim (eqb coin 0) as (λ b. (x ≤ cond b x y) × (cond b x y ≤ y)) [ true ↦ (omega arith, le) | false ↦ (le, omega arith) ]
 
 -- one pair more in front of what rises from its second
-near_pair : (t x y taken : ℕ) (half items : List ℕ) → x ≤ taken → taken ≤ y → AscendsFrom y items → AscendsFrom y half → IsNear (2 * rank_of t half) (rank_of t items) → IsNear (2 * rank_of t (taken ∷ half)) (rank_of t (x ∷ y ∷ items))
+near_pair : (t x y taken : ℕ) (half items : List ℕ) → x ≤ taken → taken ≤ y → AscendsFrom y items → AscendsFrom y half → IsOneOff (2 * rank_of t half) (rank_of t items) → IsOneOff (2 * rank_of t (taken ∷ half)) (rank_of t (x ∷ y ∷ items))
 near_pair t x y taken half items low high up up' near =
     let of_half : rank_of t (taken ∷ half) ≡ one_below t taken + rank_of t half = rank-cons t taken half in
     let of_items : rank_of t (x ∷ y ∷ items) ≡ one_below t x + (one_below t y + rank_of t items) = rank-cons t x (y ∷ items) ∙ ap (λ (n : ℕ). one_below t x + n) (rank-cons t y items) in
@@ -63,7 +63,7 @@ near_pair t x y taken half items low high up up' near =
     (λ less. let b = one_below-lt t x less in (omega arith, omega arith))
     (λ le'. let b = one_below-le t x le' in let a = one_below-le t taken (omega arith) in (omega arith, omega arith)) (cases_lt x t)) (cases_lt y t)
 
-near_halves : (t b coin : ℕ) (items : List ℕ) → AscendsFrom b items → IsNear (2 * rank_of t (halved coin items)) (rank_of t items)
+near_halves : (t b coin : ℕ) (items : List ℕ) → AscendsFrom b items → IsOneOff (2 * rank_of t (halved coin items)) (rank_of t items)
 unfolding halved
 near_halves t b coin [] up = (omega arith, omega arith)
 near_halves t b coin (x ∷ []) up = (omega (arith, rank-cons t x [], one_below-most t x), omega (arith, rank-cons t x [], one_below-most t x))

@@ -5,16 +5,16 @@ use Rattle.std.specs.List.Sorted.{IsNonDecreasing}
 use Rattle.std.specs.Vec.{with_items}
 use Rattle.std.proofs.lemmas.List.{with_items_is}
 use Rattle.sk_quant.specs.Coins.{Coins, coin_of}
-use Rattle.sk_quant.specs.Held.{Held, held_at_first, held_with, held_after, layers_of, ranked}
+use Rattle.sk_quant.specs.Held.{Held, nothing_held, held_with, held_after, layers_of, ranked}
 use Rattle.sk_quant.specs.Limits.{least_quantile_k, most_quantile_k, key_end, most_items, level_count}
 use Rattle.sk_quant.specs.Quantiles.{Quantiles, updated, IsSketchOf, IsWholeQuantiles}
 use Rattle.sk_quant.specs.Ranks.{rank_of, weighted_rank, weight_of, rank_error}
-use Rattle.sk_quant.specs.Stored.{lists_of, held_in, shown, AreStored}
+use Rattle.sk_quant.specs.Stored.{lists_of, held_in, shown_by, AreStored}
 use Rattle.sk_quant.proofs.Bounds.{levels_are_short, after_none, one_more_filled, held_after_push, ranks_are_near, weight_of_layers}
 
 -- the sketch of no items
 abbrev pub empty : ℕ → ℕ → Quantiles
-empty k key = record { k = k; key = key; count = 0; held = held_at_first }
+empty k key = record { k = k; key = key; count = 0; held = nothing_held }
 
 pub whole_empty : (k key : ℕ) → least_quantile_k ≤ k → k ≤ most_quantile_k → key < key_end → IsWholeQuantiles (empty k key)
 whole_empty k key least most small = record { least = least; most = most; key = small; count = omega arith; filled = (after_none k).filled }
@@ -69,17 +69,17 @@ items_back levels lent now is_lent long =
 
 -- what is put into base, levels and coins is what an update leaves, where the levels are lent and come back
 pub shown_updated : (k count x : ℕ) (base base' : Vec ℕ Global) (levels : Vec (Vec ℕ Global) Global) (lent now : List (Vec ℕ Global)) (coins coins' : Coins) → lent ≡ levels.items → length now ≡ length lent → coins'.key ≡ coins.key
-    → held_in base' now coins' ≡ held_with (coin_of coins.key) k (held_in base lent coins) x → shown k (count + 1) base' (with_items levels now) coins' ≡ updated (shown k count base levels coins) x
+    → held_in base' now coins' ≡ held_with (coin_of coins.key) k (held_in base lent coins) x → shown_by k (count + 1) base' (with_items levels now) coins' ≡ updated (shown_by k count base levels coins) x
 shown_updated k count x base base' levels lent now coins coins' is_lent long same held =
     ap (λ (ls : List (Vec ℕ Global)). record { k = k; key = coins'.key; count = count + 1; held = held_in base' ls coins' }) (items_back levels lent now is_lent long)
     ∙ ap (λ (key : ℕ). record { k = k; key = key; count = count + 1; held = held_in base' now coins' }) same
     ∙ ap (λ (h : Held). record { k = k; key = coins.key; count = count + 1; held = h }) held
     ∙ ap (λ (ls : List (Vec ℕ Global)). record { k = k; key = coins.key; count = count + 1; held = held_with (coin_of coins.key) k (held_in base ls coins) x }) is_lent
 
-pub stored_updated : (k count x : ℕ) (base base' : Vec ℕ Global) (levels levels' : Vec (Vec ℕ Global) Global) (coins coins' : Coins) → shown k (count + 1) base' levels' coins' ≡ updated (shown k count base levels coins) x
+pub stored_updated : (k count x : ℕ) (base base' : Vec ℕ Global) (levels levels' : Vec (Vec ℕ Global) Global) (coins coins' : Coins) → shown_by k (count + 1) base' levels' coins' ≡ updated (shown_by k count base levels coins) x
     → AreStored k count base levels coins → count < most_items → 2 * k ≤ vec_capacity base' → All (λ level. k ≤ vec_capacity level) levels'.items → AreStored k (count + 1) base' levels' coins'
 stored_updated k count x base base' levels levels' coins coins' is stored few room rooms = record {
-  whole = subst (λ (s : Quantiles). IsWholeQuantiles s) (sym is) (whole_updated (shown k count base levels coins) x stored.whole few);
+  whole = subst (λ (s : Quantiles). IsWholeQuantiles s) (sym is) (whole_updated (shown_by k count base levels coins) x stored.whole few);
   base_room = room;
   level_rooms = rooms;
 }
@@ -88,8 +88,8 @@ stored_updated k count x base base' levels levels' coins coins' is stored few ro
 pub list_of_updated : (old new : Quantiles) (x : ℕ) → new ≡ updated old x → (items : List ℕ) → IsSketchOf old items → IsSketchOf new (items ++ x ∷ [])
 list_of_updated old new x is items of = subst (λ (s : Quantiles). IsSketchOf s (items ++ x ∷ [])) (sym is) (updated_is_of old x items of)
 
-pub shown_empty : (k key : ℕ) (base : Vec ℕ Global) (levels : Vec (Vec ℕ Global) Global) (coins : Coins) → base.items ≡ [] → lists_of levels.items ≡ replicate level_count [] → coins ≡ record { key = key; taken = 0 } → shown k 0 base levels coins ≡ empty k key
+pub shown_empty : (k key : ℕ) (base : Vec ℕ Global) (levels : Vec (Vec ℕ Global) Global) (coins : Coins) → base.items ≡ [] → lists_of levels.items ≡ replicate level_count [] → coins ≡ record { key = key; taken = 0 } → shown_by k 0 base levels coins ≡ empty k key
 shown_empty k key base levels coins none no_levels none_taken =
-    ap (λ (c : Coins). shown k 0 base levels c) none_taken
+    ap (λ (c : Coins). shown_by k 0 base levels c) none_taken
     ∙ ap (λ (items : List ℕ). record { k = k; key = key; count = 0; held = record { base = items; levels = lists_of levels.items; place = 0 } }) none
     ∙ ap (λ (ls : List (List ℕ)). record { k = k; key = key; count = 0; held = record { base = []; levels = ls; place = 0 } }) no_levels

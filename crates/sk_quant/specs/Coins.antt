@@ -13,7 +13,9 @@ words_of_key key taken = record (of_seed (seed_of_key key)) { word_pos = taken }
 
 -- the coin at a place: the lowest bit of that word, both counted from 0
 unfoldable pub coin_of : ℕ → ℕ → ℕ
-coin_of key place = let words = words_of_key key place in word_at 4 words.key words.stream words.word_pos % 2
+coin_of key place =
+    let words = words_of_key key place in
+    word_at 4 words.key words.stream words.word_pos % 2
 
 -- what contracts see of coins: whose they are, and how many were taken
 pub record Coins : Type 0 where

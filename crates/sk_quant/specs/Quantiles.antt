@@ -3,7 +3,8 @@ use Rattle.std.specs.Prelude.{◌≡◌, ℕ, ◌+◌, ◌*◌, ◌/◌, ◌%◌
 use Rattle.std.specs.List.Sorted.{IsNonDecreasing}
 use Rattle.sk_quant.specs.Coins.{coin_of}
 use Rattle.sk_quant.specs.Held.{Held, held_with, held_after}
-use Rattle.sk_quant.specs.Limits.{least_quantile_k, most_quantile_k, key_end, most_items, level_count}
+use Rattle.sk_quant.specs.Limits.{least_quantile_k, most_quantile_k, key_end, most_items}
+use Rattle.sk_quant.specs.Limits.{level_count}
 use Rattle.sk_quant.specs.Ranks.{compactions}
 
 -- its k and its key, how many items it was given, and what it holds of them
@@ -25,10 +26,11 @@ pub record IsSketchOf (sketch : Quantiles) (items : List ℕ) : Type 0 where
   pub count : sketch.count ≡ length items
   pub held : sketch.held ≡ held_after (coin_of sketch.key) sketch.k items
 
--- the base went up so often: a level holds k rising items where its bit of that number is 1, and else none
+-- after the base went up so many times, a level has k rising items where its bit of that number is 1, else none
 abbrev pub AreFilled : ℕ → ℕ → List (List ℕ) → Type 0
-AreFilled k often [] = often ≡ 0
-AreFilled k often (level ∷ levels) = (length level ≡ k * (often % 2)) × IsNonDecreasing level × AreFilled k (often / 2) levels
+AreFilled k times [] = times ≡ 0
+AreFilled k times (level ∷ levels) =
+    (length level ≡ k * (times % 2)) × IsNonDecreasing level × AreFilled k (times / 2) levels
 
 -- how much of so many items lies where, and how many coins that took
 pub record IsFilled (k count : ℕ) (held : Held) : Type 0 where

@@ -1,5 +1,6 @@
 //! Rising items go up, half of them at each level.
-ghost use Rattle.std.specs.Prelude.{◌≡◌, ◌+◌, ◌*◌, ◌<◌, ◌≤◌, ◌++◌, [], length, All, vec_len, vec_capacity};
+ghost use Rattle.std.specs.Prelude.{◌≡◌, ◌+◌, ◌*◌, ◌<◌, ◌≤◌, ◌++◌, [], length, All};
+ghost use Rattle.std.specs.Prelude.{vec_len, vec_capacity};
 ghost use Rattle.std.specs.List.Sorted.{IsNonDecreasing};
 ghost use Rattle.sk_quant.specs.Coins.{coin_of};
 ghost use Rattle.sk_quant.specs.Held.{halved, carried, held_with};
@@ -44,8 +45,8 @@ fn merge(items: &mut Vec<u64>, others: &[u64])
     }
 }
 
-// Takes rising items up: the half that a coin takes to the first level, and where that was not empty on from
-// there, with what lay in it. What is left of the items means nothing.
+// Takes rising items up: the half that a coin takes to the first level, and where that was not empty
+// on from there, with what it had. What is left of the items means nothing.
 fn carry(k: usize, items: &mut Vec<u64>, levels: &mut [Vec<u64>], coins: &mut Coins)
     requires few { vec_len items.old ≤ 2 * k }
     requires rise { IsNonDecreasing items.old.items }
@@ -76,7 +77,8 @@ fn compact(k: usize, base: &mut Vec<u64>, levels: &mut [Vec<u64>], coins: &mut C
     requires levels { CanCarry k levels.old coins.old }
     ensures key { coins.new.key ≡ coins.old.key }
     ensures up { (lists_of levels.new, coins.new.taken)
-        ≡ carried (coin_of coins.old.key) coins.old.taken (in_order base.old.items) (lists_of levels.old) }
+        ≡ carried (coin_of coins.old.key) coins.old.taken (in_order base.old.items)
+        (lists_of levels.old) }
     ensures empty { base.new.items ≡ [] }
     ensures room { vec_capacity base.old ≤ vec_capacity base.new }
     ensures rooms { All (λ level. k ≤ vec_capacity level) levels.new }

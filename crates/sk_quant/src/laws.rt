@@ -1,6 +1,6 @@
 //! Laws of the definitions. Each function is empty: its contract is the law.
 
-ghost use Rattle.std.specs.Prelude.{◌≡◌, ◌*◌, ◌<◌, ◌≤◌, ℕ, List, [], ◌∷◌, ◌++◌, length, IsPermutation};
+ghost use Rattle.std.specs.Prelude.{◌≡◌, ◌*◌, ◌≤◌, ℕ, List, [], ◌∷◌, ◌++◌, length, IsPermutation};
 ghost use Rattle.std.specs.Int.{abs_diff};
 ghost use Rattle.std.specs.List.Sorted.{IsNonDecreasing};
 ghost use Rattle.sk_quant.specs.Held.{halved, held_with, held_after, layers_of};
@@ -15,10 +15,11 @@ pub mod worked;
 pub fn in_order_is()
     ensures same { (items : List ℕ) → IsPermutation items (in_order items) }
     ensures rises { (items : List ℕ) → IsNonDecreasing (in_order items) }
-    ensures one { (items rising : List ℕ) → IsPermutation items rising → IsNonDecreasing rising → in_order items ≡ rising }
+    ensures one { (items rising : List ℕ) → IsPermutation items rising → IsNonDecreasing rising
+        → in_order items ≡ rising }
 {}
 
-/// Whichever way a coin falls, twice the number below x in the half that it takes is at most one off.
+/// Whichever half of rising items a coin takes, twice the rank of x in it is at most one off.
 pub fn one_compaction()
     ensures { (x coin : ℕ) (items : List ℕ) → IsNonDecreasing items
         → abs_diff (2 * rank_of x (halved coin items)) (rank_of x items) ≤ 1 }
@@ -30,7 +31,8 @@ pub fn one_more()
         → held_after coins k (items ++ x ∷ []) ≡ held_with coins k (held_after coins k items) x }
 {}
 
-/// The length of a list tells how much lies in the base and in each level, and how many coins were taken.
+/// The length of a list tells how much of it lies in the base and in each level, and how many coins
+/// were taken.
 pub fn held_is_filled()
     ensures { (coins : ℕ → ℕ) (k : ℕ) (items : List ℕ) → 1 ≤ k → length items ≤ most_items
         → IsFilled k (length items) (held_after coins k items) }
@@ -42,10 +44,11 @@ pub fn weights_add_up()
         → weight_of (layers_of (held_after coins k items)) ≡ length items }
 {}
 
-/// By whichever coins, the weighted number below x in what is held of a list is off by at most the error.
+/// By whichever coins, the rank of x in what is held of a list is off by at most the error.
 pub fn ranks_are_near()
     ensures { (coins : ℕ → ℕ) (k x : ℕ) (items : List ℕ) → 1 ≤ k → length items ≤ most_items
-        → abs_diff (weighted_rank x (layers_of (held_after coins k items))) (rank_of x items) ≤ rank_error (length items) k }
+        → abs_diff (weighted_rank x (layers_of (held_after coins k items))) (rank_of x items)
+        ≤ rank_error (length items) k }
 {}
 
 /// The error has all its terms: more add nothing.

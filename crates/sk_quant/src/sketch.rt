@@ -1,8 +1,10 @@
 //! The sketch.
-ghost use Rattle.std.specs.Prelude.{◌≡◌, ◌+◌, ◌<◌, ◌≤◌, ℕ, List, [], ◌∷◌, ◌++◌, length, replicate, All, IfOk, vec_capacity};
+ghost use Rattle.std.specs.Prelude.{◌≡◌, ◌<◌, ◌≤◌, ℕ, List, [], ◌∷◌, ◌++◌, length, replicate};
+ghost use Rattle.std.specs.Prelude.{All, IfOk, vec_capacity};
 ghost use Rattle.std.specs.Int.{abs_diff};
 ghost use Rattle.sk_quant.specs.Held.{layers_of, ranked};
-ghost use Rattle.sk_quant.specs.Limits.{least_quantile_k, most_quantile_k, key_end, most_items, level_count};
+ghost use Rattle.sk_quant.specs.Limits.{least_quantile_k, most_quantile_k, key_end, most_items};
+ghost use Rattle.sk_quant.specs.Limits.{level_count};
 ghost use Rattle.sk_quant.specs.Quantiles.{Quantiles, updated, IsSketchOf, IsWholeQuantiles};
 ghost use Rattle.sk_quant.specs.Ranks.{rank_of, weighted_rank, rank_error};
 ghost use Rattle.sk_quant.specs.Stored.{lists_of};
@@ -15,8 +17,8 @@ use sk_model::OutOfMemory;
 use std::alloc::Global;
 use std::marker::Model;
 
-/// The quantiles sketch of a list of items, after Agarwal and others (PODS 2012): a base of items as they came,
-/// and levels of items that stand for twice as many each.
+/// The quantiles sketch of a list of items, after Agarwal and others ("Mergeable Summaries", PODS 2012): a
+/// base of items as they came, and levels whose items stand for 2, 4, 8 and so on.
 #[derive(Drop)]
 pub struct Quant {
     k: u32,
@@ -28,11 +30,11 @@ pub struct Quant {
 
 impl Model for Quant {
     ghost use Rattle.sk_quant.specs.Quantiles.{Quantiles};
-    ghost use Rattle.sk_quant.specs.Stored.{shown, AreStored};
+    ghost use Rattle.sk_quant.specs.Stored.{shown_by, AreStored};
 
     ghost Value = { Quantiles };
 
-    ghost view = { λ q. shown q.k q.count q.base q.levels q.coins };
+    ghost view = { λ q. shown_by q.k q.count q.base q.levels q.coins };
 
     ghost invariant = { λ q. AreStored q.k q.count q.base q.levels q.coins };
 }
@@ -61,7 +63,8 @@ impl Quant {
     pub fn update(&mut self, x: u64)
         requires { self.old.count < most_items }
         ensures left { self.new ≡ updated self.old x }
-        ensures list { (items : List ℕ) → IsSketchOf self.old items → IsSketchOf self.new (items ++ x ∷ []) }
+        ensures list { (items : List ℕ) → IsSketchOf self.old items
+            → IsSketchOf self.new (items ++ x ∷ []) }
     {
         put(
             self.k as usize,
@@ -73,11 +76,11 @@ impl Quant {
         self.count += 1;
     }
 
-    /// The weighted number of the held items below x, by which the number of the list's items below x is
-    /// estimated.
+    /// By the items held and their weights, how many of the list are below x.
     pub fn below(&self, x: u64) -> u64
         ensures held { result ≡ weighted_rank x (layers_of self.now.held) }
-        ensures value { (items : List ℕ) → IsSketchOf self.now items → result ≡ ranked x self.now.k self.now.key items }
+        ensures value { (items : List ℕ) → IsSketchOf self.now items
+            → result ≡ ranked x self.now.k self.now.key items }
         ensures near { (items : List ℕ) → IsSketchOf self.now items
             → abs_diff result (rank_of x items) ≤ rank_error (length items) self.now.k }
     {
@@ -96,7 +99,8 @@ impl Quant {
     /// By how much `below` may be off.
     pub fn error(&self) -> u64
         ensures count { result ≡ rank_error self.now.count self.now.k }
-        ensures value { (items : List ℕ) → IsSketchOf self.now items → result ≡ rank_error (length items) self.now.k }
+        ensures value { (items : List ℕ) → IsSketchOf self.now items
+            → result ≡ rank_error (length items) self.now.k }
     {
         error_of(self.count, self.k)
     }

@@ -11,8 +11,8 @@ use std::alloc::Global;
 use std::process::Abort;
 use std::test::Fail;
 
-// How many items a sketch was given, how many of them it takes to be below a number, and by how much that may
-// be off.
+// How many items a sketch was given, how many of them are below a number by what it holds, and by how
+// much that may be off.
 #[derive(Clone, Copy, Debug, PartialEq, Eq)]
 struct Rank {
     n: u64,
@@ -20,7 +20,7 @@ struct Rank {
     within: u64,
 }
 
-// What the sketch of a list answers: what a caller may say of it, concluded from the clauses of the calls.
+// What the sketch of a list answers. Its clauses are what a caller concludes from those of the calls.
 fn rank_in(alloc: Global, k: u32, key: u64, items: &[u64], x: u64) -> Result<Rank, OutOfMemory>
     requires least { least_quantile_k ≤ k }
     requires most { k ≤ most_quantile_k }
@@ -89,7 +89,7 @@ fn squares(alloc: Global, count: u32) -> Result<Vec<u64>, OutOfMemory>
     Ok(items)
 }
 
-// Of 1 to 1,000 exactly 500 are below 501. What the sketches answer was computed by a program of its own.
+// Of 1 to 1,000 exactly 500 are below 501. Another program computed what the sketches answer.
 #[test]
 fn a_thousand_numbers_under_ten_keys(rt: HostRuntime) -> Result<(), Fail> {
     let alloc = rt.alloc();
@@ -106,8 +106,7 @@ fn a_thousand_numbers_under_ten_keys(rt: HostRuntime) -> Result<(), Fail> {
     Ok(())
 }
 
-// k, key, how many squares, the number asked for, what is below and by how much that may be off: as a program
-// of its own computed them.
+// Another program computed these answers.
 #[test]
 fn squares_that_repeat(rt: HostRuntime) -> Result<(), Fail> {
     let alloc = rt.alloc();
@@ -133,7 +132,7 @@ fn tosses(rt: &impl Abort, key: u64, expected: &[u32]) {
     }
 }
 
-// Key 0 has the key stream of zeros, which is published; all were computed by a ChaCha8 of its own.
+// Another ChaCha8 computed these, which gives the published key stream of zeros for key 0.
 #[test]
 fn coins_are_the_lowest_bits_of_the_key_stream(rt: HostRuntime) {
     tosses(

@@ -6,13 +6,15 @@ ghost use Rattle.sk_quant.specs.Ranks.{compactions, weighted_rank, rank_error};
 
 /// Of 1, 2, 3 with k 2 nothing has gone up: two are below 3.
 pub fn three_items()
-    ensures below { (coins : ℕ → ℕ) → weighted_rank 3 (layers_of (held_after coins 2 (1 ∷ 2 ∷ 3 ∷ []))) ≡ 2 }
+    ensures below { (coins : ℕ → ℕ)
+        → weighted_rank 3 (layers_of (held_after coins 2 (1 ∷ 2 ∷ 3 ∷ []))) ≡ 2 }
     ensures error { rank_error 3 2 ≡ 0 }
 {}
 
 /// Of 1, 2, 3, 4 the coin takes 1 and 3, or 2 and 4, for two each: two are below 3 either way.
 pub fn four_items()
-    ensures below { (coins : ℕ → ℕ) → weighted_rank 3 (layers_of (held_after coins 2 (1 ∷ 2 ∷ 3 ∷ 4 ∷ []))) ≡ 2 }
+    ensures below { (coins : ℕ → ℕ)
+        → weighted_rank 3 (layers_of (held_after coins 2 (1 ∷ 2 ∷ 3 ∷ 4 ∷ []))) ≡ 2 }
     ensures error { rank_error 4 2 ≡ 1 }
 {}
 
@@ -39,8 +41,10 @@ pub fn errors_of_a_thousand()
     ensures greater { rank_error 1000 64 ≡ 17 }
 {}
 
-/// The first coins of key 0, from the key stream of ChaCha8 under a key of zeros, and of another key.
+/// The first coins of key 0, which has ChaCha8's published key stream of zeros, and of another key.
 pub fn first_coins()
-    ensures zero { map (λ place. coin_of 0 place) (0 ∷ 1 ∷ 2 ∷ 3 ∷ 4 ∷ 5 ∷ []) ≡ 0 ∷ 1 ∷ 1 ∷ 1 ∷ 0 ∷ 0 ∷ [] }
-    ensures other { map (λ place. coin_of 281474976710655 place) (0 ∷ 1 ∷ 2 ∷ 16 ∷ []) ≡ 1 ∷ 0 ∷ 1 ∷ 1 ∷ [] }
+    ensures zero { map (λ place. coin_of 0 place) (0 ∷ 1 ∷ 2 ∷ 3 ∷ 4 ∷ 5 ∷ [])
+        ≡ 0 ∷ 1 ∷ 1 ∷ 1 ∷ 0 ∷ 0 ∷ [] }
+    ensures other { map (λ place. coin_of 281474976710655 place) (0 ∷ 1 ∷ 2 ∷ 16 ∷ [])
+        ≡ 1 ∷ 0 ∷ 1 ∷ 1 ∷ [] }
 {}

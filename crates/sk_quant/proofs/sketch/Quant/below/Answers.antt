@@ -4,7 +4,7 @@ use Rattle.std.specs.List.Sorted.{IsNonDecreasing}
 use Rattle.sk_quant.specs.Held.{layers_of}
 use Rattle.sk_quant.specs.Quantiles.{Quantiles, IsWholeQuantiles}
 use Rattle.sk_quant.specs.Ranks.{rank_of, weighted_rank, weight_of, rank_error}
-use Rattle.sk_quant.specs.Stored.{lists_of, shown}
+use Rattle.sk_quant.specs.Stored.{lists_of, shown_by}
 use Rattle.sk_quant.proofs.Bounds.{weighted_rank-cons, weighted_rank-le, weight_of-cons}
 use Rattle.sk_quant.proofs.Sketches.{levels_rise, weight_of_whole, ranked_is, rank_is_near}
 use Rattle.sk_quant.proofs.sketch.Quant.below.Goals as goal
@@ -13,12 +13,12 @@ pub rank_in_levels-requires-clause-rise : goal.rank_in_levels-requires-clause-ri
 rank_in_levels-requires-clause-rise c =
     let inside = c.self.inside in
     subst (λ (ls : List (Vec ℕ Global)). All (λ (l : List ℕ). IsNonDecreasing l) (lists_of ls)) (sym c.deref-2.ensures.value)
-    (levels_rise (shown inside.k inside.count inside.base inside.levels inside.coins) c.self.invariant.whole)
+    (levels_rise (shown_by inside.k inside.count inside.base inside.levels inside.coins) c.self.invariant.whole)
 
 pub rank_in_levels-requires-clause-light : goal.rank_in_levels-requires-clause-light
 rank_in_levels-requires-clause-light c =
     let inside = c.self.inside in
-    let all = weight_of_whole (shown inside.k inside.count inside.base inside.levels inside.coins) c.self.invariant.whole in
+    let all = weight_of_whole (shown_by inside.k inside.count inside.base inside.levels inside.coins) c.self.invariant.whole in
     let parts = weight_of-cons inside.base.items (lists_of inside.levels.items) in
     omega (arith, all, parts, c.self.invariant.whole.count, ap (λ (ls : List (Vec ℕ Global)). weight_of (lists_of ls)) c.deref-2.ensures.value)
 
