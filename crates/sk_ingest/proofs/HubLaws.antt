@@ -5,6 +5,7 @@ use Rattle.sk_model.specs.Missing.{Begins}
 use Rattle.sk_model.specs.Limits.{most_kept}
 use Rattle.sk_model.proofs.Missing.{begins_trans, begins_refl}
 use Rattle.sk_gate.specs.Views.{known_of, size_of}
+use Rattle.sk_hub.specs.Replies.{IsRelaxedReply}
 use Rattle.sk_hub.specs.Hearts.{HeartState}
 use Rattle.sk_hub.specs.Updaters.{UpdaterState, handed_of, kept_of}
 use Rattle.sk_hub.specs.Rounds.{KnowsAsMuch}
@@ -14,7 +15,7 @@ use Rattle.sk_ingest.specs.Feeds.{Takes}
 use Rattle.sk_ingest.specs.Rounds.{HaveRoom, HaveFew, block_of}
 use Rattle.sk_ingest.specs.Shares.{TakeShares, share, HaveKeptNone}
 use Rattle.sk_ingest.specs.Hubs.{Hub, IsHub, IsUpdaterAt, HeartGoesOn, FeedsWindow, LeavesHub, IsLeft}
-use Rattle.sk_ingest.proofs.Room.{block_within}
+use Rattle.sk_ingest.proofs.Rounds.{block_within}
 use Rattle.sk_ingest.proofs.Shares.{share_one}
 use Rattle.sk_ingest.specs.Windows.{items_in}
 use Rattle.sk_ingest.proofs.Items.{few_items, no_items}
@@ -118,3 +119,24 @@ leaves_same a = record {
   updaters = λ i d within. let u = get_or a.updaters i d in record { stays = refl; handed = refl; base = refl; numbers = refl; name = refl; sized = refl; seen = begins_refl u.view.seen; steps = begins_refl u.view.steps };
   token = record { table = refl; numbers = refl; name = refl; sized = refl; seen = begins_refl a.token.view.seen; steps = begins_refl a.token.view.steps };
 }
+
+-- ---- a token that asks
+
+module _ (packed_of : List ℕ → List Entry → ℕ) (a b : Hub) (word : ℕ) (reply : IsRelaxedReply packed_of a.token.view word b.token.view) (table : b.token.table ≡ a.token.table) (heart : b.heart ≡ a.heart) (updaters : b.updaters ≡ a.updaters) where
+  pub asked_hub : IsHub a → IsHub b
+  asked_hub hub = record {
+    count = ap length updaters ∙ hub.count ∙ sym (ap (λ h. h.updaters) heart);
+    updaters = subst (λ us. (i : ℕ) (d : UpdaterState) → i < length us → IsUpdaterAt b i (get_or us i d)) (sym updaters) (λ i d within.
+        let was = hub.updaters i d within in let u = get_or a.updaters i d in record {
+          number = was.number;
+          table = was.table ∙ sym (ap (λ h. h.table) heart);
+          numbers = was.numbers ∙ sym (ap (λ h. h.view.numbers) heart);
+          name = was.name ∙ sym (ap (λ h. h.view.name) heart);
+          known = subst (λ v. Begins (known_of v i) (handed_of u)) (sym reply.stays) was.known;
+          size = subst (λ v. (size_of v i ≡ 0) ⊎ (size_of v i ≡ u.size)) (sym reply.stays) was.size;
+        });
+    table = table ∙ hub.table ∙ sym (ap (λ h. h.table) heart);
+    sized = ap (λ v. length v.sizes) reply.stays ∙ hub.sized ∙ sym (ap (λ h. h.updaters) heart);
+    numbers = ap (λ v. v.numbers) reply.stays ∙ hub.numbers ∙ sym (ap (λ h. h.view.numbers) heart);
+    name = ap (λ v. v.name) reply.stays ∙ hub.name ∙ sym (ap (λ h. h.view.name) heart);
+  }

@@ -9,7 +9,6 @@ pub mod Feeding
 pub mod Rounds
 pub mod Calls
 pub mod Drained
-pub mod Room
 pub mod Moved
 pub mod New
 pub mod Cutting

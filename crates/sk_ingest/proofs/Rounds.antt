@@ -19,6 +19,9 @@ block_length lines i n within =
     let end : to ≤ length lines = places_within (length lines) (i + 1) n (omega arith) in
     length-take-le (to - from) (drop from lines) (omega (arith, length-drop from lines))
 
+pub block_within : (lines : List (List ℕ)) (i n : ℕ) → i < n → length (block_of lines i n) ≤ length lines
+block_within lines i n within = let to = places_within (length lines) (i + 1) n (omega arith) in omega (arith, block_length lines i n within)
+
 -- it took the lines of its block up to a place
 pub takes_to : (keeps : ℕ → ℕ → Bool) (hint_of : List ℕ → List Entry → ℕ) (kind : Kind) (lines : List (List ℕ)) (i n place : ℕ) (u u' : UpdaterState) → i < n → place_of (length lines) i n ≤ place → place ≤ place_of (length lines) (i + 1) n
     → Takes keeps hint_of u (items_in kind (slice_range lines (place_of (length lines) i n) place)) u' → TakesFront keeps hint_of kind (block_of lines i n) u u'

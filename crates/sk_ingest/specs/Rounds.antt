@@ -20,10 +20,6 @@ block_of lines i n = slice_range lines (place_of (length lines) i n) (place_of (
 abbrev pub HaveRoom : List (List ℕ) → List UpdaterState → Type 0
 HaveRoom lines us = (i : ℕ) (d : UpdaterState) → i < length us → length (kept_of (slice_index_or us i d)) + length (block_of lines i (length us)) ≤ most_kept
 
--- each has room for so many items more
-abbrev pub HaveRoomFor : ℕ → List UpdaterState → Type 0
-HaveRoomFor count us = (i : ℕ) (d : UpdaterState) → i < length us → length (kept_of (slice_index_or us i d)) + count ≤ most_kept
-
 -- no updater has kept more than one item each of so many units, the rest not counted
 abbrev pub HaveFew : ℕ → List (List ℕ) → List UpdaterState → Type 0
 HaveFew count rest us = (i : ℕ) (d : UpdaterState) → i < length us → length (kept_of (slice_index_or us i d)) + length rest ≤ count

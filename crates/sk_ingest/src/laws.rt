@@ -12,6 +12,7 @@ ghost use Rattle.sk_ingest.specs.Feeds.{Takes};
 ghost use Rattle.sk_ingest.specs.Windows.{items_in};
 ghost use Rattle.sk_model.specs.Width.{AreItems};
 
+pub mod ingests;
 pub mod shares;
 
 /// The first block begins at the first line.

@@ -25,7 +25,7 @@ pub use report::{Report, Stop};
 pub use sk_model::OutOfMemory;
 pub use sk_read::{Fault, Intake, Kind};
 pub use window::Window;
-pub use word::{feed_windows, word_of_windows};
+pub use word::word_of_source;
 
 #[cfg(test)]
 mod tests;

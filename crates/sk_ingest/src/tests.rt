@@ -1,8 +1,9 @@
-ghost use Rattle.std.specs.Prelude.{◌≡◌, ◌≤◌, [], length, map, IfOk};
+ghost use Rattle.std.specs.Prelude.{◌≡◌, ◌≤◌, [], length, IfOk};
 ghost use Rattle.sk_model.specs.Entries.{items_of_entries};
-ghost use Rattle.sk_model.specs.Limits.{most_k, most_kept};
+ghost use Rattle.sk_model.specs.Limits.{most_k};
 ghost use Rattle.sk_theta.specs.Kept.{StandsFor};
-ghost use Rattle.sk_ingest.specs.Windows.{all_lines};
+
+mod sources;
 
 use super::*;
 use sk_compose::Composable;
@@ -12,7 +13,6 @@ use std::alloc::Global;
 use std::process::Abort;
 use std::sync::Wait;
 use std::test::Fail;
-use std::thread::Threads;
 
 #[test]
 fn a_window_of_two_lines_gives_them_back(rt: HostRuntime) -> Result<(), Fail> {
@@ -98,57 +98,5 @@ fn an_eager_updater_publishes_each_item(rt: HostRuntime) -> Result<(), Fail> {
     let mut updater = hub.updaters.remove(0);
     assert_eq!(rt; feed(&rt, &mut updater, &window, 0, true)?, 5);
     assert_eq!(rt; unpack(hub.token.ask()).count, 5);
-    Ok(())
-}
-
-// ---- windows that are fed to four updaters at once
-
-// The lines from one number up to another.
-fn lines_between(
-    rt: &impl Abort,
-    alloc: Global,
-    from: u32,
-    to: u32,
-) -> Result<Window, OutOfMemory> {
-    let mut window = Window::new(alloc, 1_000)?;
-    for number in from..to {
-        let line = format!(in alloc; "{number}")?;
-        assert!(rt; !window.is_full() && line.len() < 11);
-        window.push(line.as_bytes())?;
-    }
-    Ok(window)
-}
-
-// Counts the lines of windows by four updaters, in four threads.
-fn counted<R: Threads + Wait + Abort + Sync>(
-    rt: &R,
-    alloc: Global,
-    windows: &[Window],
-) -> Result<u32, OutOfMemory>
-    requires few { length (all_lines (map (λ w. w.lines) windows.now)) ≤ most_kept }
-{
-    let Ok(shape) = Shape::new(1_024, 8, 4, 0, false) else {
-        return Err(OutOfMemory);
-    };
-    let word = word_of_windows(
-        rt,
-        alloc,
-        &shape,
-        sketch(alloc, 1_024)?,
-        windows,
-        Kind::Raw,
-        4,
-    )?;
-    Ok(unpack(word).count)
-}
-
-#[test]
-fn four_updaters_count_two_windows(rt: HostRuntime) -> Result<(), Fail> {
-    let windows = [
-        lines_between(&rt, rt.alloc(), 0, 600)?,
-        lines_between(&rt, rt.alloc(), 500, 1_000)?,
-    ];
-    assert_eq!(rt; windows[0].len() + windows[1].len(), 1_100);
-    assert_eq!(rt; counted(&rt, rt.alloc(), &windows)?, 1_000);
     Ok(())
 }
