@@ -1,13 +1,16 @@
 -- Units that are fed to a hub, one after another.
-use Rattle.std.proofs.Common.{◌≡◌, ◌≢◌, ◌⊎◌, inl, inr, ℕ, ◌+◌, ◌<◌, ◌≤◌, Bool, true, false, List, [], ◌∷◌, ◌++◌, length, get_or, take, drop, slice_range, Option, Result, Ok, Err, IfSome, IsSome, All, sym, ap, refl, ◌∙◌, subst, arith, append-nil, append_assoc, length-append}
+use Rattle.std.proofs.Common.{◌≡◌, ◌≢◌, ◌⊎◌, inl, inr, ℕ, ◌+◌, ◌<◌, ◌≤◌, Bool, true, false, List, [], ◌∷◌, ◌++◌, length, get_or, take, drop, slice_range, Option, Result, Ok, Err, OnOk, IfOk, IfErr, IsErrAnd, IfSome, IsSome, All, sym, ap, refl, ◌∙◌, subst, arith, append-nil, append_assoc, length-append}
+use Rattle.std.proofs.lemmas.List.{take_all}
 use Rattle.std.proofs.lemmas.List.Elements.{All-nil, All-push}
 use Rattle.sk_model.specs.Entries.{Entry}
 use Rattle.sk_read.specs.Items.{item_of, IsGood}
 use Rattle.sk_read.specs.Reads.{Reads, ReadsAll, ReadsSome, BreaksOff, StopsAt, Ends}
 use Rattle.sk_read.specs.declared.fault.Fault.{Fault}
 use Rattle.sk_read.specs.declared.fault.Fault.TheVariants as fault
+use Rattle.sk_read.specs.declared.items.Intake.{Intake}
 use Rattle.sk_read.specs.declared.units.Units.{Units}
 use Rattle.sk_read.specs.Units.{units_of, complete_units_of, IsSoundUpTo, IsLongBehind, IsUnevenBehind}
+use Rattle.sk_model.specs.Causes.{HasCauseIn}
 use Rattle.sk_model.specs.Missing.{Begins}
 use Rattle.sk_model.specs.Lines.{lines_of}
 use Rattle.sk_model.specs.Limits.{line_limit, most_kept}
@@ -24,9 +27,10 @@ use Rattle.sk_ingest.specs.Rounds.{block_of, TakeBlocks, HaveFew}
 use Rattle.sk_ingest.specs.Feeds.{Takes}
 use Rattle.sk_ingest.specs.Hubs.{Hub, IsHub, HeartGoesOn, IsLeft, FeedsWindow}
 use Rattle.sk_ingest.specs.Shares.{KeepsMore, KeepShares}
-use Rattle.sk_ingest.specs.Ingests.{Terms, Feeds, IsReported, Reported, GoesThrough, Ingests, StopsAtReport, GoesSoFar, StopsAtUnit}
-use Rattle.sk_ingest.specs.Takers.{WindowsWent}
+use Rattle.sk_ingest.specs.Ingests.{Terms, terms_of, Feeds, IsReported, Reported, GoesThrough, Ingests, StopsAtReport, GoesSoFar, StopsAtUnit}
+use Rattle.sk_ingest.specs.Takers.{WindowsWent, StopsPassing}
 use Rattle.sk_ingest.specs.declared.report.Stop.{Stop}
+use Rattle.sk_ingest.specs.declared.report.Stop.TheVariants as stop
 use Rattle.sk_ingest.proofs.Cutting.{no_units, unit_left, unit_fills, all_lines_more}
 use Rattle.sk_ingest.proofs.HubLaws.{heart_waits, heart_goes, hub_fed, kept_left, few_left, few_fed, few_stay}
 use Rattle.sk_ingest.proofs.Shares.{share_none, shares_kept, no_shares_kept, kept_add_up, keeps_left}
@@ -127,6 +131,33 @@ report_stops t how units unit a b x y r s p rest went good least full fed interi
   stops = subst (λ n. t.breaks s how n x y p) (sym (one_unit_more units unit)) stops;
 }
 
+-- so it stops where a full window is not passed on
+pub pass_stops : {R : Type 0} (t : Terms R) (units : List (List ℕ)) (unit : List ℕ) (a b : Hub) (r s p : R) (rest : List (List ℕ)) (why : Fault) → WindowsWent t units a r rest b s → IsGood t.plan.kind unit → 1 ≤ t.plan.window → fills t.plan.window (rest ++ unit ∷ []) ≡ true
+    → StopsPassing t (rest ++ unit ∷ []) (length units + 1) b s p why → StopsAtUnit t a r p why units unit
+pass_stops {R} t units unit a b r s p rest fault.OutOfMemory went good least full (inl same) = inl (rest, b, subst (λ (z : R). GoesThrough t units a r rest b z) (sym same) went.goes)
+pass_stops t units unit a b r s p rest fault.OutOfMemory went good least full (inr stops) = inr (report_stops t stop.OutOfMemory units unit a b stops.0 stops.1 r s p rest went good least full stops.2 stops.3 stops.4)
+pass_stops t units unit a b r s p rest fault.WriteFault went good least full stops = report_stops t stop.Failed units unit a b stops.0 stops.1 r s p rest went good least full stops.2 stops.3 stops.4
+pass_stops t units unit a b r s p rest fault.ReadFault went good least full stops = absurd stops
+pass_stops t units unit a b r s p rest fault.TooMuch went good least full stops = absurd stops
+pass_stops t units unit a b r s p rest (fault.LongLine n) went good least full stops = absurd stops
+pass_stops t units unit a b r s p rest (fault.BadItem n) went good least full stops = absurd stops
+pass_stops t units unit a b r s p rest (fault.BadCsv n) went good least full stops = absurd stops
+
+pub if_err_then : {T E : Type 0} (r : Result T E) (P Q : E → Type 0) → IfErr r P → ((e : E) → P e → Q e) → IfErr r Q
+if_err_then (Ok x) P Q p f = tt
+if_err_then (Err e) P Q p f = f e p
+
+-- a window that takes a further line is not full
+pub not_full : (most own : ℕ) (units : List (List ℕ)) (windows : List (List (List ℕ))) (rest : List (List ℕ)) → own ≡ most → AreWindows most units windows rest → fills own rest ≡ false
+not_full most own units windows rest is cut =
+    let all : take (length rest) rest ≡ rest = take_all (length rest) rest (omega arith) in
+    ap (λ m. fills m rest) is ∙ sym (ap (fills most) all) ∙ cut.unfilled (length rest) (omega arith)
+
+-- whether a window with one line more is full
+pub full_is : (most own own' : ℕ) (lines lines' : List (List ℕ)) (line : List ℕ) (tells full : Bool) → own' ≡ own → own ≡ most → lines' ≡ lines ++ line ∷ [] → tells ≡ fills own' lines' → tells ≡ full → fills most (lines ++ line ∷ []) ≡ full
+full_is most own own' lines lines' line tells full same is more told answer =
+    ap (λ m. fills m (lines ++ line ∷ [])) (sym (same ∙ is)) ∙ ap (fills own') (sym more) ∙ sym told ∙ answer
+
 -- ---- the rest
 
 pub rest_fed : {R : Type 0} (t : Terms R) (units : List (List ℕ)) (a b x : Hub) (r s : R) (rest : List (List ℕ)) → WindowsWent t units a r rest b s → Feeds t rest b x → Ingests t units a r x s
@@ -140,7 +171,7 @@ rest_fed t units a b x r s rest went fed = record {
 
 -- ---- readings
 
-all_by : (units : Units) (most n : ℕ) (Gave Gave' : List (List ℕ) → Type 0) (old new : Option (List ℕ)) → ((given : List (List ℕ)) → Gave given → Gave' given) → ReadsAll units most n Gave old new → ReadsAll units most n Gave' old new
+pub all_by : (units : Units) (most n : ℕ) (Gave Gave' : List (List ℕ) → Type 0) (old new : Option (List ℕ)) → ((given : List (List ℕ)) → Gave given → Gave' given) → ReadsAll units most n Gave old new → ReadsAll units most n Gave' old new
 all_by units most n Gave Gave' old new more all = record { taken = all.taken; consumed = all.consumed; end = all.end; size = all.size; sound = all.sound; number = all.number; gave = more (units_of units all.taken) all.gave }
 
 some_by : (units : Units) (IsSize : ℕ → Type 0) (Gave Gave' : List (List ℕ) → Type 0) (old new : Option (List ℕ)) → ((given : List (List ℕ)) → Gave given → Gave' given) → ReadsSome units IsSize Gave old new → ReadsSome units IsSize Gave' old new
@@ -255,3 +286,62 @@ heart_by_ingest t units a b r s i = heart_goes a.heart i.between.heart b.heart (
 -- these windows have all units
 pub windows_ingested : {R : Type 0} (t : Terms R) (units : List (List ℕ)) (a b : Hub) (r s : R) (i : Ingests t units a r b s) → all_lines (i.goes.windows ++ i.rest ∷ []) ≡ units
 windows_ingested t units a b r s i = all_lines_more i.goes.windows i.rest ∙ sym i.goes.cut.joined
+
+-- ---- answers
+
+pub reads_by : (units : Units) (most : ℕ) (Gave Gave' : List (List ℕ) → Type 0) (Stopped Stopped' : Fault → List (List ℕ) → List ℕ → Type 0) (old new : Option (List ℕ)) (r : Result ℕ Fault)
+    → ((given : List (List ℕ)) → Gave given → Gave' given) → ((why : Fault) (given : List (List ℕ)) (unit : List ℕ) → Stopped why given unit → Stopped' why given unit) → Reads units most Gave Stopped old new r → Reads units most Gave' Stopped' old new r
+reads_by units most Gave Gave' Stopped Stopped' old new (Ok n) more at reads = all_by units most n Gave Gave' old new more reads
+reads_by units most Gave Gave' Stopped Stopped' old new (Err why) more at reads = ends_by units most Gave Gave' Stopped Stopped' old new why more at reads
+
+pub read_ok : (units : Units) (most : ℕ) (Gave Gave' : List (List ℕ) → Type 0) (Stopped : Fault → List (List ℕ) → List ℕ → Type 0) (old new : Option (List ℕ)) (r : Result ℕ Fault)
+    → ((given : List (List ℕ)) → Gave given → Gave' given) → Reads units most Gave Stopped old new r → IfOk r (λ n. ReadsAll units most n Gave' old new)
+read_ok units most Gave Gave' Stopped old new (Ok n) more reads = all_by units most n Gave Gave' old new more reads
+read_ok units most Gave Gave' Stopped old new (Err why) more reads = tt
+
+pub read_err : (units : Units) (most : ℕ) (Gave Gave' : List (List ℕ) → Type 0) (Stopped Stopped' : Fault → List (List ℕ) → List ℕ → Type 0) (old new : Option (List ℕ)) (r : Result ℕ Fault)
+    → ((given : List (List ℕ)) → Gave given → Gave' given) → ((why : Fault) (given : List (List ℕ)) (unit : List ℕ) → Stopped why given unit → Stopped' why given unit) → Reads units most Gave Stopped old new r → IfErr r (λ why. Ends units most Gave' Stopped' old new why)
+read_err units most Gave Gave' Stopped Stopped' old new (Ok n) more at reads = tt
+read_err units most Gave Gave' Stopped Stopped' old new (Err why) more at reads = ends_by units most Gave Gave' Stopped Stopped' old new why more at reads
+
+-- an error of which it is known which one it is
+pub if_err_is : {T E : Type 0} (r : Result T E) (e : E) (P : E → Type 0) → IsErrAnd r (λ x. x ≡ e) → P e → IfErr r P
+if_err_is (Ok x) e P is p = tt
+if_err_is (Err x) e P is p = subst P (sym is) p
+
+pub ok_two : {T E P Q S : Type 0} (r : Result T E) → OnOk r P → OnOk r Q → (P → Q → S) → OnOk r S
+ok_two (Ok x) p q f = f p q
+ok_two (Err e) p q f = tt
+
+pub ok_three : {T E P Q S W : Type 0} (r : Result T E) → OnOk r P → OnOk r Q → OnOk r S → (P → Q → S → W) → OnOk r W
+ok_three (Ok x) p q s f = f p q s
+ok_three (Err e) p q s f = tt
+
+-- where a call went well its count of faults stands
+pub steady_on_ok : {T E : Type 0} (fault : E) (before now : ℕ) (r : Result T E) → HasCauseIn fault before now r → OnOk r (now ≡ before)
+steady_on_ok fault before now (Ok x) cause = cause.steady (λ same. cc)
+steady_on_ok fault before now (Err e) cause = tt
+
+-- ---- takers
+
+-- the reading of a taker of windows, at the hub and the report that it left
+pub windows_read : {R : Type 0} (keeps : ℕ → ℕ → Bool) (hint_of : List ℕ → List Entry → ℕ) (reports : R → ℕ → Hub → Hub → R → Type 0) (breaks : R → Stop → ℕ → Hub → Hub → R → Type 0) (Q : Type 0) (Q' : Fault → Type 0) (plan own : Intake) (units u : Units) (most : ℕ) (a x b : Hub) (r y s : R) (lines rest : List (List ℕ)) (S : Type 0) (old new : Option (List ℕ)) (result : Result ℕ Fault)
+    → u ≡ units → x ≡ b → y ≡ s → lines ≡ rest
+    → Reads u most (λ l. (own ≡ plan) × S × WindowsWent (terms_of keeps hint_of reports breaks own) l a r lines x y × Q) (λ why l unit. (own ≡ plan) × StopsAtUnit (terms_of keeps hint_of reports breaks own) a r y why l unit × Q' why) old new result
+    → Reads units most (λ l. WindowsWent (terms_of keeps hint_of reports breaks plan) l a r rest b s) (StopsAtUnit (terms_of keeps hint_of reports breaks plan) a r s) old new result
+windows_read {R} keeps hint_of reports breaks Q Q' plan own units u most a x b r y s lines rest S old new result unit_is hub_is report_is lines_are reads =
+    subst (λ v. Reads v most (λ l. WindowsWent (terms_of keeps hint_of reports breaks plan) l a r rest b s) (StopsAtUnit (terms_of keeps hint_of reports breaks plan) a r s) old new result) unit_is
+    (reads_by u most Went (λ l. WindowsWent (terms_of keeps hint_of reports breaks plan) l a r rest b s) Stops (StopsAtUnit (terms_of keeps hint_of reports breaks plan) a r s) old new result
+    (λ (given : List (List ℕ)) (went : Went given). subst (λ p. WindowsWent (terms_of keeps hint_of reports breaks p) given a r rest b s) went.0
+    (subst (λ h. WindowsWent (terms_of keeps hint_of reports breaks own) given a r rest h s) hub_is
+    (subst (λ (z : R). WindowsWent (terms_of keeps hint_of reports breaks own) given a r rest x z) report_is
+    (subst (λ l. WindowsWent (terms_of keeps hint_of reports breaks own) given a r l x y) lines_are went.2))))
+    (λ (why : Fault) (given : List (List ℕ)) (unit : List ℕ) (stops : Stops why given unit). subst (λ p. StopsAtUnit (terms_of keeps hint_of reports breaks p) a r s why given unit) stops.0
+    (subst (λ (z : R). StopsAtUnit (terms_of keeps hint_of reports breaks own) a r z why given unit) report_is stops.1))
+    reads)
+  where
+    Went : List (List ℕ) → Type 0
+    Went = λ l. (own ≡ plan) × S × WindowsWent (terms_of keeps hint_of reports breaks own) l a r lines x y × Q
+
+    Stops : Fault → List (List ℕ) → List ℕ → Type 0
+    Stops = λ why l unit. (own ≡ plan) × StopsAtUnit (terms_of keeps hint_of reports breaks own) a r y why l unit × Q' why

@@ -29,11 +29,11 @@ pub items_append : (kind : Kind) (xs ys : List (List ℕ)) → items_in kind (xs
 unfolding items_in
 items_append kind xs ys = filter_map-append (item_in kind) xs ys
 
-one_item : (kind : Kind) (line : List ℕ) (item : ℕ) → item_in kind line ≡ Some item → items_in kind (line ∷ []) ≡ item ∷ []
+pub one_item : (kind : Kind) (line : List ℕ) (item : ℕ) → item_in kind line ≡ Some item → items_in kind (line ∷ []) ≡ item ∷ []
 unfolding items_in
 one_item kind line item is = rw is
 
-no_item : (kind : Kind) (line : List ℕ) → item_in kind line ≡ None → items_in kind (line ∷ []) ≡ []
+pub no_item : (kind : Kind) (line : List ℕ) → item_in kind line ≡ None → items_in kind (line ∷ []) ≡ []
 unfolding items_in
 no_item kind line is = rw is
 

@@ -15,3 +15,4 @@ pub mod New
 pub mod Cutting
 pub mod HubLaws
 pub mod Ingestion
+pub mod AtOnceLaws

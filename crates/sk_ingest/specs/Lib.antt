@@ -5,6 +5,7 @@ pub mod Calls
 pub mod Rounds
 pub mod Shares
 pub mod Drained
+pub mod Stops
 pub mod Hubs
 pub mod Ingests
 pub mod Takers

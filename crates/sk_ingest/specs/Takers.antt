@@ -9,15 +9,14 @@ use Rattle.sk_read.specs.declared.items.Intake.{Intake}
 use Rattle.sk_ingest.specs.declared.report.Stop.{Stop}
 use Rattle.sk_ingest.specs.declared.report.Stop.TheVariants as stop
 use Rattle.sk_ingest.specs.Windows.{WindowState}
-use Rattle.sk_ingest.specs.Rounds.{FeedersState, HaveFew}
+use Rattle.sk_ingest.specs.Rounds.{HaveFew}
 use Rattle.sk_ingest.specs.Hubs.{Hub, IsHub}
 use Rattle.sk_ingest.specs.Ingests.{Terms, terms_of, Feeds, GoesThrough, Ingests}
 
--- the window is the plan's, there is room for all feeders, and the report is of the hub's sketch
-pub record IsSetUp (plan : Intake) (window : WindowState) (feeders : FeedersState) (hub : Hub) (sketch : Option (List ℕ)) : Type 0 where
+-- the window is the plan's, and the report is of the hub's sketch
+pub record IsSetUp (plan : Intake) (window : WindowState) (hub : Hub) (sketch : Option (List ℕ)) : Type 0 where
   pub least : 1 ≤ plan.window
   pub most : window.most ≡ plan.window
-  pub places : length hub.updaters ≤ feeders.most
   pub named : IfSome sketch (λ name. hub.heart.view.name ≡ name)
 
 -- the windows that units fill were fed and reported, and the rest lies in the window

@@ -84,7 +84,11 @@ fn feed_item<C: Composable, R: Wait>(
 }
 
 // Offers an item until it is taken, and propagates in between. An eager updater propagates after it, too.
-fn insist<C: Composable, R: Wait>(rt: &R, u: &mut Updater<C>, item: u64) -> Result<(), OutOfMemory>
+pub(crate) fn insist<C: Composable, R: Wait>(
+    rt: &R,
+    u: &mut Updater<C>,
+    item: u64,
+) -> Result<(), OutOfMemory>
     requires item { IsItem item }
     requires room { length (kept_of u.old) < most_kept }
     ensures taken { OnOk result (Takes C.keeps_of C.hint_of u.old (item ∷ []) u.new) }
@@ -103,7 +107,7 @@ fn insist<C: Composable, R: Wait>(rt: &R, u: &mut Updater<C>, item: u64) -> Resu
 }
 
 // Offers an item once.
-fn offer<C: Composable>(u: &mut Updater<C>, item: u64) -> Update
+pub(crate) fn offer<C: Composable>(u: &mut Updater<C>, item: u64) -> Update
     requires item { IsItem item }
     requires room { length (kept_of u.old) < most_kept }
     ensures taken { result ≢ Update.Busy → Takes C.keeps_of C.hint_of u.old (item ∷ []) u.new }

@@ -1,6 +1,7 @@
 //! Windows of lines, and how their items are fed to the updaters of a hub.
 #![tactic(auto)]
 
+mod at_once;
 mod block;
 mod drain;
 mod feed;
@@ -10,7 +11,9 @@ mod ingesting;
 pub mod laws;
 mod report;
 mod turns;
+mod ways;
 mod window;
+mod windowed;
 mod word;
 
 pub use block::Block;

@@ -7,6 +7,7 @@ ghost use Rattle.sk_ingest.specs.declared.report.Stop.{Stop as Stops};
 use sk_compose::Composable;
 use sk_hub::Opened;
 use sk_model::OutOfMemory;
+use sk_read::Fault;
 
 /// Why a report stopped.
 #[derive(Clone, Copy, Debug, PartialEq, Eq)]
@@ -23,6 +24,19 @@ impl From<OutOfMemory> for Stop {
 
     fn from(_: OutOfMemory) -> Self {
         Stop::OutOfMemory
+    }
+}
+
+impl From<Stop> for Fault {
+    ghost use Rattle.sk_ingest.specs.Stops.{fault_by};
+
+    ghost from_gives = { λ stop e. e ≡ fault_by stop };
+
+    fn from(stop: Stop) -> Self {
+        match stop {
+            Stop::Failed => Fault::WriteFault,
+            Stop::OutOfMemory => Fault::OutOfMemory,
+        }
     }
 }
 

@@ -1,4 +1,4 @@
-//! A window that is fed in one thread, to one updater after another; the heart propagates where one is busy.
+//! A window that is fed in one thread, to one updater after another.
 ghost use Rattle.std.specs.Prelude.{◌∷◌, ◌+◌, ◌-◌, ◌≤◌, [], length, slice_range, OnOk, OnErr, IsTrue};
 ghost use Rattle.sk_hub.specs.Updaters.{kept_of};
 ghost use Rattle.sk_ingest.specs.Windows.{items_in};
@@ -17,13 +17,15 @@ use sk_model::OutOfMemory;
 use sk_read::Kind;
 use std::sync::Wait;
 
-// Feeds a window to the updaters, one after another. The heart propagates where one is busy.
+// Feeds a window to the updaters, one after another. Where one is busy it propagates itself, with `help`, or the
+// heart does.
 pub(crate) fn feed_in_turn<C: Composable, R: Wait>(
     rt: &R,
     heart: &mut Heart<C>,
     updaters: &mut Vec<Updater<C>>,
     window: &Window,
     kind: Kind,
+    help: bool,
 ) -> Result<(), OutOfMemory>
     requires most { length updaters.old.items ≤ most_updaters }
     requires room { HaveRoom window.now.lines updaters.old.items }
@@ -35,19 +37,20 @@ pub(crate) fn feed_in_turn<C: Composable, R: Wait>(
     'updater: for i in 0..n {
         let block = Block::of(window.len(), i as u32, n as u32);
         let updater = &mut updaters[i];
-        feed_sweeping(rt, heart, updater, window, kind, block)?;
+        feed_through(rt, heart, updater, window, kind, block, help)?;
     }
     Ok(())
 }
 
-// Feeds a block. The heart propagates each time the updater is busy.
-fn feed_sweeping<C: Composable, R: Wait>(
+// Feeds a block. Without `help` the heart propagates each time the updater is busy.
+fn feed_through<C: Composable, R: Wait>(
     rt: &R,
     heart: &mut Heart<C>,
     u: &mut Updater<C>,
     window: &Window,
     kind: Kind,
     block: Block,
+    help: bool,
 ) -> Result<(), OutOfMemory>
     requires order { block.from ≤ block.to }
     requires within { block.to ≤ length window.now.lines }
@@ -58,7 +61,7 @@ fn feed_sweeping<C: Composable, R: Wait>(
 {
     let mut place = block.from;
     'again: for _ in rt.forever() {
-        place = feed_block(rt, u, window, place, block.to, kind, false)?;
+        place = feed_block(rt, u, window, place, block.to, kind, help)?;
         if place == block.to {
             return Ok(());
         }
@@ -68,7 +71,7 @@ fn feed_sweeping<C: Composable, R: Wait>(
 }
 
 // Propagates once for all.
-fn sweep<C: Composable, R: Wait>(rt: &R, heart: &mut Heart<C>) -> Result<(), OutOfMemory>
+pub(crate) fn sweep<C: Composable, R: Wait>(rt: &R, heart: &mut Heart<C>) -> Result<(), OutOfMemory>
     ensures heart { HeartGoesOn heart.old heart.new }
     ensures cause { OnErr result (IsTrue C.TAKES_MEMORY) }
 {

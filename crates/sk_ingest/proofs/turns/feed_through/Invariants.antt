@@ -4,7 +4,7 @@ use Rattle.sk_hub.specs.Updaters.{kept_of}
 use Rattle.sk_ingest.specs.Windows.{items_in}
 use Rattle.sk_ingest.specs.Feeds.{Takes}
 use Rattle.sk_ingest.specs.Hubs.{HeartGoesOn}
-use Rattle.sk_ingest.proofs.turns.feed_sweeping.Given as goal
+use Rattle.sk_ingest.proofs.turns.feed_through.Given as goal
 
 abbrev pub invariant-again : goal.invariant-again
 invariant-again g l = let k = g.C.Composable in record {

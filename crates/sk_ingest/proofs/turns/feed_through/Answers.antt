@@ -4,7 +4,7 @@ use Rattle.sk_ingest.specs.Windows.{items_in}
 use Rattle.sk_ingest.specs.Feeds.{Takes}
 use Rattle.sk_ingest.proofs.Feeding.{no_line, parts_add_up, room_then}
 use Rattle.sk_ingest.proofs.HubLaws.{heart_waits, heart_goes}
-use Rattle.sk_ingest.proofs.turns.feed_sweeping.Goals as goal
+use Rattle.sk_ingest.proofs.turns.feed_through.Goals as goal
 
 pub again-init : goal.again-init
 again-init g c = let k = g.C.Composable in record {

@@ -1,0 +1,9 @@
+use Rattle.sk_ingest.specs.Feeds.{KeepsNone}
+use Rattle.sk_ingest.specs.Hubs.{HeartGoesOn}
+use Rattle.sk_ingest.proofs.at_once.insist_sweeping.Given as goal
+
+abbrev pub invariant-again : goal.invariant-again
+invariant-again g l = record {
+  none : KeepsNone l.initial.u l.u;
+  heart : HeartGoesOn l.initial.heart l.heart;
+}

@@ -1,0 +1,116 @@
+//! A source's units that go to the one updater of a hub at once.
+ghost use Rattle.std.specs.Prelude.{◌≡◌, ◌+◌, ◌<◌, ◌≤◌, ℕ, List, [], ◌∷◌, ◌++◌, Some, OnOk, IfErr, length};
+ghost use Rattle.sk_model.specs.Limits.{most_kept};
+ghost use Rattle.sk_model.specs.Width.{IsItem};
+ghost use Rattle.sk_hub.specs.Updaters.{kept_of};
+ghost use Rattle.sk_read.specs.Faults.{IsOfTaker};
+ghost use Rattle.sk_ingest.specs.Feeds.{Takes};
+ghost use Rattle.sk_ingest.specs.Hubs.{Hub, hub_of, HeartGoesOn};
+ghost use Rattle.sk_ingest.specs.Ingests.{StopsAtUnit};
+ghost use Rattle.sk_ingest.specs.Takers.{UnitsWent, IsAlone, untold};
+
+use crate::feed::{insist, offer};
+use crate::turns::sweep;
+use sk_compose::Composable;
+use sk_hub::{Heart, Opened, Update, Updater};
+use sk_model::OutOfMemory;
+use sk_read::{Fault, Intake, UnitTaker};
+use std::sync::Wait;
+
+// Feeds the item of each unit, if it has one, to the updater.
+#[derive(Drop)]
+pub(crate) struct AtOnce<'r, 'o, C: Composable, R> {
+    pub(crate) rt: &'r R,
+    pub(crate) plan: Intake,
+    pub(crate) opened: &'o mut Opened<C>,
+}
+
+impl<C: Composable, R: Wait> UnitTaker for AtOnce<'_, '_, C, R> {
+    ghost went = { λ s t units. (t.plan ≡ s.plan) × IsAlone t.plan (hub_of t.opened.now)
+        × UnitsWent (untold C.keeps_of C.hint_of t.plan) units (hub_of s.opened.now) tt (hub_of t.opened.now) tt };
+
+    ghost stopped = { λ s t why units unit. (t.plan ≡ s.plan)
+        × StopsAtUnit (untold C.keeps_of C.hint_of t.plan) (hub_of s.opened.now) tt tt why units unit };
+
+    ghost stands_on = { λ s. record { kind = Some s.plan.kind; borrows = s.opened.ghost_name ∷ []; numbers = [] } };
+
+    #[inline(always)]
+    fn take(&mut self, unit: &[u8], number: u64) -> Result<(), Fault> {
+        take_unit(self.rt, &self.plan, self.opened, unit, number)
+    }
+}
+
+// Feeds the item of a unit, if it has one, to the updater.
+#[inline(always)]
+fn take_unit<C: Composable, R: Wait>(
+    rt: &R,
+    plan: &Intake,
+    opened: &mut Opened<C>,
+    unit: &[u8],
+    number: u64,
+) -> Result<(), Fault>
+    requires alone { IsAlone plan.now (hub_of opened.old) }
+    requires room { number ≤ most_kept }
+    requires behind { (a : Hub) × (units : List (List ℕ)) × (length units + 1 ≡ number)
+        × UnitsWent (untold C.keeps_of C.hint_of plan.now) units a tt (hub_of opened.old) tt }
+    ensures alone { IsAlone plan.now (hub_of opened.new) }
+    ensures went { OnOk result ((a : Hub) (units : List (List ℕ)) → length units + 1 ≡ number
+        → UnitsWent (untold C.keeps_of C.hint_of plan.now) units a tt (hub_of opened.old) tt
+        → UnitsWent (untold C.keeps_of C.hint_of plan.now) (units ++ unit.now ∷ []) a tt (hub_of opened.new) tt) }
+    ensures stopped { IfErr result (λ why. (a : Hub) (units : List (List ℕ)) → length units + 1 ≡ number
+        → UnitsWent (untold C.keeps_of C.hint_of plan.now) units a tt (hub_of opened.old) tt
+        → StopsAtUnit (untold C.keeps_of C.hint_of plan.now) a tt tt why units unit.now) }
+    ensures fault { IfErr result (IsOfTaker number) }
+{
+    if unit.is_empty() {
+        return Ok(());
+    }
+    match plan.kind.item(unit) {
+        Some(item) => {
+            let updater = &mut opened.updaters[0];
+            feed_one(rt, &mut opened.heart, updater, item, plan.propagator)?;
+            Ok(())
+        }
+        None => Err(Fault::BadItem(number)),
+    }
+}
+
+// Feeds an item until it is taken. The heart propagates where the updater is busy, or the updater itself.
+fn feed_one<C: Composable, R: Wait>(
+    rt: &R,
+    heart: &mut Heart<C>,
+    u: &mut Updater<C>,
+    item: u64,
+    propagator: bool,
+) -> Result<(), OutOfMemory>
+    requires item { IsItem item }
+    requires room { length (kept_of u.old) < most_kept }
+    ensures taken { OnOk result (Takes C.keeps_of C.hint_of u.old (item ∷ []) u.new) }
+    ensures heart { HeartGoesOn heart.old heart.new }
+{
+    if propagator {
+        return insist_sweeping(rt, heart, u, item);
+    }
+    insist(rt, u, item)
+}
+
+// Offers an item until it is taken. The heart propagates in between.
+fn insist_sweeping<C: Composable, R: Wait>(
+    rt: &R,
+    heart: &mut Heart<C>,
+    u: &mut Updater<C>,
+    item: u64,
+) -> Result<(), OutOfMemory>
+    requires item { IsItem item }
+    requires room { length (kept_of u.old) < most_kept }
+    ensures taken { OnOk result (Takes C.keeps_of C.hint_of u.old (item ∷ []) u.new) }
+    ensures heart { HeartGoesOn heart.old heart.new }
+{
+    'again: for _ in rt.forever() {
+        match offer(u, item) {
+            Update::Busy => sweep(rt, heart)?,
+            _ => return Ok(()),
+        }
+    }
+    unreachable!()
+}
