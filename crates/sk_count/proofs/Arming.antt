@@ -1,19 +1,20 @@
 -- Places of a board that are armed, or let go, one after another.
-use Rattle.std.proofs.Common.{◌≡◌, ◌≢◌, ◌⊎◌, ⊎_elim, ℕ, zero, suc, ◌+◌, ◌/◌, ◌%◌, ◌^◌, ◌<◌, ◌≤◌, if◌then◌else◌, Bool, true, false, List, [], ◌∷◌, length, map, get_or, set, Option, Some, None, option_map, is_some, refl, sym, ap, subst, ◌∙◌, arith, get_or-set_same, get_or-set_other, lit≤, nat_eq, eq-eqb}
+use Rattle.std.proofs.Common.{◌≡◌, ◌≢◌, ⊎_elim, ℕ, zero, suc, ◌+◌, ◌/◌, ◌%◌, ◌^◌, ◌<◌, ◌≤◌, if◌then◌else◌, Bool, true, false, List, [], ◌∷◌, length, map, get_or, set, Some, None, option_map, is_some, refl, sym, ap, subst, ◌∙◌, arith, get_or-set_same, get_or-set_other, lit≤, nat_eq, eq-eqb}
 use Rattle.std.specs.Option.{IsSome}
 use Rattle.std.specs.Bool.{OnTrue, OnFalse}
 use Rattle.std.proofs.lemmas.Bool.{eqb-true}
 use Rattle.std.specs.Int.{bit_at}
 use Rattle.std.specs.Prelude.{bit_and}
 use Rattle.std.proofs.lemmas.Nat.Bits.{shr_and_one}
-use Rattle.std.proofs.lemmas.Bool.{cases_lt, cases_eq}
+use Rattle.std.proofs.lemmas.Bool.{cases_lt}
 use Rattle.std.proofs.lemmas.List.{length-set, get_or-map, length-map}
 use Rattle.std.proofs.Math.Nat.{div-eq_of_lt, pow-le-pow_right}
-use Rattle.sk_watch.specs.Masks.{mask_of, most_places}
+use Rattle.sk_watch.specs.Masks.{mask_of}
 use Rattle.sk_watch.specs.Places.{Place, IsLive, armed_at}
 use Rattle.sk_watch.specs.Watching.{armed}
 use Rattle.sk_watch.proofs.Masks.{bits_of_masks}
-use Rattle.sk_count.specs.Texts.{armed_with, ArmsFirst, LetsGo, LetsGoFrom}
+use Rattle.sk_count.specs.Boards.{ArmsFirst, LetsGo, LetsGoFrom}
+use Rattle.sk_count.specs.Texts.{armed_with}
 
 -- ---- lists by their places
 
@@ -170,3 +171,19 @@ armed_all k marks places first all arms gone = same_lists None all (armed_with k
     (λ (front : i < length marks). gone.before i front ∙ arms.first i front ∙ sym (armed_front k marks places i front))
     (λ (back : length marks ≤ i). gone.gone i back ∙ sym (armed_back k marks places i back))
     (cases_lt i (length marks)))
+
+-- ---- who is there
+
+some_lit : (p : Place) → bit (is_some p) ≡ 1 → IsSome p
+unfolding bit
+some_lit None lit = absurd (omega (arith, lit))
+some_lit (Some w) lit = refl
+
+pub lit_live : (places : List Place) (mask i : ℕ) → mask ≡ mask_of (map (λ p. is_some p) places) → bit_and (mask / 2 ^ i) 1 ≡ 1 → IsLive i places
+unfolding bit
+lit_live places mask i is lit =
+    let at : bit_at mask i ≡ 1 = sym (shr_and_one mask i) ∙ lit in
+    some_lit (get_or places i None) (ap (λ b. if b then 1 else 0) (sym (get_or-map (λ (p : Place). is_some p) places i None false (lit_inside places mask i is at))) ∙ sym (bit_is places mask i is) ∙ at)
+
+pub one_live : (places : List Place) (n : ℕ) → ((i : ℕ) → i < n → IsLive i places) → IsLive n places → (i : ℕ) → i < n + 1 → IsLive i places
+one_live places n before here i within = ⊎_elim (λ (front : i < n). before i front) (λ (back : n ≤ i). let same : n ≡ i = omega arith in subst (λ j. IsLive j places) same here) (cases_lt i n)

@@ -1,10 +1,9 @@
 -- Windows that were fed and reported, one after another.
-use Rattle.std.proofs.Common.{◌≡◌, ℕ, zero, suc, ◌+◌, ◌*◌, ◌<◌, ◌≤◌, nat_lt, Bool, true, false, List, [], ◌∷◌, ◌++◌, length, map, get_or, flat_map, All, refl, sym, ap, subst, ◌∙◌, arith, append-nil, append_assoc, length-append}
-use Rattle.std.specs.Prelude.{Option}
+use Rattle.std.proofs.Common.{◌≡◌, ℕ, ◌+◌, ◌*◌, ◌<◌, ◌≤◌, Bool, true, false, List, [], ◌∷◌, ◌++◌, length, map, get_or, All, refl, sym, ap, subst, ◌∙◌, arith, append-nil, append_assoc, length-append}
 use Rattle.std.specs.Io.KnownBytes.{Appends}
 use Rattle.std.proofs.KnownBytes.{Appends-nil, Appends-trans}
 use Rattle.std.proofs.lemmas.Grind.{flat_map-append}
-use Rattle.std.proofs.lemmas.List.{get_or-map, length-map}
+use Rattle.std.proofs.lemmas.List.{get_or-map}
 use Rattle.std.proofs.lemmas.List.Elements.{All-nil, All-cons, All-map}
 use Rattle.sk_model.specs.Entries.{Entry, items_of_entries, entries_by}
 use Rattle.sk_model.specs.Causes.{AppendsPart}
@@ -12,7 +11,7 @@ use Rattle.sk_model.specs.Missing.{Begins, LacksAtMost}
 use Rattle.sk_model.specs.Limits.{least_k}
 use Rattle.sk_model.specs.Sketch.{theta_of, packed_of, unpacked, count_of, fraction_of}
 use Rattle.sk_model.specs.Width.{IsItem, AreItems}
-use Rattle.sk_model.proofs.Missing.{begins_refl, begins_trans, begins_nil}
+use Rattle.sk_model.proofs.Missing.{begins_refl, begins_trans}
 use Rattle.sk_model.proofs.Sketch.{packed_reads_back}
 use Rattle.sk_compose.specs.Numbers.{k_of}
 use Rattle.sk_compose.specs.Kept.{AreKept}
@@ -21,18 +20,16 @@ use Rattle.sk_machine.specs.Coarse.{IsEntry}
 use Rattle.sk_machine.specs.declared.views.Move.{Move}
 use Rattle.sk_hub.specs.Hearts.{HeartState}
 use Rattle.sk_hub.specs.Updaters.{UpdaterState, base_of, handed_of, kept_of}
-use Rattle.sk_theta.specs.declared.reply.Reply.{Reply}
 use Rattle.sk_watch.specs.Masks.{mask_of}
-use Rattle.sk_watch.specs.Places.{Place, answers_at, told}
+use Rattle.sk_watch.specs.Places.{answers_at, told}
 use Rattle.sk_read.specs.declared.kind.Kind.{Kind}
 use Rattle.sk_read.specs.declared.items.Intake.{Intake}
 use Rattle.sk_ingest.specs.Windows.{items_in, all_lines}
 use Rattle.sk_ingest.specs.Rounds.{block_of}
 use Rattle.sk_ingest.specs.Feeds.{Takes}
 use Rattle.sk_ingest.specs.Shares.{share, TakeShares}
-use Rattle.sk_ingest.specs.Hubs.{Hub, IsHub, FeedsWindow, LeavesHub, IsLeft, HeartGoesOn}
-use Rattle.sk_ingest.specs.Ingests.{Terms, Reported, IsReported}
-use Rattle.sk_ingest.specs.declared.report.Stop.{Stop}
+use Rattle.sk_ingest.specs.Hubs.{Hub, FeedsWindow, LeavesHub, IsLeft, HeartGoesOn}
+use Rattle.sk_ingest.specs.Ingests.{Terms, Reported}
 use Rattle.sk_count.specs.declared.plan.Plan.{Plan}
 use Rattle.sk_count.specs.Plans.{size_at}
 use Rattle.sk_count.specs.Moments.{Moment, kept_by, AreKeptOver, IsMoment, Follows, AreMoments}

@@ -1,27 +1,22 @@
 -- Where a count ends, concluded from where its feeding ended.
-use Rattle.std.proofs.Common.{◌≡◌, ◌⊎◌, inl, inr, ℕ, ◌+◌, ◌<◌, ◌≤◌, nat_lt, List, [], ◌∷◌, ◌++◌, length, get_or, flat_map, All, Contains, Option, None, Some, is_some, MatchBool, true, false, refl, sym, ap, subst, ◌∙◌, arith, append-nil}
+use Rattle.std.proofs.Common.{◌≡◌, ◌⊎◌, inl, inr, ℕ, ◌+◌, ◌<◌, ◌≤◌, List, [], ◌∷◌, ◌++◌, length, get_or, flat_map, All, Option, MatchBool, refl, sym, ap, subst, ◌∙◌, arith}
 use Rattle.std.specs.List.{range_with_len}
 use Rattle.std.specs.Io.KnownBytes.{Appends}
-use Rattle.std.proofs.lemmas.List.Elements.{All-nil, All-append, All-get_or, All-from_get_or}
+use Rattle.std.proofs.lemmas.List.Elements.{All-nil, All-append}
 use Rattle.sk_model.specs.Causes.{AppendsPart}
-use Rattle.sk_model.specs.Entries.{Entry, items_of_entries, entries_by}
+use Rattle.sk_model.specs.Entries.{Entry, items_of_entries}
 use Rattle.sk_model.specs.Limits.{least_k}
 use Rattle.sk_model.specs.Missing.{Begins}
-use Rattle.sk_model.specs.Sketch.{k_smallest, theta_of, packed_of, unpacked, count_of, estimate_of, fraction_of}
+use Rattle.sk_model.specs.Sketch.{theta_of, packed_of, unpacked, count_of, estimate_of, fraction_of}
 use Rattle.sk_model.specs.Width.{IsItem, AreItems}
-use Rattle.sk_model.proofs.Missing.{begins_trans}
 use Rattle.sk_model.proofs.Sketch.{packed_reads_back}
 use Rattle.sk_compose.specs.Numbers.{k_of}
-use Rattle.sk_compose.specs.Kept.{AreKept}
 use Rattle.sk_compose.proofs.Kept.{kept_longer}
 use Rattle.sk_compose.proofs.Smallest.{smallest_of_all, same_members, same_word}
-use Rattle.sk_machine.specs.declared.views.Move.{Move}
 use Rattle.sk_machine.specs.declared.views.Move.TheVariants.{Ask}
-use Rattle.sk_gate.specs.Views.{known_of}
-use Rattle.sk_gate.specs.Hands.{TokenState}
 use Rattle.sk_hub.specs.Hearts.{HeartState}
 use Rattle.sk_hub.specs.Updaters.{UpdaterState, base_of, kept_of}
-use Rattle.sk_read.specs.Items.{items_by, IsGood}
+use Rattle.sk_read.specs.Items.{items_by}
 use Rattle.sk_read.specs.Reads.{BreaksOff, StopsAt, ReadsSome, ReadsAll, Ends}
 use Rattle.sk_read.specs.Units.{units_by}
 use Rattle.sk_read.specs.declared.units.Units.{Units}
@@ -29,24 +24,21 @@ use Rattle.sk_read.specs.declared.fault.Fault.{Fault}
 use Rattle.sk_read.specs.declared.fault.Fault.TheVariants as fault
 use Rattle.sk_read.specs.declared.kind.Kind.{Kind}
 use Rattle.sk_watch.specs.Places.{Place}
-use Rattle.sk_ingest.specs.Windows.{items_in, all_lines, AreWindows}
+use Rattle.sk_ingest.specs.Windows.{items_in, all_lines}
 use Rattle.sk_ingest.specs.Rounds.{block_of}
 use Rattle.sk_ingest.specs.Shares.{share, HasAllOf}
-use Rattle.sk_ingest.specs.Hubs.{Hub, IsHub}
+use Rattle.sk_ingest.specs.Hubs.{Hub}
 use Rattle.sk_ingest.proofs.Items.{items_below, good_items}
 use Rattle.sk_ingest.proofs.Shares.{all_items}
 use Rattle.sk_count.specs.declared.plan.Plan.{Plan}
-use Rattle.sk_count.specs.declared.remains.Remains.{Remains}
-use Rattle.sk_count.specs.Plans.{lines_of_window}
-use Rattle.sk_count.specs.Moments.{Moment, kept_by, AreKeptOver, AreMoments, start}
+use Rattle.sk_count.specs.Moments.{kept_by, AreKeptOver, AreMoments, start}
 use Rattle.sk_count.specs.Texts.{interim_text, places_after, armed_with}
-use Rattle.sk_count.specs.Hubs.{AsksAtEach, ShowsAll, ShowsMoments}
+use Rattle.sk_count.specs.Hubs.{ShowsAll, ShowsMoments}
 use Rattle.sk_count.specs.Reports.{Showing, showing}
-use Rattle.sk_count.specs.Steps.{keeps, TookAll, KeepsAll, Passes, PassesUnits}
+use Rattle.sk_count.specs.Steps.{keeps, TookAll, PassesUnits}
 use Rattle.sk_count.specs.Opened.{IsOpened, FeedsAll, FeedsSome, FeedsPart, FeedStops, FeedsEarly, DrainsAndAsks}
-use Rattle.sk_count.specs.Counts.{Setting, setting, Course, TellsSoFar, TellsAll, TellsPart, TellsPartOfAll, StopsFor, EndsBefore, EndsBehind, Counts, last_line, interim_by}
-use Rattle.sk_count.proofs.Fronts.{part_behind}
-use Rattle.sk_count.proofs.Course.{lines_one, took_fed, keeps_more, kept_fed, heart_same}
+use Rattle.sk_count.specs.Counts.{Setting, setting, Course, TellsSoFar, TellsPart, StopsFor, EndsBefore, EndsBehind}
+use Rattle.sk_count.proofs.Course.{lines_one, took_fed, keeps_more, kept_fed}
 
 -- ---- ends of a reading
 

@@ -1,26 +1,22 @@
 -- What a count concludes of the units that were fed.
-use Rattle.std.proofs.Common.{◌≡◌, ◌⊎◌, inl, inr, ℕ, ◌<◌, ◌≤◌, Bool, true, false, List, [], ◌∷◌, ◌++◌, length, get_or, All, MatchBool, Option, is_some, refl, sym, ap, subst, ◌∙◌, arith, append-nil}
+use Rattle.std.proofs.Common.{◌≡◌, inl, inr, ℕ, ◌≤◌, Bool, true, false, List, [], ◌∷◌, ◌++◌, length, get_or, MatchBool, Option, is_some, refl, sym, ap, subst, ◌∙◌, append-nil}
 use Rattle.sk_model.specs.Limits.{least_k}
-use Rattle.sk_model.specs.Causes.{AppendsPart}
 use Rattle.sk_model.proofs.Missing.{begins_nil}
 use Rattle.sk_compose.specs.Numbers.{k_of}
-use Rattle.sk_hub.specs.Updaters.{UpdaterState, kept_of}
-use Rattle.sk_read.specs.Items.{IsGood}
-use Rattle.sk_ingest.specs.Windows.{AreWindows, all_lines}
-use Rattle.sk_ingest.specs.Hubs.{Hub, IsHub}
-use Rattle.sk_read.specs.Reads.{ReadsAll, Ends}
+use Rattle.sk_hub.specs.Updaters.{kept_of}
+use Rattle.sk_ingest.specs.Windows.{all_lines}
+use Rattle.sk_ingest.specs.Hubs.{Hub}
+use Rattle.sk_read.specs.Reads.{ReadsAll}
 use Rattle.sk_read.specs.Units.{units_by}
 use Rattle.sk_read.specs.declared.fault.Fault.{Fault}
 use Rattle.sk_read.specs.declared.fault.Fault.TheVariants as fault
 use Rattle.sk_read.specs.declared.items.Intake.{Intake}
-use Rattle.sk_ingest.specs.Ingests.{Terms, GoesThrough, Ingests, StopsAtReport, GoesSoFar, StopsAtUnit, EndsEarly}
+use Rattle.sk_ingest.specs.Ingests.{GoesThrough, Ingests, StopsAtReport, GoesSoFar, StopsAtUnit, EndsEarly}
 use Rattle.sk_ingest.specs.declared.report.Stop.TheVariants as stop
 use Rattle.sk_count.specs.declared.plan.Plan.{Plan}
-use Rattle.sk_count.specs.Plans.{lines_of_window}
-use Rattle.sk_count.specs.Moments.{Moment, AreMoments, AreMomentsOf, start, kept_by}
-use Rattle.sk_count.specs.Texts.{interim_text}
+use Rattle.sk_count.specs.Moments.{AreMoments, start}
 use Rattle.sk_count.specs.Reports.{Showing, showing, Breaks}
-use Rattle.sk_count.specs.Steps.{intake_by, Took, TookAll, KeepsAll, Stands, Passes, PassesUnits}
+use Rattle.sk_count.specs.Steps.{intake_by, Stands, PassesUnits}
 use Rattle.sk_count.specs.Opened.{IsOpened, FeedsAll, FeedsSome, FeedsPart, FeedStops, FeedsEarly}
 use Rattle.sk_count.proofs.Course.{took_none, terms_at, terms_with, reported, waited, broke}
 use Rattle.sk_count.proofs.Endings.{ends_so, all_so}

@@ -1,10 +1,9 @@
 -- Where a count ends, put together.
-use Rattle.std.proofs.Common.{◌≡◌, ◌⊎◌, inl, inr, ℕ, ◌<◌, ◌≤◌, Bool, true, false, List, [], ◌∷◌, ◌++◌, Option, Some, is_some, MatchBool, Result, Ok, Err, IsErrAnd, refl, sym, ap, subst, ◌∙◌}
+use Rattle.std.proofs.Common.{◌≡◌, ◌⊎◌, ℕ, Bool, true, false, List, [], Option, Some, is_some, MatchBool, Result, Ok, Err, IsErrAnd, refl, sym, ap, subst, ◌∙◌}
 use Rattle.std.specs.Io.KnownBytes.{Appends}
 use Rattle.std.proofs.KnownBytes.{Appends-nil, Appends-trans}
 use Rattle.std.proofs.lemmas.List.Elements.{All-nil}
 use Rattle.sk_model.specs.Causes.{AppendsPart, Rose, HasCauseIn}
-use Rattle.sk_model.specs.Limits.{least_k}
 use Rattle.sk_model.specs.Sketch.{fraction_of, unpacked}
 use Rattle.sk_lines.specs.Fractions.{estimate_line}
 use Rattle.sk_hub.specs.Hearts.{HeartState}

@@ -1,24 +1,22 @@
 -- A token that meets the updaters of a hub, one after another.
-use Rattle.std.proofs.Common.{◌≡◌, ◌≢◌, ◌⊎◌, inl, inr, ⊎_elim, ℕ, zero, suc, ◌+◌, ◌*◌, ◌<◌, ◌≤◌, if◌then◌else◌, List, [], ◌∷◌, ◌++◌, length, get_or, set, get_or-set_same, get_or-set_other, All, refl, sym, ap, subst, ◌∙◌, arith, append-nil, append_assoc}
+use Rattle.std.proofs.Common.{◌≡◌, ◌≢◌, ◌⊎◌, inl, inr, ⊎_elim, ℕ, zero, suc, ◌+◌, ◌<◌, ◌≤◌, if◌then◌else◌, List, [], ◌∷◌, ◌++◌, length, get_or, set, get_or-set_same, get_or-set_other, All, refl, sym, ap, subst, ◌∙◌, arith, append-nil, append_assoc}
 use Rattle.std.proofs.lemmas.Bool.{cases_lt, cases_eq, eq-eqb, ne_eqb, le-ltb}
 use Rattle.std.proofs.lemmas.List.{length-set}
-use Rattle.sk_model.specs.Entries.{Entry, entries_by, items_of_entries}
+use Rattle.sk_model.specs.Entries.{entries_by, items_of_entries}
 use Rattle.sk_model.specs.Missing.{Begins, LacksAtMost, longer}
 use Rattle.sk_model.specs.Sketch.{packed_of}
-use Rattle.sk_model.proofs.Missing.{begins_refl, begins_trans, begins_nil}
+use Rattle.sk_model.proofs.Missing.{begins_refl, begins_trans}
 use Rattle.sk_compose.specs.Numbers.{k_of}
 use Rattle.sk_machine.specs.Coarse.{IsEntry}
 use Rattle.sk_machine.specs.declared.views.Move.{Move}
 use Rattle.sk_machine.specs.declared.views.Move.TheVariants.{Join, Ask, Split}
-use Rattle.sk_machine.specs.declared.views.View.{View}
-use Rattle.sk_gate.specs.Views.{known_of, size_of, mine_of, after_split, after_join}
+use Rattle.sk_gate.specs.Views.{known_of, size_of}
 use Rattle.sk_gate.specs.Hands.{TokenState}
-use Rattle.sk_gate.proofs.Merged.{whole_second}
-use Rattle.sk_hub.specs.Updaters.{UpdaterState, handed_of, base_of, kept_of}
+use Rattle.sk_hub.specs.Updaters.{UpdaterState, handed_of, base_of}
 use Rattle.sk_hub.specs.Replies.{IsRelaxedReply, known_size}
-use Rattle.sk_hub.proofs.Kept.{met_lacks, known_size_is}
+use Rattle.sk_hub.proofs.Kept.{met_lacks}
 use Rattle.sk_ingest.specs.Hubs.{Hub, IsHub, IsUpdaterAt, LeavesHub, IsLeft, HeartGoesOn, TokenGoesOn}
-use Rattle.sk_count.specs.Hubs.{MeetsNotes, MeetsAndAsks, AsksHub}
+use Rattle.sk_count.specs.Hubs.{MeetsNotes, AsksHub}
 use Rattle.sk_count.specs.Meets.{noted, MayMeet, MayMeetAll, Meets, MeetsFirst, AreNoted}
 
 -- ---- one note

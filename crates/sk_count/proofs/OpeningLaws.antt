@@ -1,17 +1,14 @@
 -- A hub as it is opened.
-use Rattle.std.proofs.Common.{◌≡◌, inl, Bool, ℕ, ◌+◌, ◌-◌, ◌<◌, ◌≤◌, min, List, [], ◌∷◌, ◌++◌, length, get_or, All, slice_index, refl, sym, ap, subst, ◌∙◌, arith, length-append, append-nil}
-use Rattle.std.proofs.lemmas.Bool.{cases_lt}
+use Rattle.std.proofs.Common.{◌≡◌, inl, Bool, ℕ, ◌-◌, ◌<◌, ◌≤◌, min, List, [], ◌∷◌, ◌++◌, length, get_or, All, slice_index, sym, ap, subst, ◌∙◌, arith}
 use Rattle.std.proofs.lemmas.List.Elements.{All-get_or, All-from_get_or}
 use Rattle.std.proofs.lemmas.Option.{slice_get-get_or}
 use Rattle.sk_model.specs.Entries.{Entry}
 use Rattle.sk_model.specs.Limits.{most_size, IsFrom}
-use Rattle.sk_model.specs.Missing.{Begins}
 use Rattle.sk_gate.specs.Hands.{TokenState}
 use Rattle.sk_hub.specs.Hearts.{HeartState}
 use Rattle.sk_hub.specs.Starts.{IsNewHeart, IsNewToken, AreNew}
 use Rattle.sk_hub.specs.Drains.{IsNew}
 use Rattle.sk_hub.specs.Updaters.{UpdaterState, handed_of, kept_of}
-use Rattle.sk_ingest.specs.Hubs.{Hub, IsHub}
 use Rattle.sk_count.specs.declared.plan.Plan.{Plan}
 use Rattle.sk_count.specs.Plans.{size_at, IsWithin}
 use Rattle.sk_count.specs.Opened.{AreSizes, IsOpened}

@@ -1,5 +1,5 @@
 -- A report, by what its calls did.
-use Rattle.std.proofs.Common.{◌≡◌, ℕ, List, ◌++◌, map, Option, refl, sym, ap, subst, ◌∙◌}
+use Rattle.std.proofs.Common.{◌≡◌, ℕ, List, ◌++◌, map, Option, refl, ap, subst, ◌∙◌}
 use Rattle.std.specs.Io.KnownBytes.{Appends}
 use Rattle.sk_model.specs.Causes.{AppendsPart}
 use Rattle.sk_model.specs.Sketch.{fraction_of, unpacked}
@@ -9,7 +9,7 @@ use Rattle.sk_watch.specs.Places.{Place, answers_at, told}
 use Rattle.sk_ingest.specs.Hubs.{Hub}
 use Rattle.sk_count.specs.Texts.{interim_line, alarm_lines}
 use Rattle.sk_count.specs.Hubs.{AsksHub}
-use Rattle.sk_count.specs.Reports.{Showing, showing, Reports, Breaks, reply_in, reply_text}
+use Rattle.sk_count.specs.Reports.{showing, Reports, Breaks, reply_in, reply_text}
 
 module _ (k line word gone : ℕ) (reply : Reply) (estimate : ℕ × ℕ) (w w' : Option (List ℕ)) (places places' : List Place) (a b : Hub) (is : (reply.count, reply.theta) ≡ unpacked word)
     (estimated : estimate ≡ fraction_of k reply.count reply.theta) (masked : gone ≡ mask_of (map (answers_at reply) places)) (shown : places' ≡ map (told reply) places) (asks : AsksHub a word b) where

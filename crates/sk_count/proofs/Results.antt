@@ -1,5 +1,5 @@
 -- Facts of the values in results.
-use Rattle.std.proofs.Common.{◌≡◌, Bool, true, false, Result, Ok, Err, OnOk, OnErr, IfOk, IfErr, is_ok, MatchResult, IsErrAnd, subst, sym}
+use Rattle.std.proofs.Common.{◌≡◌, true, false, Result, Ok, Err, OnOk, OnErr, IfOk, IfErr, is_ok, IsErrAnd, subst, sym}
 
 pub on_ok_then : {S T E F : Type 0} (r : Result S E) (t : Result T F) (P Q : Type 0) → is_ok t ≡ is_ok r → (P → Q) → OnOk r P → OnOk t Q
 on_ok_then (Ok x) (Ok y) P Q same so p = so p

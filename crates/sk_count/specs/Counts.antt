@@ -1,5 +1,5 @@
 -- How a count goes: what it wrote and left behind where it ends well, and at each other end.
-use Rattle.std.specs.Prelude.{◌≡◌, ◌⊎◌, ℕ, ◌<◌, List, [], ◌∷◌, ◌++◌, length, All, Option, Some, None, Result, MatchResult, IsNone}
+use Rattle.std.specs.Prelude.{◌≡◌, ◌⊎◌, ℕ, ◌<◌, List, [], ◌∷◌, ◌++◌, length, All, Option, Some, Result, MatchResult, IsNone}
 use Rattle.std.specs.Io.KnownBytes.{Appends}
 use Rattle.sk_model.specs.Causes.{AppendsPart}
 use Rattle.sk_model.specs.Sketch.{estimate_of}
@@ -10,7 +10,7 @@ use Rattle.sk_read.specs.Items.{item_of, items_by, IsGood}
 use Rattle.sk_read.specs.Reads.{ReadsAll, Ends}
 use Rattle.sk_read.specs.Units.{units_by}
 use Rattle.sk_read.specs.declared.fault.Fault.{Fault}
-use Rattle.sk_read.specs.declared.fault.Fault.TheVariants.{OutOfMemory, ReadFault, LongLine, BadItem, BadCsv, TooMuch, WriteFault}
+use Rattle.sk_read.specs.declared.fault.Fault.TheVariants.{OutOfMemory, BadItem, WriteFault}
 use Rattle.sk_watch.specs.Places.{Place}
 use Rattle.sk_ingest.specs.Windows.{AreWindows}
 use Rattle.sk_count.specs.declared.plan.Plan.{Plan}

@@ -1,7 +1,7 @@
 -- What a token learns of a hub by asking it, and what the heart and the token show when all is counted.
 use Rattle.std.specs.Prelude.{◌≡◌, ℕ, zero, suc, ◌*◌, ◌<◌, List, [], ◌∷◌, ◌++◌, length, All, slice_index_or}
 use Rattle.std.specs.List.{range_with_len}
-use Rattle.sk_model.specs.Entries.{Entry, items_of_entries, entries_by}
+use Rattle.sk_model.specs.Entries.{items_of_entries, entries_by}
 use Rattle.sk_model.specs.Missing.{Begins, LacksAtMost}
 use Rattle.sk_model.specs.Sketch.{packed_of}
 use Rattle.sk_compose.specs.Numbers.{k_of}

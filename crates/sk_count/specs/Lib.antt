@@ -3,6 +3,7 @@ pub mod Rows
 pub mod Plans
 pub mod Moments
 pub mod Texts
+pub mod Boards
 pub mod Hubs
 pub mod Meets
 pub mod Reports

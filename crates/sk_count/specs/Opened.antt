@@ -11,7 +11,7 @@ use Rattle.sk_hub.specs.Updaters.{UpdaterState, kept_of}
 use Rattle.sk_read.specs.Reads.{ReadsAll, Ends}
 use Rattle.sk_read.specs.Units.{units_by}
 use Rattle.sk_read.specs.declared.fault.Fault.{Fault}
-use Rattle.sk_read.specs.declared.fault.Fault.TheVariants.{OutOfMemory, BadItem, WriteFault, ReadFault, TooMuch, LongLine, BadCsv}
+use Rattle.sk_read.specs.declared.fault.Fault.TheVariants.{OutOfMemory, BadItem, WriteFault}
 use Rattle.sk_ingest.specs.Drained.{DrainsAll}
 use Rattle.sk_ingest.specs.Shares.{HasAllOf}
 use Rattle.sk_ingest.specs.Hubs.{Hub, IsHub, FeedsWindow}

@@ -1,5 +1,5 @@
 -- Where a count stands between two windows, and what it tells of windows that were fed and reported.
-use Rattle.std.specs.Prelude.{◌≡◌, ℕ, ◌<◌, Bool, List, ◌∷◌, ◌++◌, length, nat_lt, All, Option, is_some, unwrap_or, slice_index_or}
+use Rattle.std.specs.Prelude.{◌≡◌, ℕ, ◌<◌, Bool, List, ◌++◌, length, nat_lt, All, is_some, slice_index_or}
 use Rattle.std.specs.Io.KnownBytes.{Appends}
 use Rattle.sk_model.specs.Entries.{Entry, items_of_entries}
 use Rattle.sk_model.specs.Missing.{Begins}

@@ -1,5 +1,5 @@
 -- What is written of a count, and which watchers it leaves.
-use Rattle.std.specs.Prelude.{◌≡◌, ℕ, ◌+◌, ◌<◌, ◌≤◌, ◌==◌, if◌then◌else◌, List, [], ◌∷◌, ◌++◌, length, map, flat_map, slice_index, slice_index_or, codes, decimal, Option, Some, None, option_map}
+use Rattle.std.specs.Prelude.{ℕ, ◌+◌, ◌==◌, if◌then◌else◌, List, [], ◌∷◌, ◌++◌, map, flat_map, codes, decimal, None, option_map}
 use Rattle.std.specs.List.{range_with_len}
 use Rattle.std.specs.Int.{bit_at}
 use Rattle.sk_model.specs.Entries.{Entry, items_of_entries}
@@ -60,22 +60,3 @@ unfoldable pub armed_with : ℕ → List ℕ → List Place → List Place
 armed_with k marks [] = []
 armed_with k [] (place ∷ places) = None ∷ armed_with k [] places
 armed_with k (mark ∷ marks) (place ∷ places) = option_map (armed k mark) place ∷ armed_with k marks places
-
--- the first n places are armed with these marks
-pub record ArmsFirst (k : ℕ) (marks : List ℕ) (n : ℕ) (places places' : List Place) : Type 0 where
-  pub count : length places' ≡ length places
-  pub first : (i : ℕ) → i < n → slice_index_or places' i None ≡ option_map (armed k (slice_index marks i)) (slice_index_or places i None)
-  pub others : (i : ℕ) → n ≤ i → slice_index_or places' i None ≡ slice_index_or places i None
-
--- from one place up to another the watchers are gone
-pub record LetsGo (from to : ℕ) (places places' : List Place) : Type 0 where
-  pub count : length places' ≡ length places
-  pub before : (i : ℕ) → i < from → slice_index_or places' i None ≡ slice_index_or places i None
-  pub gone : (i : ℕ) → from ≤ i → i < to → slice_index_or places' i None ≡ None
-  pub behind : (i : ℕ) → to ≤ i → slice_index_or places' i None ≡ slice_index_or places i None
-
--- from this place on the watchers are gone
-pub record LetsGoFrom (from : ℕ) (places places' : List Place) : Type 0 where
-  pub count : length places' ≡ length places
-  pub before : (i : ℕ) → i < from → slice_index_or places' i None ≡ slice_index_or places i None
-  pub gone : (i : ℕ) → from ≤ i → slice_index_or places' i None ≡ None

@@ -3,7 +3,8 @@ ghost use Rattle.std.specs.Bool.{OnTrue, OnFalse};
 ghost use Rattle.std.specs.Prelude.{◌≡◌, ℕ, ◌<◌, ◌≤◌, None, length, slice_set};
 ghost use Rattle.sk_watch.specs.Places.{IsLive};
 ghost use Rattle.sk_count.specs.Limits.{most_numbers};
-ghost use Rattle.sk_count.specs.Texts.{armed_with, ArmsFirst, LetsGoFrom};
+ghost use Rattle.sk_count.specs.Boards.{ArmsFirst, LetsGoFrom};
+ghost use Rattle.sk_count.specs.Texts.{armed_with};
 
 use crate::text::PLACES;
 use sk_watch::Seen;

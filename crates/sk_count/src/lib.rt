@@ -4,6 +4,7 @@
 mod alarms;
 mod counting;
 mod interim;
+pub mod laws;
 mod meeting;
 mod numbers;
 mod plan;
@@ -15,3 +16,6 @@ pub use numbers::Numbers;
 pub use plan::Plan;
 pub use remains::Remains;
 pub use sk_read::{Fault, Kind};
+
+#[cfg(test)]
+mod tests;

@@ -1,4 +1,4 @@
-use Rattle.sk_count.specs.Texts.{ArmsFirst}
+use Rattle.sk_count.specs.Boards.{ArmsFirst}
 use Rattle.sk_count.proofs.alarms.arm_first.Given as goal
 
 abbrev pub invariant-arm : goal.invariant-arm

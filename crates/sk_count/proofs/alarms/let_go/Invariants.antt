@@ -1,4 +1,4 @@
-use Rattle.sk_count.specs.Texts.{LetsGo}
+use Rattle.sk_count.specs.Boards.{LetsGo}
 use Rattle.sk_count.proofs.alarms.let_go.Given as goal
 
 abbrev pub invariant-place : goal.invariant-place

@@ -1,4 +1,4 @@
-use Rattle.std.proofs.Common.{◌≡◌, ℕ, List, [], ◌∷◌, ap, subst, sym}
+use Rattle.std.proofs.Common.{ℕ, List, [], ◌∷◌, ap, subst, sym}
 use Rattle.sk_count.specs.Opened.{AreSizes}
 use Rattle.sk_count.specs.Steps.{hint_of}
 use Rattle.sk_count.proofs.Results.{if_ok_all}

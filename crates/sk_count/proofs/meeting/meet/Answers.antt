@@ -1,4 +1,4 @@
-use Rattle.std.proofs.Common.{◌≡◌, ◌≢◌, ℕ, List, [], ◌∷◌, ◌++◌, length, sym, ap, subst, ◌∙◌, append_assoc}
+use Rattle.std.proofs.Common.{[], ◌∷◌, ap, subst, ◌∙◌, append_assoc}
 use Rattle.sk_model.specs.Missing.{Begins}
 use Rattle.sk_model.proofs.Missing.{begins_trans}
 use Rattle.sk_machine.specs.declared.views.Move.TheVariants.{Join, Ask}
@@ -6,7 +6,6 @@ use Rattle.sk_gate.specs.Views.{known_of, size_of}
 use Rattle.sk_gate.proofs.Merged.{whole_second}
 use Rattle.sk_hub.specs.Updaters.{handed_of, base_of}
 use Rattle.sk_hub.proofs.Kept.{known_size_is}
-use Rattle.sk_count.specs.Meets.{Meets}
 use Rattle.sk_count.proofs.MeetingLaws.{known_size_first, longer_nothing}
 use Rattle.sk_count.proofs.meeting.meet.Goals as goal
 

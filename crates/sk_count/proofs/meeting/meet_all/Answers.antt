@@ -1,4 +1,4 @@
-use Rattle.std.proofs.Common.{◌≡◌, length, arith, subst, sym}
+use Rattle.std.proofs.Common.{◌≡◌, length, arith, subst}
 use Rattle.sk_count.specs.Meets.{MeetsFirst, AreNoted}
 use Rattle.sk_count.proofs.MeetingLaws.{none_met, none_noted, may_still, next_met, next_noted}
 use Rattle.sk_count.proofs.meeting.meet_all.Goals as goal
