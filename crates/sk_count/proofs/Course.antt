@@ -348,7 +348,8 @@ module _ {R : Type 0} (shown : R → Showing) (plan : Plan) (most : ℕ) (least 
   pub broke : (windows before : List (List (List ℕ))) (count : ℕ) (last : Moment) (lines : List (List ℕ)) (a : Hub) (r : R) (b : Hub) (p : R) (x y : Hub) (s : R) → count ≡ length (all_lines before) → Stands plan before last a (shown r)
       → Reported (terms_with true) count windows a r b p → FeedsWindow keeps hint_of plan.kind lines b x → Breaks (shown p) (length (all_lines (before ++ (windows ++ lines ∷ [])))) x y (shown s)
       → (moments : List Moment) × AreMoments plan before last (windows ++ lines ∷ []) moments × AppendsPart (shown r).written (shown s).written (interim_text plan.k (shown r).places moments)
-  unfolding Reported AreMoments interim_text
+      × ((shown s).places ≡ places_after plan.k (shown r).places moments)
+  unfolding Reported AreMoments interim_text places_after
   broke [] before count last lines a r b p x y s is stands done fed breaks =
       let feeds : FeedsWindow keeps hint_of plan.kind lines a x = subst (λ z. FeedsWindow keeps hint_of plan.kind lines z x) done.0 fed in
       let at = stands_fed plan before last lines a x (shown r) stands feeds in
@@ -361,6 +362,7 @@ module _ {R : Type 0} (shown : R → Showing) (plan : Plan) (most : ℕ) (least 
         moment_at (count + length lines) x y ∷ [],
         (next.0, next.1, tt),
         subst (AppendsPart (shown r).written (shown s).written) (text ∙ sym (append-nil (moment_text plan.k (shown r).places (moment_at (count + length lines) x y)))) part,
+        breaks.places ∙ ap (λ z. map (told (reply_in breaks.word)) (shown z).places) done.1 ∙ ap (λ reply. map (told reply) (shown r).places) (reply_asked plan x y breaks.word least at.token breaks.asks),
       )
   broke (w ∷ windows) before count last lines a r b p x y s is stands (x1, y1, p1, fed1, (hub, leaves, still, report), later) fed breaks =
       let at = stands_fed plan before last w a x1 (shown r) stands fed1 in
@@ -376,4 +378,5 @@ module _ {R : Type 0} (shown : R → Showing) (plan : Plan) (most : ℕ) (least 
         part_behind (shown r).written (shown p1).written (shown s).written (moment_text plan.k (shown r).places m) (interim_text plan.k (places_behind plan.k (shown r).places m) rest.0)
             (subst (Appends (shown r).written (shown p1).written) text report.written)
             (subst (λ places. AppendsPart (shown p1).written (shown s).written (interim_text plan.k places rest.0)) placed rest.2),
+        rest.3 ∙ ap (λ places. places_after plan.k places rest.0) placed,
       )

@@ -96,6 +96,7 @@ module _ (plan : Plan) (a : Hub) (left left' w w' : Option (List ℕ)) (places a
     course = record { windows = f.windows; rest = []; moments = f.moments; good = f.good; cut = f.cut; asks = subst (λ c. MatchBool c (AreMoments plan [] start f.windows f.moments) (f.moments ≡ [])) (sym f.interim) f.are };
     full = refl;
     written = subst (λ z. AppendsPart w w' (interim_text plan.k z f.moments)) is_armed f.written;
+    places = f.places ∙ ap (λ z. places_after plan.k z f.moments) is_armed;
   }
 
   stops : (f : Fault) (units : List (List ℕ)) (unit : List ℕ) → FeedStops plan a (showing plan.k w armed) (showing plan.k w' places') f units unit → StopsFor plan (setting left w places) (setting left' w' places') f units unit

@@ -60,7 +60,7 @@ module _ {R : Type 0} (shown : R → Showing) (plan : Plan) (most : ℕ) (least 
   fed_part true is units s stops =
       let whole : length units ≡ length (all_lines ([] ++ (stops.windows ++ stops.lines ∷ []))) = ap length (stops.cut.joined ∙ append-nil (all_lines (stops.windows ++ stops.lines ∷ []))) in
       let went = broke shown plan most least stops.windows [] 0 start stops.lines a r stops.before stops.report stops.fed stops.left s refl stands stops.reported stops.feeds (subst (λ n. Breaks (shown stops.report) n stops.fed stops.left (shown s)) whole stops.stops) in
-      record { windows = stops.windows ++ stops.lines ∷ []; moments = went.0; cut = stops.cut; good = stops.good; interim = is; are = went.1; written = went.2 }
+      record { windows = stops.windows ++ stops.lines ∷ []; moments = went.0; cut = stops.cut; good = stops.good; interim = is; are = went.1; written = went.2; places = went.3 }
 
 -- ---- a source that was read
 
@@ -84,7 +84,7 @@ module _ {R : Type 0} (r s : R) (shown : R → Showing) (plan : Plan) (most : �
   stopped (fault.BadItem n) units unit t = (some_fed units t.0, t.1, t.2)
   stopped fault.WriteFault units unit t =
       let p = fed_part shown plan most least a r opened k (is_some plan.window) refl (units ++ unit ∷ []) s t in
-      record { windows = p.windows; moments = p.moments; cut = p.cut; good = p.good; interim = p.interim; are = p.are; written = p.written }
+      record { windows = p.windows; moments = p.moments; cut = p.cut; good = p.good; interim = p.interim; are = p.are; written = p.written; places = p.places }
   stopped fault.OutOfMemory units unit (inl t) = some_fed units t
   stopped fault.OutOfMemory units unit (inr t) = absurd t.stops
   stopped fault.ReadFault units unit t = absurd t

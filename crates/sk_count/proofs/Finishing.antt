@@ -80,6 +80,7 @@ module _ (plan : Plan) (a : Hub) (opened : IsOpened plan a) (within : IsWithin p
   part_told last = record {
     course = record { windows = fed.passes.windows; rest = fed.rest; moments = fed.passes.passes.moments; good = fed.passes.good; cut = fed.passes.cut; asks = fed.passes.asks };
     written = part_behind w w' w'' (interim_text plan.k (armed_with plan.k plan.alarms places) fed.passes.passes.moments) (last_line plan units) so_far (subst (AppendsPart w' w'') line_is last);
+    places = fed.passes.passes.places ∙ ap (λ z. places_after plan.k z fed.passes.passes.moments) is_armed;
   }
 
 -- a failed write at the end is the cause of the fault

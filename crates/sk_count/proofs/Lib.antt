@@ -7,5 +7,6 @@ pub mod FeedingLaws
 pub mod Endings
 pub mod OpeningLaws
 pub mod Results
+pub mod QuietLaws
 pub mod ReportLaws
 pub mod Finishing

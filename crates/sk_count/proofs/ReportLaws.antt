@@ -23,4 +23,4 @@ module _ (k line word gone : ℕ) (reply : Reply) (estimate : ℕ × ℕ) (w w' 
   report_made written = record { word = word; asks = asks; written = subst (Appends w w') text_is written; places = shown ∙ ap (λ r. map (told r) places) reply_is; k = refl }
 
   pub report_broke : AppendsPart w w' (interim_line line estimate ++ alarm_lines gone) → Breaks (showing k w places) line a b (showing k w' places')
-  report_broke written = record { word = word; asks = asks; written = subst (AppendsPart w w') text_is written }
+  report_broke written = record { word = word; asks = asks; written = subst (AppendsPart w w') text_is written; places = shown ∙ ap (λ r. map (told r) places) reply_is }

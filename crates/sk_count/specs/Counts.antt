@@ -78,11 +78,13 @@ pub record TellsPart (plan : Plan) (old new : Setting) (units : List (List ℕ))
   pub course : Course plan units
   pub full : course.rest ≡ []
   pub written : AppendsPart old.written new.written (interim_by plan old course.moments)
+  pub places : new.places ≡ places_after plan.k (armed_by plan old.places) course.moments
 
 -- of the whole text only a part was written
 pub record TellsPartOfAll (plan : Plan) (old new : Setting) (units : List (List ℕ)) : Type 0 where
   pub course : Course plan units
   pub written : AppendsPart old.written new.written (interim_by plan old course.moments ++ last_line plan units)
+  pub places : new.places ≡ places_after plan.k (armed_by plan old.places) course.moments
 
 -- what was told where a count stopped at a unit behind these: the unit is no item, or it fills a window and a write failed
 abbrev pub StopsFor : Plan → Setting → Setting → Fault → List (List ℕ) → List ℕ → Type 0

@@ -18,7 +18,7 @@ use Rattle.sk_ingest.specs.Hubs.{Hub, IsHub, FeedsWindow}
 use Rattle.sk_count.specs.declared.plan.Plan.{Plan}
 use Rattle.sk_count.specs.Plans.{size_at}
 use Rattle.sk_count.specs.Moments.{Moment, AreMoments, start}
-use Rattle.sk_count.specs.Texts.{interim_text}
+use Rattle.sk_count.specs.Texts.{interim_text, places_after}
 use Rattle.sk_count.specs.Reports.{Showing}
 use Rattle.sk_count.specs.Steps.{keeps, hint_of, PassesUnits}
 use Rattle.sk_ingest.specs.Windows.{AreWindows}
@@ -60,6 +60,7 @@ pub record FeedsPart (plan : Plan) (units : List (List ℕ)) (r s : Showing) : T
   pub interim : is_some plan.window ≡ true
   pub are : AreMoments plan [] start windows moments
   pub written : AppendsPart r.written s.written (interim_text plan.k r.places moments)
+  pub places : s.places ≡ places_after plan.k r.places moments
 
 -- why the feeding of a hub stopped at a unit behind these
 abbrev pub FeedStops : Plan → Hub → Showing → Showing → Fault → List (List ℕ) → List ℕ → Type 0

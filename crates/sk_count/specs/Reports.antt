@@ -37,11 +37,12 @@ pub record Reports (r : Showing) (lines : ℕ) (a b : Hub) (s : Showing) : Type 
   pub places : s.places ≡ map (told (reply_in word)) r.places
   pub k : s.k ≡ r.k
 
--- the hub was asked, and of what is due for the reply a part was written
+-- the hub was asked and the board told, and of what is due for the reply a part was written
 pub record Breaks (r : Showing) (lines : ℕ) (a b : Hub) (s : Showing) : Type 0 where
   pub word : ℕ
   pub asks : AsksHub a word b
   pub written : AppendsPart r.written s.written (reply_text r lines (reply_in word))
+  pub places : s.places ≡ map (told (reply_in word)) r.places
 
 -- it stops where a write failed, and for nothing else
 abbrev pub BreaksBy : Showing → Stop → ℕ → Hub → Hub → Showing → Type 0

@@ -10,7 +10,7 @@ use crate::text::PLACES;
 use sk_watch::Seen;
 
 /// Arms the first places with these marks, in order, and lets the others go.
-pub(crate) fn arm<B: Seen>(board: &mut B, k: u32, marks: &[u64])
+pub fn arm<B: Seen>(board: &mut B, k: u32, marks: &[u64])
     requires few { length marks.now ≤ most_numbers }
     requires live { (i : ℕ) → i < length marks.now → IsLive i (B.places board.old) }
     ensures { B.places board.new ≡ armed_with k marks.now (B.places board.old) }

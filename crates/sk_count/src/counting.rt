@@ -1,5 +1,5 @@
 //! The count.
-ghost use Rattle.std.specs.Prelude.{◌≡◌, ℕ, ◌<◌, ◌≤◌, All, length, IfOk, IfErr, OnOk, OnErr};
+ghost use Rattle.std.specs.Prelude.{◌≡◌, ◌≢◌, ℕ, ◌<◌, ◌≤◌, None, All, length, IfOk, IfErr, OnOk, OnErr};
 ghost use Rattle.std.specs.Io.KnownBytes.{Appends};
 ghost use Rattle.sk_model.specs.Causes.{AppendsPart, HasCause, HasCauseIn};
 ghost use Rattle.sk_lines.specs.Fractions.{estimate_line};
@@ -55,6 +55,7 @@ pub fn count<S: Source, O: Sink, B: Seen, R: Threads + Wait + Sync>(
     ensures counts { Counts plan.now most (setting (S.left source.old) (O.written out.old) (B.places board.old))
         (setting (S.left source.new) (O.written out.new) (B.places board.new)) remains.new result }
     ensures nothing { IfErr result (λ _. remains.new ≡ remains.old) }
+    ensures quiet { plan.now.window ≡ None → IfErr result (λ fault. fault ≢ Fault.WriteFault → out.new ≡ out.old) }
     ensures reads { HasCauseIn Fault.ReadFault (S.faults source.old) (S.faults source.new) result }
     ensures writes { HasCauseIn Fault.WriteFault (O.faults out.old) (O.faults out.new) result }
     ensures stays { S.stands_on source.new ≡ S.stands_on source.old }
@@ -94,6 +95,7 @@ fn feed<S: Source, O: Sink, B: Seen, R: Threads + Wait + Sync>(
         (hub_of opened.new) (showing plan.now.k (O.written out.new) (B.places board.new))) (S.left source.old) (S.left source.new)) }
     ensures early { IfErr result (FeedsEarly plan.now most (hub_of opened.old) (showing plan.now.k (O.written out.old) (B.places board.old))
         (showing plan.now.k (O.written out.new) (B.places board.new)) (S.left source.old) (S.left source.new)) }
+    ensures quiet { plan.now.window ≡ None → IfErr result (λ _. out.new ≡ out.old) }
     ensures reads { HasCauseIn Fault.ReadFault (S.faults source.old) (S.faults source.new) result }
     ensures writes { HasCauseIn Fault.WriteFault (O.faults out.old) (O.faults out.new) result }
     ensures stays { S.stands_on source.new ≡ S.stands_on source.old }
@@ -126,6 +128,7 @@ fn feed_reported<S: Source, O: Sink, B: Seen, R: Threads + Wait + Sync>(
         (hub_of opened.new) (showing plan.now.k (O.written report.new.out.now) (B.places report.new.board.now))) (S.left source.old) (S.left source.new)) }
     ensures early { IfErr result (FeedsEarly plan.now most (hub_of opened.old) (showing plan.now.k (O.written report.old.out.now) (B.places report.old.board.now))
         (showing plan.now.k (O.written report.new.out.now) (B.places report.new.board.now)) (S.left source.old) (S.left source.new)) }
+    ensures quiet { plan.now.window ≡ None → IfErr result (λ _. report.new ≡ report.old) }
     ensures reads { HasCauseIn Fault.ReadFault (S.faults source.old) (S.faults source.new) result }
     ensures writes { HasCauseIn Fault.WriteFault (O.faults report.old.out.now) (O.faults report.new.out.now) result }
     ensures stays { S.stands_on source.new ≡ S.stands_on source.old }

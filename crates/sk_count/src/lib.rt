@@ -11,6 +11,7 @@ mod plan;
 mod remains;
 mod text;
 
+pub use alarms::arm;
 pub use counting::count;
 pub use numbers::Numbers;
 pub use plan::Plan;
