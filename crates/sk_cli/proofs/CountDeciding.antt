@@ -1,5 +1,5 @@
 -- `count` decides of a text: one estimate is due for it, or it is refused in one way.
-use Rattle.std.proofs.Common.{◌≡◌, ◌≢◌, ◌⊎◌, inl, inr, ℕ, zero, suc, ◌+◌, ◌-◌, ◌<◌, ◌≤◌, List, [], length, take, get_or, All, IsSome, IsNone, Option, Some, None, refl, sym, ap, ◌∙◌, subst, arith, length-take}
+use Rattle.std.proofs.Common.{◌≡◌, ◌≢◌, ◌⊎◌, inl, inr, ℕ, zero, suc, ◌+◌, ◌-◌, ◌<◌, ◌≤◌, List, [], ◌++◌, length, take, get_or, All, IsSome, IsNone, Option, Some, None, is_some, refl, sym, ap, ◌∙◌, subst, arith, length-take}
 use Rattle.std.proofs.lemmas.Bool.{cases_lt, false≢true}
 use Rattle.std.proofs.lemmas.List.{get_or-take, take-map, length-map}
 use Rattle.sk_model.specs.Limits.{line_limit}
@@ -11,9 +11,14 @@ use Rattle.sk_read.specs.declared.kind.Kind.{Kind}
 use Rattle.sk_read.specs.declared.units.Units.{Units}
 use Rattle.sk_read.specs.declared.units.Units.TheVariants.{Lines, Column}
 use Rattle.sk_cli.specs.Behaviour.{IsDecided, WritesOneText}
+use Rattle.std.specs.Bool.{MatchBool}
+use Rattle.sk_count.specs.Counts.{Course, armed_by, last_line}
+use Rattle.sk_count.specs.Moments.{Moment, AreMoments, start}
+use Rattle.sk_count.specs.Texts.{interim_text}
 use Rattle.sk_cli.specs.Fault.{bad_unit}
+use Rattle.sk_cli.specs.Lines.{lines_before}
 use Rattle.sk_cli.specs.commands.Count.{counted, counting, IsReadable, IsRefusedBy}
-use Rattle.sk_cli.specs.declared.commands.count.CountPlan.{CountPlan}
+use Rattle.sk_count.specs.declared.plan.Plan.{Plan}
 use Rattle.sk_cli.specs.declared.fault.Fault.{Fault}
 use Rattle.sk_cli.specs.declared.fault.Fault.TheVariants as fault
 
@@ -211,14 +216,14 @@ field_is : (column n : ℕ) → 0 < column → fault.BadField n ≡ bad_unit col
 field_is zero n some = absurd (omega (arith, some))
 field_is (suc c) n some = refl
 
-breaks : (plan : CountPlan) (f : Fault) (text : List ℕ) → IsRefusedBy plan f text → Breaks plan.kind plan.column (counted plan) text f
+breaks : (plan : Plan) (f : Fault) (text : List ℕ) → IsRefusedBy plan f text → Breaks plan.kind plan.column (counted plan) text f
 breaks plan (fault.LongLine n) text is = long_breaks plan.kind plan.column (counted plan) text n is.0.0 is.0.1 is.1
 breaks plan (fault.BadItem n) text is = bad_breaks plan.kind plan.column (counted plan) text n (fault.BadItem n) is.1.before.0 is.1.before.1 is.1.sound is.1.to is.1.filled is.1.bad (item_is plan.column n is.0)
 breaks plan (fault.BadField n) text is = bad_breaks plan.kind plan.column (counted plan) text n (fault.BadField n) is.1.before.0 is.1.before.1 is.1.sound is.1.to is.1.filled is.1.bad (field_is plan.column n is.0)
 breaks plan (fault.BadCsv n) text is = uneven_breaks plan.kind plan.column (counted plan) text n is.0.0 is.0.1 is.1
 breaks plan f text is = absurd is
 
-readable_or_refused : (plan : CountPlan) (f : Fault) (text : List ℕ) → IsReadable plan text → IsRefusedBy plan f text → ⊥
+readable_or_refused : (plan : Plan) (f : Fault) (text : List ℕ) → IsReadable plan text → IsRefusedBy plan f text → ⊥
 readable_or_refused plan f text readable is =
     let first = breaks plan f text is in
     fine_or_wrong first.why plan.kind (counted plan) text first.place
@@ -228,14 +233,24 @@ readable_or_refused plan f text readable is =
       good = readable.1 first.place [] first.there;
     }) first.wrong
 
-pub count_decides : (plan : CountPlan) → IsDecided (counting plan)
+pub count_decides : (plan : Plan) → IsDecided (counting plan)
 count_decides plan = record {
   refused = λ f g text one two. breaks_once plan.kind plan.column (counted plan) text f g (breaks plan f text one) (breaks plan g text two);
   apart = λ f text one two. readable_or_refused plan f text one two;
 }
 
-pub one_estimate : (plan : CountPlan) → WritesOneText (counting plan)
-one_estimate plan = record {
-  due = λ from text due other one two. one ∙ sym two;
-  refused = λ from f text due other one two. one ∙ sym two;
+-- without a window nobody asks
+no_moments : (plan : Plan) (units : List (List ℕ)) → plan.window ≡ None → (course : Course plan units) → course.moments ≡ []
+no_moments plan units none course = subst (λ (w : Option ℕ). MatchBool (is_some w) (AreMoments plan [] start course.windows course.moments) (course.moments ≡ [])) none course.asks
+
+-- without a window one text is due
+pub one_estimate : (plan : Plan) → plan.window ≡ None → WritesOneText (counting plan)
+one_estimate plan none = record {
+  due = λ from text due other one two.
+      one.is ∙ ap (λ (m : List Moment). interim_text plan.k (armed_by plan from.board) m ++ last_line plan (units_of (counted plan) text)) (same (units_of (counted plan) text) one.course two.course) ∙ sym two.is;
+  refused = λ from f text due other one two.
+      one.is ∙ ap (λ (m : List Moment). interim_text plan.k (armed_by plan from.board) m) (same (lines_before f (units_of (counted plan) text)) one.course two.course) ∙ sym two.is;
 }
+  where
+    same : (units : List (List ℕ)) (one two : Course plan units) → one.moments ≡ two.moments
+    same units one two = no_moments plan units none one ∙ sym (no_moments plan units none two)

@@ -1,77 +1,87 @@
 -- How `count` goes.
-use Rattle.std.proofs.Common.{◌≡◌, inl, inr, ℕ, zero, suc, ◌+◌, ◌-◌, ◌<◌, List, [], ◌∷◌, ◌++◌, length, take, get_or, All, IsNone, Option, Result, Ok, Err, OnOk, OnErr, IfErr, refl, sym, ap, ◌∙◌, subst, arith, append_assoc, length-append}
+use Rattle.std.proofs.Common.{◌≡◌, ◌⊎◌, inl, inr, ℕ, zero, suc, ◌+◌, ◌-◌, ◌<◌, ◌≤◌, List, [], ◌∷◌, ◌++◌, length, take, get_or, All, IsNone, Option, Result, Ok, Err, refl, sym, ap, ◌∙◌, subst, arith, append_assoc, length-append, length-take}
 use Rattle.std.specs.Result.{MatchResult}
-use Rattle.std.specs.Io.KnownBytes.{Appends}
-use Rattle.std.proofs.KnownBytes.{Appends-nil}
+use Rattle.std.specs.Io.KnownBytes.{Appends, Consumes}
 use Rattle.std.proofs.Math.Seq.{get_or-append_seam}
-use Rattle.std.proofs.lemmas.List.{get_or_append_left}
-use Rattle.sk_model.specs.Causes.{AppendsPart}
+use Rattle.std.proofs.lemmas.List.{get_or_append_left, get_or-take, take-take, take-map, take_all}
+use Rattle.std.proofs.lemmas.List.Elements.{All-take}
+use Rattle.sk_model.specs.Causes.{AppendsFront}
+use Rattle.sk_model.specs.Limits.{line_limit}
+use Rattle.sk_model.specs.Lines.{lines_of, AreWithin}
 use Rattle.sk_model.specs.Missing.{Begins}
-use Rattle.sk_read.specs.Items.{IsGood, item_of, Gave, Missed}
-use Rattle.sk_read.specs.Reads.{IsInTime as IsReadInTime, ReadsAll, ReadsSome, BreaksOff as ReadingBreaksOff, Ends as ReadingEnds}
+use Rattle.sk_read.specs.Items.{IsGood, item_of}
+use Rattle.sk_read.specs.Reads.{IsSettled, IsInTime as IsReadInTime, ReadsAll, ReadsSome, BreaksOff as ReadingBreaksOff, StopsAt, Ends as ReadingEnds}
+use Rattle.sk_read.specs.Records.{Row, records_of, fields_in, field_of, width_of, AreEven, AreSoundRows}
 use Rattle.sk_read.specs.Units.{units_of, complete_units_of, IsSoundUpTo, IsLongBehind, IsUnevenBehind}
 use Rattle.sk_read.specs.declared.fault.Fault.{Fault as ReadingFault}
 use Rattle.sk_read.specs.declared.fault.Fault.TheVariants as reading
+use Rattle.sk_read.specs.declared.units.Units.{Units}
+use Rattle.sk_read.specs.declared.units.Units.TheVariants.{Lines, Column}
 use Rattle.sk_read.proofs.ItemLaws.{front_is}
 use Rattle.sk_read.proofs.LineEnds.{settled_so}
-use Rattle.sk_cli.specs.Beside.{Beside}
-use Rattle.sk_cli.specs.commands.Count.{counted, estimate_text, counting, IsReadable, IsReadableSoFar, IsRefusedBy, AreGoodBefore, IsBadUnit}
-use Rattle.sk_cli.specs.declared.commands.count.CountPlan.{CountPlan}
+use Rattle.sk_watch.specs.Places.{Place}
+use Rattle.sk_count.specs.declared.plan.Plan.{Plan}
+use Rattle.sk_count.specs.declared.remains.Remains.{Remains}
+use Rattle.sk_count.specs.Counts.{Setting, setting, interim_by, last_line, TellsSoFar, TellsAll, TellsPart, TellsPartOfAll, StopsFor, EndsBefore, EndsBehind, Counts}
+use Rattle.sk_cli.specs.Beside.{Beside, beside_of}
+use Rattle.sk_cli.specs.Lines.{lines_before}
+use Rattle.sk_cli.specs.commands.Count.{counted, counting, IsReadable, IsReadableSoFar, IsRefusedBy, AreGoodBefore, IsBadUnit, IsInterim, IsWhole}
 use Rattle.sk_cli.specs.Fault.{fault_by, bad_unit}
 use Rattle.sk_cli.specs.Outside.{Streams}
-use Rattle.sk_cli.specs.Run.{Finishes, Stops, IsInTime, Refuses, GivesUp, Ends, Executes}
+use Rattle.sk_cli.specs.Run.{Finishes, Stops, IsInTime, Refuses, IsDueOnTheWay, BreaksOff, GivesUp, Ends, Executes}
 use Rattle.sk_cli.specs.declared.fault.Fault.{Fault}
 use Rattle.sk_cli.specs.declared.fault.Fault.TheVariants as fault
-use Rattle.sk_cli.proofs.Endings.{ends_writing, nothing_more, nothing_yet, on_ok_then}
-use Rattle.sk_cli.proofs.Fronts.{on_err_then, part_of_all}
+use Rattle.sk_cli.proofs.Fronts.{front_of_longer, front_of_all}
 
-pub no_count_yet : (plan : CountPlan) (most : ℕ) (from : Beside) (a : Streams) → GivesUp (counting plan) most from a a
-no_count_yet plan most from a = nothing_yet (counting plan) most from a [] (λ text. refl)
-
-abbrev counted_or : Fault → Result ℕ Fault
-counted_or f = Err f
-
-abbrev went_well : ℕ → Result ℕ Fault
-went_well n = Ok n
-
--- the fault of reading that a command's fault was made of
-pub made_of : (column : ℕ) (r : Result ℕ ReadingFault) (f : Fault) → MatchResult r (λ (x : ℕ). counted_or f ≡ Ok x) (λ (e : ReadingFault). counted_or f ≡ Err (fault_by column e)) →
-    (e : ReadingFault) × (r ≡ Err e) × (f ≡ fault_by column e)
-made_of column (Ok x) f made = absurd (differ x f made)
-  where
-    differ : (x : ℕ) (f : Fault) → counted_or f ≡ Ok x → ⊥
-    differ x f same = cc
-made_of column (Err e) f made = (e, refl, one_fault f (fault_by column e) made)
-  where
-    one_fault : (f e : Fault) → counted_or f ≡ Err e → f ≡ e
-    one_fault f e same = cc
-
--- the number of units, where a command's reading went well
-pub read_of : (column n : ℕ) (r : Result ℕ ReadingFault) → MatchResult r (λ (x : ℕ). went_well n ≡ Ok x) (λ (e : ReadingFault). went_well n ≡ Err (fault_by column e)) → (m : ℕ) × (r ≡ Ok m)
-read_of column n (Ok x) made = (x, refl)
-read_of column n (Err e) made = absurd (differ n (fault_by column e) made)
-  where
-    differ : (n : ℕ) (f : Fault) → went_well n ≡ Err f → ⊥
-    differ n f same = cc
-
-pub one_number : (m n : ℕ) → m ∷ [] ≡ n ∷ [] → m ≡ n
-one_number m n is = cc
+-- ---- units
 
 -- the first of some units, each good
 all_front : (P : List ℕ → Type 0) (front given : List (List ℕ)) → Begins front given → All P given → All P front
 all_front P front given begins all = λ k d below.
     subst P (get_or_append_left front begins.0 d k below) (subst (λ (l : List (List ℕ)). P (get_or l k d)) begins.1 (all k d (omega (arith, ap length begins.1, length-append front begins.0, below))))
 
--- a taker of items stops at what is no item alone
-no_memory_is_no_item : (n : ℕ) → reading.OutOfMemory ≡ reading.BadItem n → ⊥
-no_memory_is_no_item n is = cc
+-- records that are even are so without the last
+even_less : (c n : ℕ) (rows : List Row) → AreEven c rows → AreEven c (take n rows)
+even_less c n rows even = λ k d below.
+    let inside : k < n = omega (arith, below, length-take n rows) in
+    let here : get_or (take n rows) k d ≡ get_or rows k d = get_or-take n rows k d inside in
+    let first : get_or (take n rows) 0 [] ≡ get_or rows 0 [] = get_or-take n rows 0 [] (omega (arith, inside)) in
+    let both = even k d (omega (arith, below, length-take n rows)) in
+    (ap (λ (r : Row). length r) here ∙ both.0 ∙ sym (ap (λ (r : Row). length r) first), subst (λ (r : Row). c < length r) (sym here) both.1)
 
-no_write_is_no_item : (n : ℕ) → reading.WriteFault ≡ reading.BadItem n → ⊥
-no_write_is_no_item n is = cc
+one_less : {A : Type 0} (n : ℕ) (xs : List A) → take n (take (n + 1) xs) ≡ take n xs
+one_less n xs = take-take n (n + 1) xs (omega arith)
 
-module _ (plan : CountPlan) (most : ℕ) (from : Beside) (a b : Streams) (same : b.written ≡ a.written) where
-  nothing : Appends a.written b.written []
-  nothing = subst (λ (w : Option (List ℕ)). Appends a.written w []) (sym same) (Appends-nil a.written)
+-- units that are sound are so without the last
+sound_less : (u : Units) (n : ℕ) (text : List ℕ) → IsSoundUpTo u (n + 1) text → IsSoundUpTo u n text
+sound_less Lines n text sound = subst (AreWithin line_limit) (one_less n (lines_of text)) (All-take (λ (l : List ℕ). length l ≤ line_limit) n (take (n + 1) (lines_of text)) sound)
+sound_less (Column c) n text sound =
+    let rows : List Row = take (n + 1) (records_of text) in
+    let fewer : AreSoundRows c (take n rows) = record {
+      even = even_less c n rows sound.even;
+      within = subst (AreWithin line_limit) (take-map (field_of c) n rows) (All-take (λ (l : List ℕ). length l ≤ line_limit) n (fields_in c rows) sound.within);
+    } in
+    subst (AreSoundRows c) (one_less n (records_of text)) fewer
+
+-- the units before number n are those that were given
+front_at : (n : ℕ) (given units : List (List ℕ)) → n ≡ length given + 1 → Begins given units → take (n - 1) units ≡ given
+front_at n given units is begins = ap (λ (m : ℕ). take m units) (omega (arith, is)) ∙ front_is given units begins
+
+-- ---- one count
+
+module _ (plan : Plan) (most : ℕ) (from : Beside) (a b : Streams) (places : List Place) where
+  abbrev old : Setting
+  old = setting a.left a.written from.board
+
+  abbrev new : Setting
+  new = setting b.left b.written places
+
+  -- what was told of units
+  abbrev so_far : (units : List (List ℕ)) → TellsSoFar plan old new units → List ℕ
+  so_far units told = interim_by plan old told.course.moments
+
+  interim : (units : List (List ℕ)) (told : TellsSoFar plan old new units) → IsInterim plan from units (so_far units told)
+  interim units told = record { course = told.course; is = refl }
 
   in_time : (given : List (List ℕ)) (taken : List ℕ) → IsReadInTime (counted plan) given taken → All (IsGood plan.kind) given → IsInTime (IsReadableSoFar plan) taken
   in_time given taken is good = record {
@@ -82,23 +92,24 @@ module _ (plan : CountPlan) (most : ℕ) (from : Beside) (a b : Streams) (same :
     so_far = (is.sound, all_front (IsGood plan.kind) (complete_units_of (counted plan) is.front) given is.earlier good);
   }
 
-  -- the first units of a text are those that were given
   good_before : (n : ℕ) (text : List ℕ) (given : List (List ℕ)) → n ≡ length given + 1 → All (IsGood plan.kind) given → Begins given (units_of (counted plan) text) → AreGoodBefore plan n text
-  good_before n text given is good begins =
-      let front : take (n - 1) (units_of (counted plan) text) ≡ given = ap (λ (m : ℕ). take m (units_of (counted plan) text)) (omega (arith, is)) ∙ front_is given (units_of (counted plan) text) begins in
-      (omega (arith, is), subst (All (IsGood plan.kind)) (sym front) good)
+  good_before n text given is good begins = (omega (arith, is), subst (All (IsGood plan.kind)) (sym (front_at n given (units_of (counted plan) text) is begins)) good)
 
   -- a text that is refused, behind the units given
-  refused : (f : Fault) (Known : List (List ℕ) → Type 0) (Comes : List (List ℕ) → List ℕ → Type 0) → (off : ReadingBreaksOff (counted plan) most Known Comes a.left b.left) → All (IsGood plan.kind) off.given →
-      ((text : List ℕ) → Begins off.given (units_of (counted plan) text) → Comes off.given text → IsRefusedBy plan f text) → Refuses (counting plan) most f from a b
-  refused f Known Comes off good is = record {
+  refused : (f : Fault) (Known : List (List ℕ) → Type 0) (Comes : List (List ℕ) → List ℕ → Type 0) → (off : ReadingBreaksOff (counted plan) most Known Comes a.left b.left)
+      → TellsSoFar plan old new off.given
+      → ((text : List ℕ) → Begins off.given (units_of (counted plan) text) → Comes off.given text → IsRefusedBy plan f text × (lines_before f (units_of (counted plan) text) ≡ off.given)) → Refuses (counting plan) most f from a b
+  refused f Known Comes off told is = record {
     taken = off.taken;
-    due = [];
+    due = so_far off.given told;
     consumed = off.consumed;
     size = off.size;
-    in_time = in_time off.given off.taken off.in_time good;
-    refused = settled_so (λ (text : List ℕ). Begins off.given (units_of (counted plan) text) × Comes off.given text) (λ (text : List ℕ). (counting plan).Refuses f text × (counting plan).IsDueAt from f text []) b.left off.taken (λ text found. (is text found.0 found.1, refl)) off.comes;
-    written = nothing;
+    in_time = in_time off.given off.taken off.in_time told.course.good;
+    refused = settled_so (λ (text : List ℕ). Begins off.given (units_of (counted plan) text) × Comes off.given text) (λ (text : List ℕ). (counting plan).Refuses f text × (counting plan).IsDueAt from f text (so_far off.given told)) b.left off.taken
+        (λ text found.
+        let both = is text found.0 found.1 in
+        (both.0, subst (λ (l : List (List ℕ)). IsInterim plan from l (so_far off.given told)) (sym both.1) (interim off.given told))) off.comes;
+    written = told.written;
   }
 
   bad_at : (n : ℕ) (given : List (List ℕ)) (unit text : List ℕ) → n ≡ length given + 1 → All (IsGood plan.kind) given → (filled : 0 < length unit) → IsNone (item_of plan.kind unit) →
@@ -116,53 +127,158 @@ module _ (plan : CountPlan) (most : ℕ) (from : Beside) (a b : Streams) (same :
         bad = subst (λ (l : List ℕ). IsNone (item_of plan.kind l)) (sym here) bad;
       }
 
-  stops : (IsSize : ℕ → Type 0) (Stands : List ℕ → Type 0) → ReadsSome (counted plan) IsSize (Gave plan.kind Stands) a.left b.left → Stops (counting plan) IsSize from a b
-  stops IsSize Stands some = record { taken = some.taken; due = []; reads = refl; consumed = some.consumed; size = some.size; fine = (some.sound, some.gave.0); is_due = refl; written = nothing }
+  stops : (IsSize : ℕ → Type 0) → ReadsSome (counted plan) IsSize (TellsSoFar plan old new) a.left b.left → Stops (counting plan) IsSize from a b
+  stops IsSize some = record {
+    taken = some.taken;
+    due = so_far (complete_units_of (counted plan) some.taken) some.gave;
+    reads = refl;
+    consumed = some.consumed;
+    size = some.size;
+    fine = (some.sound, some.gave.course.good);
+    is_due = interim (complete_units_of (counted plan) some.taken) some.gave;
+    written = some.gave.written;
+  }
 
-  -- a count that ends while it reads has written nothing
-  pub counting_ended : (Stands : List ℕ → Type 0) (f : ReadingFault) → ReadingEnds (counted plan) most (Gave plan.kind Stands) (Missed plan.kind Stands) a.left b.left f → Ends (counting plan) most from a b (fault_by plan.column f)
-  counting_ended Stands reading.OutOfMemory (inl off) = nothing_more (counting plan) most from a b off.taken [] off.consumed off.size same (λ text. refl)
-  counting_ended Stands reading.OutOfMemory (inr stop) = absurd (no_memory_is_no_item _ stop.1.known.0)
-  counting_ended Stands reading.WriteFault stop = absurd (no_write_is_no_item _ stop.1.known.0)
-  counting_ended Stands reading.ReadFault some = stops (λ size. size < most) Stands some
-  counting_ended Stands reading.TooMuch some = stops (λ size. size ≡ most) Stands some
-  counting_ended Stands (reading.LongLine n) off =
-      refused (fault.LongLine n) (Gave plan.kind Stands) (λ given text. (n ≡ length given + 1) × IsLongBehind (counted plan) (length given) text) off off.known.0
-      (λ text begins comes. (good_before n text off.given comes.0 off.known.0 begins, subst (λ (m : ℕ). IsLongBehind (counted plan) m text) (omega (arith, comes.0)) comes.1))
-  counting_ended Stands (reading.BadCsv n) off =
-      refused (fault.BadCsv n) (Gave plan.kind Stands) (λ given text. (n ≡ length given + 1) × IsUnevenBehind (counted plan) (length given) text) off off.known.0
-      (λ text begins comes. (good_before n text off.given comes.0 off.known.0 begins, subst (λ (m : ℕ). IsUnevenBehind (counted plan) m text) (omega (arith, comes.0)) comes.1))
-  counting_ended Stands (reading.BadItem n) stop = bad plan.column refl
+  -- what is due for the units given is due for the first units of each text that goes on so
+  due_before : (given : List (List ℕ)) (due taken : List ℕ) → IsInterim plan from given due → IsSettled (λ (text : List ℕ). Begins given (units_of (counted plan) text) × IsSoundUpTo (counted plan) (length given) text) b.left taken →
+      IsDueOnTheWay (counting plan) from b.left taken due
+  due_before given due taken is settled =
+      settled_so (λ (text : List ℕ). Begins given (units_of (counted plan) text) × IsSoundUpTo (counted plan) (length given) text) (λ (text : List ℕ). (counting plan).IsDueBefore from text due) b.left taken
+      (λ text found. (length given, found.1, subst (λ (l : List (List ℕ)). IsInterim plan from l due) (sym (front_is given (units_of (counted plan) text) found.0)) is)) settled
+
+  -- no memory was found behind the units given
+  gives_up : (given : List (List ℕ)) (taken : List ℕ) → TellsSoFar plan old new given → Consumes a.left b.left taken → length taken ≤ most →
+      IsSettled (λ (text : List ℕ). Begins given (units_of (counted plan) text) × IsSoundUpTo (counted plan) (length given) text) b.left taken → GivesUp (counting plan) most from a b
+  gives_up given taken told consumed size settled = record {
+    taken = taken;
+    due = so_far given told;
+    consumed = consumed;
+    size = size;
+    is_due = inr (due_before given (so_far given told) taken (interim given told) settled);
+    written = front_of_all a.written b.written (so_far given told) told.written;
+  }
+
+  stopped_for_memory : (unit : List ℕ) → (off : ReadingBreaksOff (counted plan) most (λ given. TellsSoFar plan old new given) (λ given text. Begins (given ++ unit ∷ []) (units_of (counted plan) text) × IsSoundUpTo (counted plan) (length given + 1) text) a.left b.left) →
+      GivesUp (counting plan) most from a b
+  stopped_for_memory unit off =
+      gives_up off.given off.taken off.known off.consumed off.size
+      (settled_so (λ (text : List ℕ). Begins off.given (units_of (counted plan) text) × (Begins (off.given ++ unit ∷ []) (units_of (counted plan) text) × IsSoundUpTo (counted plan) (length off.given + 1) text))
+      (λ (text : List ℕ). Begins off.given (units_of (counted plan) text) × IsSoundUpTo (counted plan) (length off.given) text) b.left off.taken
+      (λ text found. (found.0, sound_less (counted plan) (length off.given) text found.1.1)) off.comes)
+
+  -- a write failed at a full window
+  breaks_off : (unit : List ℕ) → (off : ReadingBreaksOff (counted plan) most (λ given. TellsPart plan old new (given ++ unit ∷ [])) (λ given text. Begins (given ++ unit ∷ []) (units_of (counted plan) text) × IsSoundUpTo (counted plan) (length given + 1) text) a.left b.left) →
+      BreaksOff (counting plan) most from a b
+  breaks_off unit off =
+      let units : List (List ℕ) = off.given ++ unit ∷ [] in
+      let part = off.known in
+      let due = interim_by plan old part.course.moments in
+      let count : length units ≡ length off.given + 1 = length-append off.given (unit ∷ []) in
+      record {
+        taken = off.taken;
+        due = due;
+        consumed = off.consumed;
+        size = off.size;
+        is_due = inr (
+          in_time off.given off.taken off.in_time (all_front (IsGood plan.kind) off.given units (unit ∷ [], refl) part.course.good),
+          due_before units due off.taken (record { course = part.course; is = refl })
+              (settled_so (λ (text : List ℕ). Begins off.given (units_of (counted plan) text) × (Begins units (units_of (counted plan) text) × IsSoundUpTo (counted plan) (length off.given + 1) text))
+              (λ (text : List ℕ). Begins units (units_of (counted plan) text) × IsSoundUpTo (counted plan) (length units) text) b.left off.taken
+              (λ text found. (found.1.0, subst (λ (m : ℕ). IsSoundUpTo (counted plan) m text) (sym count) found.1.1)) off.comes),
+        );
+        written = part.written;
+        by_lines = tt;
+      }
+
+  -- a count that ended while it read
+  ended_before : (f : ReadingFault) → EndsBefore plan most old new f → Ends (counting plan) most from a b (fault_by plan.column f)
+  ended_before reading.OutOfMemory (inl off) = gives_up off.given off.taken off.known off.consumed off.size off.comes
+  ended_before reading.OutOfMemory (inr stop) = stopped_for_memory stop.0 stop.1
+  ended_before reading.ReadFault some = stops (λ size. size < most) some
+  ended_before reading.TooMuch some = stops (λ size. size ≡ most) some
+  ended_before reading.WriteFault stop = breaks_off stop.0 stop.1
+  ended_before (reading.LongLine n) off =
+      refused (fault.LongLine n) _ _ off off.known
+      (λ text begins comes. (
+        (good_before n text off.given comes.0 off.known.course.good begins, subst (λ (m : ℕ). IsLongBehind (counted plan) m text) (omega (arith, comes.0)) comes.1),
+        front_at n off.given (units_of (counted plan) text) comes.0 begins,
+      ))
+  ended_before (reading.BadCsv n) off =
+      refused (fault.BadCsv n) _ _ off off.known
+      (λ text begins comes. (
+        (good_before n text off.given comes.0 off.known.course.good begins, subst (λ (m : ℕ). IsUnevenBehind (counted plan) m text) (omega (arith, comes.0)) comes.1),
+        front_at n off.given (units_of (counted plan) text) comes.0 begins,
+      ))
+  ended_before (reading.BadItem n) stop = bad plan.column refl
     where
       unit : List ℕ
       unit = stop.0
 
-      off : ReadingBreaksOff (counted plan) most (λ given. (n ≡ length given + 1) × Missed plan.kind Stands (reading.BadItem n) given unit)
+      off : ReadingBreaksOff (counted plan) most (λ given. (n ≡ length given + 1) × StopsFor plan old new (reading.BadItem n) given unit)
           (λ given text. Begins (given ++ unit ∷ []) (units_of (counted plan) text) × IsSoundUpTo (counted plan) (length given + 1) text) a.left b.left
       off = stop.1
 
       is_bad : (text : List ℕ) → Begins (off.given ++ unit ∷ []) (units_of (counted plan) text) × IsSoundUpTo (counted plan) (length off.given + 1) text → IsBadUnit plan n text
-      is_bad text comes = bad_at n off.given unit text off.known.0 off.known.1.1.0 off.known.1.2 off.known.1.3 comes.0 (subst (λ (m : ℕ). IsSoundUpTo (counted plan) m text) (sym off.known.0) comes.1)
+      is_bad text comes = bad_at n off.given unit text off.known.0 off.known.1.0.course.good off.known.1.1 off.known.1.2 comes.0 (subst (λ (m : ℕ). IsSoundUpTo (counted plan) m text) (sym off.known.0) comes.1)
 
       bad : (c : ℕ) → plan.column ≡ c → Ends (counting plan) most from a b (bad_unit c n)
-      bad zero is = refused (fault.BadItem n) _ _ off off.known.1.1.0 (λ text begins comes. (is, is_bad text comes))
-      bad (suc c) is = refused (fault.BadField n) _ _ off off.known.1.1.0 (λ text begins comes. (omega (arith, is), is_bad text comes))
+      bad zero is = refused (fault.BadItem n) _ _ off off.known.1.0 (λ text begins comes. ((is, is_bad text comes), front_at n off.given (units_of (counted plan) text) off.known.0 begins))
+      bad (suc c) is = refused (fault.BadField n) _ _ off off.known.1.0 (λ text begins comes. ((omega (arith, is), is_bad text comes), front_at n off.given (units_of (counted plan) text) off.known.0 begins))
 
--- the estimate is written once the source has ended
-pub estimated : (plan : CountPlan) (most n : ℕ) (Stands : List ℕ → Type 0) (from to : Beside) (a b : Streams) (line : List ℕ) (r : Result (Unit {0}) Fault) → (all : ReadsAll (counted plan) most n (Gave plan.kind Stands) a.left b.left) →
-    line ≡ estimate_text plan all.taken → OnOk r (Appends a.written b.written line) → OnErr r (AppendsPart a.written b.written line) → IfErr r (λ (f : Fault). f ≡ fault.WriteFault) → Executes (counting plan) most from to a b r
-estimated plan most n Stands from to a b line r all is ok part only =
-    let readable : IsReadable plan all.taken = (all.sound, all.gave.0) in
-    ends_writing (counting plan) most from to a b r
-    (on_ok_then r (Appends a.written b.written line) (Finishes (counting plan) most from to a b)
-    (λ appended. record { text = all.taken; due = line; consumed = all.consumed; end = all.end; size = all.size; fine = readable; is_due = is; leaves = tt; written = appended }) ok)
-    (on_err_then r (AppendsPart a.written b.written line) (Ends (counting plan) most from a b fault.WriteFault)
-    (λ part. record {
-      taken = all.taken;
-      earlier = [];
-      due = line;
-      consumed = all.consumed;
-      size = omega (arith, all.size);
-      is_due = inl (record { end = all.end; fine = readable; is_due = is });
-      written = part_of_all a.written b.written line part;
-    }) part) only
+  -- a count that had read all
+  ended_behind : (f : ReadingFault) → EndsBehind plan most old new f → Ends (counting plan) most from a b (fault_by plan.column f)
+  ended_behind reading.WriteFault (n, all) = record {
+    taken = all.taken;
+    due = interim_by plan old all.gave.course.moments ++ last_line plan (units_of (counted plan) all.taken);
+    consumed = all.consumed;
+    size = omega (arith, all.size);
+    is_due = inl (record { end = all.end; fine = (all.sound, all.gave.course.good); is_due = record { course = all.gave.course; is = refl } });
+    written = all.gave.written;
+    by_lines = tt;
+  }
+  ended_behind reading.OutOfMemory (n, all) = record {
+    taken = all.taken;
+    due = interim_by plan old all.gave.course.moments ++ last_line plan (units_of (counted plan) all.taken);
+    consumed = all.consumed;
+    size = omega (arith, all.size);
+    is_due = inl (record { end = all.end; fine = (all.sound, all.gave.course.good); is_due = record { course = all.gave.course; is = refl } });
+    written = front_of_longer a.written b.written (interim_by plan old all.gave.course.moments) (last_line plan (units_of (counted plan) all.taken)) all.gave.written;
+  }
+  ended_behind f ends = absurd ends
+
+  ended : (f : ReadingFault) → EndsBefore plan most old new f ⊎ EndsBehind plan most old new f → Ends (counting plan) most from a b (fault_by plan.column f)
+  ended f (inl ends) = ended_before f ends
+  ended f (inr ends) = ended_behind f ends
+
+  -- a count that ended well
+  finished : (remains : Remains) (n : ℕ) → ReadsAll (counted plan) most n (TellsAll plan old new remains) a.left b.left → Finishes (counting plan) most from (beside_of places remains) a b
+  finished remains n all =
+      let gave = all.gave in
+      let due = interim_by plan old gave.course.moments ++ last_line plan (units_of (counted plan) all.taken) in
+      record {
+        text = all.taken;
+        due = due;
+        consumed = all.consumed;
+        end = all.end;
+        size = all.size;
+        fine = (all.sound, gave.course.good);
+        is_due = record { course = gave.course; is = refl };
+        leaves = record {
+          course = gave.course;
+          is = refl;
+          board = gave.places;
+          heart = gave.heart;
+          token = gave.token;
+          remains = gave.left;
+          hub = gave.hub;
+          shows = gave.shows;
+          asked = gave.asked;
+        };
+        written = gave.written;
+      }
+
+  -- how it went, with its fault as one of the program
+  pub counted_so : (remains : Remains) (r : Result (Unit {0}) ReadingFault) (answer : Result (Unit {0}) Fault) → MatchResult r (λ (x : Unit {0}). answer ≡ Ok x) (λ (f : ReadingFault). answer ≡ Err (fault_by plan.column f)) →
+      Counts plan most old new remains r → Executes (counting plan) most from (beside_of places remains) a b answer
+  counted_so remains (Ok x) answer is (n, all) = subst (Executes (counting plan) most from (beside_of places remains) a b) (sym is) (finished remains n all)
+  counted_so remains (Err f) answer is ends = subst (Executes (counting plan) most from (beside_of places remains) a b) (sym is) (ended f ends)

@@ -1,5 +1,5 @@
 -- How a command ends.
-use Rattle.std.proofs.Common.{◌≡◌, inl, inr, ℕ, ◌≤◌, List, [], ◌++◌, length, Option, None, Result, Ok, Err, OnOk, OnErr, IfErr, IsErrAnd, refl, sym, subst, arith}
+use Rattle.std.proofs.Common.{◌≡◌, inl, inr, ℕ, ◌≤◌, List, [], ◌++◌, length, Option, Result, Ok, Err, OnOk, OnErr, IfErr, IsErrAnd, refl, sym, subst, arith}
 use Rattle.std.specs.Io.KnownBytes.{Consumes}
 use Rattle.std.proofs.KnownBytes.{Appends-nil, Consumes-nil}
 use Rattle.sk_model.specs.Causes.{AppendsFront}
@@ -52,7 +52,3 @@ nothing_yet how most from a due is = nothing_more how most from a a [] due (Cons
 -- no command opens a file
 pub never_opens : (how : Behaviour) (most : ℕ) (from to : Beside) (a b : Streams) (r : Result (Unit {0}) Fault) → Executes how most from to a b r → r ≡ Err fault.OpenFault → ⊥
 never_opens how most from to a b r went is = subst (λ (x : Result (Unit {0}) Fault). Executes how most from to a b x) is went
-
--- nothing on the board, and no hub
-abbrev pub nothing_beside : Beside
-nothing_beside = record { board = []; remains = record { heart = None; token = None } }

@@ -1,6 +1,6 @@
 -- Texts that were written in part.
 use Rattle.std.proofs.Common.{◌≡◌, ℕ, suc, ◌+◌, List, [], ◌∷◌, ◌++◌, length, take, Option, Result, Ok, Err, OnErr, refl, sym, ap, ◌∙◌, subst, arith, append_assoc, length-append}
-use Rattle.std.proofs.lemmas.List.{take-append-le}
+use Rattle.std.proofs.lemmas.List.{take-append-le, take_all}
 use Rattle.std.specs.Io.KnownBytes.{Appends}
 use Rattle.std.proofs.KnownBytes.{Appends-trans}
 use Rattle.sk_model.specs.Causes.{AppendsFront, AppendsPart}
@@ -46,9 +46,15 @@ part_on a b c front xs ys begins whole part = record {
   written = subst (Appends a c) (sym (take_behind xs ys part.0)) (Appends-trans a b c xs (take part.0 ys) whole part.2);
 }
 
--- a part of a text, where nothing was written before
-pub part_of_all : (a b : Option (List ℕ)) (xs : List ℕ) → AppendsPart a b xs → AppendsPartBehind [] a b xs
-part_of_all a b xs part = record { size = part.0; begins = (xs, refl); least = omega arith; most = part.1; written = part.2 }
+-- a text that was written whole is a front of itself
+pub front_of_all : (a b : Option (List ℕ)) (xs : List ℕ) → Appends a b xs → AppendsFront a b xs
+front_of_all a b xs whole = (length xs, omega arith, subst (Appends a b) (sym (take_all (length xs) xs (omega arith))) whole)
+
+-- a text that was written whole is a front of each that begins with it
+pub front_of_longer : (a b : Option (List ℕ)) (xs ys : List ℕ) → Appends a b xs → AppendsFront a b (xs ++ ys)
+front_of_longer a b xs ys whole =
+    let front : take (length xs) (xs ++ ys) ≡ xs = take-append-le (length xs) xs ys (omega arith) ∙ take_all (length xs) xs (omega arith) in
+    (length xs, omega (arith, length-append xs ys), subst (Appends a b) (sym front) whole)
 
 -- what holds anyhow holds of an error
 pub on_err : {T E : Type 0} (r : Result T E) (P : Type 0) → P → OnErr r P

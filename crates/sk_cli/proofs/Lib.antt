@@ -1,6 +1,7 @@
 pub mod Completing
 pub mod CountDeciding
 pub mod Counting
+pub mod CountPlaces
 pub mod Deciding
 pub mod Endings
 pub mod Fronts

@@ -1,5 +1,6 @@
 -- Which count a fault moves.
 use Rattle.std.proofs.Common.{◌≡◌, ℕ, zero, suc, Result, Ok, Err, IfErr, IsErrAnd, refl, sym, ap, ◌∙◌, subst}
+use Rattle.std.specs.Result.{MatchResult}
 use Rattle.sk_model.specs.Causes.{Rose, HasCause, HasCauseIn}
 use Rattle.sk_read.specs.declared.fault.Fault.{Fault as ReadingFault}
 use Rattle.sk_read.specs.declared.fault.Fault.TheVariants as reading
@@ -90,20 +91,34 @@ line_moves T a b before r stop.TooMuch is cause same write = (cause.steady (λ f
     other : error_of T stop.TooMuch ≡ Err stop.ReadFault → ⊥
     other is = cc
 
-reading_other : (T : Type 0) (f : ReadingFault) → (f ≡ reading.ReadFault → ⊥) → error_of T f ≡ Err reading.ReadFault → ⊥
-reading_other T f differs is = differs (one f is)
+another : (T : Type 0) (f g : ReadingFault) → (f ≡ g → ⊥) → error_of T f ≡ Err g → ⊥
+another T f g differs is = differs (one f g is)
   where
-    one : (f : ReadingFault) → error_of T f ≡ Err reading.ReadFault → f ≡ reading.ReadFault
-    one f is = cc
+    one : (f g : ReadingFault) → error_of T f ≡ Err g → f ≡ g
+    one f g is = cc
 
--- a fault of reading
-pub reading_moves : (T : Type 0) (a b : Streams) (column : ℕ) (r : Result T ReadingFault) (f : ReadingFault) → r ≡ Err f → HasCauseIn reading.ReadFault a.read_faults b.read_faults r → (r ≡ Err reading.WriteFault → ⊥) →
-    b.write_faults ≡ a.write_faults → Moves a b (fault_by column f)
-reading_moves T a b column r reading.ReadFault is cause none write = (cause.failed is, write)
-reading_moves T a b column r reading.WriteFault is cause none write = absurd (none is)
-reading_moves T a b column r (reading.BadItem n) is cause none write = bad column (cause.steady (λ failed. reading_other T (reading.BadItem n) (λ e. cc) (sym is ∙ failed)), write)
+-- a fault of counting
+counting_moves : (T : Type 0) (a b : Streams) (column : ℕ) (r : Result T ReadingFault) (f : ReadingFault) → r ≡ Err f → HasCauseIn reading.ReadFault a.read_faults b.read_faults r → HasCauseIn reading.WriteFault a.write_faults b.write_faults r →
+    Moves a b (fault_by column f)
+counting_moves T a b column r reading.ReadFault is read write = (read.failed is, write.steady (λ failed. another T reading.ReadFault reading.WriteFault (λ e. cc) (sym is ∙ failed)))
+counting_moves T a b column r reading.WriteFault is read write = (read.steady (λ failed. another T reading.WriteFault reading.ReadFault (λ e. cc) (sym is ∙ failed)), write.failed is)
+counting_moves T a b column r (reading.BadItem n) is read write =
+    bad column (
+      read.steady (λ failed. another T (reading.BadItem n) reading.ReadFault (λ e. cc) (sym is ∙ failed)),
+      write.steady (λ failed. another T (reading.BadItem n) reading.WriteFault (λ e. cc) (sym is ∙ failed)),
+    )
   where
     bad : (c : ℕ) → (b.read_faults ≡ a.read_faults) × (b.write_faults ≡ a.write_faults) → Moves a b (bad_unit c n)
     bad zero stay = stay
     bad (suc c) stay = stay
-reading_moves T a b column r f is cause none write = (cause.steady (λ failed. reading_other T f (λ e. cc) (sym is ∙ failed)), write)
+counting_moves T a b column r f is read write = (
+  read.steady (λ failed. another T f reading.ReadFault (λ e. cc) (sym is ∙ failed)),
+  write.steady (λ failed. another T f reading.WriteFault (λ e. cc) (sym is ∙ failed)),
+)
+
+-- a count, whose fault became one of the program
+pub counting_causes : (a b : Streams) (column : ℕ) (r : Result (Unit {0}) ReadingFault) (answer : Result (Unit {0}) Fault) → MatchResult r (λ (x : Unit {0}). answer ≡ Ok x) (λ (f : ReadingFault). answer ≡ Err (fault_by column f)) →
+    HasCauseIn reading.ReadFault a.read_faults b.read_faults r → HasCauseIn reading.WriteFault a.write_faults b.write_faults r → HasCauses a b answer
+counting_causes a b column (Ok x) answer is read write =
+    subst (HasCauses a b) (sym is) (no_cause a b (read.steady (λ failed. ok_is_no_error x reading.ReadFault failed)) (write.steady (λ failed. ok_is_no_error x reading.WriteFault failed)))
+counting_causes a b column (Err f) answer is read write = subst (HasCauses a b) (sym is) (causes_of a b (fault_by column f) (counting_moves (Unit {0}) a b column (Err f) f refl read write))

@@ -21,7 +21,7 @@ use Rattle.sk_cli.specs.Beside.{Beside}
 use Rattle.sk_cli.specs.Fault.{fault_by_line}
 use Rattle.sk_cli.specs.Lines.{IsLongLine}
 use Rattle.sk_cli.specs.Outside.{Streams}
-use Rattle.sk_cli.specs.Run.{Finishes, Stops, IsInTime, WasDue, IsDueOnTheWay, BreaksOff, GivesUp, Ends}
+use Rattle.sk_cli.specs.Run.{Finishes, Stops, IsInTime, WritesOn, IsDueOnTheWay, BreaksOff, GivesUp, Ends}
 use Rattle.sk_cli.specs.declared.fault.Fault.TheVariants as fault
 use Rattle.sk_cli.proofs.Fronts.{part_on}
 
@@ -101,7 +101,7 @@ on_true false P holds = tt
 record Earlier (how : Behaviour) (from : Beside) (taken due : List ℕ) : Type 0 where
   pub text : List ℕ
   pub begins : Begins text due
-  pub was_due : WasDue how from taken text
+  pub was_due : IsInTime (λ front. how.IsFineSoFar front × how.IsDueSoFar from front text) taken
 
 module _ (how : Behaviour) (from : Beside) (Due : List (List ℕ) → List ℕ → Type 0) (by : ByLines how from Due) (most : ℕ) (a b : Streams) where
   -- nothing before the last read is refused, since it was given
@@ -176,14 +176,16 @@ module _ (how : Behaviour) (from : Beside) (Due : List (List ℕ) → List ℕ �
       Due (given ++ line ∷ []) (due ++ more) → Appends a.written mid due → AppendsPart mid b.written more → BreaksOff how most from a b
   cut_short r given line due more taken mid reads time was_due is_due whole part =
       let before = earlier given due taken time was_due in
+      let on = part_on a.written mid b.written before.text due more before.begins whole part in
+      let by_lines : WritesOn how from taken (due ++ more) a.written b.written = record { earlier = before.text; was_due = before.was_due; written = on } in
       record {
         taken = taken;
-        earlier = before.text;
         due = due ++ more;
         consumed = reads.consumed;
         size = few_bytes r (given ++ line ∷ []) taken reads;
-        is_due = inr (on_true how.reads (WasDue how from taken before.text) before.was_due, due_before r (given ++ line ∷ []) (due ++ more) taken reads is_due);
-        written = part_on a.written mid b.written before.text due more before.begins whole part;
+        is_due = inr (on_true how.reads (IsInTime how.IsFineSoFar taken) (in_time given due taken time was_due), due_before r (given ++ line ∷ []) (due ++ more) taken reads is_due);
+        written = (on.size, on.most, on.written);
+        by_lines = on_true how.writes_by_lines (WritesOn how from taken (due ++ more) a.written b.written) by_lines;
       }
 
   -- no memory for what is due next

@@ -10,7 +10,7 @@ use Rattle.sk_cli.specs.Run.{Finishes, Ends, Executes}
 use Rattle.sk_cli.specs.declared.fault.Fault.{Fault}
 use Rattle.sk_cli.specs.declared.fault.Fault.TheVariants as fault
 use Rattle.sk_cli.proofs.Endings.{ends_writing, on_ok_then}
-use Rattle.sk_cli.proofs.Fronts.{on_err_then, part_of_all}
+use Rattle.sk_cli.proofs.Fronts.{on_err_then}
 
 pub about_told : (page bytes : List ℕ) (most : ℕ) (from to : Beside) (a b : Streams) (r : Result (Unit {0}) Fault) → bytes ≡ page → b.left ≡ a.left → OnOk r (Appends a.written b.written bytes) → OnErr r (AppendsPart a.written b.written bytes) →
     IfErr r (λ (f : Fault). f ≡ fault.WriteFault) → Executes (about page) most from to a b r
@@ -22,10 +22,10 @@ about_told page bytes most from to a b r is same ok part only =
     (on_err_then r (AppendsPart a.written b.written bytes) (Ends (about page) most from a b fault.WriteFault)
     (λ part. record {
       taken = [];
-      earlier = [];
       due = bytes;
       consumed = consumed;
       size = omega arith;
       is_due = inr (tt, inl (λ later. is));
-      written = part_of_all a.written b.written bytes part;
+      written = part;
+      by_lines = tt;
     }) part) only

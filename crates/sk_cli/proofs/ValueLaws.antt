@@ -3,7 +3,7 @@ use Rattle.std.proofs.Common.{◌≡◌, ℕ, suc, ◌+◌, ◌<◌, ◌≤◌, 
 use Rattle.std.proofs.Math.Seq.{drop-cons}
 use Rattle.std.proofs.lemmas.Bool.{ne_eqb, le-leb, lt-leb}
 use Rattle.std.proofs.lemmas.List.{get_or-take, get_or_default}
-use Rattle.std.proofs.lemmas.List.Splits.{slice_split_none, slice_split_at}
+use Rattle.std.proofs.lemmas.List.Splits.{slice_split_none, slice_split_at, length-slice_split}
 use Rattle.sk_cli.specs.Values.{Word, number_from, numbers_from, number_list, parts_of, parts_in}
 
 abbrev is_comma : ℕ → Bool
@@ -75,3 +75,7 @@ unlisted most low high word none = either (nat_le (length (parts_of word)) most)
     either : (b : Bool) → no_numbers ≡ (if b then numbers_from low high (parts_of word) else None)
     either true = sym none
     either false = refl
+
+-- a word has a part at least
+pub some_part : (word : Word) → 1 ≤ length (parts_of word)
+some_part word = omega (arith, length-slice_split is_comma word)

@@ -1,9 +1,12 @@
 -- Boards whose places are filled, or emptied one after another.
-use Rattle.std.proofs.Common.{◌≡◌, ℕ, ◌+◌, ◌<◌, List, ◌++◌, length, take, drop, get_or, set, map, All, Option, Some, None, IsSome, option_map, refl, ap, arith, length-append, length-take, length-drop}
+use Rattle.std.proofs.Common.{◌≡◌, ℕ, ◌+◌, ◌<◌, List, [], ◌∷◌, ◌++◌, length, take, drop, get_or, set, map, All, Option, Some, None, IsSome, option_map, refl, ap, ◌∙◌, arith, length-append, length-take, length-drop}
 use Rattle.std.proofs.lemmas.List.{length-map, get_or_default}
 use Rattle.std.proofs.lemmas.List.Edits.{map_over_more}
 use Rattle.std.proofs.lemmas.List.Elements.{All-map}
-use Rattle.sk_watch.specs.Places.{Place}
+use Rattle.sk_theta.specs.declared.reply.Reply.{Reply}
+use Rattle.sk_watch.specs.Places.{Place, IsLive, told}
+use Rattle.sk_count.specs.Moments.{Moment}
+use Rattle.sk_count.specs.Texts.{armed_with, places_after, reply_of}
 use Rattle.sk_cli.specs.Beside.{cleared}
 
 -- a watcher that is there is seen
@@ -20,3 +23,31 @@ cleared_more xs ys i below is =
     let empty : Place → Place = λ (p : Place). None in
     let inside : i < length ys = omega (arith, ap length is, length-append (map empty (take i xs)) (drop i xs), length-map (take i xs) empty, length-take i xs, length-drop i xs, below) in
     map_over_more empty xs ys i (get_or ys i None) below is (get_or_default ys i None (get_or ys i None) inside)
+
+-- ---- boards without an alarm
+
+told_cleared : (reply : Reply) (places : List Place) → map (told reply) (cleared places) ≡ cleared places
+told_cleared reply [] = refl
+told_cleared reply (place ∷ places) = ap (λ (l : List Place). None ∷ l) (told_cleared reply places)
+
+armed_with_none : (k : ℕ) (places : List Place) → armed_with k [] places ≡ cleared places
+unfolding armed_with
+armed_with_none k [] = refl
+armed_with_none k (place ∷ places) = ap (λ (l : List Place). None ∷ l) (armed_with_none k places)
+
+still_cleared : (k : ℕ) (places : List Place) (moments : List Moment) → places_after k (cleared places) moments ≡ cleared places
+unfolding places_after
+still_cleared k places [] = refl
+still_cleared k places (m ∷ moments) = ap (λ (l : List Place). places_after k l moments) (told_cleared (reply_of k m.seen) places) ∙ still_cleared k places moments
+
+-- without marks all watchers are gone, whatever was told
+pub none_left : (k : ℕ) (marks : List ℕ) (places places' : List Place) (moments : List Moment) → places' ≡ places_after k (armed_with k marks places) moments → marks ≡ [] → places' ≡ cleared places
+none_left k marks places places' moments is none =
+    is ∙ ap (λ (l : List Place). places_after k l moments) (ap (λ (m : List ℕ). armed_with k m places) none ∙ armed_with_none k places) ∙ still_cleared k places moments
+
+pub none_armed : (k : ℕ) (marks : List ℕ) (places places' : List Place) → places' ≡ armed_with k marks places → marks ≡ [] → places' ≡ cleared places
+none_armed k marks places places' is none = is ∙ ap (λ (m : List ℕ). armed_with k m places) none ∙ armed_with_none k places
+
+-- each place of a board has a watcher
+pub live_at : (places : List Place) (i : ℕ) → All IsSome places → i < length places → IsLive i places
+live_at places i live below = live i None below

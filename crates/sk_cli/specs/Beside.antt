@@ -1,7 +1,7 @@
 -- What stands beside the streams of a run: a board of watchers, and what is left of a hub.
 use Rattle.std.specs.Prelude.{ℕ, List, None, map}
 use Rattle.sk_watch.specs.Places.{Place}
-use Rattle.sk_cli.specs.declared.remains.Remains.{Remains}
+use Rattle.sk_count.specs.declared.remains.Remains.{Remains}
 
 -- a board is handed in with so many places
 abbrev pub board_places : ℕ

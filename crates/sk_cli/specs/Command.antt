@@ -1,5 +1,5 @@
 -- The words of a command line as a command, and what each command does.
-use Rattle.std.specs.Prelude.{List, [], ◌∷◌, codes, if◌then◌else◌, Option, Some, None, option_and_then, option_map, bytes_eq}
+use Rattle.std.specs.Prelude.{ℕ, Bool, true, false, List, [], ◌∷◌, codes, if◌then◌else◌, Option, Some, None, option_and_then, option_map, bytes_eq}
 use Rattle.std.specs.Option.{option_copied}
 use Rattle.sk_cli.specs.declared.options.Verb.TheVariants as verb
 use Rattle.sk_cli.specs.declared.command.Request.{Request}
@@ -21,6 +21,16 @@ behaviour_of (Hash plan) = hash.hashing plan
 behaviour_of Replay = replay.replaying
 behaviour_of Help = about HELP.now
 behaviour_of Version = about VERSION.now
+
+-- the marks of the alarms that a command sets
+abbrev pub alarms_of : Command → List ℕ
+alarms_of (Count plan) = plan.alarms
+alarms_of other = []
+
+-- whether it makes a hub, which it leaves behind
+abbrev pub makes_hub : Command → Bool
+makes_hub (Count plan) = true
+makes_hub other = false
 
 -- the numbers of a command are within their limits
 abbrev pub IsWithin : Command → Type 0

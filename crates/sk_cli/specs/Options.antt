@@ -35,12 +35,7 @@ takes_value name = true
 
 -- the options that a command has
 abbrev pub allows : Verb → Name → Bool
-allows Count Csv = true
-allows Count File = true
-allows Count K = true
-allows Count Raw = true
-allows Count Seed = true
-allows Count name = false
+allows Count name = true
 allows Hash File = true
 allows Hash Seed = true
 allows Hash name = false

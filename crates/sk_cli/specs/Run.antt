@@ -78,20 +78,22 @@ pub record IsDueWhole (b : Behaviour) (from : Beside) (left : Option (List ℕ))
 abbrev pub IsDueOnTheWay : Behaviour → Beside → Option (List ℕ) → List ℕ → List ℕ → Type 0
 IsDueOnTheWay b from left taken due = IsSettled (λ text. b.IsDueBefore from text due) left taken
 
--- nothing was refused before the last read, and this was due by then
-abbrev pub WasDue : Behaviour → Beside → List ℕ → List ℕ → Type 0
-WasDue b from taken due = IsInTime (λ front. b.IsFineSoFar front × b.IsDueSoFar from front due) taken
+-- of what is due a part was written, and not all; what was due before the last read was written whole
+pub record WritesOn (b : Behaviour) (from : Beside) (taken due : List ℕ) (old new : Option (List ℕ)) : Type 0 where
+  pub earlier : List ℕ
+  pub was_due : IsInTime (λ front. b.IsFineSoFar front × b.IsDueSoFar from front earlier) taken
+  pub written : AppendsPartBehind earlier old new due
 
--- of what is due behind the bytes taken a part was written, and not all; where more was to be read, what was due
--- before the last read was written whole
+-- of what is due behind the bytes taken a part was written, and not all; a command that writes by lines had written
+-- whole what was due before the last read
 pub record BreaksOff (b : Behaviour) (most : ℕ) (from : Beside) (old new : Streams) : Type 0 where
   pub taken : List ℕ
-  pub earlier : List ℕ
   pub due : List ℕ
   pub consumed : Consumes old.left new.left taken
   pub size : length taken ≤ most
-  pub is_due : IsDueWhole b from new.left taken due ⊎ (OnTrue b.reads (WasDue b from taken earlier) × IsDueOnTheWay b from new.left taken due)
-  pub written : AppendsPartBehind earlier old.written new.written due
+  pub is_due : IsDueWhole b from new.left taken due ⊎ (OnTrue b.reads (IsInTime b.IsFineSoFar taken) × IsDueOnTheWay b from new.left taken due)
+  pub written : AppendsPart old.written new.written due
+  pub by_lines : OnTrue b.writes_by_lines (WritesOn b from taken due old.written new.written)
 
 -- of what is due for the bytes taken, or for a first part of each text that begins with them, a front was written
 pub record GivesUp (b : Behaviour) (most : ℕ) (from : Beside) (old new : Streams) : Type 0 where

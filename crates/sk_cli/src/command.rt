@@ -4,15 +4,16 @@ ghost use Rattle.std.specs.Option.{option_map, option_copied};
 ghost use Rattle.sk_cli.specs.Options.{texts_of, file_by};
 ghost use Rattle.sk_cli.specs.Command.{request_of, asked_of, asked_by, count_by, hash_by, replay_by, alone, IsWithin};
 
-use crate::commands::count::CountPlan;
+use crate::commands::count::plan_of;
 use crate::commands::hash::HashPlan;
 use crate::options::{Name, Options, Verb};
+use sk_count::Plan;
 
 /// What the program is asked to do.
-#[derive(Clone, Copy, Debug, PartialEq, Eq)]
+#[derive(Clone, Copy)]
 pub enum Command {
     /// Estimate how many distinct items there are.
-    Count(CountPlan),
+    Count(Plan),
     /// Write the hash of each line that is not empty.
     Hash(HashPlan),
     /// Play a schedule and write the answer to each event.
@@ -49,7 +50,7 @@ impl<'a> Request<'a> {
         ensures value { option_map asked_of result ≡ asked_by count_by options.now }
         ensures limits { IfSome result (λ request. IsWithin request.command) }
     {
-        let command = Command::Count(CountPlan::of(options)?);
+        let command = Command::Count(plan_of(options)?);
         let file = file_in(options)?;
         Some(Request { command, file })
     }

@@ -1,11 +1,11 @@
 // A command over the standard input or over a file.
-ghost use Rattle.std.specs.Prelude.{◌≡◌, ◌≢◌, ◌≤◌, Err, IfErr, None, Some, OnSome, IfNone, IfSome, true, false};
+ghost use Rattle.std.specs.Prelude.{◌≡◌, ◌≢◌, ◌≤◌, All, IsSome, [], length, Err, IfErr, None, Some, OnSome, IfNone, IfSome, true, false};
 ghost use Rattle.std.specs.Option.{option_copied};
 ghost use Rattle.sk_model.specs.Causes.{HasCauseIn};
 ghost use Rattle.sk_model.specs.Limits.{source_limit};
 ghost use Rattle.sk_io.specs.Files.{IsMissing};
-ghost use Rattle.sk_cli.specs.Beside.{Beside};
-ghost use Rattle.sk_cli.specs.Command.{behaviour_of, IsWithin};
+ghost use Rattle.sk_cli.specs.Beside.{beside_of, board_places, cleared};
+ghost use Rattle.sk_cli.specs.Command.{behaviour_of, alarms_of, makes_hub, IsWithin};
 ghost use Rattle.sk_cli.specs.Outside.{streams_of, outside_of};
 ghost use Rattle.sk_cli.specs.Run.{Executes, HasCauses, Over, Performs};
 
@@ -15,13 +15,19 @@ use crate::commands::count::count;
 use crate::commands::hash::hash;
 use crate::commands::replay::replay;
 use crate::fault::Fault;
+use crate::watchers::clear;
 use crate::write::write_text;
+use sk_count::{Remains, arm};
 use sk_io::{OpenFile, Shelf, Sink, Source};
+use sk_watch::Seen;
 use std::alloc::Global;
+use std::sync::Wait;
+use std::thread::Threads;
 
 /// Does what a command asks, over the standard input or the file of this name, of fewer than `most`
 /// bytes.
-pub fn perform<S: Source, O: Sink, F: Shelf>(
+pub fn perform<R: Threads + Wait + Sync, S: Source, O: Sink, F: Shelf, B: Seen>(
+    rt: &R,
     alloc: Global,
     command: Command,
     file: Option<&str>,
@@ -29,12 +35,17 @@ pub fn perform<S: Source, O: Sink, F: Shelf>(
     input: &mut S,
     out: &mut O,
     shelf: &mut F,
+    board: &mut B,
+    remains: &mut Remains,
 ) -> Result<(), Fault>
     requires within { IsWithin command }
     requires bound { most ≤ source_limit }
-    ensures done { (from to : Beside) → let old = outside_of S.Source O.Sink F.Shelf input.old out.old shelf.old in
+    requires places { length (B.places board.old) ≡ board_places }
+    requires live { All IsSome (B.places board.old) }
+    ensures done { let old = outside_of S.Source O.Sink F.Shelf input.old out.old shelf.old in
         let new = outside_of S.Source O.Sink F.Shelf input.new out.new shelf.new in
-        Performs (record { command = command; file = option_copied file.entry }) most from to old new result }
+        Performs (record { command = command; file = option_copied file.entry }) most
+        (beside_of (B.places board.old) remains.old) (beside_of (B.places board.new) remains.new) old new result }
 
     // A count rises by one at its own fault, and stands else.
     ensures causes { let old = outside_of S.Source O.Sink F.Shelf input.old out.old shelf.old in
@@ -51,40 +62,82 @@ pub fn perform<S: Source, O: Sink, F: Shelf>(
     ensures closed { result ≡ Err Fault.OpenFault → out.new ≡ out.old }
     ensures files { F.files shelf.new ≡ F.files shelf.old }
     ensures stays { S.stands_on input.new ≡ S.stands_on input.old }
+
+    // Watchers stay for alarms alone, and a hub is left where a count ended well.
+    ensures board { alarms_of command ≡ [] → B.places board.new ≡ cleared (B.places board.old) }
+    ensures remains { IfErr result (λ _. remains.new ≡ remains.old) }
+    ensures no_hub { makes_hub command ≡ false → remains.new ≡ remains.old }
 {
     match file {
-        None => execute(alloc, command, most, input, out),
+        None => execute(rt, alloc, command, most, input, out, board, remains),
         Some(name) => match OpenFile::open(shelf, name) {
-            Ok(mut file) => execute(alloc, command, most, &mut file, out),
-            Err(_refused) => Err(Fault::OpenFault),
+            Ok(mut file) => execute(rt, alloc, command, most, &mut file, out, board, remains),
+            Err(_refused) => {
+                set_alarms(&command, board);
+                Err(Fault::OpenFault)
+            }
         },
     }
 }
 
+// Arms the first places for the alarms of a command, and lets all other watchers go.
+fn set_alarms<B: Seen>(command: &Command, board: &mut B)
+    requires within { IsWithin command.now }
+    requires places { length (B.places board.old) ≡ board_places }
+    requires live { All IsSome (B.places board.old) }
+    ensures { alarms_of command.now ≡ [] → B.places board.new ≡ cleared (B.places board.old) }
+{
+    match command {
+        Command::Count(plan) => arm(board, plan.k, plan.alarms.as_slice()),
+        _ => clear(board),
+    }
+}
+
 /// Does what a command asks, over a source of fewer than `most` bytes.
-pub fn execute<S: Source, O: Sink>(
+pub fn execute<R: Threads + Wait + Sync, S: Source, O: Sink, B: Seen>(
+    rt: &R,
     alloc: Global,
     command: Command,
     most: u64,
     source: &mut S,
     out: &mut O,
+    board: &mut B,
+    remains: &mut Remains,
 ) -> Result<(), Fault>
     requires within { IsWithin command }
     requires bound { most ≤ source_limit }
-    ensures done { (from to : Beside) → let old = streams_of S.Source O.Sink source.old out.old in
-        let new = streams_of S.Source O.Sink source.new out.new in Executes (behaviour_of command) most from to old new result }
+    requires places { length (B.places board.old) ≡ board_places }
+    requires live { All IsSome (B.places board.old) }
+    ensures done { let old = streams_of S.Source O.Sink source.old out.old in
+        let new = streams_of S.Source O.Sink source.new out.new in
+        Executes (behaviour_of command) most (beside_of (B.places board.old) remains.old) (beside_of (B.places board.new) remains.new) old new result }
     ensures causes { let old = streams_of S.Source O.Sink source.old out.old in
         let new = streams_of S.Source O.Sink source.new out.new in HasCauses old new result }
     ensures idle { (behaviour_of command).reads ≡ false → source.new ≡ source.old }
     ensures last { (behaviour_of command).writes_last ≡ true → IfErr result (λ fault. fault ≢ Fault.WriteFault → out.new ≡ out.old) }
     ensures opened { result ≢ Err Fault.OpenFault }
+    ensures board { alarms_of command ≡ [] → B.places board.new ≡ cleared (B.places board.old) }
+    ensures remains { IfErr result (λ _. remains.new ≡ remains.old) }
+    ensures no_hub { makes_hub command ≡ false → remains.new ≡ remains.old }
     ensures stays { S.stands_on source.new ≡ S.stands_on source.old }
 {
     match command {
-        Command::Count(plan) => count(alloc, &plan, most, source, out),
-        Command::Hash(plan) => hash(alloc, &plan, most, source, out),
-        Command::Replay => replay(alloc, most, source, out),
-        Command::Help => write_text(out, HELP.as_bytes()),
-        Command::Version => write_text(out, VERSION.as_bytes()),
+        Command::Count(plan) => count(rt, alloc, &plan, most, source, out, board, remains),
+        Command::Hash(plan) => {
+            clear(board);
+            hash(alloc, &plan, most, source, out)
+        }
+        Command::Replay => {
+            clear(board);
+            replay(alloc, most, source, out)
+        }
+        Command::Help => {
+            clear(board);
+            write_text(out, HELP.as_bytes())
+        }
+        Command::Version => {
+            clear(board);
+            write_text(out, VERSION.as_bytes())
+        }
     }
 }

@@ -1,10 +1,10 @@
 //! Laws of what is due and what is refused.
-ghost use Rattle.std.specs.Prelude.{ℕ, List, ◌∷◌, ◌++◌};
+ghost use Rattle.std.specs.Prelude.{◌≡◌, ℕ, None, List, ◌∷◌, ◌++◌};
 ghost use Rattle.sk_cli.specs.Behaviour.{IsDecided, WritesOneText};
 ghost use Rattle.sk_cli.specs.commands.Count.{counting};
 ghost use Rattle.sk_cli.specs.commands.Hash.{hashing};
 ghost use Rattle.sk_cli.specs.commands.Replay.{IsAnswered, IsNoMore, replaying};
-ghost use Rattle.sk_cli.specs.declared.commands.count.CountPlan.{CountPlan};
+ghost use Rattle.sk_count.specs.declared.plan.Plan.{Plan};
 ghost use Rattle.sk_cli.specs.declared.commands.hash.HashPlan.{HashPlan};
 
 /// A line that does not go on with a schedule stands in none that was answered.
@@ -24,8 +24,8 @@ pub fn replay_decides()
     ensures one_text { WritesOneText replaying }
 {}
 
-/// A text is fine or refused in one way, and one estimate is due.
+/// A text is fine or refused in one way, and without a window one estimate is due.
 pub fn count_decides()
-    ensures decided { (plan : CountPlan) → IsDecided (counting plan) }
-    ensures one_text { (plan : CountPlan) → WritesOneText (counting plan) }
+    ensures decided { (plan : Plan) → IsDecided (counting plan) }
+    ensures one_text { (plan : Plan) → plan.window ≡ None → WritesOneText (counting plan) }
 {}

@@ -8,13 +8,12 @@ mod fault;
 pub mod laws;
 mod options;
 mod program;
-mod remains;
 mod values;
 mod watchers;
 mod write;
 
 pub use program::run;
-pub use remains::Remains;
+pub use sk_count::Remains;
 pub use watchers::{BOARD_PLACES, board_of};
 
 #[cfg(test)]

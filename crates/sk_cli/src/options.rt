@@ -1,10 +1,13 @@
 //! The options behind a command: names with a value, and flags, in any order, each at most once.
 
-ghost use Rattle.std.specs.Prelude.{◌+◌, ◌^◌, ◌≡◌, ◌↔◌, IsTrue, IfSome, IfNone, Some, None, ◌<◌, ◌≤◌, length, drop, option_copied, option_map, is_some, IsSome, ◌∷◌};
+ghost use Rattle.std.specs.Prelude.{◌+◌, ◌^◌, ◌≡◌, ◌↔◌, All, IsTrue, IfSome, IfNone, Some, None, ◌<◌, ◌≤◌, length, drop, option_copied, option_map, is_some, IsSome, ◌∷◌};
+ghost use Rattle.sk_model.specs.Limits.{IsFrom, most_size, most_updaters};
+ghost use Rattle.sk_ingest.specs.Windows.{most_lines};
+ghost use Rattle.sk_cli.specs.Beside.{board_places};
 ghost use Rattle.sk_cli.specs.Options.{name_of, takes_value, allows, options_of, texts_of, is_once, value_behind, given_in, spelled_by, is_given, number_in, is_yes_in, seed_by, updaters_by, sizes_by, window_by, eager_by, propagator_by, alarms_by};
 
 use crate::values::{number_from, number_list, yes_or_no};
-use arrayvec::ArrayVec;
+use sk_count::Numbers;
 use sk_model::limits::{MOST_SIZE, MOST_UPDATERS};
 use std::marker::Model;
 
@@ -70,10 +73,7 @@ impl Verb {
         ensures { result ≡ allows self name }
     {
         match self {
-            Verb::Count => matches!(
-                name,
-                Name::Csv | Name::File | Name::K | Name::Raw | Name::Seed
-            ),
+            Verb::Count => true,
             Verb::Hash => name == Name::File || name == Name::Seed,
             Verb::Replay => name == Name::File,
         }
@@ -219,20 +219,23 @@ impl<'a> Options<'a> {
 
     /// How many updaters there are, 1 where that is not given.
     pub fn updaters(&self) -> Option<u32>
-        ensures { result ≡ updaters_by self.now }
+        ensures value { result ≡ updaters_by self.now }
+        ensures within { IfSome result (IsFrom 1 most_updaters) }
     {
         Some(self.number(Name::Updaters, 1, u64::from(MOST_UPDATERS), 1)? as u32)
     }
 
     /// How many items the buffers of the updaters have room for, 64 where that is not given. The last
     /// stands for all further updaters.
-    pub fn sizes(&self) -> Option<ArrayVec<u64, 64>>
-        ensures { option_map (λ list. list.items) result ≡ sizes_by self.now }
+    pub fn sizes(&self) -> Option<Numbers>
+        ensures value { result ≡ sizes_by self.now }
+        ensures some { IfSome result (λ sizes. 1 ≤ length sizes) }
+        ensures within { IfSome result (λ sizes. All (IsFrom 1 most_size) sizes) }
     {
         match self.value(Name::B) {
-            Some(word) => number_list(word.as_bytes(), 1, u64::from(MOST_SIZE)),
+            Some(word) => number_list(word.as_bytes(), 64, 1, u64::from(MOST_SIZE)),
             None => {
-                let mut sizes = ArrayVec::new();
+                let mut sizes = Numbers::new();
                 sizes.push(64);
                 Some(sizes)
             }
@@ -241,7 +244,8 @@ impl<'a> Options<'a> {
 
     /// After how many lines an estimate is written, where that is asked for.
     pub fn window(&self) -> Option<Option<u32>>
-        ensures { result ≡ window_by self.now }
+        ensures value { result ≡ window_by self.now }
+        ensures within { IfSome result (λ window. IfSome window (IsFrom 1 most_lines)) }
     {
         if self.has(Name::Window) {
             Some(Some(self.number(Name::Window, 1, 1_000_000, 1)? as u32))
@@ -265,12 +269,13 @@ impl<'a> Options<'a> {
     }
 
     /// At which estimates an alarm is written.
-    pub fn alarms(&self) -> Option<ArrayVec<u64, 8>>
-        ensures { option_map (λ list. list.items) result ≡ alarms_by self.now }
+    pub fn alarms(&self) -> Option<Numbers>
+        ensures value { result ≡ alarms_by self.now }
+        ensures few { IfSome result (λ alarms. length alarms ≤ board_places) }
     {
         match self.value(Name::Alarm) {
-            Some(word) => number_list(word.as_bytes(), 0, MOST_MARK),
-            None => Some(ArrayVec::new()),
+            Some(word) => number_list(word.as_bytes(), 8, 0, MOST_MARK),
+            None => Some(Numbers::new()),
         }
     }
 

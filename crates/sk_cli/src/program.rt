@@ -1,10 +1,10 @@
 // The top call: words in, a status out.
-ghost use Rattle.std.specs.Prelude.{◌≡◌, ◌≢◌, ◌⊎◌, ◌↔◌, ◌<◌, ℕ, List, length, All, None, Some, IsSome, MatchOption, OnSome, IfNone, IfSome, true, false};
+ghost use Rattle.std.specs.Prelude.{◌≡◌, ◌≢◌, ◌⊎◌, ◌↔◌, ◌<◌, ℕ, List, [], length, All, None, Some, IsSome, MatchOption, OnSome, IfNone, IfSome, true, false};
 ghost use Rattle.sk_model.specs.Limits.{source_limit};
 ghost use Rattle.sk_io.specs.Files.{IsMissing};
 ghost use Rattle.sk_cli.specs.Beside.{beside_of, board_places, cleared};
 ghost use Rattle.sk_cli.specs.Options.{texts_of};
-ghost use Rattle.sk_cli.specs.Command.{request_of, behaviour_of};
+ghost use Rattle.sk_cli.specs.Command.{request_of, behaviour_of, alarms_of, makes_hub};
 ghost use Rattle.sk_cli.specs.Fault.{message_of, status_of};
 ghost use Rattle.sk_cli.specs.Outside.{outside_of};
 ghost use Rattle.sk_cli.specs.Run.{Over, Succeeds, Fails, Reports, RisesAt, RiseAtTheirs, told_text, IsOfCalls};
@@ -14,30 +14,29 @@ ghost use Rattle.sk_cli.specs.declared.fault.Fault.TheVariants as fault;
 use crate::command::Request;
 use crate::execute::perform;
 use crate::fault::Fault;
-use crate::remains::Remains;
-use crate::watchers::clear;
+use sk_count::Remains;
 use sk_io::{Shelf, Sink, Source};
 use sk_model::limits::SOURCE_LIMIT;
-use sk_watch::{Board, Seen};
+use sk_watch::Seen;
 use std::alloc::Global;
 use std::sync::Wait;
 use std::thread::Threads;
 
 /// Runs the program over the words that stand behind its name, and answers its exit status. What
 /// standard error is told is written as far as it goes, and a fault of that write changes nothing.
-pub fn run<R: Threads + Wait + Sync, S: Source, O: Sink, E: Sink, F: Shelf>(
-    _rt: &R,
+pub fn run<R: Threads + Wait + Sync, S: Source, O: Sink, E: Sink, F: Shelf, B: Seen>(
+    rt: &R,
     alloc: Global,
     words: &[String],
     input: &mut S,
     out: &mut O,
     err: &mut E,
     shelf: &mut F,
-    board: &mut Board,
+    board: &mut B,
     remains: &mut Remains,
 ) -> u8
-    requires places { length (⟦<Board as Seen>⟧.places board.old) ≡ board_places }
-    requires live { All IsSome (⟦<Board as Seen>⟧.places board.old) }
+    requires places { length (B.places board.old) ≡ board_places }
+    requires live { All IsSome (B.places board.old) }
     requires no_heart { remains.old.heart ≡ None }
     requires no_token { remains.old.token ≡ None }
 
@@ -48,14 +47,14 @@ pub fn run<R: Threads + Wait + Sync, S: Source, O: Sink, E: Sink, F: Shelf>(
     // What the command reads was read to its end, nothing of it is refused, and the whole text was written.
     ensures ok { result ≡ 0 → IfSome (request_of (texts_of words.now)) (λ asked. let old = outside_of S.Source O.Sink F.Shelf input.old out.old shelf.old in
         let new = outside_of S.Source O.Sink F.Shelf input.new out.new shelf.new in
-        Succeeds asked source_limit (beside_of (⟦<Board as Seen>⟧.places board.old) remains.old) (beside_of (⟦<Board as Seen>⟧.places board.new) remains.new) old new) }
+        Succeeds asked source_limit (beside_of (B.places board.old) remains.old) (beside_of (B.places board.new) remains.new) old new) }
     ensures quiet { result ≡ 0 → err.new ≡ err.old }
 
     // Every other status is that of a fault, which has its place, and of which standard error is told.
     ensures fault { result ≢ 0 → (f : Fault) × (result ≡ status_of f) × Reports E.Sink err.old err.new (message_of f)
         × MatchOption (request_of (texts_of words.now)) (f ≡ fault.Usage) (λ asked. let old = outside_of S.Source O.Sink F.Shelf input.old out.old shelf.old in
         let new = outside_of S.Source O.Sink F.Shelf input.new out.new shelf.new in
-        Fails asked source_limit (beside_of (⟦<Board as Seen>⟧.places board.old) remains.old) old new f) }
+        Fails asked source_limit (beside_of (B.places board.old) remains.old) old new f) }
 
     // A count of faults rises by one at the status of its fault, and stands at every other.
     ensures causes { IfSome (request_of (texts_of words.now)) (λ asked. let old = outside_of S.Source O.Sink F.Shelf input.old out.old shelf.old in
@@ -87,15 +86,16 @@ pub fn run<R: Threads + Wait + Sync, S: Source, O: Sink, E: Sink, F: Shelf>(
         → result ≢ 0 → result ≢ 4 → out.new ≡ out.old) }
     ensures files { F.files shelf.new ≡ F.files shelf.old }
 
-    // No command sets an alarm, and none makes a hub.
-    ensures board { IfSome (request_of (texts_of words.now)) (λ asked. ⟦<Board as Seen>⟧.places board.new ≡ cleared (⟦<Board as Seen>⟧.places board.old)) }
-    ensures remains { remains.new ≡ remains.old }
+    // Watchers stay for alarms alone, and a hub is left where a count ended well.
+    ensures board { IfSome (request_of (texts_of words.now)) (λ asked. alarms_of asked.command ≡ [] → B.places board.new ≡ cleared (B.places board.old)) }
+    ensures remains { result ≢ 0 → remains.new ≡ remains.old }
+    ensures no_hub { IfSome (request_of (texts_of words.now)) (λ asked. makes_hub asked.command ≡ false → remains.new ≡ remains.old) }
 {
     let Some(request) = Request::of(words) else {
         return report(Fault::Usage, err);
     };
-    clear(board);
     match perform(
+        rt,
         alloc,
         request.command,
         request.file,
@@ -103,6 +103,8 @@ pub fn run<R: Threads + Wait + Sync, S: Source, O: Sink, E: Sink, F: Shelf>(
         input,
         out,
         shelf,
+        board,
+        remains,
     ) {
         Ok(()) => 0,
         Err(fault) => report(fault, err),

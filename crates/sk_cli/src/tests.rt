@@ -1,4 +1,8 @@
+ghost use Rattle.std.specs.Prelude.{◌≡◌, All, IsSome, length};
+ghost use Rattle.sk_cli.specs.Beside.{board_places};
+
 mod columns;
+mod counts;
 mod files;
 mod options;
 mod replays;
@@ -6,14 +10,14 @@ mod replays;
 use super::*;
 use crate::command::{Command, Request};
 use crate::commands::about::HELP;
-use crate::commands::count::CountPlan;
 use crate::execute::execute;
 use crate::fault::Fault;
 use crate::options::Name;
+use sk_count::Plan;
 use sk_io::{MemShelf, MemSink, MemSource, Shelf};
-use sk_model::limits::{ITEM_END, LEAST_K, LINE_LIMIT, MOST_K};
+use sk_model::limits::{ITEM_END, LEAST_K, LINE_LIMIT, MOST_K, MOST_SIZE, MOST_UPDATERS};
 use sk_read::Kind;
-use sk_watch::{Alarm, Watcher};
+use sk_watch::{Alarm, Board, Seen, Watcher};
 use std::alloc::Global;
 use std::process::Abort;
 use std::sync::Wait;
@@ -58,23 +62,20 @@ fn words_of(alloc: Global, line: &str) -> Result<Vec<String>, Fail> {
     Ok(words)
 }
 
-// Runs with eight alarms; standard error has so much room.
-fn run_beside<R: Threads + Wait + Sync, F: Shelf>(
+// Runs beside a board; standard error has so much room.
+fn run_with<R: Threads + Wait + Sync, F: Shelf, B: Seen>(
     rt: &R,
     alloc: Global,
     words: &[String],
     input: &mut MemSource,
-    room: usize,
-    err_room: usize,
+    (mut out, err_room): (MemSink, usize),
     shelf: &mut F,
-) -> Result<Ran, Fail> {
-    let mut out = MemSink::new(alloc, room, 7, Vec::new(alloc))?;
+    board: &mut B,
+) -> Result<Ran, Fail>
+    requires places { length (B.places board.old) ≡ board_places }
+    requires live { All IsSome (B.places board.old) }
+{
     let mut err = MemSink::new(alloc, err_room, 1000, Vec::new(alloc))?;
-    let mut boxes: Vec<Option<Box<dyn Watcher>>> = Vec::new(alloc);
-    'place: for _place in 0..BOARD_PLACES {
-        boxes.push(Some(Box::new(alloc, Alarm::new())?))?;
-    }
-    let mut board = board_of(boxes);
     let mut remains = Remains {
         heart: None,
         token: None,
@@ -87,7 +88,7 @@ fn run_beside<R: Threads + Wait + Sync, F: Shelf>(
         &mut out,
         &mut err,
         shelf,
-        &mut board,
+        board,
         &mut remains,
     );
     Ok(Ran {
@@ -95,6 +96,25 @@ fn run_beside<R: Threads + Wait + Sync, F: Shelf>(
         out: out.written().to_vec(alloc)?,
         err: err.written().to_vec(alloc)?,
     })
+}
+
+// Runs with eight alarms; the output and standard error have so much room.
+fn run_beside<R: Threads + Wait + Sync, F: Shelf>(
+    rt: &R,
+    alloc: Global,
+    words: &[String],
+    input: &mut MemSource,
+    room: usize,
+    err_room: usize,
+    shelf: &mut F,
+) -> Result<Ran, Fail> {
+    let out = MemSink::new(alloc, room, 7, Vec::new(alloc))?;
+    let mut boxes: Vec<Option<Box<dyn Watcher>>> = Vec::new(alloc);
+    'place: for _place in 0..BOARD_PLACES {
+        boxes.push(Some(Box::new(alloc, Alarm::new())?))?;
+    }
+    let mut board = board_of(boxes);
+    run_with(rt, alloc, words, input, (out, err_room), shelf, &mut board)
 }
 
 // Runs over a text, beside a shelf with no file.
@@ -107,7 +127,7 @@ fn run_over<R: Threads + Wait + Sync>(
 ) -> Result<Ran, Fail> {
     let words = words_of(alloc, line)?;
     let fails = [streams.fails_at].to_vec(alloc)?;
-    let mut input = MemSource::new(text.to_vec(alloc)?, streams.piece, fails);
+    let mut input = MemSource::new(text.to_vec(alloc)?, streams.piece.max(1), fails);
     let mut shelf = MemShelf::new(Vec::new(alloc), Vec::new(alloc), Vec::new(alloc));
     run_beside(
         rt,
@@ -218,6 +238,22 @@ fn words_that_are_no_command(rt: HostRuntime) -> Result<(), Fail> {
         "replay --seed 1",
         "replay --file a --file b",
         "hash --k 4",
+        "hash --window 1",
+        "replay --alarm 1",
+        "count --updaters 0",
+        "count --updaters 65",
+        "count --updaters 001",
+        "count --b 0",
+        "count --b 4097",
+        "count --b 1,",
+        "count --window 0",
+        "count --window 1000001",
+        "count --eager",
+        "count --eager Yes",
+        "count --propagator maybe",
+        "count --alarm ,1",
+        "count --alarm 1,2,3,4,5,6,7,8,9",
+        "count --alarm 281474976710656",
         "hash --seed",
         "count --k=4",
         "count x",
@@ -324,7 +360,7 @@ fn long_lines(rt: HostRuntime) -> Result<(), Fail> {
 }
 
 // The plan of `count` where no option is given.
-fn plan_of_count(rt: &impl Abort, alloc: Global) -> Result<CountPlan, Fail> {
+fn plan_of_count(rt: &impl Abort, alloc: Global) -> Result<Plan, Fail> {
     let words = words_of(alloc, "count")?;
     let Some(request) = Request::of(&words) else {
         panic!(rt; "no request")
@@ -340,8 +376,8 @@ fn plan_of_count(rt: &impl Abort, alloc: Global) -> Result<CountPlan, Fail> {
 fn help_tells_of_each_option(rt: HostRuntime) -> Result<(), Fail> {
     let alloc = rt.alloc();
     let plan = plan_of_count(&rt, alloc)?;
-    assert!(rt; plan.kind == Kind::Hash(0));
-    assert_eq!(rt; plan.column, 0);
+    assert!(rt; plan.kind == Kind::Hash(0) && plan.column == 0 && plan.window.is_none());
+    assert!(rt; plan.eager && plan.propagator && plan.alarms.as_slice().is_empty());
     let told = [
         format!(in alloc;
             "--k K        how many hashes are kept, {LEAST_K} to {MOST_K} ({})\n",
@@ -351,13 +387,33 @@ fn help_tells_of_each_option(rt: HostRuntime) -> Result<(), Fail> {
             "--seed S     the seed of the hash, 0 to {} (0)\n",
             u32::MAX
         )?,
+        format!(in alloc;
+            "share the lines, 1 to {MOST_UPDATERS} ({})\n",
+            plan.updaters
+        )?,
+        format!(in alloc;
+            "hands over at once, 1 to {MOST_SIZE} each ({});",
+            plan.sizes.as_slice()[0]
+        )?,
         format!(in alloc; "a number from 0 to {}\n", ITEM_END - 1)?,
         format!(in alloc; "A line has at most {LINE_LIMIT} bytes.")?,
     ];
     for text in &told {
         assert!(rt; HELP.contains(text.as_str()), "{text}");
     }
-    let names = ["--csv", "--file", "--k", "--raw", "--seed"];
+    let names = [
+        "--alarm",
+        "--b",
+        "--csv",
+        "--eager",
+        "--file",
+        "--k",
+        "--propagator",
+        "--raw",
+        "--seed",
+        "--updaters",
+        "--window",
+    ];
     for name in names {
         assert!(rt; Name::of(name).is_some() && HELP.contains(name), "{name}");
     }
@@ -380,6 +436,39 @@ fn reads_that_fail(rt: HostRuntime) -> Result<(), Fail> {
     Ok(())
 }
 
+// What is counted of a text with a bound of 8 bytes.
+fn counted_within<R: Threads + Wait + Abort + Sync>(
+    rt: &R,
+    alloc: Global,
+    text: &[u8],
+) -> Result<Result<(), Fault>, Fail> {
+    let words = words_of(alloc, "count --raw --k 4")?;
+    let Some(request) = Request::of(&words) else {
+        panic!(rt; "no request")
+    };
+    let mut input = MemSource::new(text.to_vec(alloc)?, 3, Vec::new(alloc));
+    let mut out = MemSink::new(alloc, 100, 7, Vec::new(alloc))?;
+    let mut boxes: Vec<Option<Box<dyn Watcher>>> = Vec::new(alloc);
+    'place: for _place in 0..BOARD_PLACES {
+        boxes.push(Some(Box::new(alloc, Alarm::new())?))?;
+    }
+    let mut board = board_of(boxes);
+    let mut remains = Remains {
+        heart: None,
+        token: None,
+    };
+    Ok(execute(
+        rt,
+        alloc,
+        request.command,
+        8,
+        &mut input,
+        &mut out,
+        &mut board,
+        &mut remains,
+    ))
+}
+
 // With a bound of 8 bytes: fewer are fine, as many are too much, and a refused line comes first.
 #[test]
 fn too_much(rt: HostRuntime) -> Result<(), Fail> {
@@ -391,14 +480,7 @@ fn too_much(rt: HostRuntime) -> Result<(), Fail> {
         (b"1\nx\n3\n4\n", Err(Fault::BadItem(2))),
     ];
     for (text, want) in cases {
-        let mut input = MemSource::new(text.to_vec(alloc)?, 3, Vec::new(alloc));
-        let mut out = MemSink::new(alloc, 100, 7, Vec::new(alloc))?;
-        let command = Command::Count(CountPlan {
-            k: 4,
-            kind: Kind::Raw,
-            column: 0,
-        });
-        assert_eq!(rt; execute(alloc, command, 8, &mut input, &mut out), want);
+        assert_eq!(rt; counted_within(&rt, alloc, text)?, want);
     }
     Ok(())
 }

@@ -1,8 +1,10 @@
 //! What the value of an option spells: numbers, lists of them, and yes or no.
-ghost use Rattle.std.specs.Prelude.{◌≡◌, ◌+◌, ◌^◌, ◌<◌, ◌≤◌, ◌∷◌, IfSome, option_map, option_copied};
+ghost use Rattle.std.specs.Prelude.{◌≡◌, ◌+◌, ◌^◌, ◌<◌, ◌≤◌, ◌∷◌, All, length, IfSome, option_copied};
+ghost use Rattle.sk_model.specs.Limits.{IsFrom};
+ghost use Rattle.sk_count.specs.Limits.{most_numbers};
 ghost use Rattle.sk_cli.specs.Values.{number_from, number_list, parts_of, parts_in, yes_or_no};
 
-use arrayvec::ArrayVec;
+use sk_count::Numbers;
 use sk_lines::read_number;
 
 /// The number from `low` to `high` that a word spells.
@@ -27,21 +29,24 @@ fn first_part(word: &[u8]) -> (&[u8], Option<&[u8]>)
     (word, None)
 }
 
-/// The numbers from `low` to `high` that a word spells, joined by commas. `None` where they are more than `MOST`.
-pub fn number_list<const MOST: usize>(
-    word: &[u8],
-    low: u64,
-    high: u64,
-) -> Option<ArrayVec<u64, MOST>>
-    requires { high + 1 < 2 ^ 64 }
-    ensures { option_map (λ list. list.items) result ≡ number_list MOST low high word.now }
+/// The numbers from `low` to `high` that a word spells, joined by commas. `None` where they are more than `most`.
+pub fn number_list(word: &[u8], most: usize, low: u64, high: u64) -> Option<Numbers>
+    requires end { high + 1 < 2 ^ 64 }
+    requires few { most ≤ most_numbers }
+    ensures value { result ≡ number_list most low high word.now }
+    ensures some { IfSome result (λ numbers. 1 ≤ length numbers) }
+    ensures few { IfSome result (λ numbers. length numbers ≤ most) }
+    ensures within { IfSome result (λ numbers. All (IsFrom low high) numbers) }
 {
-    let mut numbers = ArrayVec::new();
+    let mut numbers = Numbers::new();
     let mut rest = Some(word);
     'part: while let Some(text) = rest {
         let (part, behind) = first_part(text);
         let number = number_from(part, low, high)?;
-        numbers.try_push(number).ok()?;
+        if numbers.as_slice().len() == most {
+            return None;
+        }
+        numbers.push(number);
         rest = behind;
     }
     Some(numbers)

@@ -18,11 +18,11 @@ pub fn board_of(boxes: Vec<Option<Box<dyn Watcher>>>) -> Board
 }
 
 /// Lets all watchers go.
-pub fn clear(board: &mut Board)
-    requires { length (⟦<Board as Seen>⟧.places board.old) ≡ board_places }
-    ensures { ⟦<Board as Seen>⟧.places board.new ≡ cleared (⟦<Board as Seen>⟧.places board.old) }
+pub fn clear<B: Seen>(board: &mut B)
+    requires { length (B.places board.old) ≡ board_places }
+    ensures { B.places board.new ≡ cleared (B.places board.old) }
 {
     'clear: for place in 0..BOARD_PLACES {
-        board.drop_at(place);
+        board.let_go(place);
     }
 }

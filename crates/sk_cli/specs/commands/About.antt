@@ -7,6 +7,7 @@ abbrev pub about : List ℕ → Behaviour
 about page = record {
   reads = false;
   writes_last = true;
+  writes_by_lines = false;
   IsFine = λ text. Unit {0};
   IsFineSoFar = λ taken. ⊥;
   Refuses = λ fault text. ⊥;

@@ -1,18 +1,26 @@
 -- What `count` is asked, and what it does.
-use Rattle.std.specs.Prelude.{◌≡◌, ℕ, ◌<◌, ◌≤◌, ◌-◌, true, List, [], length, take, All, if◌then◌else◌, Option, Some, IsNone, option_and_then, option_map}
-use Rattle.sk_model.specs.Limits.{least_k, most_k, IsFrom}
-use Rattle.sk_model.specs.Sketch.{estimate_of}
-use Rattle.sk_lines.specs.Fractions.{estimate_line}
+use Rattle.std.specs.Prelude.{◌≡◌, ℕ, ◌<◌, ◌≤◌, ◌-◌, Bool, true, false, List, [], ◌∷◌, ◌++◌, length, take, All, if◌then◌else◌, Option, Some, IfSome, IsNone, is_none, option_and_then, option_map}
+use Rattle.sk_model.specs.Limits.{least_k, most_k, most_size, most_updaters, IsFrom}
+use Rattle.sk_gate.specs.Hands.{TokenState}
+use Rattle.sk_hub.specs.Hearts.{HeartState}
 use Rattle.sk_read.specs.declared.kind.Kind.{Kind}
 use Rattle.sk_read.specs.declared.kind.Kind.TheVariants as kind
 use Rattle.sk_read.specs.Items.{items_by, item_of, IsGood}
 use Rattle.sk_read.specs.Units.{units_by, units_of, complete_units_of, IsSound, IsSoundUpTo, IsSoundSoFar, IsLongBehind, IsUnevenBehind}
 use Rattle.sk_read.specs.declared.units.Units.{Units}
+use Rattle.sk_ingest.specs.Windows.{most_lines}
+use Rattle.sk_count.specs.declared.plan.Plan.{Plan}
+use Rattle.sk_count.specs.Plans as plans
+use Rattle.sk_count.specs.Counts.{Course, armed_by, last_line}
+use Rattle.sk_count.specs.Hubs.{ShowsAll, ShowsMoments}
+use Rattle.sk_count.specs.Texts.{interim_text, places_after}
 use Rattle.sk_cli.specs.Behaviour.{Behaviour}
-use Rattle.sk_cli.specs.Lines.{line_at}
-use Rattle.sk_cli.specs.Options.{Given, value_behind, is_given, number_in, seed_by}
+use Rattle.sk_cli.specs.Beside.{Beside, board_places}
+use Rattle.sk_cli.specs.Lines.{line_at, lines_before}
+use Rattle.sk_cli.specs.Options.{Given, value_behind, is_given, number_in, seed_by, updaters_by, sizes_by, window_by, eager_by, propagator_by, alarms_by}
 use Rattle.sk_cli.specs.declared.options.Name.TheVariants as name
-use Rattle.sk_cli.specs.declared.commands.count.CountPlan.{CountPlan}
+use Rattle.sk_cli.specs.declared.commands.count.What.{What}
+use Rattle.sk_cli.specs.declared.commands.count.How.{How}
 use Rattle.sk_cli.specs.declared.fault.Fault.{Fault}
 use Rattle.sk_cli.specs.declared.fault.Fault.TheVariants.{LongLine, BadItem, BadField, BadCsv}
 
@@ -26,40 +34,72 @@ kind_by given seed = if is_given name.Raw given then kind.Raw else kind.Hash see
 abbrev pub column_by : List Given → Option ℕ
 column_by given = if is_given name.Csv given then number_in 1 4096 1 (value_behind name.Csv given) else Some 0
 
--- the plan that options spell
-abbrev pub plan_by : List Given → Option CountPlan
-plan_by given =
+-- what is counted, and by how many hashes
+abbrev pub what_by : List Given → Option What
+what_by given =
     option_and_then (λ k. option_and_then (λ seed. option_map (λ column. record { k = k; kind = kind_by given seed; column = column }) (column_by given)) (seed_by given))
     (number_in least_k most_k 4096 (value_behind name.K given))
 
--- its numbers are within their limits
-abbrev pub IsWithin : CountPlan → Type 0
-IsWithin plan = IsFrom least_k most_k plan.k
+-- by which updaters, and what is told on the way
+abbrev pub how_by : List Given → Option How
+how_by given =
+    option_and_then (λ updaters. option_and_then (λ sizes. option_and_then (λ window. option_and_then (λ eager. option_and_then (λ propagator.
+    option_map (λ alarms. record { updaters = updaters; sizes = sizes; window = window; eager = eager; propagator = propagator; alarms = alarms })
+    (alarms_by given)) (propagator_by given)) (eager_by given)) (window_by given)) (sizes_by given)) (updaters_by given)
+
+abbrev pub plan_with : What → How → Plan
+plan_with what how = record {
+  k = what.k;
+  kind = what.kind;
+  column = what.column;
+  sizes = how.sizes;
+  updaters = how.updaters;
+  window = how.window;
+  eager = how.eager;
+  propagator = how.propagator;
+  alarms = how.alarms;
+}
+
+-- the plan that options spell
+abbrev pub plan_by : List Given → Option Plan
+plan_by given = option_and_then (λ what. option_map (λ how. plan_with what how) (how_by given)) (what_by given)
+
+-- their numbers are within their limits
+abbrev pub IsWhat : What → Type 0
+IsWhat what = IsFrom least_k most_k what.k
+
+pub record IsHow (how : How) : Type 0 where
+  pub updaters : IsFrom 1 most_updaters how.updaters
+  pub some : 1 ≤ length how.sizes
+  pub sizes : All (IsFrom 1 most_size) how.sizes
+  pub window : IfSome how.window (IsFrom 1 most_lines)
+  pub alarms : length how.alarms ≤ board_places
+
+-- its numbers are within their limits, and there are no more alarms than places
+pub record IsWithin (plan : Plan) : Type 0 where
+  pub numbers : plans.IsWithin plan
+  pub alarms : length plan.alarms ≤ board_places
 
 -- ---- what it does
 
 -- what is counted: the lines, or the fields in a column of the records
-abbrev pub counted : CountPlan → Units
+abbrev pub counted : Plan → Units
 counted plan = units_by plan.column
 
--- the line of the estimate of a text's items
-abbrev pub estimate_text : CountPlan → List ℕ → List ℕ
-estimate_text plan text = estimate_line (estimate_of plan.k (items_by plan.kind (units_of (counted plan) text)))
-
 -- no line or field of a text is refused: none is too long, and each is an item or empty
-abbrev pub IsReadable : CountPlan → List ℕ → Type 0
+abbrev pub IsReadable : Plan → List ℕ → Type 0
 IsReadable plan text = IsSound (counted plan) text × All (IsGood plan.kind) (units_of (counted plan) text)
 
 -- none of these bytes of a text that may go on is refused so far
-abbrev pub IsReadableSoFar : CountPlan → List ℕ → Type 0
+abbrev pub IsReadableSoFar : Plan → List ℕ → Type 0
 IsReadableSoFar plan taken = IsSoundSoFar (counted plan) taken × All (IsGood plan.kind) (complete_units_of (counted plan) taken)
 
 -- each line or field before number n, counted from 1, is an item or empty
-abbrev pub AreGoodBefore : CountPlan → ℕ → List ℕ → Type 0
+abbrev pub AreGoodBefore : Plan → ℕ → List ℕ → Type 0
 AreGoodBefore plan n text = (1 ≤ n) × All (IsGood plan.kind) (take (n - 1) (units_of (counted plan) text))
 
 -- number n is the first line or field of a text that is refused, as no item
-pub record IsBadUnit (plan : CountPlan) (n : ℕ) (text : List ℕ) : Type 0 where
+pub record IsBadUnit (plan : Plan) (n : ℕ) (text : List ℕ) : Type 0 where
   pub before : AreGoodBefore plan n text
   pub sound : IsSoundUpTo (counted plan) n text
   pub to : n ≤ length (units_of (counted plan) text)
@@ -67,24 +107,50 @@ pub record IsBadUnit (plan : CountPlan) (n : ℕ) (text : List ℕ) : Type 0 whe
   pub bad : IsNone (item_of plan.kind (line_at n (units_of (counted plan) text)))
 
 -- the first line or record of a text that is refused is refused by this fault
-abbrev pub IsRefusedBy : CountPlan → Fault → List ℕ → Type 0
+abbrev pub IsRefusedBy : Plan → Fault → List ℕ → Type 0
 IsRefusedBy plan (LongLine n) text = AreGoodBefore plan n text × IsLongBehind (counted plan) (n - 1) text
 IsRefusedBy plan (BadItem n) text = (plan.column ≡ 0) × IsBadUnit plan n text
 IsRefusedBy plan (BadField n) text = (0 < plan.column) × IsBadUnit plan n text
 IsRefusedBy plan (BadCsv n) text = AreGoodBefore plan n text × IsUnevenBehind (counted plan) (n - 1) text
 IsRefusedBy plan other text = ⊥
 
--- it reads all, and then writes the estimate
-abbrev pub counting : CountPlan → Behaviour
+-- ---- what it writes, with a course of it: its units cut into windows, and a moment behind each full one
+
+-- the interim text of these units: a line for each moment, with the alarms that its reply sets off
+pub record IsInterim (plan : Plan) (from : Beside) (units : List (List ℕ)) (due : List ℕ) : Type 0 where
+  pub course : Course plan units
+  pub is : due ≡ interim_text plan.k (armed_by plan from.board) course.moments
+
+-- the whole text of these units: the interim text, and then one thread's estimate of all items
+pub record IsWhole (plan : Plan) (from : Beside) (units : List (List ℕ)) (due : List ℕ) : Type 0 where
+  pub course : Course plan units
+  pub is : due ≡ interim_text plan.k (armed_by plan from.board) course.moments ++ last_line plan units
+
+-- once this is written, the board is as the last moment left it, and the heart and the token of the one hub that counted
+-- are left, and show this run
+pub record LeavesHub (plan : Plan) (from : Beside) (units : List (List ℕ)) (due : List ℕ) (to : Beside) : Type 0 where
+  pub course : Course plan units
+  pub is : due ≡ interim_text plan.k (armed_by plan from.board) course.moments ++ last_line plan units
+  pub board : to.board ≡ places_after plan.k (armed_by plan from.board) course.moments
+  pub heart : HeartState
+  pub token : TokenState
+  pub remains : to.remains ≡ record { heart = Some heart; token = Some token }
+  pub hub : token.table ≡ heart.table
+  pub shows : ShowsAll plan (items_by plan.kind units) (course.windows ++ course.rest ∷ []) course.moments heart
+  pub asked : ShowsMoments plan course.moments token
+
+-- it writes the interim text as it reads, and last the estimate
+abbrev pub counting : Plan → Behaviour
 counting plan = record {
   reads = true;
-  writes_last = true;
+  writes_last = is_none plan.window;
+  writes_by_lines = false;
   IsFine = IsReadable plan;
   IsFineSoFar = IsReadableSoFar plan;
   Refuses = IsRefusedBy plan;
-  IsDue = λ from text due. due ≡ estimate_text plan text;
-  Leaves = λ from text due to. Unit {0};
-  IsDueSoFar = λ from taken due. due ≡ [];
-  IsDueAt = λ from fault text due. due ≡ [];
-  IsDueBefore = λ from text due. due ≡ [];
+  IsDue = λ from text due. IsWhole plan from (units_of (counted plan) text) due;
+  Leaves = λ from text due to. LeavesHub plan from (units_of (counted plan) text) due to;
+  IsDueSoFar = λ from taken due. IsInterim plan from (complete_units_of (counted plan) taken) due;
+  IsDueAt = λ from fault text due. IsInterim plan from (lines_before fault (units_of (counted plan) text)) due;
+  IsDueBefore = λ from text due. (n : ℕ) × IsSoundUpTo (counted plan) n text × IsInterim plan from (take n (units_of (counted plan) text)) due;
 }

@@ -30,6 +30,7 @@ abbrev pub hashing : HashPlan → Behaviour
 hashing plan = record {
   reads = true;
   writes_last = false;
+  writes_by_lines = true;
   IsFine = λ text. AreWithin line_limit (lines_of text);
   IsFineSoFar = λ taken. AreWithin line_limit (open_lines_of taken);
   Refuses = λ fault text. IsRefusedBy fault (lines_of text);

@@ -106,6 +106,7 @@ abbrev pub replaying : Behaviour
 replaying = record {
   reads = true;
   writes_last = false;
+  writes_by_lines = true;
   IsFine = λ text. AreWithin line_limit (lines_of text) × IsSchedule (lines_of text) × (0 < length (lines_of text));
   IsFineSoFar = λ taken. AreWithin line_limit (open_lines_of taken) × IsSchedule (complete_lines_of taken);
   Refuses = λ fault text. IsRefusedBy fault (lines_of text);

@@ -5,13 +5,22 @@ pub const HELP: &str = "\
 sketchd estimates how many distinct items a stream has, by a sketch of the k smallest hashes.
 
 usage:
-  sketchd count [--k K] [--raw] [--seed S] [--csv C] [--file NAME]
+  sketchd count [--k K] [--raw] [--seed S] [--csv C] [--file NAME] [--updaters N] [--b B,..]
+                [--window W] [--alarm M,..] [--eager yes|no] [--propagator yes|no]
       writes the estimate of how many distinct lines there are that are not empty
       --k K        how many hashes are kept, 2 to 32768 (4096)
       --csv C      counts column C, 1 to 4096, of comma-separated values in place of lines
       --raw        each line spells its item, a number from 0 to 281474976710655
       --seed S     the seed of the hash, 0 to 4294967295 (0)
       --file NAME  reads this file in place of the standard input
+      --updaters N how many updaters share the lines, 1 to 64 (1)
+      --b B,..     how many items an updater hands over at once, 1 to 4096 each (64); the last
+                   number is that of all further updaters
+      --window W   writes an estimate after each W lines too, 1 to 1000000
+      --alarm M,.. writes a line at the first such estimate of M or more, 0 to 281474976710655
+                   each, at most 8
+      --eager      hands over item by item while there are few (yes)
+      --propagator lets one thread take over what updaters hand over (yes)
   sketchd hash [--seed S] [--file NAME]
       writes the hash of each line that is not empty, 12 digits in base 16
       --seed S     the seed of the hash, 0 to 4294967295 (0)

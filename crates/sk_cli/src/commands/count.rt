@@ -1,25 +1,26 @@
 // The command that estimates how many distinct items there are.
-ghost use Rattle.std.specs.Prelude.{◌≡◌, ◌≢◌, ◌≤◌, Ok, Err, IfErr, IfSome, MatchResult};
+ghost use Rattle.std.specs.Prelude.{◌≡◌, ◌≢◌, ◌≤◌, All, IsSome, None, [], Ok, Err, IfErr, IfSome, MatchResult, length, true};
 ghost use Rattle.sk_model.specs.Limits.{source_limit};
+ghost use Rattle.sk_cli.specs.Beside.{Beside, beside_of, board_places, cleared};
 ghost use Rattle.sk_cli.specs.Fault.{fault_by};
-ghost use Rattle.sk_cli.specs.Beside.{Beside};
 ghost use Rattle.sk_cli.specs.Outside.{streams_of};
 ghost use Rattle.sk_cli.specs.Run.{Executes, HasCauses};
-ghost use Rattle.sk_cli.specs.commands.Count.{plan_by, column_by, IsWithin, counting};
+ghost use Rattle.sk_cli.specs.commands.Count.{what_by, how_by, plan_by, column_by, IsWithin, IsWhat, IsHow, counting};
 
 use crate::fault::Fault;
 use crate::options::{Name, Options};
-use crate::write::write_text;
-use sk_heap::HeapTheta;
+use sk_count::{Numbers, Plan, Remains};
 use sk_io::{Sink, Source};
-use sk_lines::put_estimate_line;
 use sk_model::limits::{LEAST_K, MOST_K};
-use sk_read::{Fault as ReadingFault, Intake, Kind, read_items};
+use sk_read::{Fault as ReadingFault, Kind};
+use sk_watch::Seen;
 use std::alloc::Global;
+use std::sync::Wait;
+use std::thread::Threads;
 
 /// What is counted, and by how many hashes.
-#[derive(Clone, Copy, Debug, PartialEq, Eq)]
-pub struct CountPlan {
+#[derive(Clone, Copy)]
+pub struct What {
     /// How many hashes the sketch keeps.
     pub k: u32,
     /// How a line or a field becomes an item.
@@ -28,11 +29,28 @@ pub struct CountPlan {
     pub column: u32,
 }
 
-impl CountPlan {
-    /// The plan that the options spell. `None` where a number is out of its limits.
-    pub fn of(options: &Options<'_>) -> Option<CountPlan>
-        ensures value { result ≡ plan_by options.now }
-        ensures limits { IfSome result IsWithin }
+/// By which updaters items are counted, and what is told on the way.
+#[derive(Clone, Copy)]
+pub struct How {
+    /// How many updaters there are.
+    pub updaters: u32,
+    /// How many items a buffer of each updater holds, the last for all further updaters.
+    pub sizes: Numbers,
+    /// After so many lines an estimate is written, where that is asked for.
+    pub window: Option<u32>,
+    /// Whether updaters propagate by themselves while the sketch is small.
+    pub eager: bool,
+    /// Whether the heart propagates beside the updaters.
+    pub propagator: bool,
+    /// At which estimates an alarm is written.
+    pub alarms: Numbers,
+}
+
+impl What {
+    /// What the options spell. `None` where a number is out of its limits.
+    pub fn of(options: &Options<'_>) -> Option<What>
+        ensures value { result ≡ what_by options.now }
+        ensures limits { IfSome result IsWhat }
     {
         let k = options.number(Name::K, u64::from(LEAST_K), u64::from(MOST_K), 4_096)? as u32;
         let seed = options.seed()?;
@@ -42,8 +60,51 @@ impl CountPlan {
             Kind::Hash(seed)
         };
         let column = column_in(options)?;
-        Some(CountPlan { k, kind, column })
+        Some(What { k, kind, column })
     }
+}
+
+impl How {
+    /// What the options spell. `None` where a value is out of its form or its limits.
+    pub fn of(options: &Options<'_>) -> Option<How>
+        ensures value { result ≡ how_by options.now }
+        ensures limits { IfSome result IsHow }
+    {
+        let updaters = options.updaters()?;
+        let sizes = options.sizes()?;
+        let window = options.window()?;
+        let eager = options.eager()?;
+        let propagator = options.propagator()?;
+        let alarms = options.alarms()?;
+        Some(How {
+            updaters,
+            sizes,
+            window,
+            eager,
+            propagator,
+            alarms,
+        })
+    }
+}
+
+/// The plan that the options spell. `None` where a value is out of its form or its limits.
+pub fn plan_of(options: &Options<'_>) -> Option<Plan>
+    ensures value { result ≡ plan_by options.now }
+    ensures limits { IfSome result IsWithin }
+{
+    let what = What::of(options)?;
+    let how = How::of(options)?;
+    Some(Plan {
+        k: what.k,
+        kind: what.kind,
+        column: what.column,
+        sizes: how.sizes,
+        updaters: how.updaters,
+        window: how.window,
+        eager: how.eager,
+        propagator: how.propagator,
+        alarms: how.alarms,
+    })
 }
 
 // The column of the records that are read in place of lines; 0 for lines.
@@ -57,35 +118,39 @@ fn column_in(options: &Options<'_>) -> Option<u32>
     }
 }
 
-// The answer of a reading, with its fault as one of the program.
-fn answer_of(column: u32, read: Result<u64, ReadingFault>) -> Result<u64, Fault>
-    ensures { MatchResult read (λ n. result ≡ Ok n) (λ fault. result ≡ Err (fault_by column fault)) }
+// The answer of a count, with its fault as one of the program.
+fn answer_of(column: u32, counted: Result<(), ReadingFault>) -> Result<(), Fault>
+    ensures { MatchResult counted (λ done. result ≡ Ok done) (λ fault. result ≡ Err (fault_by column fault)) }
 {
-    read.map_err(|fault| Fault::of_reading(column, fault))
+    counted.map_err(|fault| Fault::of_reading(column, fault))
 }
 
-/// Reads the source to its end, and then writes the estimate of its distinct items.
-pub fn count<S: Source, O: Sink>(
+/// Counts the distinct items of a source by many updaters, and writes an estimate after each full window, where that
+/// is asked for, and last one thread's estimate of all.
+pub fn count<R: Threads + Wait + Sync, S: Source, O: Sink, B: Seen>(
+    rt: &R,
     alloc: Global,
-    plan: &CountPlan,
+    plan: &Plan,
     most: u64,
     source: &mut S,
     out: &mut O,
+    board: &mut B,
+    remains: &mut Remains,
 ) -> Result<(), Fault>
     requires within { IsWithin plan.now }
     requires bound { most ≤ source_limit }
-    ensures done { (from to : Beside) → let old = streams_of S.Source O.Sink source.old out.old in
-        let new = streams_of S.Source O.Sink source.new out.new in Executes (counting plan.now) most from to old new result }
+    requires places { length (B.places board.old) ≡ board_places }
+    requires live { All IsSome (B.places board.old) }
+    ensures done { let old = streams_of S.Source O.Sink source.old out.old in
+        let new = streams_of S.Source O.Sink source.new out.new in
+        Executes (counting plan.now) most (beside_of (B.places board.old) remains.old) (beside_of (B.places board.new) remains.new) old new result }
     ensures causes { let old = streams_of S.Source O.Sink source.old out.old in
         let new = streams_of S.Source O.Sink source.new out.new in HasCauses old new result }
-    ensures last { IfErr result (λ fault. fault ≢ Fault.WriteFault → out.new ≡ out.old) }
+    ensures last { (counting plan.now).writes_last ≡ true → IfErr result (λ fault. fault ≢ Fault.WriteFault → out.new ≡ out.old) }
+    ensures board { plan.now.alarms ≡ [] → B.places board.new ≡ cleared (B.places board.old) }
+    ensures remains { IfErr result (λ _. remains.new ≡ remains.old) }
     ensures stays { S.stands_on source.new ≡ S.stands_on source.old }
 {
-    let mut sketch = HeapTheta::new(alloc, plan.k)?;
-    let intake = Intake::of_items(plan.kind, plan.column, most);
-    answer_of(plan.column, read_items(alloc, &intake, source, &mut sketch))?;
-    let (n, d) = sketch.fraction();
-    let mut line = [0u8; 64];
-    let len = put_estimate_line(&mut line, n, d);
-    write_text(out, &line[..len])
+    let counted = sk_count::count(rt, alloc, plan, most, source, out, board, remains);
+    answer_of(plan.column, counted)
 }

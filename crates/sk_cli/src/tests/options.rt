@@ -26,7 +26,7 @@ fn lists_of_numbers(rt: HostRuntime) -> Result<(), Fail> {
         ("1,-2", None),
     ];
     for (word, want) in cases {
-        let got = number_list::<3>(word.as_bytes(), 1, 4_096);
+        let got = number_list(word.as_bytes(), 3, 1, 4_096);
         let numbers = match &got {
             Some(list) => Some(list.as_slice()),
             None => None,
@@ -54,6 +54,10 @@ fn lists_of_numbers(rt: HostRuntime) -> Result<(), Fail> {
     );
     assert!(rt; options.window() == Some(None));
     assert!(rt; options.eager() == Some(true) && options.propagator() == Some(true));
-    assert!(rt; options.alarms().is_some_and(|alarms| alarms.is_empty()));
+    assert!(rt;
+        options
+            .alarms()
+            .is_some_and(|alarms| alarms.as_slice().is_empty())
+    );
     Ok(())
 }

@@ -1,31 +1,47 @@
 use Rattle.std.proofs.Common.{refl, sym, subst}
-use Rattle.sk_cli.specs.Beside.{Beside}
+use Rattle.sk_cli.specs.Beside.{Beside, beside_of}
 use Rattle.sk_cli.specs.Command.{behaviour_of}
 use Rattle.sk_cli.specs.Outside.{Streams, streams_of}
 use Rattle.sk_cli.specs.Run.{Executes}
 use Rattle.sk_cli.specs.declared.command.Command.{Command}
 use Rattle.sk_cli.specs.declared.commands.about.TheConstants.{HELP, VERSION}
-use Rattle.sk_cli.proofs.Endings.{never_opens, nothing_beside}
+use Rattle.sk_cli.proofs.Endings.{never_opens}
 use Rattle.sk_cli.proofs.Telling.{about_told}
 use Rattle.sk_cli.proofs.execute.execute.Goals as goal
 
-pub returns-in-Count-clause-done : goal.returns-in-Count-clause-done
-returns-in-Count-clause-done g c = λ from to.
-    let a : Streams = streams_of g.S.Source g.O.Sink c.args.source.now c.args.out.now in
-    let b : Streams = streams_of g.S.Source g.O.Sink c.count.new.source c.count.new.out in
-    subst (λ (command : Command). Executes (behaviour_of command) c.args.most from to a b c.count.result) (sym c.in-Count.is) (c.count.ensures.done from to)
-
 pub returns-in-Count-clause-opened : goal.returns-in-Count-clause-opened
-returns-in-Count-clause-opened g c = never_opens _ _ _ _ _ _ c.count.result (c.count.ensures.done nothing_beside nothing_beside)
+returns-in-Count-clause-opened g c = never_opens _ _ _ _ _ _ c.count.result c.count.ensures.done
+
+pub returns-in-Hash-clause-done : goal.returns-in-Hash-clause-done
+returns-in-Hash-clause-done g c =
+    let from : Beside = beside_of (g.B.Seen.places c.args.board.now) c.args.remains.now in
+    let to : Beside = beside_of (g.B.Seen.places c.clear.new.board) c.args.remains.now in
+    let a : Streams = streams_of g.S.Source g.O.Sink c.args.source.now c.args.out.now in
+    let b : Streams = streams_of g.S.Source g.O.Sink c.hash.new.source c.hash.new.out in
+    subst (λ (command : Command). Executes (behaviour_of command) c.args.most from to a b c.hash.result) (sym c.in-Hash.is) (c.hash.ensures.done from to)
 
 pub returns-in-Hash-clause-opened : goal.returns-in-Hash-clause-opened
-returns-in-Hash-clause-opened g c = never_opens _ _ _ _ _ _ c.hash.result (c.hash.ensures.done nothing_beside nothing_beside)
+returns-in-Hash-clause-opened g c =
+    let beside : Beside = beside_of (g.B.Seen.places c.args.board.now) c.args.remains.now in
+    never_opens _ _ _ _ _ _ c.hash.result (c.hash.ensures.done beside beside)
+
+pub returns-in-Replay-clause-done : goal.returns-in-Replay-clause-done
+returns-in-Replay-clause-done g c =
+    let from : Beside = beside_of (g.B.Seen.places c.args.board.now) c.args.remains.now in
+    let to : Beside = beside_of (g.B.Seen.places c.clear-in-Replay.new.board) c.args.remains.now in
+    let a : Streams = streams_of g.S.Source g.O.Sink c.args.source.now c.args.out.now in
+    let b : Streams = streams_of g.S.Source g.O.Sink c.replay.new.source c.replay.new.out in
+    subst (λ (command : Command). Executes (behaviour_of command) c.args.most from to a b c.replay.result) (sym c.in-Replay.is) (c.replay.ensures.done from to)
 
 pub returns-in-Replay-clause-opened : goal.returns-in-Replay-clause-opened
-returns-in-Replay-clause-opened g c = never_opens _ _ _ _ _ _ c.replay.result (c.replay.ensures.done nothing_beside nothing_beside)
+returns-in-Replay-clause-opened g c =
+    let beside : Beside = beside_of (g.B.Seen.places c.args.board.now) c.args.remains.now in
+    never_opens _ _ _ _ _ _ c.replay.result (c.replay.ensures.done beside beside)
 
 pub returns-in-Help-clause-done : goal.returns-in-Help-clause-done
-returns-in-Help-clause-done g c = λ from to.
+returns-in-Help-clause-done g c =
+    let from : Beside = beside_of (g.B.Seen.places c.args.board.now) c.args.remains.now in
+    let to : Beside = beside_of (g.B.Seen.places c.clear-in-Help.new.board) c.args.remains.now in
     let a : Streams = streams_of g.S.Source g.O.Sink c.args.source.now c.args.out.now in
     let b : Streams = streams_of g.S.Source g.O.Sink c.args.source.now c.write_text.new.out in
     let told = c.write_text.ensures in
@@ -33,7 +49,9 @@ returns-in-Help-clause-done g c = λ from to.
     (about_told HELP.now c.as_bytes.result.now c.args.most from to a b c.write_text.result c.as_bytes.ensures.value refl told.ok told.part told.err)
 
 pub returns-in-Version-clause-done : goal.returns-in-Version-clause-done
-returns-in-Version-clause-done g c = λ from to.
+returns-in-Version-clause-done g c =
+    let from : Beside = beside_of (g.B.Seen.places c.args.board.now) c.args.remains.now in
+    let to : Beside = beside_of (g.B.Seen.places c.clear-in-Version.new.board) c.args.remains.now in
     let a : Streams = streams_of g.S.Source g.O.Sink c.args.source.now c.args.out.now in
     let b : Streams = streams_of g.S.Source g.O.Sink c.args.source.now c.write_text-in-Version.new.out in
     let told = c.write_text-in-Version.ensures in

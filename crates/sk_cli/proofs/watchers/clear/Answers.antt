@@ -1,6 +1,7 @@
-use Rattle.std.proofs.Common.{◌∙◌, arith}
+use Rattle.std.proofs.Common.{◌≡◌, ◌∙◌, ap, List, set, None, arith}
+use Rattle.sk_watch.specs.Places.{Place}
 use Rattle.sk_cli.proofs.WatcherLaws.{cleared_more}
 use Rattle.sk_cli.proofs.watchers.clear.Goals as goal
 
 pub clear-preserved : goal.clear-preserved
-clear-preserved g c = c.drop_at.ensures ∙ cleared_more _ _ c.clear.place (omega (arith, c.requires)) c.clear.invariant
+clear-preserved g c = c.let_go.ensures ∙ cleared_more _ _ c.clear.place (omega (arith, c.requires)) c.clear.invariant
