@@ -3,3 +3,4 @@ pub mod Files
 pub mod Memory
 pub mod Opening
 pub mod Standard
+pub mod Traffic

@@ -1,8 +1,9 @@
 -- The forms in memory as contracts see them, and what a call makes of them.
-use Rattle.std.specs.Prelude.{ℕ, ◌+◌, ◌-◌, ◌^◌, ◌==◌, Bool, ◌||◌, if◌then◌else◌, min, List, [], ◌++◌, length, map, take, drop, slice_get, is_none, Vec, String, string_bytes}
+use Rattle.std.specs.Prelude.{◌≡◌, ℕ, ◌+◌, ◌-◌, ◌^◌, ◌==◌, Bool, ◌||◌, if◌then◌else◌, min, List, [], ◌++◌, length, map, take, drop, slice_get, Some, is_none, Vec, String, string_bytes}
 use Rattle.std.specs.List.{list_any}
 use Rattle.std.specs.Option.{option_map_or}
 use Rattle.sk_io.specs.Files.{file_named}
+use Rattle.sk_io.specs.Traffic.{Traffic, IsUntouched, Ended}
 use Rattle.sk_io.specs.declared.mem_shelf.MemFile.{MemFile}
 
 -- the numbers of the calls that fail, and how many calls were made and failed
@@ -103,3 +104,79 @@ abbrev pub after_shelf_read : ShelfState → MemFile → ShelfState
 after_shelf_read s file = if next_fails s.reads
     then record s { reads = failed (called s.reads); last = file }
     else record s { reads = called s.reads; last = file }
+
+-- a link: its traffic, how many bytes may be written on it, the most that one call moves, and its calls
+pub record LinkState : Type 0 where
+  pub traffic : Traffic
+  pub room : ℕ
+  pub piece : ℕ
+  pub calls : Calls
+
+-- before the first call
+abbrev pub new_link : List ℕ → ℕ → ℕ → List ℕ → LinkState
+new_link bytes room piece fails = record {
+  traffic = record { taken = []; left = bytes; written = [] };
+  room = room;
+  piece = piece;
+  calls = planned fails;
+}
+
+-- no read or write was called
+pub record IsNew (l : LinkState) : Type 0 where
+  pub traffic : IsUntouched l.traffic
+  pub calls : l.calls ≡ planned l.calls.fails
+
+-- how many bytes the next read gives to a buffer of this length
+abbrev pub next_received : LinkState → ℕ → ℕ
+next_received l len = min (min len l.piece) (length l.traffic.left)
+
+-- so many bytes more were read
+abbrev pub having_read : ℕ → Traffic → Traffic
+having_read n t = record t { taken = t.taken ++ take n t.left; left = drop n t.left }
+
+-- after a read into a buffer of this length
+abbrev pub after_link_read : LinkState → ℕ → LinkState
+after_link_read l len = if next_fails l.calls
+    then record l { calls = failed (called l.calls) }
+    else record l { traffic = having_read (next_received l len) l.traffic; calls = called l.calls }
+
+-- whether the next write fails, as one that is listed or for want of room
+abbrev pub refuses_on : LinkState → Bool
+refuses_on l = next_fails l.calls || l.room - length l.traffic.written == 0
+
+-- how many bytes the next write takes of so many
+abbrev pub next_sent : LinkState → ℕ → ℕ
+next_sent l len = min (min len l.piece) (l.room - length l.traffic.written)
+
+-- these bytes more were written
+abbrev pub having_sent : List ℕ → Traffic → Traffic
+having_sent bytes t = record t { written = t.written ++ bytes }
+
+-- after a write of these bytes
+abbrev pub after_link_write : LinkState → List ℕ → LinkState
+after_link_write l bytes = if refuses_on l
+    then record l { calls = failed (called l.calls) }
+    else record l { traffic = having_sent (take (next_sent l (length bytes)) bytes) l.traffic; calls = called l.calls }
+
+-- a door: the links that it will give, those that were closed, how many more may be closed, whether it listens, and its
+-- calls of `listen` and `accept`
+pub record DoorState : Type 0 where
+  pub waiting : List LinkState
+  pub closed : List LinkState
+  pub room : ℕ
+  pub listens : Bool
+  pub calls : Calls
+
+-- the record of a link that was closed
+abbrev pub ended_of : LinkState → Ended
+ended_of l = record { traffic = Some l.traffic; faults = l.calls.faults }
+
+-- whether the next accept fails, as one that is listed or for want of a link
+abbrev pub cannot_accept : DoorState → Bool
+cannot_accept d = next_fails d.calls || length d.waiting == 0
+
+-- after an accept
+abbrev pub after_accept : DoorState → DoorState
+after_accept d = if cannot_accept d
+    then record d { calls = failed (called d.calls) }
+    else record d { waiting = drop 1 d.waiting; calls = called d.calls }

@@ -3,7 +3,11 @@
 #![tactic(auto)]
 
 mod bounded;
+mod door;
 mod file_shelf;
+mod link;
+mod mem_door;
+mod mem_link;
 mod mem_shelf;
 mod mem_sink;
 mod mem_source;
@@ -16,7 +20,11 @@ mod stream;
 mod sure_source;
 
 pub use bounded::{BoundFault, read_within};
+pub use door::{Door, DoorFault};
 pub use file_shelf::FileShelf;
+pub use link::{Link, OnLink, send_all};
+pub use mem_door::MemDoor;
+pub use mem_link::MemLink;
 pub use mem_shelf::{MemFile, MemShelf};
 pub use mem_sink::MemSink;
 pub use mem_source::MemSource;

@@ -1,5 +1,5 @@
 // A file that the source that reads it owns.
-ghost use Rattle.std.specs.Prelude.{◌≡◌, [], ◌∷◌, IfOk, IsErr};
+ghost use Rattle.std.specs.Prelude.{◌≡◌, [], ◌∷◌, None, IfOk, IsErr};
 ghost use Rattle.sk_model.specs.Causes.{HasCause};
 ghost use Rattle.sk_io.specs.Files.{told_file, IsMissing};
 
@@ -59,6 +59,7 @@ impl<F: Shelf> Source for OpenFile<'_, F> {
       borrows = s.shelf.ghost_name ∷ [];
       counts = F.open_faults s.shelf.now ∷ [];
       files = F.files s.shelf.now;
+      sides = None;
     } };
 
     fn read(&mut self, buf: &mut [u8]) -> Result<usize, Failed> {

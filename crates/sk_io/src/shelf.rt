@@ -1,5 +1,5 @@
 // Files by name, and an open file as a source.
-ghost use Rattle.std.specs.Prelude.{◌≡◌, ◌<◌, [], ◌∷◌, ℕ, List, Option, length, IfOk, IsErr};
+ghost use Rattle.std.specs.Prelude.{◌≡◌, ◌<◌, [], ◌∷◌, ℕ, List, None, Option, length, IfOk, IsErr};
 ghost use Rattle.std.specs.Io.{ReadsAtMost};
 ghost use Rattle.std.specs.Io.KnownBytes.{ReadConsumes};
 ghost use Rattle.sk_model.specs.Causes.{HasCause};
@@ -76,6 +76,7 @@ impl<F: Shelf> Source for OnShelf<'_, F> {
       borrows = s.shelf.ghost_name ∷ s.file.ghost_name ∷ [];
       counts = F.open_faults s.shelf.now ∷ [];
       files = F.files s.shelf.now;
+      sides = None;
     } };
 
     fn read(&mut self, buf: &mut [u8]) -> Result<usize, Failed> {

@@ -1,7 +1,10 @@
 ghost use Rattle.std.specs.Prelude.{◌≡◌, ◌<◌, ◌⊎◌, length, take, IfOk, IsErr, OnOk, OnErr};
+ghost use Rattle.std.specs.Io.{ReadsAtMost};
 ghost use Rattle.std.specs.Io.KnownBytes.{Consumes, ReadConsumes};
 ghost use Rattle.sk_model.specs.Causes.{HasCause, Rose};
 ghost use Rattle.sk_io.specs.Files.{told_file, IsMissing};
+
+mod links;
 
 use super::*;
 use std::alloc::Global;
@@ -99,6 +102,7 @@ fn writes_fail_where_told(rt: HostRuntime) -> Result<(), Fail> {
 // Reads once, as a function does that knows its source by the trait alone.
 fn piece_of<S: Source>(source: &mut S, piece: &mut [u8]) -> Result<usize, Failed>
     requires { 0 < length piece.old }
+    ensures bound { ReadsAtMost result piece.new }
     ensures bytes { ReadConsumes (S.left source.old) (S.left source.new) result piece.new }
     ensures cause { HasCause (S.faults source.old) (S.faults source.new) result }
     ensures stays { S.stands_on source.new ≡ S.stands_on source.old }
