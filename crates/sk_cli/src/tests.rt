@@ -68,7 +68,8 @@ fn run_with<R: Threads + Wait + Sync, F: Shelf, B: Seen>(
     alloc: Global,
     words: &[String],
     input: &mut MemSource,
-    (mut out, err_room): (MemSink, usize),
+    mut out: MemSink,
+    err_room: usize,
     shelf: &mut F,
     board: &mut B,
 ) -> Result<Ran, Fail>
@@ -114,7 +115,7 @@ fn run_beside<R: Threads + Wait + Sync, F: Shelf>(
         boxes.push(Some(Box::new(alloc, Alarm::new())?))?;
     }
     let mut board = board_of(boxes);
-    run_with(rt, alloc, words, input, (out, err_room), shelf, &mut board)
+    run_with(rt, alloc, words, input, out, err_room, shelf, &mut board)
 }
 
 // Runs over a text, beside a shelf with no file.

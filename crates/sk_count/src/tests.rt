@@ -11,23 +11,27 @@ use std::sync::Wait;
 use std::test::Fail;
 use std::thread::Threads;
 
-// How raw numbers are counted, without a propagator of its own.
+// How a text is counted.
 #[derive(Clone, Copy)]
 struct Case<'a> {
     k: u32,
+    kind: Kind,
     sizes: (u64, u64),
     updaters: u32,
     window: Option<u32>,
     eager: bool,
+    propagator: bool,
     alarms: &'a [u64],
 }
 
 const ALONE: Case<'static> = Case {
     k: 8,
+    kind: Kind::Raw,
     sizes: (2, 2),
     updaters: 1,
     window: Some(5),
     eager: false,
+    propagator: false,
     alarms: &[],
 };
 
@@ -45,13 +49,13 @@ fn plan_of(rt: &impl Abort, case: &Case<'_>) -> Plan
     sizes.push(case.sizes.1);
     Plan {
         k: case.k,
-        kind: Kind::Raw,
+        kind: case.kind,
         column: 0,
         sizes,
         updaters: case.updaters,
         window: case.window,
         eager: case.eager,
-        propagator: false,
+        propagator: case.propagator,
         alarms: marks_of(rt, case.alarms),
     }
 }
@@ -232,5 +236,50 @@ fn windows_before_a_failed_read_are_told(rt: HostRuntime) -> Result<(), Fail> {
         Err(Fault::ReadFault),
         "at 2 estimate 2/1\nat 4 estimate 4/1\n",
     );
+    Ok(())
+}
+
+// The numbers from 1 to n, each in a line of its own.
+fn put_numbers(text: &mut Vec<u8>, alloc: Global, n: u32) -> Result<(), Fail> {
+    'number: for number in 1..=n {
+        let line = format!(in alloc; "{number}\n")?;
+        text.extend_from_slice(line.as_bytes())?;
+    }
+    Ok(())
+}
+
+#[test]
+fn the_last_line_is_the_same_for_any_number_of_updaters(rt: HostRuntime) -> Result<(), Fail> {
+    let alloc = rt.alloc();
+    let mut numbers = Vec::new(alloc);
+    put_numbers(&mut numbers, alloc, 10_000)?;
+    put_numbers(&mut numbers, alloc, 10_000)?;
+    let hashed = b"hello\nhello, world\nThe quick brown fox jumps over the lazy dog.\n";
+    'updaters: for updaters in [1, 4, 64] {
+        let case = Case {
+            k: 4_096,
+            sizes: (64, 64),
+            updaters,
+            window: None,
+            eager: true,
+            propagator: true,
+            ..ALONE
+        };
+        let mut board = Board::new(Vec::new(alloc));
+        let got = counted(&rt, alloc, &case, &numbers, Vec::new(alloc), &mut board)?;
+        expect_text(&rt, got, Ok(()), "estimate 1152640029630136320/4096\n");
+        let case = Case {
+            k: 2,
+            kind: Kind::Hash(0),
+            ..case
+        };
+        let got = counted(&rt, alloc, &case, hashed, Vec::new(alloc), &mut board)?;
+        expect_text(
+            &rt,
+            got,
+            Ok(()),
+            "estimate 281474976710656/224131386917309\n",
+        );
+    }
     Ok(())
 }

@@ -166,13 +166,7 @@ fn relaxed_estimates(rt: HostRuntime) -> Result<(), Fail> {
     }
     let mut board = board_of(boxes);
     let ran = run_with(
-        &rt,
-        alloc,
-        &words,
-        &mut input,
-        (out, 100),
-        &mut shelf,
-        &mut board,
+        &rt, alloc, &words, &mut input, out, 100, &mut shelf, &mut board,
     )?;
     assert_eq!(rt; ran.status, 0);
     assert!(rt; is_one_of(alloc, &ran.out, "alarm 1\nestimate 2/1\n")?);
@@ -205,13 +199,7 @@ fn windows_that_meet_a_fault(rt: HostRuntime) -> Result<(), Fail> {
         }
         let mut board = board_of(boxes);
         let ran = run_with(
-            &rt,
-            alloc,
-            &words,
-            &mut input,
-            (out, 100),
-            &mut shelf,
-            &mut board,
+            &rt, alloc, &words, &mut input, out, 100, &mut shelf, &mut board,
         )?;
         expect(&rt, &ran, line, 4, &due[..call], b"write fault\n");
     }
