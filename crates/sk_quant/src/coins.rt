@@ -1,12 +1,21 @@
 //! The coins of a key.
 ghost use Rattle.std.specs.Prelude.{◌≡◌, ◌+◌, ◌<◌};
-ghost use Rattle.sk_quant.specs.Coins.{coin_of};
+ghost use Rattle.sk_quant.specs.Coins.{coin_of, words_of_key};
 ghost use Rattle.sk_quant.specs.Limits.{coin_end};
 
 use rand_chacha::ChaCha8Rng;
 use rand_core::SeedableRng;
 use rand_core::utils::NextWord;
 use std::marker::Model;
+
+/// The words of a key, none of which was taken: those of ChaCha8, from its start.
+pub fn words_of(key: u64) -> ChaCha8Rng
+    ensures { result ≡ words_of_key key 0 }
+{
+    let mut seed = [0; 32];
+    seed[..8].copy_from_slice(&key.to_le_bytes());
+    ChaCha8Rng::from_seed(seed)
+}
 
 /// The coins of a key, one after another: the lowest bits of the words of ChaCha8, from its start.
 #[derive(Drop)]
@@ -31,11 +40,9 @@ impl Coins {
     pub fn new(key: u64) -> Self
         ensures { result ≡ record { key = key; taken = 0 } }
     {
-        let mut seed = [0; 32];
-        seed[..8].copy_from_slice(&key.to_le_bytes());
         Coins {
             key,
-            words: ChaCha8Rng::from_seed(seed),
+            words: words_of(key),
         }
     }
 

@@ -8,6 +8,7 @@ pub mod limits;
 mod ranks;
 mod sketch;
 
+pub use coins::words_of;
 pub use sk_model::OutOfMemory;
 pub use sketch::Quant;
 
