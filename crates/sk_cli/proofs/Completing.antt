@@ -11,22 +11,23 @@ use Rattle.sk_cli.specs.Values.{Word}
 use Rattle.sk_cli.specs.Outside.{Streams, Outside, over_input, over_file}
 use Rattle.sk_cli.specs.Run.{Finishes, Stops, Refuses, Ends, Over, Succeeds, Fails, told_text, IsOfCalls}
 use Rattle.sk_cli.specs.declared.command.Command.{Command}
-use Rattle.sk_cli.specs.declared.command.Command.TheVariants.{Count, Hash, Replay, Help, Version}
+use Rattle.sk_cli.specs.declared.command.Command.TheVariants.{Count, Hash, Make, Replay, Help, Version}
 use Rattle.sk_cli.specs.declared.commands.about.TheConstants.{HELP, VERSION}
 use Rattle.sk_cli.specs.declared.fault.Fault.{Fault}
 use Rattle.sk_cli.specs.declared.fault.Fault.TheVariants as fault
 use Rattle.sk_cli.proofs.CountDeciding.{count_decides}
-use Rattle.sk_cli.proofs.Deciding.{hash_decides, replay_decides, about_decides}
+use Rattle.sk_cli.proofs.Deciding.{hash_decides, make_decides, replay_decides, about_decides}
 
 decides : (command : Command) → IsDecided (behaviour_of command)
 decides (Count plan) = count_decides plan
 decides (Hash plan) = hash_decides plan
+decides (Make plan) = make_decides plan
 decides Replay = replay_decides
 decides Help = about_decides HELP.now
 decides Version = about_decides VERSION.now
 
 -- what is settled of the bytes taken is so of the text that is told
-settled_told : (P : List ℕ → Type 0) (text taken : List ℕ) (left : Option (List ℕ)) → Consumes (Some text) left taken → IsSettled P left taken → P text
+pub settled_told : (P : List ℕ → Type 0) (text taken : List ℕ) (left : Option (List ℕ)) → Consumes (Some text) left taken → IsSettled P left taken → P text
 settled_told P text taken None consumed settled = absurd consumed
 settled_told P text taken (Some rest) consumed (inl always) = subst P (sym consumed) (always rest)
 settled_told P text taken (Some rest) consumed (inr here) =
@@ -34,11 +35,11 @@ settled_told P text taken (Some rest) consumed (inr here) =
     subst P (sym whole) here.1
 
 -- a source that ended was taken whole
-whole_told : (text taken : List ℕ) (left : Option (List ℕ)) → Consumes (Some text) left taken → IsAtEnd left → taken ≡ text
+pub whole_told : (text taken : List ℕ) (left : Option (List ℕ)) → Consumes (Some text) left taken → IsAtEnd left → taken ≡ text
 whole_told text taken None consumed end = absurd consumed
 whole_told text taken (Some rest) consumed end = sym (consumed ∙ ap (λ (l : List ℕ). taken ++ l) end ∙ append-nil taken)
 
-no_more_told : (text taken : List ℕ) (left : Option (List ℕ)) → Consumes (Some text) left taken → length text < length taken → ⊥
+pub no_more_told : (text taken : List ℕ) (left : Option (List ℕ)) → Consumes (Some text) left taken → length text < length taken → ⊥
 no_more_told text taken None consumed less = absurd consumed
 no_more_told text taken (Some rest) consumed less = absurd (omega (arith, ap length consumed, length-append taken rest, less))
 

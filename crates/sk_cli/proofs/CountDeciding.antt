@@ -12,7 +12,7 @@ use Rattle.sk_read.specs.declared.units.Units.{Units}
 use Rattle.sk_read.specs.declared.units.Units.TheVariants.{Lines, Column}
 use Rattle.sk_cli.specs.Behaviour.{IsDecided, WritesOneText}
 use Rattle.std.specs.Bool.{MatchBool}
-use Rattle.sk_count.specs.Counts.{Course, armed_by, last_line}
+use Rattle.sk_count.specs.Counts.{Course, armed_by, last_lines}
 use Rattle.sk_count.specs.Moments.{Moment, AreMoments, start}
 use Rattle.sk_count.specs.Texts.{interim_text}
 use Rattle.sk_cli.specs.Fault.{bad_unit}
@@ -240,14 +240,14 @@ count_decides plan = record {
 }
 
 -- without a window nobody asks
-no_moments : (plan : Plan) (units : List (List ℕ)) → plan.window ≡ None → (course : Course plan units) → course.moments ≡ []
+pub no_moments : (plan : Plan) (units : List (List ℕ)) → plan.window ≡ None → (course : Course plan units) → course.moments ≡ []
 no_moments plan units none course = subst (λ (w : Option ℕ). MatchBool (is_some w) (AreMoments plan [] start course.windows course.moments) (course.moments ≡ [])) none course.asks
 
 -- without a window one text is due
 pub one_estimate : (plan : Plan) → plan.window ≡ None → WritesOneText (counting plan)
 one_estimate plan none = record {
   due = λ from text due other one two.
-      one.is ∙ ap (λ (m : List Moment). interim_text plan.k (armed_by plan from.board) m ++ last_line plan (units_of (counted plan) text)) (same (units_of (counted plan) text) one.course two.course) ∙ sym two.is;
+      one.is ∙ ap (λ (m : List Moment). interim_text plan.k (armed_by plan from.board) m ++ last_lines plan (units_of (counted plan) text)) (same (units_of (counted plan) text) one.course two.course) ∙ sym two.is;
   refused = λ from f text due other one two.
       one.is ∙ ap (λ (m : List Moment). interim_text plan.k (armed_by plan from.board) m) (same (lines_before f (units_of (counted plan) text)) one.course two.course) ∙ sym two.is;
 }

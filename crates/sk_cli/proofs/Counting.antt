@@ -1,17 +1,16 @@
 -- How `count` goes.
-use Rattle.std.proofs.Common.{◌≡◌, ◌⊎◌, inl, inr, ℕ, zero, suc, ◌+◌, ◌-◌, ◌<◌, ◌≤◌, List, [], ◌∷◌, ◌++◌, length, take, get_or, All, IsNone, Option, Result, Ok, Err, refl, sym, ap, ◌∙◌, subst, arith, append_assoc, length-append, length-take}
+use Rattle.std.proofs.Common.{◌≡◌, ◌⊎◌, inl, inr, ℕ, zero, suc, ◌+◌, ◌-◌, ◌<◌, ◌≤◌, List, [], ◌∷◌, ◌++◌, length, take, get_or, All, IsNone, Result, Ok, Err, refl, sym, ap, ◌∙◌, subst, arith, append_assoc, length-append, length-take}
 use Rattle.std.specs.Result.{MatchResult}
-use Rattle.std.specs.Io.KnownBytes.{Appends, Consumes}
+use Rattle.std.specs.Io.KnownBytes.{Consumes}
 use Rattle.std.proofs.Math.Seq.{get_or-append_seam}
-use Rattle.std.proofs.lemmas.List.{get_or_append_left, get_or-take, take-take, take-map, take_all}
+use Rattle.std.proofs.lemmas.List.{get_or_append_left, get_or-take, take-take, take-map}
 use Rattle.std.proofs.lemmas.List.Elements.{All-take}
-use Rattle.sk_model.specs.Causes.{AppendsFront}
 use Rattle.sk_model.specs.Limits.{line_limit}
 use Rattle.sk_model.specs.Lines.{lines_of, AreWithin}
 use Rattle.sk_model.specs.Missing.{Begins}
 use Rattle.sk_read.specs.Items.{IsGood, item_of}
-use Rattle.sk_read.specs.Reads.{IsSettled, IsInTime as IsReadInTime, ReadsAll, ReadsSome, BreaksOff as ReadingBreaksOff, StopsAt, Ends as ReadingEnds}
-use Rattle.sk_read.specs.Records.{Row, records_of, fields_in, field_of, width_of, AreEven, AreSoundRows}
+use Rattle.sk_read.specs.Reads.{IsSettled, IsInTime as IsReadInTime, ReadsAll, ReadsSome, BreaksOff as ReadingBreaksOff}
+use Rattle.sk_read.specs.Records.{Row, records_of, fields_in, field_of, AreEven, AreSoundRows}
 use Rattle.sk_read.specs.Units.{units_of, complete_units_of, IsSoundUpTo, IsLongBehind, IsUnevenBehind}
 use Rattle.sk_read.specs.declared.fault.Fault.{Fault as ReadingFault}
 use Rattle.sk_read.specs.declared.fault.Fault.TheVariants as reading
@@ -22,10 +21,10 @@ use Rattle.sk_read.proofs.LineEnds.{settled_so}
 use Rattle.sk_watch.specs.Places.{Place}
 use Rattle.sk_count.specs.declared.plan.Plan.{Plan}
 use Rattle.sk_count.specs.declared.remains.Remains.{Remains}
-use Rattle.sk_count.specs.Counts.{Setting, setting, interim_by, last_line, TellsSoFar, TellsAll, TellsPart, TellsPartOfAll, StopsFor, EndsBefore, EndsBehind, Counts}
+use Rattle.sk_count.specs.Counts.{Setting, setting, interim_by, last_lines, TellsSoFar, TellsAll, TellsPart, StopsFor, EndsBefore, EndsBehind, Counts}
 use Rattle.sk_cli.specs.Beside.{Beside, beside_of}
 use Rattle.sk_cli.specs.Lines.{lines_before}
-use Rattle.sk_cli.specs.commands.Count.{counted, counting, IsReadable, IsReadableSoFar, IsRefusedBy, AreGoodBefore, IsBadUnit, IsInterim, IsWhole}
+use Rattle.sk_cli.specs.commands.Count.{counted, counting, IsReadableSoFar, IsRefusedBy, AreGoodBefore, IsBadUnit, IsInterim}
 use Rattle.sk_cli.specs.Fault.{fault_by, bad_unit}
 use Rattle.sk_cli.specs.Outside.{Streams}
 use Rattle.sk_cli.specs.Run.{Finishes, Stops, IsInTime, Refuses, IsDueOnTheWay, BreaksOff, GivesUp, Ends, Executes}
@@ -229,7 +228,7 @@ module _ (plan : Plan) (most : ℕ) (from : Beside) (a b : Streams) (places : Li
   ended_behind : (f : ReadingFault) → EndsBehind plan most old new f → Ends (counting plan) most from a b (fault_by plan.column f)
   ended_behind reading.WriteFault (n, all) = record {
     taken = all.taken;
-    due = interim_by plan old all.gave.course.moments ++ last_line plan (units_of (counted plan) all.taken);
+    due = interim_by plan old all.gave.course.moments ++ last_lines plan (units_of (counted plan) all.taken);
     consumed = all.consumed;
     size = omega (arith, all.size);
     is_due = inl (record { end = all.end; fine = (all.sound, all.gave.course.good); is_due = record { course = all.gave.course; is = refl } });
@@ -238,11 +237,11 @@ module _ (plan : Plan) (most : ℕ) (from : Beside) (a b : Streams) (places : Li
   }
   ended_behind reading.OutOfMemory (n, all) = record {
     taken = all.taken;
-    due = interim_by plan old all.gave.course.moments ++ last_line plan (units_of (counted plan) all.taken);
+    due = interim_by plan old all.gave.course.moments ++ last_lines plan (units_of (counted plan) all.taken);
     consumed = all.consumed;
     size = omega (arith, all.size);
     is_due = inl (record { end = all.end; fine = (all.sound, all.gave.course.good); is_due = record { course = all.gave.course; is = refl } });
-    written = front_of_longer a.written b.written (interim_by plan old all.gave.course.moments) (last_line plan (units_of (counted plan) all.taken)) all.gave.written;
+    written = front_of_longer a.written b.written (interim_by plan old all.gave.course.moments) (last_lines plan (units_of (counted plan) all.taken)) all.gave.written;
   }
   ended_behind f ends = absurd ends
 
@@ -254,7 +253,7 @@ module _ (plan : Plan) (most : ℕ) (from : Beside) (a b : Streams) (places : Li
   finished : (remains : Remains) (n : ℕ) → ReadsAll (counted plan) most n (TellsAll plan old new remains) a.left b.left → Finishes (counting plan) most from (beside_of places remains) a b
   finished remains n all =
       let gave = all.gave in
-      let due = interim_by plan old gave.course.moments ++ last_line plan (units_of (counted plan) all.taken) in
+      let due = interim_by plan old gave.course.moments ++ last_lines plan (units_of (counted plan) all.taken) in
       record {
         text = all.taken;
         due = due;

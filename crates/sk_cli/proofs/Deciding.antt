@@ -10,9 +10,11 @@ use Rattle.sk_cli.specs.Lines.{IsLongLine, line_at, lines_before}
 use Rattle.sk_cli.specs.commands.About.{about}
 use Rattle.sk_cli.specs.commands.Hash.{hashing}
 use Rattle.sk_cli.specs.commands.Hash as hash
+use Rattle.sk_cli.specs.commands.Make.{making}
 use Rattle.sk_cli.specs.commands.Replay.{IsAnswered, IsSchedule, IsBadLine, replaying}
 use Rattle.sk_cli.specs.commands.Replay as replay
 use Rattle.sk_cli.specs.declared.commands.hash.HashPlan.{HashPlan}
+use Rattle.sk_cli.specs.declared.commands.make.MakePlan.{MakePlan}
 use Rattle.sk_cli.specs.declared.fault.Fault.{Fault}
 use Rattle.sk_cli.specs.declared.fault.Fault.TheVariants as fault
 use Rattle.sk_cli.proofs.Schedules.{no_more_is_last, schedule_before, answered_once}
@@ -134,3 +136,11 @@ one_answers = record {
 
 pub about_decides : (page : List ℕ) → IsDecided (about page)
 about_decides page = record { refused = λ f g text one two. absurd one; apart = λ f text one two. absurd two }
+
+-- ---- a count of made lines
+
+pub make_decides : (plan : MakePlan) → IsDecided (making plan)
+make_decides plan = record { refused = λ f g text one two. absurd one; apart = λ f text one two. absurd two }
+
+pub one_report : (plan : MakePlan) → WritesOneText (making plan)
+one_report plan = record { due = λ from text due other one two. one ∙ sym two; refused = λ from f text due other one two. absurd one }

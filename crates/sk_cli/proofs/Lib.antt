@@ -6,6 +6,8 @@ pub mod Deciding
 pub mod Endings
 pub mod Fronts
 pub mod Hashing
+pub mod MadeRuns
+pub mod Making
 pub mod Moves
 pub mod OptionLaws
 pub mod Performing

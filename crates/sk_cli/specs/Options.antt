@@ -6,9 +6,9 @@ use Rattle.sk_model.specs.Limits.{most_size, most_updaters}
 use Rattle.sk_cli.specs.Beside.{board_places}
 use Rattle.sk_cli.specs.Values.{Word, number_from, number_list, yes_or_no}
 use Rattle.sk_cli.specs.declared.options.Verb.{Verb}
-use Rattle.sk_cli.specs.declared.options.Verb.TheVariants.{Count, Hash, Replay}
+use Rattle.sk_cli.specs.declared.options.Verb.TheVariants.{Count, Hash, Make, Replay}
 use Rattle.sk_cli.specs.declared.options.Name.{Name}
-use Rattle.sk_cli.specs.declared.options.Name.TheVariants.{Alarm, B, Csv, Eager, File, K, Propagator, Raw, Seed, Updaters, Window}
+use Rattle.sk_cli.specs.declared.options.Name.TheVariants.{Alarm, B, Csv, Eager, File, K, Key, N, Propagator, Raw, Seed, Updaters, Window}
 
 abbrev pub texts_of : List (String Global) → List Word
 texts_of words = map string_bytes words
@@ -22,11 +22,13 @@ name_of word =
     if bytes_eq word (codes "--eager") then Some Eager else (
     if bytes_eq word (codes "--file") then Some File else (
     if bytes_eq word (codes "--k") then Some K else (
+    if bytes_eq word (codes "--key") then Some Key else (
+    if bytes_eq word (codes "--n") then Some N else (
     if bytes_eq word (codes "--propagator") then Some Propagator else (
     if bytes_eq word (codes "--raw") then Some Raw else (
     if bytes_eq word (codes "--seed") then Some Seed else (
     if bytes_eq word (codes "--updaters") then Some Updaters else (
-    if bytes_eq word (codes "--window") then Some Window else None))))))))))
+    if bytes_eq word (codes "--window") then Some Window else None))))))))))))
 
 -- whether a value stands behind a name
 abbrev pub takes_value : Name → Bool
@@ -35,10 +37,19 @@ takes_value name = true
 
 -- the options that a command has
 abbrev pub allows : Verb → Name → Bool
+allows Count Key = false
+allows Count N = false
 allows Count name = true
 allows Hash File = true
 allows Hash Seed = true
 allows Hash name = false
+allows Make B = true
+allows Make K = true
+allows Make Key = true
+allows Make N = true
+allows Make Propagator = true
+allows Make Updaters = true
+allows Make name = false
 allows Replay File = true
 allows Replay name = false
 
@@ -54,11 +65,13 @@ place_of Csv = 2
 place_of Eager = 3
 place_of File = 4
 place_of K = 5
-place_of Propagator = 6
-place_of Raw = 7
-place_of Seed = 8
-place_of Updaters = 9
-place_of Window = 10
+place_of Key = 6
+place_of N = 7
+place_of Propagator = 8
+place_of Raw = 9
+place_of Seed = 10
+place_of Updaters = 11
+place_of Window = 12
 
 -- the name, where the command has it
 abbrev pub allowed_by : Verb → Option Name → Option Name
@@ -112,6 +125,10 @@ is_given name given = is_some (value_behind name given)
 abbrev pub number_in : ℕ → ℕ → ℕ → Option Word → Option ℕ
 number_in low high default None = Some default
 number_in low high default (Some word) = number_from low high word
+
+-- the number in a value from low to high, which has to be given
+abbrev pub required_in : ℕ → ℕ → Option Word → Option ℕ
+required_in low high value = option_and_then (number_from low high) value
 
 -- the numbers in a value, at most so many from low to high, or the default where there is no value
 abbrev pub numbers_in : ℕ → ℕ → ℕ → List ℕ → Option Word → Option (List ℕ)

@@ -15,6 +15,10 @@ pub record Streams : Type 0 where
 abbrev pub streams_of : {S O : Type 0} → source.Ghosts S → sink.Ghosts O → S → O → Streams
 streams_of s o source out = record { left = s.left source; read_faults = s.faults source; written = o.written out; write_faults = o.faults out }
 
+-- a sink beside a source that stays, of which this is left and which failed so often
+abbrev pub over_output : {O : Type 0} → sink.Ghosts O → Option (List ℕ) → ℕ → O → Streams
+over_output o left faults out = record { left = left; read_faults = faults; written = o.written out; write_faults = o.faults out }
+
 -- all that a run is handed: the standard input, the files with what is left of the one opened last, and the output
 pub record Outside : Type 0 where
   pub input : Option (List ℕ)

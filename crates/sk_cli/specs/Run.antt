@@ -3,6 +3,7 @@ use Rattle.std.specs.Prelude.{◌≡◌, ◌≢◌, ◌⊎◌, ℕ, ◌<◌, ◌
 use Rattle.std.specs.Bool.{OnTrue}
 use Rattle.std.specs.Io.KnownBytes.{Appends, Consumes, IsAtEnd}
 use Rattle.sk_model.specs.Causes.{Rose, HasCauseIn, AppendsFront, AppendsPart}
+use Rattle.sk_model.specs.Lines.{lines_of}
 use Rattle.sk_model.specs.Missing.{Begins}
 use Rattle.sk_io.specs.Files.{told_file}
 use Rattle.sk_io.specs.declared.stream.Sink as sink
@@ -12,6 +13,9 @@ use Rattle.sk_cli.specs.Beside.{Beside}
 use Rattle.sk_cli.specs.Values.{Word}
 use Rattle.sk_cli.specs.Outside.{Streams, Outside, over_input, over_file}
 use Rattle.sk_cli.specs.Command.{Asked, behaviour_of}
+use Rattle.sk_cli.specs.commands.Count.{LeavesHub}
+use Rattle.sk_cli.specs.commands.Make.{text_by, counted_by, made_report}
+use Rattle.sk_cli.specs.declared.commands.make.MakePlan.{MakePlan}
 use Rattle.sk_cli.specs.declared.fault.Fault.{Fault}
 use Rattle.sk_cli.specs.declared.fault.Fault.TheVariants.{OutOfMemory, Usage, ReadFault, WriteFault, OpenFault, TooMuch}
 
@@ -164,6 +168,15 @@ pub record RiseAtTheirs (old new : Streams) (status : ℕ) : Type 0 where
 abbrev pub Reports : {E : Type 0} → sink.Ghosts E → E → E → List ℕ → Type 0
 Reports s old new text = (Appends (s.written old) (s.written new) text × (s.faults new ≡ s.faults old))
     ⊎ (AppendsPart (s.written old) (s.written new) text × Rose (s.faults old) (s.faults new))
+
+-- how a run with `make` went: its whole report was written, and the hub that counted is left; or nothing was written for
+-- want of memory; or a write failed, and a part was written
+pub record RunsMake (plan : MakePlan) (from to : Beside) (old new : Option (List ℕ)) (status : ℕ) : Type 0 where
+  pub ends : (status ≡ 0) ⊎ (status ≡ 1) ⊎ (status ≡ 4)
+  pub whole : status ≡ 0 → Appends old new (made_report plan)
+  pub leaves : status ≡ 0 → LeavesHub (counted_by plan) from (lines_of (text_by plan)) (made_report plan) to
+  pub nothing : status ≡ 1 → new ≡ old
+  pub part : status ≡ 4 → AppendsPart old new (made_report plan)
 
 -- ---- what a text decides of a status
 

@@ -2,4 +2,5 @@
 pub mod About
 pub mod Count
 pub mod Hash
+pub mod Make
 pub mod Replay

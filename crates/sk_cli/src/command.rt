@@ -1,11 +1,12 @@
 // The words of a command line as what is asked.
-ghost use Rattle.std.specs.Prelude.{◌≡◌, IfSome};
+ghost use Rattle.std.specs.Prelude.{◌≡◌, None, IfSome, false};
 ghost use Rattle.std.specs.Option.{option_map, option_copied};
 ghost use Rattle.sk_cli.specs.Options.{texts_of, file_by};
-ghost use Rattle.sk_cli.specs.Command.{request_of, asked_of, asked_by, count_by, hash_by, replay_by, alone, IsWithin};
+ghost use Rattle.sk_cli.specs.Command.{request_of, asked_of, asked_by, count_by, hash_by, make_by, replay_by, alone, takes_file, IsWithin};
 
 use crate::commands::count::plan_of;
 use crate::commands::hash::HashPlan;
+use crate::commands::make::MakePlan;
 use crate::options::{Name, Options, Verb};
 use sk_count::Plan;
 
@@ -16,6 +17,8 @@ pub enum Command {
     Count(Plan),
     /// Write the hash of each line that is not empty.
     Hash(HashPlan),
+    /// Estimate how many distinct numbers there are in lines that the program makes.
+    Make(MakePlan),
     /// Play a schedule and write the answer to each event.
     Replay,
     Help,
@@ -34,11 +37,13 @@ impl<'a> Request<'a> {
     pub fn of(words: &'a [String]) -> Option<Request<'a>>
         ensures value { option_map asked_of result ≡ request_of (texts_of words.now) }
         ensures limits { IfSome result (λ request. IsWithin request.command) }
+        ensures unfiled { IfSome result (λ request. takes_file request.command ≡ false → request.file ≡ None) }
     {
         let (verb, behind) = words.split_first()?;
         match verb.as_str() {
             "count" => Request::count(&Options::new(Verb::Count, behind)?),
             "hash" => Request::hash(&Options::new(Verb::Hash, behind)?),
+            "make" => Request::make(&Options::new(Verb::Make, behind)?),
             "replay" => Request::replay(&Options::new(Verb::Replay, behind)?),
             "--help" => alone(Command::Help, behind),
             "--version" => alone(Command::Version, behind),
@@ -49,6 +54,7 @@ impl<'a> Request<'a> {
     fn count(options: &Options<'a>) -> Option<Request<'a>>
         ensures value { option_map asked_of result ≡ asked_by count_by options.now }
         ensures limits { IfSome result (λ request. IsWithin request.command) }
+        ensures unfiled { IfSome result (λ request. takes_file request.command ≡ false → request.file ≡ None) }
     {
         let command = Command::Count(plan_of(options)?);
         let file = file_in(options)?;
@@ -58,15 +64,29 @@ impl<'a> Request<'a> {
     fn hash(options: &Options<'a>) -> Option<Request<'a>>
         ensures value { option_map asked_of result ≡ asked_by hash_by options.now }
         ensures limits { IfSome result (λ request. IsWithin request.command) }
+        ensures unfiled { IfSome result (λ request. takes_file request.command ≡ false → request.file ≡ None) }
     {
         let command = Command::Hash(HashPlan::of(options)?);
         let file = file_in(options)?;
         Some(Request { command, file })
     }
 
+    fn make(options: &Options<'a>) -> Option<Request<'a>>
+        ensures value { option_map asked_of result ≡ make_by options.now }
+        ensures limits { IfSome result (λ request. IsWithin request.command) }
+        ensures unfiled { IfSome result (λ request. takes_file request.command ≡ false → request.file ≡ None) }
+    {
+        let command = Command::Make(MakePlan::of(options)?);
+        Some(Request {
+            command,
+            file: None,
+        })
+    }
+
     fn replay(options: &Options<'a>) -> Option<Request<'a>>
         ensures value { option_map asked_of result ≡ asked_by replay_by options.now }
         ensures limits { IfSome result (λ request. IsWithin request.command) }
+        ensures unfiled { IfSome result (λ request. takes_file request.command ≡ false → request.file ≡ None) }
     {
         let file = file_in(options)?;
         Some(Request {
@@ -80,6 +100,7 @@ impl<'a> Request<'a> {
 fn alone<'a>(command: Command, behind: &[String]) -> Option<Request<'a>>
     ensures value { option_map asked_of result ≡ alone command (texts_of behind.now) }
     ensures same { IfSome result (λ request. request.command ≡ command) }
+    ensures unfiled { IfSome result (λ request. request.file ≡ None) }
 {
     if behind.is_empty() {
         Some(Request {

@@ -2,4 +2,5 @@
 pub mod about;
 pub mod count;
 pub mod hash;
+pub mod make;
 pub mod replay;

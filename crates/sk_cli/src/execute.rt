@@ -13,6 +13,7 @@ use crate::command::Command;
 use crate::commands::about::{HELP, VERSION};
 use crate::commands::count::count;
 use crate::commands::hash::hash;
+use crate::commands::make::make;
 use crate::commands::replay::replay;
 use crate::fault::Fault;
 use crate::watchers::clear;
@@ -127,6 +128,7 @@ pub fn execute<R: Threads + Wait + Sync, S: Source, O: Sink, B: Seen>(
             clear(board);
             hash(alloc, &plan, most, source, out)
         }
+        Command::Make(plan) => make(rt, alloc, &plan, out, board, remains),
         Command::Replay => {
             clear(board);
             replay(alloc, most, source, out)

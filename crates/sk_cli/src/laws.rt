@@ -3,9 +3,11 @@ ghost use Rattle.std.specs.Prelude.{◌≡◌, ℕ, None, List, ◌∷◌, ◌++
 ghost use Rattle.sk_cli.specs.Behaviour.{IsDecided, WritesOneText};
 ghost use Rattle.sk_cli.specs.commands.Count.{counting};
 ghost use Rattle.sk_cli.specs.commands.Hash.{hashing};
+ghost use Rattle.sk_cli.specs.commands.Make.{making};
 ghost use Rattle.sk_cli.specs.commands.Replay.{IsAnswered, IsNoMore, replaying};
 ghost use Rattle.sk_count.specs.declared.plan.Plan.{Plan};
 ghost use Rattle.sk_cli.specs.declared.commands.hash.HashPlan.{HashPlan};
+ghost use Rattle.sk_cli.specs.declared.commands.make.MakePlan.{MakePlan};
 
 /// A line that does not go on with a schedule stands in none that was answered.
 pub fn no_more_is_last()
@@ -28,4 +30,10 @@ pub fn replay_decides()
 pub fn count_decides()
     ensures decided { (plan : Plan) → IsDecided (counting plan) }
     ensures one_text { (plan : Plan) → plan.window ≡ None → WritesOneText (counting plan) }
+{}
+
+/// No text is refused by a count of made lines, and one report is due.
+pub fn make_decides()
+    ensures decided { (plan : MakePlan) → IsDecided (making plan) }
+    ensures one_text { (plan : MakePlan) → WritesOneText (making plan) }
 {}

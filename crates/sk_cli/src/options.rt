@@ -4,7 +4,7 @@ ghost use Rattle.std.specs.Prelude.{◌+◌, ◌^◌, ◌≡◌, ◌↔◌, All,
 ghost use Rattle.sk_model.specs.Limits.{IsFrom, most_size, most_updaters};
 ghost use Rattle.sk_ingest.specs.Windows.{most_lines};
 ghost use Rattle.sk_cli.specs.Beside.{board_places};
-ghost use Rattle.sk_cli.specs.Options.{name_of, takes_value, allows, options_of, texts_of, is_once, value_behind, given_in, spelled_by, is_given, number_in, is_yes_in, seed_by, updaters_by, sizes_by, window_by, eager_by, propagator_by, alarms_by};
+ghost use Rattle.sk_cli.specs.Options.{name_of, takes_value, allows, options_of, texts_of, is_once, value_behind, given_in, spelled_by, is_given, number_in, required_in, is_yes_in, seed_by, updaters_by, sizes_by, window_by, eager_by, propagator_by, alarms_by};
 
 use crate::values::{number_from, number_list, yes_or_no};
 use sk_count::Numbers;
@@ -19,6 +19,7 @@ const MOST_MARK: u64 = (1 << 48) - 1;
 pub enum Verb {
     Count,
     Hash,
+    Make,
     Replay,
 }
 
@@ -31,6 +32,8 @@ pub enum Name {
     Eager,
     File,
     K,
+    Key,
+    N,
     Propagator,
     Raw,
     Seed,
@@ -50,6 +53,8 @@ impl Name {
             "--eager" => Some(Name::Eager),
             "--file" => Some(Name::File),
             "--k" => Some(Name::K),
+            "--key" => Some(Name::Key),
+            "--n" => Some(Name::N),
             "--propagator" => Some(Name::Propagator),
             "--raw" => Some(Name::Raw),
             "--seed" => Some(Name::Seed),
@@ -65,6 +70,16 @@ impl Name {
     {
         self != Name::Raw
     }
+
+    // Whether it is an option of a count of made lines.
+    fn is_of_make(self) -> bool
+        ensures { result ≡ allows Verb.Make self }
+    {
+        match self {
+            Name::B | Name::K | Name::Key | Name::N | Name::Propagator | Name::Updaters => true,
+            _ => false,
+        }
+    }
 }
 
 impl Verb {
@@ -73,8 +88,9 @@ impl Verb {
         ensures { result ≡ allows self name }
     {
         match self {
-            Verb::Count => true,
+            Verb::Count => name != Name::Key && name != Name::N,
             Verb::Hash => name == Name::File || name == Name::Seed,
+            Verb::Make => name.is_of_make(),
             Verb::Replay => name == Name::File,
         }
     }
@@ -208,6 +224,16 @@ impl<'a> Options<'a> {
             Some(word) => number_from(word.as_bytes(), low, high),
             None => Some(default),
         }
+    }
+
+    /// The number behind a name that has to be given. `None` where it is not, or the value is no number
+    /// from `low` to `high`.
+    pub fn required(&self, name: Name, low: u64, high: u64) -> Option<u64>
+        requires { high + 1 < 2 ^ 64 }
+        ensures value { result ≡ required_in low high (value_behind name self.now) }
+        ensures within { IfSome result (λ n. (low ≤ n) × (n ≤ high)) }
+    {
+        number_from(self.value(name)?.as_bytes(), low, high)
     }
 
     /// The seed of the hash, 0 where it is not given. `None` where the value is out of its limits.

@@ -7,7 +7,9 @@ ghost use Rattle.sk_cli.specs.Options.{texts_of};
 ghost use Rattle.sk_cli.specs.Command.{request_of, behaviour_of, alarms_of, makes_hub};
 ghost use Rattle.sk_cli.specs.Fault.{message_of, status_of};
 ghost use Rattle.sk_cli.specs.Outside.{outside_of};
-ghost use Rattle.sk_cli.specs.Run.{Over, Succeeds, Fails, Reports, RisesAt, RiseAtTheirs, told_text, IsOfCalls};
+ghost use Rattle.sk_cli.specs.Run.{Over, Succeeds, Fails, Reports, RisesAt, RiseAtTheirs, RunsMake, told_text, IsOfCalls};
+ghost use Rattle.sk_cli.specs.declared.command.Command.TheVariants as command;
+ghost use Rattle.sk_cli.specs.declared.commands.make.MakePlan.{MakePlan};
 ghost use Rattle.sk_cli.specs.declared.fault.Fault.{Fault};
 ghost use Rattle.sk_cli.specs.declared.fault.Fault.TheVariants as fault;
 
@@ -73,6 +75,11 @@ pub fn run<R: Threads + Wait + Sync, S: Source, O: Sink, E: Sink, F: Shelf, B: S
 
     // A file that is known not to be there can't be opened.
     ensures missing { IfSome (request_of (texts_of words.now)) (λ asked. IfSome asked.file (λ name. IsMissing (F.files shelf.old) name → result ≡ 8)) }
+
+    // `make` touches no stream but the output. It ends well, for want of memory, or at a failed write.
+    ensures make { (plan : MakePlan) → IfSome (request_of (texts_of words.now)) (λ asked. asked.command ≡ command.Make plan
+        → (input.new ≡ input.old) × (shelf.new ≡ shelf.old)
+        × RunsMake plan (beside_of (B.places board.old) remains.old) (beside_of (B.places board.new) remains.new) (O.written out.old) (O.written out.new) result) }
 
     // Only what the command reads is touched, and no file changes.
     ensures with_file { IfSome (request_of (texts_of words.now)) (λ asked. OnSome asked.file (input.new ≡ input.old)) }

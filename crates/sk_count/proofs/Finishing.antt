@@ -5,7 +5,6 @@ use Rattle.std.proofs.KnownBytes.{Appends-nil, Appends-trans}
 use Rattle.std.proofs.lemmas.List.Elements.{All-nil}
 use Rattle.sk_model.specs.Causes.{AppendsPart, Rose, HasCauseIn}
 use Rattle.sk_model.specs.Sketch.{fraction_of, unpacked}
-use Rattle.sk_lines.specs.Fractions.{estimate_line}
 use Rattle.sk_hub.specs.Hearts.{HeartState}
 use Rattle.sk_read.specs.Items.{IsGood}
 use Rattle.sk_read.specs.declared.fault.Fault.{Fault}
@@ -19,10 +18,10 @@ use Rattle.sk_count.specs.declared.plan.Plan.{Plan}
 use Rattle.sk_count.specs.declared.remains.Remains.{Remains}
 use Rattle.sk_count.specs.Plans.{IsWithin, lines_of_window}
 use Rattle.sk_count.specs.Moments.{Moment, AreMoments, start}
-use Rattle.sk_count.specs.Texts.{interim_text, places_after, armed_with}
+use Rattle.sk_count.specs.Texts.{interim_text, places_after, armed_with, last_text}
 use Rattle.sk_count.specs.Reports.{showing}
 use Rattle.sk_count.specs.Opened.{IsOpened, FeedsAll, DrainsAndAsks}
-use Rattle.sk_count.specs.Counts.{Setting, setting, TellsSoFar, TellsAll, TellsPartOfAll, StopsFor, EndsBefore, EndsBehind, Counts, last_line}
+use Rattle.sk_count.specs.Counts.{Setting, setting, TellsSoFar, TellsAll, TellsPartOfAll, StopsFor, EndsBefore, EndsBehind, Counts, last_lines}
 use Rattle.sk_count.proofs.Fronts.{part_behind}
 use Rattle.sk_count.proofs.Endings.{the_estimate, shows_all, shows_moments, same_hub}
 
@@ -57,16 +56,16 @@ nothing_read plan most left w places armed within is_armed =
 module _ (plan : Plan) (a : Hub) (opened : IsOpened plan a) (within : IsWithin plan) (left left' w w' w'' : Option (List ℕ)) (places armed places' : List Place) (is_armed : armed ≡ armed_with plan.k plan.alarms places)
     (b : Hub) (word : ℕ) (h : HeartState) (d : DrainsAndAsks b.heart b.updaters word h) (estimate : ℕ × ℕ) (estimated : estimate ≡ fraction_of plan.k (unpacked word).0 (unpacked word).1)
     (units : List (List ℕ)) (fed : FeedsAll plan units a (showing plan.k w armed) b (showing plan.k w' places')) where
-  line_is : estimate_line estimate ≡ last_line plan units
-  line_is = ap estimate_line (estimated ∙ the_estimate plan a opened within.k.0 within.updaters.0 units (showing plan.k w armed) (showing plan.k w' places') b fed word h d)
+  line_is : last_text plan.made estimate ≡ last_lines plan units
+  line_is = ap (last_text plan.made) (estimated ∙ the_estimate plan a opened within.k.0 within.updaters.0 units (showing plan.k w armed) (showing plan.k w' places') b fed word h d)
 
   so_far : Appends w w' (interim_text plan.k (armed_with plan.k plan.alarms places) fed.passes.passes.moments)
   so_far = subst (λ z. Appends w w' (interim_text plan.k z fed.passes.passes.moments)) is_armed fed.passes.passes.written
 
-  pub all_told : Appends w' w'' (estimate_line estimate) → TellsAll plan (setting left w places) (setting left' w'' places') (record { heart = Some h; token = Some b.token }) units
+  pub all_told : Appends w' w'' (last_text plan.made estimate) → TellsAll plan (setting left w places) (setting left' w'' places') (record { heart = Some h; token = Some b.token }) units
   all_told last = record {
     course = record { windows = fed.passes.windows; rest = fed.rest; moments = fed.passes.passes.moments; good = fed.passes.good; cut = fed.passes.cut; asks = fed.passes.asks };
-    written = Appends-trans w w' w'' (interim_text plan.k (armed_with plan.k plan.alarms places) fed.passes.passes.moments) (last_line plan units) so_far (subst (Appends w' w'') line_is last);
+    written = Appends-trans w w' w'' (interim_text plan.k (armed_with plan.k plan.alarms places) fed.passes.passes.moments) (last_lines plan units) so_far (subst (Appends w' w'') line_is last);
     places = fed.passes.passes.places ∙ ap (λ z. places_after plan.k z fed.passes.passes.moments) is_armed;
     heart = h;
     token = b.token;
@@ -76,10 +75,10 @@ module _ (plan : Plan) (a : Hub) (opened : IsOpened plan a) (within : IsWithin p
     asked = shows_moments plan a opened within.k.0 within.updaters.0 units (showing plan.k w armed) (showing plan.k w' places') b fed word h d;
   }
 
-  pub part_told : AppendsPart w' w'' (estimate_line estimate) → TellsPartOfAll plan (setting left w places) (setting left' w'' places') units
+  pub part_told : AppendsPart w' w'' (last_text plan.made estimate) → TellsPartOfAll plan (setting left w places) (setting left' w'' places') units
   part_told last = record {
     course = record { windows = fed.passes.windows; rest = fed.rest; moments = fed.passes.passes.moments; good = fed.passes.good; cut = fed.passes.cut; asks = fed.passes.asks };
-    written = part_behind w w' w'' (interim_text plan.k (armed_with plan.k plan.alarms places) fed.passes.passes.moments) (last_line plan units) so_far (subst (AppendsPart w' w'') line_is last);
+    written = part_behind w w' w'' (interim_text plan.k (armed_with plan.k plan.alarms places) fed.passes.passes.moments) (last_lines plan units) so_far (subst (AppendsPart w' w'') line_is last);
     places = fed.passes.passes.places ∙ ap (λ z. places_after plan.k z fed.passes.passes.moments) is_armed;
   }
 

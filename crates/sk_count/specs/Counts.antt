@@ -3,7 +3,6 @@ use Rattle.std.specs.Prelude.{◌≡◌, ◌⊎◌, ℕ, ◌<◌, List, [], ◌�
 use Rattle.std.specs.Io.KnownBytes.{Appends}
 use Rattle.sk_model.specs.Causes.{AppendsPart}
 use Rattle.sk_model.specs.Sketch.{estimate_of}
-use Rattle.sk_lines.specs.Fractions.{estimate_line}
 use Rattle.sk_gate.specs.Hands.{TokenState}
 use Rattle.sk_hub.specs.Hearts.{HeartState}
 use Rattle.sk_read.specs.Items.{item_of, items_by, IsGood}
@@ -17,7 +16,7 @@ use Rattle.sk_count.specs.declared.plan.Plan.{Plan}
 use Rattle.sk_count.specs.declared.remains.Remains.{Remains}
 use Rattle.sk_count.specs.Plans.{lines_of_window}
 use Rattle.sk_count.specs.Moments.{Moment, AreMomentsOf}
-use Rattle.sk_count.specs.Texts.{interim_text, places_after, armed_with}
+use Rattle.sk_count.specs.Texts.{interim_text, places_after, armed_with, last_text}
 use Rattle.sk_count.specs.Hubs.{ShowsAll, ShowsMoments}
 
 -- what is around a count: what its source has left, what its sink was written, both where they tell it, and the places of
@@ -49,9 +48,9 @@ armed_by plan places = armed_with plan.k plan.alarms places
 abbrev pub interim_by : Plan → Setting → List Moment → List ℕ
 interim_by plan old moments = interim_text plan.k (armed_by plan old.places) moments
 
--- one thread's estimate of all items
-abbrev pub last_line : Plan → List (List ℕ) → List ℕ
-last_line plan units = estimate_line (estimate_of plan.k (items_by plan.kind units))
+-- what is due last: how many lines were made, where the plan tells that, and one thread's estimate of all items
+abbrev pub last_lines : Plan → List (List ℕ) → List ℕ
+last_lines plan units = last_text plan.made (estimate_of plan.k (items_by plan.kind units))
 
 -- ---- its ends
 
@@ -64,7 +63,7 @@ pub record TellsSoFar (plan : Plan) (old new : Setting) (units : List (List ℕ)
 -- the interim text and the last line were written; the heart and the token of the hub are left behind, and show this run
 pub record TellsAll (plan : Plan) (old new : Setting) (remains : Remains) (units : List (List ℕ)) : Type 0 where
   pub course : Course plan units
-  pub written : Appends old.written new.written (interim_by plan old course.moments ++ last_line plan units)
+  pub written : Appends old.written new.written (interim_by plan old course.moments ++ last_lines plan units)
   pub places : new.places ≡ places_after plan.k (armed_by plan old.places) course.moments
   pub heart : HeartState
   pub token : TokenState
@@ -83,7 +82,7 @@ pub record TellsPart (plan : Plan) (old new : Setting) (units : List (List ℕ))
 -- of the whole text only a part was written
 pub record TellsPartOfAll (plan : Plan) (old new : Setting) (units : List (List ℕ)) : Type 0 where
   pub course : Course plan units
-  pub written : AppendsPart old.written new.written (interim_by plan old course.moments ++ last_line plan units)
+  pub written : AppendsPart old.written new.written (interim_by plan old course.moments ++ last_lines plan units)
   pub places : new.places ≡ places_after plan.k (armed_by plan old.places) course.moments
 
 -- what was told where a count stopped at a unit behind these: the unit is no item, or it fills a window and a write failed

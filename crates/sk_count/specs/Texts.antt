@@ -1,5 +1,5 @@
 -- What is written of a count, and which watchers it leaves.
-use Rattle.std.specs.Prelude.{ℕ, ◌+◌, ◌==◌, if◌then◌else◌, List, [], ◌∷◌, ◌++◌, map, flat_map, codes, decimal, None, option_map}
+use Rattle.std.specs.Prelude.{ℕ, ◌+◌, ◌==◌, if◌then◌else◌, List, [], ◌∷◌, ◌++◌, map, flat_map, codes, decimal, Option, None, Some, option_map}
 use Rattle.std.specs.List.{range_with_len}
 use Rattle.std.specs.Int.{bit_at}
 use Rattle.sk_model.specs.Entries.{Entry, items_of_entries}
@@ -28,6 +28,15 @@ alarm_at mask place = if bit_at mask place == 1 then alarm_line (place + 1) else
 -- a line for each place that a mask has, rising
 unfoldable pub alarm_lines : ℕ → List ℕ
 alarm_lines mask = flat_map (alarm_at mask) (range_with_len 0 most_places)
+
+-- how many lines were made, where that is told
+abbrev pub made_line : Option ℕ → List ℕ
+made_line None = []
+made_line (Some lines) = codes "made " ++ (decimal lines ++ codes "\n")
+
+-- what is written last: that line, and one thread's estimate
+abbrev pub last_text : Option ℕ → ℕ × ℕ → List ℕ
+last_text made estimate = made_line made ++ estimate_line estimate
 
 -- ---- moments
 

@@ -2,7 +2,6 @@
 ghost use Rattle.std.specs.Prelude.{◌≡◌, ◌≢◌, ℕ, ◌<◌, ◌≤◌, None, All, length, IfOk, IfErr, OnOk, OnErr};
 ghost use Rattle.std.specs.Io.KnownBytes.{Appends};
 ghost use Rattle.sk_model.specs.Causes.{AppendsPart, HasCause, HasCauseIn};
-ghost use Rattle.sk_lines.specs.Fractions.{estimate_line};
 ghost use Rattle.sk_model.specs.Limits.{most_size, source_limit};
 ghost use Rattle.sk_read.specs.Reads.{ReadsAll};
 ghost use Rattle.sk_read.specs.Units.{units_by};
@@ -15,12 +14,13 @@ ghost use Rattle.sk_count.specs.Opened.{AreSizes, IsOpened, FeedsAll, FeedsEarly
 ghost use Rattle.sk_count.specs.Plans.{IsWithin};
 ghost use Rattle.sk_count.specs.Reports.{showing};
 ghost use Rattle.sk_count.specs.Steps.{intake_by};
+ghost use Rattle.sk_count.specs.Texts.{last_text};
 
 use crate::alarms::arm;
 use crate::interim::Interim;
 use crate::plan::Plan;
 use crate::remains::Remains;
-use crate::text::{estimate_by, write_estimate};
+use crate::text::{estimate_by, write_end};
 use sk_heap::HeapTheta;
 use sk_hub::{Heart, Opened, Updater, open_sized};
 use sk_ingest::{drain_all, ingest};
@@ -37,7 +37,8 @@ use std::thread::Threads;
 const USUAL_WINDOW: u32 = 65_536;
 
 /// Counts the distinct items of a source of fewer than `most` bytes. Behind each full window that the plan asks for it
-/// writes an interim estimate and shows it to the board, and last one thread's estimate of all. Where it ends
+/// writes an interim estimate and shows it to the board, and last one thread's estimate of all, behind the number of
+/// lines that were made, where the plan tells it. Where it ends
 /// well the handles of its hub are left behind.
 pub fn count<S: Source, O: Sink, B: Seen, R: Threads + Wait + Sync>(
     rt: &R,
@@ -69,7 +70,7 @@ pub fn count<S: Source, O: Sink, B: Seen, R: Threads + Wait + Sync>(
         token,
     } = opened;
     let reply = unpack(drain_and_ask(rt, &mut heart, updaters));
-    write_last(out, estimate_by(plan.k, reply))?;
+    write_last(out, plan.made, estimate_by(plan.k, reply))?;
     remains.heart = Some(heart);
     remains.token = Some(token);
     Ok(())
@@ -202,12 +203,12 @@ fn drain_and_ask<R: Wait>(
     heart.ask()
 }
 
-// Writes the last line.
-fn write_last<O: Sink>(out: &mut O, estimate: (u64, u64)) -> Result<(), Fault>
-    ensures ok { OnOk result (Appends (O.written out.old) (O.written out.new) (estimate_line estimate)) }
-    ensures part { OnErr result (AppendsPart (O.written out.old) (O.written out.new) (estimate_line estimate)) }
+// Writes what is due last.
+fn write_last<O: Sink>(out: &mut O, made: Option<u64>, estimate: (u64, u64)) -> Result<(), Fault>
+    ensures ok { OnOk result (Appends (O.written out.old) (O.written out.new) (last_text made estimate)) }
+    ensures part { OnErr result (AppendsPart (O.written out.old) (O.written out.new) (last_text made estimate)) }
     ensures fault { IfErr result (λ fault. fault ≡ Fault.WriteFault) }
     ensures cause { HasCause (O.faults out.old) (O.faults out.new) result }
 {
-    write_estimate(out, estimate).map_err(|_| Fault::WriteFault)
+    write_end(out, made, estimate).map_err(|_| Fault::WriteFault)
 }

@@ -24,4 +24,6 @@ pub struct Plan {
     pub propagator: bool,
     /// The marks of the alarms at the first places of the board.
     pub alarms: Numbers,
+    /// How many lines were made to be counted, where the last text tells that.
+    pub made: Option<u64>,
 }

@@ -57,6 +57,7 @@ fn plan_of(rt: &impl Abort, case: &Case<'_>) -> Plan
         eager: case.eager,
         propagator: case.propagator,
         alarms: marks_of(rt, case.alarms),
+        made: None,
     }
 }
 

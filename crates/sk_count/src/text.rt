@@ -1,12 +1,12 @@
 //! The lines of a count.
-ghost use Rattle.std.specs.Prelude.{◌≡◌, ◌<◌, ◌≤◌, ◌++◌, decimal, OnOk, OnErr};
+ghost use Rattle.std.specs.Prelude.{◌≡◌, ◌<◌, ◌≤◌, ◌++◌, decimal, Some, OnOk, OnErr};
 ghost use Rattle.std.specs.Io.KnownBytes.{Appends};
 ghost use Rattle.sk_model.specs.Causes.{HasCause, AppendsPart};
 ghost use Rattle.sk_model.specs.Limits.{least_k, most_k};
 ghost use Rattle.sk_model.specs.Sketch.{fraction_of};
 ghost use Rattle.sk_lines.specs.Fractions.{estimate_line};
 ghost use Rattle.sk_watch.specs.Masks.{most_places};
-ghost use Rattle.sk_count.specs.Texts.{interim_line, alarm_line, alarm_at, alarm_lines};
+ghost use Rattle.sk_count.specs.Texts.{interim_line, alarm_line, alarm_at, alarm_lines, made_line, last_text};
 
 use sk_io::{Failed, Sink, write_all};
 use sk_lines::{put_decimal, put_estimate_line};
@@ -29,8 +29,45 @@ pub(crate) fn estimate_by(k: u32, reply: Reply) -> (u64, u64)
     }
 }
 
-/// Writes the line of an estimate.
-pub(crate) fn write_estimate<O: Sink>(out: &mut O, estimate: (u64, u64)) -> Result<(), Failed>
+/// Writes what is due last: how many lines were made, where that is told, and an estimate.
+pub(crate) fn write_end<O: Sink>(
+    out: &mut O,
+    made: Option<u64>,
+    estimate: (u64, u64),
+) -> Result<(), Failed>
+    ensures ok { OnOk result (Appends (O.written out.old) (O.written out.new) (last_text made estimate)) }
+    ensures part { OnErr result (AppendsPart (O.written out.old) (O.written out.new) (last_text made estimate)) }
+    ensures cause { HasCause (O.faults out.old) (O.faults out.new) result }
+{
+    write_made(out, made)?;
+    write_estimate(out, estimate)
+}
+
+// Writes how many lines were made, where that is told.
+fn write_made<O: Sink>(out: &mut O, made: Option<u64>) -> Result<(), Failed>
+    ensures ok { OnOk result (Appends (O.written out.old) (O.written out.new) (made_line made)) }
+    ensures part { OnErr result (AppendsPart (O.written out.old) (O.written out.new) (made_line made)) }
+    ensures cause { HasCause (O.faults out.old) (O.faults out.new) result }
+{
+    match made {
+        Some(lines) => write_lines_made(out, lines),
+        None => Ok(()),
+    }
+}
+
+// Writes the line of so many lines that were made.
+fn write_lines_made<O: Sink>(out: &mut O, lines: u64) -> Result<(), Failed>
+    ensures ok { OnOk result (Appends (O.written out.old) (O.written out.new) (made_line (Some lines))) }
+    ensures part { OnErr result (AppendsPart (O.written out.old) (O.written out.new) (made_line (Some lines))) }
+    ensures cause { HasCause (O.faults out.old) (O.faults out.new) result }
+{
+    write_all(out, b"made ")?;
+    write_number(out, lines)?;
+    write_all(out, b"\n")
+}
+
+// Writes the line of an estimate.
+fn write_estimate<O: Sink>(out: &mut O, estimate: (u64, u64)) -> Result<(), Failed>
     ensures ok { OnOk result (Appends (O.written out.old) (O.written out.new) (estimate_line estimate)) }
     ensures part { OnErr result (AppendsPart (O.written out.old) (O.written out.new) (estimate_line estimate)) }
     ensures cause { HasCause (O.faults out.old) (O.faults out.new) result }

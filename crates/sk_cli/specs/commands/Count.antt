@@ -1,5 +1,5 @@
 -- What `count` is asked, and what it does.
-use Rattle.std.specs.Prelude.{◌≡◌, ℕ, ◌<◌, ◌≤◌, ◌-◌, Bool, true, false, List, [], ◌∷◌, ◌++◌, length, take, All, if◌then◌else◌, Option, Some, IfSome, IsNone, is_none, option_and_then, option_map}
+use Rattle.std.specs.Prelude.{◌≡◌, ℕ, ◌<◌, ◌≤◌, ◌-◌, true, false, List, [], ◌∷◌, ◌++◌, length, take, All, if◌then◌else◌, Option, None, Some, IfSome, IsNone, is_none, option_and_then, option_map}
 use Rattle.sk_model.specs.Limits.{least_k, most_k, most_size, most_updaters, IsFrom}
 use Rattle.sk_gate.specs.Hands.{TokenState}
 use Rattle.sk_hub.specs.Hearts.{HeartState}
@@ -11,7 +11,7 @@ use Rattle.sk_read.specs.declared.units.Units.{Units}
 use Rattle.sk_ingest.specs.Windows.{most_lines}
 use Rattle.sk_count.specs.declared.plan.Plan.{Plan}
 use Rattle.sk_count.specs.Plans as plans
-use Rattle.sk_count.specs.Counts.{Course, armed_by, last_line}
+use Rattle.sk_count.specs.Counts.{Course, armed_by, last_lines}
 use Rattle.sk_count.specs.Hubs.{ShowsAll, ShowsMoments}
 use Rattle.sk_count.specs.Texts.{interim_text, places_after}
 use Rattle.sk_cli.specs.Behaviour.{Behaviour}
@@ -58,6 +58,7 @@ plan_with what how = record {
   eager = how.eager;
   propagator = how.propagator;
   alarms = how.alarms;
+  made = None;
 }
 
 -- the plan that options spell
@@ -124,13 +125,13 @@ pub record IsInterim (plan : Plan) (from : Beside) (units : List (List ℕ)) (du
 -- the whole text of these units: the interim text, and then one thread's estimate of all items
 pub record IsWhole (plan : Plan) (from : Beside) (units : List (List ℕ)) (due : List ℕ) : Type 0 where
   pub course : Course plan units
-  pub is : due ≡ interim_text plan.k (armed_by plan from.board) course.moments ++ last_line plan units
+  pub is : due ≡ interim_text plan.k (armed_by plan from.board) course.moments ++ last_lines plan units
 
 -- once this is written, the board is as the last moment left it, and the heart and the token of the one hub that counted
 -- are left, and show this run
 pub record LeavesHub (plan : Plan) (from : Beside) (units : List (List ℕ)) (due : List ℕ) (to : Beside) : Type 0 where
   pub course : Course plan units
-  pub is : due ≡ interim_text plan.k (armed_by plan from.board) course.moments ++ last_line plan units
+  pub is : due ≡ interim_text plan.k (armed_by plan from.board) course.moments ++ last_lines plan units
   pub board : to.board ≡ places_after plan.k (armed_by plan from.board) course.moments
   pub heart : HeartState
   pub token : TokenState

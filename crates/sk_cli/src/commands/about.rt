@@ -25,6 +25,13 @@ usage:
       writes the hash of each line that is not empty, 12 digits in base 16
       --seed S     the seed of the hash, 0 to 4294967295 (0)
       --file NAME  reads this file in place of the standard input
+  sketchd make --n N [--key S] [--k K] [--updaters N] [--b B] [--propagator yes|no]
+      makes N lines of numbers and writes how many they are and the estimate of how many distinct
+      numbers there are
+      --n N        how many lines, 0 to 10000000
+      --key S      which numbers, 0 to 281474976710655 (0)
+      --b B        how many items an updater hands over at once, 1 to 4096 (64)
+      --k, --updaters, --propagator as for count
   sketchd replay [--file NAME]
       plays a schedule of the sketch's concurrent protocol and writes the answer to each event; the
       first line is `machine K B N` or `vacant K N`

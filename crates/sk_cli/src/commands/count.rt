@@ -104,6 +104,7 @@ pub fn plan_of(options: &Options<'_>) -> Option<Plan>
         eager: how.eager,
         propagator: how.propagator,
         alarms: how.alarms,
+        made: None,
     })
 }
 

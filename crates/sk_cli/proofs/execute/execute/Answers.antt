@@ -57,3 +57,18 @@ returns-in-Version-clause-done g c =
     let told = c.write_text-in-Version.ensures in
     subst (λ (command : Command). Executes (behaviour_of command) c.args.most from to a b c.write_text-in-Version.result) (sym c.in-Version.is)
     (about_told VERSION.now c.as_bytes-in-Version.result.now c.args.most from to a b c.write_text-in-Version.result c.as_bytes-in-Version.ensures.value refl told.ok told.part told.err)
+
+pub returns-in-Make-clause-done : goal.returns-in-Make-clause-done
+returns-in-Make-clause-done g c =
+    let from : Beside = beside_of (g.B.Seen.places c.args.board.now) c.args.remains.now in
+    let to : Beside = beside_of (g.B.Seen.places c.make.new.board) c.make.new.remains in
+    let a : Streams = streams_of g.S.Source g.O.Sink c.args.source.now c.args.out.now in
+    let b : Streams = streams_of g.S.Source g.O.Sink c.args.source.now c.make.new.out in
+    subst (λ (command : Command). Executes (behaviour_of command) c.args.most from to a b c.make.result) (sym c.in-Make.is)
+    (c.make.ensures.done c.args.most (g.S.Source.left c.args.source.now) (g.S.Source.faults c.args.source.now))
+
+pub returns-in-Make-clause-causes : goal.returns-in-Make-clause-causes
+returns-in-Make-clause-causes g c = c.make.ensures.causes (g.S.Source.left c.args.source.now) (g.S.Source.faults c.args.source.now)
+
+pub returns-in-Make-clause-opened : goal.returns-in-Make-clause-opened
+returns-in-Make-clause-opened g c = never_opens _ _ _ _ _ _ c.make.result (c.make.ensures.done c.args.most (g.S.Source.left c.args.source.now) (g.S.Source.faults c.args.source.now))
