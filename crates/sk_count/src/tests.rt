@@ -22,6 +22,7 @@ struct Case<'a> {
     eager: bool,
     propagator: bool,
     alarms: &'a [u64],
+    made: Option<u64>,
 }
 
 const ALONE: Case<'static> = Case {
@@ -33,6 +34,7 @@ const ALONE: Case<'static> = Case {
     eager: false,
     propagator: false,
     alarms: &[],
+    made: None,
 };
 
 // The plan of a case, where its numbers are within their limits.
@@ -57,7 +59,7 @@ fn plan_of(rt: &impl Abort, case: &Case<'_>) -> Plan
         eager: case.eager,
         propagator: case.propagator,
         alarms: marks_of(rt, case.alarms),
-        made: None,
+        made: case.made,
     }
 }
 
@@ -163,6 +165,15 @@ fn texts_of_raw_numbers(rt: HostRuntime) -> Result<(), Fail> {
             },
             "",
             "estimate 0/1\n",
+        ),
+        (
+            Case {
+                window: None,
+                made: Some(1_000),
+                ..ALONE
+            },
+            "1\n2\n1\n",
+            "made 1000\nestimate 2/1\n",
         ),
     ];
     'case: for (case, text, want) in &cases {
