@@ -15,6 +15,3 @@ mod write;
 pub use program::run;
 pub use sk_count::Remains;
 pub use watchers::{BOARD_PLACES, board_of};
-
-#[cfg(test)]
-mod tests;
