@@ -44,36 +44,36 @@ fn fakes(alloc: Global) -> Result<Board, Fail>
 
 // A board that keeps as a text what it is told, where memory is there for that.
 #[derive(Drop)]
-struct Recorder {
-    board: Board,
+struct Recorder<B: Seen> {
+    board: B,
     alloc: Global,
     told: String,
 }
 
-impl Seen for Recorder {
-    ghost places = { λ recorder. ⟦<Board as Seen>⟧.places recorder.board };
+impl<B: Seen> Seen for Recorder<B> {
+    ghost places = { λ recorder. B.places recorder.board };
 
     fn arm_at(&mut self, place: u32, k: u32, mark: u64) {
         if let Ok(line) = format!(in self.alloc; "arm {place} {k} {mark};") {
             let _kept = self.told.push_str(line.as_str());
         }
-        self.board.arm(place, k, mark);
+        self.board.arm_at(place, k, mark);
     }
 
     fn let_go(&mut self, place: u32) {
-        self.board.drop_at(place);
+        self.board.let_go(place);
     }
 
     fn mask(&self) -> u64 {
-        self.board.live()
+        self.board.mask()
     }
 
     fn show(&mut self, reply: Reply) -> u64 {
-        let (count, live) = (reply.count, self.board.live());
+        let (count, live) = (reply.count, self.board.mask());
         if let Ok(line) = format!(in self.alloc; "show {count} to {live};") {
             let _kept = self.told.push_str(line.as_str());
         }
-        self.board.tell(reply)
+        self.board.show(reply)
     }
 }
 
