@@ -1,6 +1,6 @@
 // What `--help` tells of the options, their limits and what holds where they are not given.
-use super::rows::shelf_of;
-use super::stage::{FINE, alarms, expect, run_beside};
+use super::rows::run_alone;
+use super::stage::{FINE, expect};
 use std::test::Fail;
 
 const TOLD: &str = "\
@@ -23,10 +23,7 @@ A line has at most 65536 bytes. An option stands at most once.";
 #[test]
 fn help_tells_of_each_option(rt: HostRuntime) -> Result<(), Fail> {
     let alloc = rt.alloc();
-    let mut shelf = shelf_of(alloc, &FINE, b"")?;
-    let mut board = alarms(alloc)?;
-    let text = Vec::new(alloc);
-    let ran = run_beside(&rt, alloc, &FINE, "--help", text, &mut shelf, &mut board)?;
+    let ran = run_alone(&rt, alloc, &FINE, "--help", Vec::new(alloc))?;
     let help = String::from_utf8(ran.out.written().to_vec(alloc)?)?;
     expect(&rt, &ran, "--help", 0, help.as_bytes(), b"");
     assert_eq!(rt; TOLD.lines().count(), 15);

@@ -1,5 +1,5 @@
 // Commands over files.
-use super::rows::{check_rows, shelf_of};
+use super::rows::check_rows;
 use super::stage::{FINE, Streams, alarms, expect, run_beside};
 use sk_io::FileShelf;
 use std::test::Fail;

@@ -3,7 +3,7 @@
 // Its columns stand between bars: how the streams are, the words, the text that is read, the
 // status, the output, and standard error. The marks of the streams are those of `streams_of`, those
 // of a text those of `bytes_of`.
-use super::stage::{FINE, Streams, alarms, expect, run_beside};
+use super::stage::{FINE, Ran, Streams, alarms, expect, run_beside};
 use sk_io::MemShelf;
 use sk_model::limits::LINE_LIMIT;
 use std::alloc::Global;
@@ -60,8 +60,8 @@ fn streams_of(column: &str) -> Option<Streams> {
     Some(streams)
 }
 
-// The bytes of a column: `;` stands for LF, `^` for CR, `_` for a blank, `@` for as many `x` as a line
-// has at most, `#` for the numbers from 1 to 10,000, each twice, and `?` for a digit.
+/// The bytes of a column: `;` stands for LF, `^` for CR, `_` for a blank, `@` for as many `x` as a
+/// line has at most, `#` for the numbers from 1 to 10,000, each twice, and `?` for a digit.
 pub fn bytes_of(alloc: Global, column: &str, digit: u8) -> Result<Vec<u8>, Fail> {
     let mut bytes = Vec::new(alloc);
     'byte: for byte in column.bytes() {
@@ -86,7 +86,7 @@ fn put_numbers(alloc: Global, bytes: &mut Vec<u8>) -> Result<(), Fail> {
     Ok(())
 }
 
-// What is due for a column, where `?` stands for a digit of which 0, 1 and 2 are allowed.
+/// What is due for a column, where `?` stands for a digit of which 0, 1 and 2 are allowed.
 pub fn due_of(alloc: Global, column: &str, written: &[u8]) -> Result<Vec<u8>, Fail> {
     let place = column.find('?').unwrap_or(0);
     let digit = match written.get(place) {
@@ -97,29 +97,57 @@ pub fn due_of(alloc: Global, column: &str, written: &[u8]) -> Result<Vec<u8>, Fa
     bytes_of(alloc, column, digit)
 }
 
-// The files that lie beside each run, each by its name.
+// The files that lie beside each run, each by its name; `=` stands for the text of the row.
 const FILES: &str = "\
 quick | hello;hello, world;The quick brown fox jumps over the lazy dog.;
 ids | 5;3;
 --raw | 7;
 plan | machine 2 1 1;split 0;
-table | 1,5;2,5;";
+table | 1,5;2,5;
+text | =
+_a__name_ | =";
 
-// A shelf of these files and two with the text of a row, whose names are `text` and ` a  name `.
+fn put_file(
+    alloc: Global,
+    files: &mut Vec<(String, Vec<u8>)>,
+    file: &str,
+    text: &[u8],
+) -> Result<(), Fail> {
+    let (name, column) = file.split_once('|').ok_or("no file")?;
+    let bytes = if column.trim() == "=" {
+        text.to_vec(alloc)?
+    } else {
+        bytes_of(alloc, column.trim(), b'0')?
+    };
+    files.push((name.trim().replace(alloc, '_', " ")?, bytes))?;
+    Ok(())
+}
+
+/// A shelf of these files.
 pub fn shelf_of(alloc: Global, streams: &Streams, text: &[u8]) -> Result<MemShelf, Fail> {
     let mut files = Vec::new(alloc);
     'file: for file in FILES.lines() {
-        let (name, text) = file.split_once('|').ok_or("no file")?;
-        let name = String::from_str(alloc, name.trim())?;
-        files.push((name, bytes_of(alloc, text.trim(), b'0')?))?;
+        put_file(alloc, &mut files, file, text)?;
     }
-    files.push((String::from_str(alloc, "text")?, text.to_vec(alloc)?))?;
-    files.push((String::from_str(alloc, " a  name ")?, text.to_vec(alloc)?))?;
     let opens = [u64::from(streams.open)].to_vec(alloc)?;
     let reads = [u64::from(streams.file)].to_vec(alloc)?;
     Ok(MemShelf::new(files, opens, reads))
 }
 
+/// Runs the program over a text, beside the files and alarms.
+pub fn run_alone<R: Threads + Wait + Sync>(
+    rt: &R,
+    alloc: Global,
+    streams: &Streams,
+    line: &str,
+    text: Vec<u8>,
+) -> Result<Ran, Fail> {
+    let mut shelf = shelf_of(alloc, streams, &text)?;
+    let mut board = alarms(alloc)?;
+    run_beside(rt, alloc, streams, line, text, &mut shelf, &mut board)
+}
+
+// Runs a row, and compares what it ended with.
 fn check_row<R: Threads + Wait + Abort + Sync>(
     rt: &R,
     alloc: Global,
@@ -129,17 +157,7 @@ fn check_row<R: Threads + Wait + Abort + Sync>(
     let streams = streams_of(columns.streams).ok_or("no streams")?;
     let status = columns.status.parse::<u8>()?;
     let text = bytes_of(alloc, columns.text, b'0')?;
-    let mut shelf = shelf_of(alloc, &streams, &text)?;
-    let mut board = alarms(alloc)?;
-    let ran = run_beside(
-        rt,
-        alloc,
-        &streams,
-        columns.line,
-        text,
-        &mut shelf,
-        &mut board,
-    )?;
+    let ran = run_alone(rt, alloc, &streams, columns.line, text)?;
     let out = due_of(alloc, columns.out, ran.out.written())?;
     let err = bytes_of(alloc, columns.err, b'0')?;
     expect(rt, &ran, row, status, &out, &err);

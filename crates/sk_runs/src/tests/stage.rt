@@ -70,6 +70,19 @@ pub fn alarms(alloc: Global) -> Result<Board, Fail>
     Ok(board_of(boxes))
 }
 
+// The standard input: a text.
+fn input_of(alloc: Global, streams: &Streams, text: Vec<u8>) -> Result<MemSource, Fail> {
+    let fails = [u64::from(streams.read)].to_vec(alloc)?;
+    Ok(MemSource::new(text, (streams.piece as usize).max(1), fails))
+}
+
+// The output.
+fn out_of(alloc: Global, streams: &Streams) -> Result<MemSink, Fail> {
+    let fails = [u64::from(streams.write)].to_vec(alloc)?;
+    let taken = (streams.taken as usize).max(1);
+    Ok(MemSink::new(alloc, streams.room as usize, taken, fails)?)
+}
+
 /// Runs the program over a text, beside a shelf and a board.
 pub fn run_beside<R: Threads + Wait + Sync, F: Shelf, B: Seen>(
     rt: &R,
@@ -84,11 +97,8 @@ pub fn run_beside<R: Threads + Wait + Sync, F: Shelf, B: Seen>(
     requires live { All IsSome (B.places board.old) }
 {
     let words = words_of(alloc, line)?;
-    let reads = [u64::from(streams.read)].to_vec(alloc)?;
-    let mut input = MemSource::new(text, (streams.piece as usize).max(1), reads);
-    let writes = [u64::from(streams.write)].to_vec(alloc)?;
-    let taken = (streams.taken as usize).max(1);
-    let mut out = MemSink::new(alloc, streams.room as usize, taken, writes)?;
+    let mut input = input_of(alloc, streams, text)?;
+    let mut out = out_of(alloc, streams)?;
     let mut err = MemSink::new(alloc, streams.err as usize, 1_000, Vec::new(alloc))?;
     let mut remains = Remains {
         heart: None,

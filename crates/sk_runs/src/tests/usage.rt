@@ -1,6 +1,6 @@
 // Words that are no command, and values at the ends of their limits.
-use super::rows::{check_rows, shelf_of};
-use super::stage::{FINE, alarms, expect, run_beside};
+use super::rows::{check_rows, run_alone};
+use super::stage::{FINE, expect};
 use std::alloc::Global;
 use std::process::Abort;
 use std::sync::Wait;
@@ -96,10 +96,7 @@ fn check_refused<R: Threads + Wait + Abort + Sync>(
 ) -> Result<(), Fail> {
     assert_eq!(rt; table.lines().count(), lines);
     'line: for line in table.lines() {
-        let text = b"hello\n".to_vec(alloc)?;
-        let mut shelf = shelf_of(alloc, &FINE, &text)?;
-        let mut board = alarms(alloc)?;
-        let ran = run_beside(rt, alloc, &FINE, line, text, &mut shelf, &mut board)?;
+        let ran = run_alone(rt, alloc, &FINE, line, b"hello\n".to_vec(alloc)?)?;
         expect(rt, &ran, line, 2, b"", USAGE);
     }
     Ok(())
