@@ -101,11 +101,9 @@ fn run_recorded<R: Threads + Wait + Sync>(
         told: String::new(alloc),
     };
     let ran = run_beside(rt, alloc, &FINE, line, text, &mut shelf, &mut board)?;
-    Ok(Recorded {
-        told: board.told.clone()?,
-        left: board.mask(),
-        ran,
-    })
+    let left = board.mask();
+    let Recorder { told, .. } = board;
+    Ok(Recorded { told, left, ran })
 }
 
 // With a propagator the reply may lack the last two buffers; two watchers see it, and one stays.
