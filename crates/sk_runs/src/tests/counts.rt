@@ -23,8 +23,10 @@ piece=65536 | count --k 4 | @^; | 0 | estimate 1/1; |
 piece=65536 | count --raw --updaters 1 | # | 0 | estimate 1152640029630136320/4096; |
 piece=65536 | count --raw --updaters 4 | # | 0 | estimate 1152640029630136320/4096; |
 piece=65536 | count --raw --updaters 64 | # | 0 | estimate 1152640029630136320/4096; |
-piece=65536 | count --raw --updaters 4 --propagator no | # | 0 | estimate 1152640029630136320/4096; |
-piece=65536 | count --raw --updaters 4 --eager no --b 1 | # | 0 | estimate 1152640029630136320/4096; |
+piece=65536 | count --raw --updaters 4 --propagator no | # | 0 \
+| estimate 1152640029630136320/4096; |
+piece=65536 | count --raw --updaters 4 --eager no --b 1 | # | 0 \
+| estimate 1152640029630136320/4096; |
 read=0 | count --raw --updaters 1 --file text | # | 0 | estimate 1152640029630136320/4096; |
 read=0 | count --raw --updaters 4 --file text | # | 0 | estimate 1152640029630136320/4096; |
 read=0 | count --raw --updaters 64 --file text | # | 0 | estimate 1152640029630136320/4096; |";

@@ -63,13 +63,14 @@ waiting;took 1;published 1;put;returned 281474976710656;estimate 1/1; | line 12:
 | replay | vacant 2 1;admit 0 4096;admit 0 1; | 7 | admitted; | line 3: bad event;
 | replay | vacant 2 1;admit 0 4097; | 7 | | line 2: bad event;";
 
-// Of a line that is too long and one that is no event, the first decides. What was answered before a
-// fault stands.
+// Of a line that is too long and one that is no event, the first decides. What was answered before
+// a fault stands.
 const BROKEN_OFF: &str = "\
 piece=65536 | replay | machine 2 1 1;ask 0;@x | 5 | estimate 0/1; | line 3: too long;
 piece=65536 | replay | machine 2 1 1;ask 1;@x | 7 | | line 2: bad event;
 piece=22 read=1 | replay | machine 2 1 1;ask 0;ask 0;ask 0; | 3 | estimate 0/1; | read fault;
-piece=65536 room=20 | replay | machine 2 1 1;ask 0;ask 0;ask 0; | 4 | estimate 0/1;estimat | write fault;
+piece=65536 room=20 | replay | machine 2 1 1;ask 0;ask 0;ask 0; | 4 \
+| estimate 0/1;estimat | write fault;
 piece=65536 room=0 | replay | machine 2 1 1; | 0 | |";
 
 #[test]
