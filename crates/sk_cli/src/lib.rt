@@ -16,6 +16,3 @@ pub use program::run;
 pub use sk_count::Remains;
 pub use sk_make::MakeSource;
 pub use watchers::{BOARD_PLACES, board_of};
-
-#[cfg(test)]
-mod tests;

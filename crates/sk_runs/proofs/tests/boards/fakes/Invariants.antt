@@ -1,0 +1,5 @@
+use Rattle.std.proofs.Common.{◌≡◌, length, All, IsSome}
+use Rattle.sk_runs.proofs.tests.boards.fakes.Given as goal
+
+abbrev pub invariant-place : goal.invariant-place
+invariant-place g l = (length l.boxes.items ≡ l.place) × All IsSome l.boxes.items

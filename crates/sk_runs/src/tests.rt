@@ -1,0 +1,13 @@
+mod about;
+mod boards;
+mod bounds;
+mod columns;
+mod counts;
+mod faults;
+mod files;
+mod hashes;
+mod interim;
+mod replays;
+mod rows;
+mod stage;
+mod usage;

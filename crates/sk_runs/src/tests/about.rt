@@ -1,0 +1,34 @@
+// What `--help` tells of the options, their limits and what holds where they are not given.
+use super::rows::run_alone;
+use super::stage::{FINE, expect};
+use std::test::Fail;
+
+const TOLD: &str = "\
+[--k K] [--raw] [--seed S] [--csv C] [--file NAME] [--updaters N] [--b B,..]
+[--window W] [--alarm M,..] [--eager yes|no] [--propagator yes|no]
+--k K        how many hashes are kept, 2 to 32768 (4096)
+--csv C      counts column C, 1 to 4096, of comma-separated values
+--raw        each line spells its item, a number from 0 to 281474976710655
+--seed S     the seed of the hash, 0 to 4294967295 (0)
+--file NAME  reads this file in place of the standard input
+--updaters N how many updaters share the lines, 1 to 64 (1)
+--b B,..     how many items an updater hands over at once, 1 to 4096 each (64);
+--window W   writes an estimate after each W lines too, 1 to 1000000
+--alarm M,.. writes a line at the first such estimate of M or more, 0 to 281474976710655
+each, at most 8
+--eager      hands over item by item while there are few (yes)
+--propagator lets one thread take over what updaters hand over (yes)
+A line has at most 65536 bytes. An option stands at most once.";
+
+#[test]
+fn help_tells_of_each_option(rt: HostRuntime) -> Result<(), Fail> {
+    let alloc = rt.alloc();
+    let ran = run_alone(&rt, alloc, &FINE, "--help", Vec::new(alloc))?;
+    let help = String::from_utf8(ran.out.written().to_vec(alloc)?)?;
+    expect(&rt, &ran, "--help", 0, help.as_bytes(), b"");
+    assert_eq!(rt; TOLD.lines().count(), 15);
+    'told: for told in TOLD.lines() {
+        assert!(rt; help.contains(told), "{told}");
+    }
+    Ok(())
+}

@@ -1,0 +1,47 @@
+// Commands over files.
+use super::rows::check_rows;
+use super::stage::{FINE, Streams, alarms, expect, run_beside};
+use sk_io::FileShelf;
+use std::test::Fail;
+
+// The faults of a file are its own. The input, whose first read fails, is not met beside it. A name
+// is a whole word, blanks and all.
+const FILES: &str = "\
+read=0 | count --file quick --k 2 | | 0 | estimate 281474976710656/224131386917309; |
+read=0 | count --raw --k 2 --file ids | | 0 | estimate 281474976710656/5; |
+read=0 | count --file ids --seed 7 --raw --k 2 | | 0 | estimate 281474976710656/5; |
+read=0 | count --seed 7 --file quick | | 0 | estimate 3/1; |
+read=0 | count --file --raw | | 0 | estimate 1/1; |
+read=0 | count --file _a__name_ | x;y; | 0 | estimate 2/1; |
+read=0 | replay --file plan | | 0 | token 1; |
+read=0 | count --csv 2 --file table | | 0 | estimate 1/1; |
+read=0 | hash --file quick | | 0 | cbd8a7b341bd;342fac623a5e;cd99481f9ee9; |
+read=0 | count --file none | | 8 | | open fault;
+read=0 | hash --file - | | 8 | | open fault;
+read=0 | replay --file pla | | 8 | | open fault;
+read=0 open=0 | count --file quick | | 8 | | open fault;
+read=0 file=0 | hash --file quick | | 3 | | read fault;
+read=0 file=1 | hash --file quick | | 3 | cbd8a7b341bd;342fac623a5e;cd99481f9ee9; | read fault;";
+
+#[test]
+fn files(rt: HostRuntime) -> Result<(), Fail> {
+    check_rows(&rt, rt.alloc(), FILES, 15)
+}
+
+// A folder opens, and gives no bytes.
+#[test]
+fn files_of_the_system(rt: HostRuntime) -> Result<(), Fail> {
+    let alloc = rt.alloc();
+    let streams = Streams { read: 0, ..FINE };
+    let mut shelf = FileShelf::new(&rt);
+    'name: for (line, status, err) in [
+        ("count --file .", 3, "read fault\n"),
+        ("count --file ./no/such/file", 8, "open fault\n"),
+    ] {
+        let mut board = alarms(alloc)?;
+        let text = Vec::new(alloc);
+        let ran = run_beside(&rt, alloc, &streams, line, text, &mut shelf, &mut board)?;
+        expect(&rt, &ran, line, status, b"", err.as_bytes());
+    }
+    Ok(())
+}

@@ -1,0 +1,113 @@
+// Words that are no command, and values at the ends of their limits.
+use super::rows::{check_rows, run_alone};
+use super::stage::{FINE, expect};
+use std::alloc::Global;
+use std::process::Abort;
+use std::sync::Wait;
+use std::test::Fail;
+use std::thread::Threads;
+
+const USAGE: &[u8] = b"usage: sketchd count, hash, replay, image, join, quantile, serve or make\n";
+
+// One line has no words.
+const REFUSED: &str = "\
+count --k 1
+
+count --k 32769
+count --k
+count --k 4 --k 4
+count --raw --raw
+count --k --raw
+count --seed 4294967296
+count --csv
+count --csv 0
+count --csv 4097
+count --csv 1 --csv 1
+hash --csv 1
+count --file
+count --file ''
+count --file a --file a
+count --file none --k 1
+--help --file a
+replay --seed 1
+replay --file a --file b
+hash --k 4
+hash --window 1
+replay --alarm 1
+count --updaters 0
+count --updaters 65
+count --updaters 001
+count --b 0
+count --b 4097
+count --b 1,
+count --b ''
+count --b ,
+count --b ,1
+count --b 1,,2
+count --b 1,_2
+count --b 1;2
+count --b 0,1
+count --b 1,4097
+count --b 00001
+count --b 1,-2
+count --b 1,1,1,1,1,1,1,1,1,1,1,1,1,1,1,1,1,1,1,1,1,1,1,1,1,1,1,1,1,1,1,1,1,1,1,1,1,1,1,1,1,\
+1,1,1,1,1,1,1,1,1,1,1,1,1,1,1,1,1,1,1,1,1,1,1,1
+count --window 0
+count --window 1000001
+count --eager
+count --eager Yes
+count --eager ''
+count --eager yes,no
+count --propagator maybe
+count --alarm ,1
+count --alarm 1,2,3,4,5,6,7,8,9
+count --alarm 281474976710656
+hash --seed
+count --k=4
+count x
+Count
+--help --help
+--version x
+--raw";
+
+// Values that are the least or the greatest, and lists of numbers.
+const ACCEPTED: &str = "\
+| count --k 2 | a;a; | 0 | estimate 1/1; |
+| count --k 32768 | a;a; | 0 | estimate 1/1; |
+| count --updaters 01 --b 64 | a;a; | 0 | estimate 1/1; |
+| count --updaters 2 --b 1,4096 | a;a; | 0 | estimate 1/1; |
+| count --updaters 3 --b 01,0002,3 | a;a; | 0 | estimate 1/1; |
+| count --updaters 4 --b 1,1,1 | a;a; | 0 | estimate 1/1; |
+| count --b 1,1,1,1,1,1,1,1,1,1,1,1,1,1,1,1,1,1,1,1,1,1,1,1,1,1,1,1,1,1,1,1,1,1,1,1,1,1,1,1,\
+1,1,1,1,1,1,1,1,1,1,1,1,1,1,1,1,1,1,1,1,1,1,1,1 | a;a; | 0 | estimate 1/1; |
+| count --csv 4096 | | 0 | estimate 0/1; |
+| count --window 1000000 --eager no --propagator yes | a;a; | 0 | estimate 1/1; |
+| count --window 1 --eager yes --propagator no | a;a; | 0 \
+| at 1 estimate 1/1;at 2 estimate 1/1;estimate 1/1; |
+| count --alarm 0,1,2,3,4,5,6,281474976710655 | a;a; | 0 | estimate 1/1; |
+| --version | | 0 | sketchd 0.1.0; |";
+
+// Runs each line, of which there are so many, over a text that it does not read.
+fn check_refused<R: Threads + Wait + Abort + Sync>(
+    rt: &R,
+    alloc: Global,
+    table: &str,
+    lines: usize,
+) -> Result<(), Fail> {
+    assert_eq!(rt; table.lines().count(), lines);
+    'line: for line in table.lines() {
+        let ran = run_alone(rt, alloc, &FINE, line, b"hello\n".to_vec(alloc)?)?;
+        expect(rt, &ran, line, 2, b"", USAGE);
+    }
+    Ok(())
+}
+
+#[test]
+fn words_that_are_no_command(rt: HostRuntime) -> Result<(), Fail> {
+    check_refused(&rt, rt.alloc(), REFUSED, 57)
+}
+
+#[test]
+fn values_at_their_limits(rt: HostRuntime) -> Result<(), Fail> {
+    check_rows(&rt, rt.alloc(), ACCEPTED, 12)
+}
