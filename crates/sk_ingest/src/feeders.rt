@@ -20,44 +20,52 @@ use std::thread::Threads;
 pub struct Feeders<C: Composable> {
     feeders: Vec<Feeder<C>>,
     most: u32,
+    threads: u32,
 }
 
 impl<C: Composable> Model for Feeders<C> {
-    ghost use Rattle.std.specs.Prelude.{◌≡◌, ◌≤◌, [], vec_capacity};
+    ghost use Rattle.std.specs.Prelude.{◌≡◌, ◌<◌, ◌≤◌, [], vec_capacity};
     ghost use Rattle.sk_ingest.specs.Rounds.{FeedersState};
 
     ghost Value = { FeedersState };
 
     ghost view = { λ f. record { most = f.most } };
 
-    ghost invariant = { λ f. (f.feeders.items ≡ []) × (f.most ≤ vec_capacity f.feeders) };
+    ghost invariant = { λ f. (f.feeders.items ≡ []) × (f.most ≤ vec_capacity f.feeders) × (0 < f.threads) };
 }
 
 impl<C: Composable> Feeders<C> {
-    /// Room for so many updaters. All its memory is taken here.
-    pub fn new(alloc: Global, most: u32) -> Result<Feeders<C>, OutOfMemory>
+    /// Room for so many updaters, which are fed in at most so many threads. All its memory is taken here.
+    pub fn new(alloc: Global, most: u32, threads: u32) -> Result<Feeders<C>, OutOfMemory>
+        requires threads { 0 < threads }
         ensures { IfOk result (λ feeders. feeders.most ≡ most) }
     {
         Ok(Feeders {
             feeders: Vec::with_capacity(alloc, most as usize)?,
             most,
+            threads,
         })
     }
 
-    /// Feeds a window to from 1 to 64 updaters at once, in at most so many threads. Each takes its block, and
-    /// propagates where it is busy or eager.
+    /// In how many threads updaters are fed at most.
+    pub fn threads(&self) -> u32
+        ensures { 0 < result }
+    {
+        self.threads
+    }
+
+    /// Feeds a window to from 1 to 64 updaters at once. Each takes its block, and propagates where it is busy or
+    /// eager.
     pub fn feed_window<R: Threads + Wait + Sync>(
         &mut self,
         rt: &R,
         updaters: &mut Vec<Updater<C>>,
         window: &Window,
         kind: Kind,
-        threads: u32,
     ) -> Result<(), OutOfMemory>
     where
         C: Send,
         C::Told: Send,
-        requires threads { 0 < threads }
         requires most { length updaters.old.items ≤ most_updaters }
         requires places { length updaters.old.items ≤ self.old.most }
         requires room { HaveRoom window.now.lines updaters.old.items }
@@ -68,6 +76,7 @@ impl<C: Composable> Feeders<C> {
         ensures stays { self.new ≡ self.old }
     {
         lend(updaters, &mut self.feeders);
+        let threads = self.threads;
         let fed = feed_each(rt, self.feeders.as_mut_slice(), window, kind, threads);
         give_back(&mut self.feeders, updaters);
         fed
