@@ -56,6 +56,7 @@ pub fn feed_block<C: Composable, R: Wait>(
 }
 
 // Feeds an item. Without `help` it is offered once, and may not be taken.
+#[inline(always)]
 fn feed_item<C: Composable, R: Wait>(
     rt: &R,
     u: &mut Updater<C>,
@@ -107,6 +108,7 @@ pub(crate) fn insist<C: Composable, R: Wait>(
 }
 
 // Offers an item once.
+#[inline(always)]
 pub(crate) fn offer<C: Composable>(u: &mut Updater<C>, item: u64) -> Update
     requires item { IsItem item }
     requires room { length (kept_of u.old) < most_kept }
