@@ -136,7 +136,10 @@ fn help_if_eager<C: Composable, R: Wait>(rt: &R, u: &mut Updater<C>) -> Result<(
 }
 
 // Propagates, and waits while another seat does.
-fn help_until_served<C: Composable, R: Wait>(rt: &R, u: &mut Updater<C>) -> Result<(), OutOfMemory>
+pub(crate) fn help_until_served<C: Composable, R: Wait>(
+    rt: &R,
+    u: &mut Updater<C>,
+) -> Result<(), OutOfMemory>
     ensures none { KeepsNone u.old u.new }
     ensures served { OnOk result ((times : ℕ) × ServesAfter times u.old u.new) }
     ensures cause { OnErr result (IsTrue C.TAKES_MEMORY) }

@@ -125,7 +125,9 @@ where
         report,
     )?;
     let Intake {
-        kind, propagator, ..
+        kind,
+        propagator,
+        ..
     } = *plan;
     feed_at_once(rt, opened, &mut feeders, &window, kind, propagator)?;
     Ok(count)

@@ -2,6 +2,7 @@
 #![tactic(auto)]
 
 mod at_once;
+mod beside;
 mod block;
 mod drain;
 mod feed;

@@ -25,7 +25,12 @@ use std::thread::Threads;
 
 // Reads the lines of a source into a window, which is fed to all updaters at once and reported each time it is
 // full.
-pub(crate) fn read_line_windows<S: Source, C: Composable + Send, P: Report<C>, R: Threads + Wait + Sync>(
+pub(crate) fn read_line_windows<
+    S: Source,
+    C: Composable + Send,
+    P: Report<C>,
+    R: Threads + Wait + Sync,
+>(
     rt: &R,
     alloc: Global,
     plan: &Intake,

@@ -1,5 +1,5 @@
 //! A window that is fed to the updaters of a hub, in the way that a plan wants.
-ghost use Rattle.std.specs.Prelude.{◌≡◌, ◌<◌, ◌≤◌, OnOk, IfOk};
+ghost use Rattle.std.specs.Prelude.{◌≡◌, ◌≤◌, OnOk, IfOk};
 ghost use Rattle.sk_model.specs.Limits.{most_updaters};
 ghost use Rattle.sk_ingest.specs.Rounds.{HaveRoom};
 ghost use Rattle.sk_ingest.specs.Hubs.{hub_of, IsHub, FeedsWindow};
@@ -79,5 +79,8 @@ where
     }
     // It tells the proof how many updaters a hub has at most.
     let _admitted = opened.heart.admitted();
-    feeders.feed_window(rt, &mut opened.updaters, window, kind)
+    if propagator {
+        return feeders.feed_beside(rt, &mut opened.heart, &mut opened.updaters, window, kind);
+    }
+    feeders.feed_window(rt, &mut opened.updaters, window, kind, true)
 }

@@ -58,5 +58,11 @@ returns-in_err-feed_at_once-clause-refused g c =
     let between = hub_of c.read_windows.new.opened in let s = c.read_windows.new.report in let rest = c.read_windows.new.window.lines in
     let left = g.S.Source.left c.args.source.now in let left' = g.S.Source.left c.read_windows.new.source in
     if_err_is c.from_residual-in_err-feed_at_once.result fault.OutOfMemory (EndsEarly t (units_by plan.column) left left' hub r s) c.from_residual-in_err-feed_at_once.ensures.1
-    (inr (refl, (c.in_ok-count.count, all_by (units_by plan.column) plan.most c.in_ok-count.count (λ units. WindowsWent t units hub r rest between s) (GoesSoFar t hub r s) left left'
-    (λ units went. (rest, between, went.goes)) c.in_ok-count.ensures.read)))
+    (inr (
+      refl,
+      (
+        c.in_ok-count.count,
+        all_by (units_by plan.column) plan.most c.in_ok-count.count (λ units. WindowsWent t units hub r rest between s) (GoesSoFar t hub r s) left left'
+            (λ units went. (rest, between, went.goes)) c.in_ok-count.ensures.read,
+      ),
+    ))
