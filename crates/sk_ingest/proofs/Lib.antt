@@ -14,4 +14,6 @@ pub mod New
 pub mod Cutting
 pub mod HubLaws
 pub mod Ingestion
+pub mod Filled
+pub mod WindowLaws
 pub mod AtOnceLaws

@@ -9,3 +9,4 @@ pub mod Stops
 pub mod Hubs
 pub mod Ingests
 pub mod Takers
+pub mod Fills

@@ -76,6 +76,7 @@ fn take_unit<C: Composable, R: Wait>(
 }
 
 // Feeds an item until it is taken. The heart propagates where the updater is busy, or the updater itself.
+#[inline(always)]
 fn feed_one<C: Composable, R: Wait>(
     rt: &R,
     heart: &mut Heart<C>,
@@ -95,6 +96,7 @@ fn feed_one<C: Composable, R: Wait>(
 }
 
 // Offers an item until it is taken. The heart propagates in between.
+#[inline(always)]
 fn insist_sweeping<C: Composable, R: Wait>(
     rt: &R,
     heart: &mut Heart<C>,

@@ -56,6 +56,7 @@ pub fn feed_block<C: Composable, R: Wait>(
 }
 
 // Feeds an item. Without `help` it is offered once, and may not be taken.
+#[inline(always)]
 fn feed_item<C: Composable, R: Wait>(
     rt: &R,
     u: &mut Updater<C>,
@@ -107,6 +108,7 @@ pub(crate) fn insist<C: Composable, R: Wait>(
 }
 
 // Offers an item once.
+#[inline(always)]
 pub(crate) fn offer<C: Composable>(u: &mut Updater<C>, item: u64) -> Update
     requires item { IsItem item }
     requires room { length (kept_of u.old) < most_kept }
@@ -134,7 +136,10 @@ fn help_if_eager<C: Composable, R: Wait>(rt: &R, u: &mut Updater<C>) -> Result<(
 }
 
 // Propagates, and waits while another seat does.
-fn help_until_served<C: Composable, R: Wait>(rt: &R, u: &mut Updater<C>) -> Result<(), OutOfMemory>
+pub(crate) fn help_until_served<C: Composable, R: Wait>(
+    rt: &R,
+    u: &mut Updater<C>,
+) -> Result<(), OutOfMemory>
     ensures none { KeepsNone u.old u.new }
     ensures served { OnOk result ((times : ℕ) × ServesAfter times u.old u.new) }
     ensures cause { OnErr result (IsTrue C.TAKES_MEMORY) }

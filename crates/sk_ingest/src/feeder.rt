@@ -1,14 +1,15 @@
 //! An updater on its way through a window, and the feeding of all at once.
-ghost use Rattle.std.specs.Prelude.{◌≡◌, ℕ, ◌+◌, ◌<◌, ◌≤◌, length, map, slice_index_or, OnOk, OnErr, IsOk, IsErr, IsTrue};
+ghost use Rattle.std.specs.Prelude.{◌≡◌, ℕ, ◌+◌, ◌-◌, ◌<◌, ◌≤◌, length, map, slice_index_or, slice_range, OnOk, OnErr, IfOk, IsOk, IsErr, IsTrue};
 ghost use Rattle.sk_hub.specs.Updaters.{kept_of};
 ghost use Rattle.sk_ingest.specs.Windows.{items_in};
-ghost use Rattle.sk_ingest.specs.Feeds.{Takes};
+ghost use Rattle.sk_ingest.specs.Feeds.{KeepsNone, Takes};
 ghost use Rattle.sk_ingest.specs.Rounds.{block_of, HaveRoom, TakesFront, TakeBlocks, TakeFronts};
 ghost use Rattle.sk_model.specs.Limits.{most_updaters, most_kept};
 
 use crate::block::Block;
-use crate::feed::feed_block;
+use crate::feed::{feed_block, help_until_served};
 use crate::window::Window;
+use crossbeam_utils::Backoff;
 use sk_compose::Composable;
 use sk_hub::Updater;
 use sk_model::OutOfMemory;
@@ -34,8 +35,9 @@ impl<C: Composable> Feeder<C> {
         }
     }
 
-    // Feeds block i of n.
-    fn feed<R: Wait>(&mut self, rt: &R, window: &Window, kind: Kind, i: usize, n: usize)
+    // Feeds block i of n. With `help` the updater propagates where it is busy or eager, else where it is busy for
+    // long.
+    fn feed<R: Wait>(&mut self, rt: &R, window: &Window, kind: Kind, i: usize, n: usize, help: bool)
         requires few { n ≤ most_updaters }
         requires within { i < n }
         requires room { length (kept_of self.old.updater) + length (block_of window.now.lines i n) ≤ most_kept }
@@ -44,24 +46,89 @@ impl<C: Composable> Feeder<C> {
         ensures cause { OnErr self.new.place (IsTrue C.TAKES_MEMORY) }
     {
         let block = Block::of(window.len(), i as u32, n as u32);
-        self.place = feed_block(
-            rt,
-            &mut self.updater,
-            window,
-            block.from,
-            block.to,
-            kind,
-            true,
-        );
+        self.place = feed_whole(rt, &mut self.updater, window, kind, block, help);
     }
 }
 
-// Feeds a window to its feeders at once, in at most so many threads.
+// Feeds a block, and propagates as `Feeder::feed` says.
+fn feed_whole<C: Composable, R: Wait>(
+    rt: &R,
+    u: &mut Updater<C>,
+    window: &Window,
+    kind: Kind,
+    block: Block,
+    help: bool,
+) -> Result<u32, OutOfMemory>
+    requires order { block.from ≤ block.to }
+    requires within { block.to ≤ length window.now.lines }
+    requires room { length (kept_of u.old) + (block.to - block.from) ≤ most_kept }
+    ensures place { IfOk result (λ place. (block.from ≤ place) × (place ≤ block.to)) }
+    ensures taken { IfOk result (λ place. Takes C.keeps_of C.hint_of u.old (items_in kind (slice_range window.now.lines block.from place)) u.new) }
+    ensures all { IfOk result (λ place. place ≡ block.to) }
+    ensures refused { OnErr result ((place : ℕ) × (block.from ≤ place) × (place ≤ block.to)
+        × Takes C.keeps_of C.hint_of u.old (items_in kind (slice_range window.now.lines block.from place)) u.new) }
+    ensures cause { OnErr result (IsTrue C.TAKES_MEMORY) }
+{
+    if help {
+        return feed_block(rt, u, window, block.from, block.to, kind, true);
+    }
+    feed_patiently(rt, u, window, kind, block)
+}
+
+// Feeds a block. Where the updater is busy it waits, and propagates where it waited long.
+fn feed_patiently<C: Composable, R: Wait>(
+    rt: &R,
+    u: &mut Updater<C>,
+    window: &Window,
+    kind: Kind,
+    block: Block,
+) -> Result<u32, OutOfMemory>
+    requires order { block.from ≤ block.to }
+    requires within { block.to ≤ length window.now.lines }
+    requires room { length (kept_of u.old) + (block.to - block.from) ≤ most_kept }
+    ensures place { IfOk result (λ place. (block.from ≤ place) × (place ≤ block.to)) }
+    ensures taken { IfOk result (λ place. Takes C.keeps_of C.hint_of u.old (items_in kind (slice_range window.now.lines block.from place)) u.new) }
+    ensures all { IfOk result (λ place. place ≡ block.to) }
+    ensures refused { OnErr result ((place : ℕ) × (block.from ≤ place) × (place ≤ block.to)
+        × Takes C.keeps_of C.hint_of u.old (items_in kind (slice_range window.now.lines block.from place)) u.new) }
+    ensures cause { OnErr result (IsTrue C.TAKES_MEMORY) }
+{
+    let backoff = Backoff::new();
+    let mut place = block.from;
+    'again: for _ in rt.forever() {
+        place = feed_block(rt, u, window, place, block.to, kind, false)?;
+        if place == block.to {
+            return Ok(place);
+        }
+        wait_or_help(rt, u, &backoff)?;
+    }
+    unreachable!()
+}
+
+// Waits for the propagator. Behind some such calls the updater propagates itself.
+fn wait_or_help<C: Composable, R: Wait>(
+    rt: &R,
+    u: &mut Updater<C>,
+    backoff: &Backoff,
+) -> Result<(), OutOfMemory>
+    ensures none { KeepsNone u.old u.new }
+    ensures cause { OnErr result (IsTrue C.TAKES_MEMORY) }
+{
+    if !backoff.is_completed() {
+        backoff.snooze();
+        return Ok(());
+    }
+    backoff.reset();
+    help_until_served(rt, u)
+}
+
+// Feeds a window to its feeders at once, in at most so many threads. With `help` each propagates where it is busy.
 pub(crate) fn feed_each<C: Composable + Send, R: Threads + Wait + Sync>(
     rt: &R,
     feeders: &mut [Feeder<C>],
     window: &Window,
     kind: Kind,
+    help: bool,
     threads: u32,
 ) -> Result<(), OutOfMemory>
 where
@@ -78,7 +145,7 @@ where
         rt,
         feeders,
         threads as usize,
-        &|i, feeder| feeder.feed(rt, window, kind, i, n),
+        &|i, feeder| feeder.feed(rt, window, kind, i, n, help),
     );
     outcome(feeders)
 }

@@ -1,13 +1,15 @@
 //! How a window is fed to the updaters of a hub, at once.
 ghost use Rattle.std.specs.Prelude.{◌≡◌, ◌∷◌, ◌<◌, ◌≤◌, [], length, map, reverse, vec_capacity, OnOk, OnErr, IfOk, IsTrue};
-ghost use Rattle.sk_ingest.specs.Rounds.{HaveRoom, TakeFronts};
+ghost use Rattle.sk_ingest.specs.Hubs.{HeartGoesOn};
+ghost use Rattle.sk_ingest.specs.Rounds.{HaveRoom, TakeBlocks, TakeFronts};
 ghost use Rattle.sk_ingest.specs.Shares.{TakeShares};
 ghost use Rattle.sk_model.specs.Limits.{most_updaters};
 
+use crate::beside::run_beside;
 use crate::feeder::{Feeder, feed_each};
 use crate::window::Window;
 use sk_compose::Composable;
-use sk_hub::Updater;
+use sk_hub::{Heart, Updater};
 use sk_model::OutOfMemory;
 use sk_read::Kind;
 use std::alloc::Global;
@@ -20,44 +22,53 @@ use std::thread::Threads;
 pub struct Feeders<C: Composable> {
     feeders: Vec<Feeder<C>>,
     most: u32,
+    threads: u32,
 }
 
 impl<C: Composable> Model for Feeders<C> {
-    ghost use Rattle.std.specs.Prelude.{◌≡◌, ◌≤◌, [], vec_capacity};
+    ghost use Rattle.std.specs.Prelude.{◌≡◌, ◌<◌, ◌≤◌, [], vec_capacity};
     ghost use Rattle.sk_ingest.specs.Rounds.{FeedersState};
 
     ghost Value = { FeedersState };
 
     ghost view = { λ f. record { most = f.most } };
 
-    ghost invariant = { λ f. (f.feeders.items ≡ []) × (f.most ≤ vec_capacity f.feeders) };
+    ghost invariant = { λ f. (f.feeders.items ≡ []) × (f.most ≤ vec_capacity f.feeders) × (0 < f.threads) };
 }
 
 impl<C: Composable> Feeders<C> {
-    /// Room for so many updaters. All its memory is taken here.
-    pub fn new(alloc: Global, most: u32) -> Result<Feeders<C>, OutOfMemory>
+    /// Room for so many updaters, which are fed in at most so many threads. All its memory is taken here.
+    pub fn new(alloc: Global, most: u32, threads: u32) -> Result<Feeders<C>, OutOfMemory>
+        requires threads { 0 < threads }
         ensures { IfOk result (λ feeders. feeders.most ≡ most) }
     {
         Ok(Feeders {
             feeders: Vec::with_capacity(alloc, most as usize)?,
             most,
+            threads,
         })
     }
 
-    /// Feeds a window to from 1 to 64 updaters at once, in at most so many threads. Each takes its block, and
-    /// propagates where it is busy or eager.
+    /// In how many threads updaters are fed at most.
+    pub fn threads(&self) -> u32
+        ensures { 0 < result }
+    {
+        self.threads
+    }
+
+    /// Feeds a window to from 1 to 64 updaters at once. Each takes its block. With `help` it propagates where it is
+    /// busy or eager; else it waits for a propagator, and propagates where it is busy for long.
     pub fn feed_window<R: Threads + Wait + Sync>(
         &mut self,
         rt: &R,
         updaters: &mut Vec<Updater<C>>,
         window: &Window,
         kind: Kind,
-        threads: u32,
+        help: bool,
     ) -> Result<(), OutOfMemory>
     where
         C: Send,
         C::Told: Send,
-        requires threads { 0 < threads }
         requires most { length updaters.old.items ≤ most_updaters }
         requires places { length updaters.old.items ≤ self.old.most }
         requires room { HaveRoom window.now.lines updaters.old.items }
@@ -68,10 +79,97 @@ impl<C: Composable> Feeders<C> {
         ensures stays { self.new ≡ self.old }
     {
         lend(updaters, &mut self.feeders);
-        let fed = feed_each(rt, self.feeders.as_mut_slice(), window, kind, threads);
+        let fed = feed_all(rt, &mut self.feeders, window, kind, help, self.threads);
         give_back(&mut self.feeders, updaters);
         fed
     }
+
+    // Feeds a window to from 1 to 64 updaters at once, without help, while the heart propagates.
+    pub(crate) fn feed_beside<R: Threads + Wait + Sync>(
+        &mut self,
+        rt: &R,
+        heart: &mut Heart<C>,
+        updaters: &mut Vec<Updater<C>>,
+        window: &Window,
+        kind: Kind,
+    ) -> Result<(), OutOfMemory>
+    where
+        C: Send,
+        C::Told: Send,
+        requires most { length updaters.old.items ≤ most_updaters }
+        requires places { length updaters.old.items ≤ self.old.most }
+        requires room { HaveRoom window.now.lines updaters.old.items }
+        ensures taken { OnOk result (TakeShares C.keeps_of C.hint_of kind (window.now.lines ∷ []) updaters.old.items updaters.new.items) }
+        ensures heart { HeartGoesOn heart.old heart.new }
+        ensures cause { OnErr result (IsTrue C.TAKES_MEMORY) }
+        ensures count { length updaters.new.items ≡ length updaters.old.items }
+        ensures stays { self.new ≡ self.old }
+    {
+        lend(updaters, &mut self.feeders);
+        let fed = feed_all_beside(rt, heart, &mut self.feeders, window, kind, self.threads);
+        give_back(&mut self.feeders, updaters);
+        fed
+    }
+}
+
+// Feeds a window to its feeders at once, in at most so many threads.
+fn feed_all<C: Composable + Send, R: Threads + Wait + Sync>(
+    rt: &R,
+    feeders: &mut Vec<Feeder<C>>,
+    window: &Window,
+    kind: Kind,
+    help: bool,
+    threads: u32,
+) -> Result<(), OutOfMemory>
+where
+    C::Told: Send,
+    requires threads { 0 < threads }
+    requires most { length feeders.old.items ≤ most_updaters }
+    requires room { HaveRoom window.now.lines (map (λ f. f.updater) feeders.old.items) }
+    ensures taken { OnOk result (TakeBlocks C.keeps_of C.hint_of kind window.now.lines (map (λ f. f.updater) feeders.old.items) (map (λ f. f.updater) feeders.new.items)) }
+    ensures refused { OnErr result (TakeFronts C.keeps_of C.hint_of kind window.now.lines (map (λ f. f.updater) feeders.old.items) (map (λ f. f.updater) feeders.new.items)) }
+    ensures cause { OnErr result (IsTrue C.TAKES_MEMORY) }
+    ensures count { length feeders.new.items ≡ length feeders.old.items }
+    ensures places { vec_capacity feeders.new ≡ vec_capacity feeders.old }
+{
+    feed_each(rt, feeders.as_mut_slice(), window, kind, help, threads)
+}
+
+// The same, without help, while the heart propagates.
+fn feed_all_beside<C: Composable + Send, R: Threads + Wait + Sync>(
+    rt: &R,
+    heart: &mut Heart<C>,
+    feeders: &mut Vec<Feeder<C>>,
+    window: &Window,
+    kind: Kind,
+    threads: u32,
+) -> Result<(), OutOfMemory>
+where
+    C::Told: Send,
+    requires threads { 0 < threads }
+    requires most { length feeders.old.items ≤ most_updaters }
+    requires room { HaveRoom window.now.lines (map (λ f. f.updater) feeders.old.items) }
+    ensures taken { OnOk result (TakeBlocks C.keeps_of C.hint_of kind window.now.lines (map (λ f. f.updater) feeders.old.items) (map (λ f. f.updater) feeders.new.items)) }
+    ensures heart { HeartGoesOn heart.old heart.new }
+    ensures cause { OnErr result (IsTrue C.TAKES_MEMORY) }
+    ensures count { length feeders.new.items ≡ length feeders.old.items }
+    ensures places { vec_capacity feeders.new ≡ vec_capacity feeders.old }
+{
+    let (propagated, fed) = run_beside(
+        rt,
+        heart,
+        &mut ||
+            requires threads { 0 < threads }
+            requires most { length feeders.now.items ≤ most_updaters }
+            requires room { HaveRoom window.now.lines (map (λ f. f.updater) feeders.now.items) }
+            ensures taken { OnOk result (TakeBlocks C.keeps_of C.hint_of kind window.entry.now.lines (map (λ f. f.updater) feeders.entry.now.items) (map (λ f. f.updater) feeders.exit.now.items)) }
+            ensures cause { OnErr result (IsTrue C.TAKES_MEMORY) }
+            ensures count { length feeders.exit.now.items ≡ length feeders.entry.now.items }
+            ensures places { vec_capacity feeders.exit.now ≡ vec_capacity feeders.entry.now }
+        { feed_all(rt, feeders, window, kind, false, threads) },
+    );
+    propagated?;
+    fed
 }
 
 // The last is the first.

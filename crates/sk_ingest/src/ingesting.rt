@@ -1,7 +1,7 @@
 //! A source that is read to its end and fed to a hub.
 ghost use Rattle.std.specs.Prelude.{◌≡◌, ◌≤◌, [], OnOk, IfOk, IfErr, IfSome};
 ghost use Rattle.sk_model.specs.Causes.{HasCauseIn};
-ghost use Rattle.sk_model.specs.Limits.{source_limit, IsFrom};
+ghost use Rattle.sk_model.specs.Limits.{source_limit, most_updaters, IsFrom};
 ghost use Rattle.sk_read.specs.Reads.{Reads, ReadsAll};
 ghost use Rattle.sk_read.specs.Units.{units_by};
 ghost use Rattle.sk_ingest.specs.Windows.{most_lines};
@@ -12,8 +12,10 @@ ghost use Rattle.sk_ingest.specs.Rounds.{HaveFew};
 ghost use Rattle.sk_ingest.specs.Takers.{IsSetUp, IsAlone, WindowsWent, UnitsWent, untold};
 
 use crate::at_once::AtOnce;
+use crate::feeders::Feeders;
+use crate::line_windows::read_line_windows;
 use crate::report::Report;
-use crate::ways::feed_window;
+use crate::ways::{feed_at_once, feeders_for};
 use crate::window::Window;
 use crate::windowed::Windowed;
 use sk_compose::Composable;
@@ -84,7 +86,7 @@ fn ingest_at_once<S: Source, C: Composable, R: Wait>(
 }
 
 // Feeds a window at a time, and the last one, which is not full.
-fn ingest_windows<S: Source, C: Composable, P: Report<C>, R: Wait>(
+fn ingest_windows<S: Source, C: Composable + Send, P: Report<C>, R: Threads + Wait + Sync>(
     rt: &R,
     alloc: Global,
     plan: &Intake,
@@ -92,6 +94,8 @@ fn ingest_windows<S: Source, C: Composable, P: Report<C>, R: Wait>(
     opened: &mut Opened<C>,
     report: &mut P,
 ) -> Result<u64, Fault>
+where
+    C::Told: Send,
     requires bound { plan.now.most ≤ source_limit }
     requires window { IsFrom 1 most_lines plan.now.window }
     requires hub { IsHub (hub_of opened.old) }
@@ -109,13 +113,63 @@ fn ingest_windows<S: Source, C: Composable, P: Report<C>, R: Wait>(
     ensures named { P.sketch report.new ≡ P.sketch report.old }
 {
     let mut window = Window::new(alloc, plan.window)?;
-    let count = read_windows(rt, alloc, plan, source, &mut window, opened, report)?;
-    feed_window(rt, opened, &window, plan.kind, plan.propagator)?;
+    let mut feeders = feeders_for(rt, alloc, opened.updaters.len())?;
+    let count = read_windows(
+        rt,
+        alloc,
+        plan,
+        source,
+        &mut window,
+        &mut feeders,
+        opened,
+        report,
+    )?;
+    let Intake {
+        kind,
+        propagator,
+        ..
+    } = *plan;
+    feed_at_once(rt, opened, &mut feeders, &window, kind, propagator)?;
     Ok(count)
 }
 
-// Reads a source into a window, which is fed and reported each time it is full.
-fn read_windows<S: Source, C: Composable, P: Report<C>, R: Wait>(
+// Reads a source into a window, which is fed and reported each time it is full: of lines to all updaters at once,
+// of fields to one after another.
+fn read_windows<S: Source, C: Composable + Send, P: Report<C>, R: Threads + Wait + Sync>(
+    rt: &R,
+    alloc: Global,
+    plan: &Intake,
+    source: &mut S,
+    window: &mut Window,
+    feeders: &mut Feeders<C>,
+    opened: &mut Opened<C>,
+    report: &mut P,
+) -> Result<u64, Fault>
+where
+    C::Told: Send,
+    requires bound { plan.now.most ≤ source_limit }
+    requires places { most_updaters ≤ feeders.old.most }
+    requires empty { window.old.lines ≡ [] }
+    requires setup { IsSetUp plan.now window.old (hub_of opened.old) (P.sketch report.old) }
+    requires start { WindowsWent (terms_of C.keeps_of C.hint_of P.reports P.breaks plan.now) [] (hub_of opened.old) report.old [] (hub_of opened.old) report.old }
+    ensures read { Reads (units_by plan.now.column) plan.now.most
+        (λ units. WindowsWent (terms_of C.keeps_of C.hint_of P.reports P.breaks plan.now) units (hub_of opened.old) report.old window.new.lines (hub_of opened.new) report.new)
+        (StopsAtUnit (terms_of C.keeps_of C.hint_of P.reports P.breaks plan.now) (hub_of opened.old) report.old report.new) (S.left source.old) (S.left source.new) result }
+    ensures reads { HasCauseIn Fault.ReadFault (S.faults source.old) (S.faults source.new) result }
+    ensures writes { HasCauseIn Fault.WriteFault (P.faults report.old) (P.faults report.new) result }
+    ensures stays { S.stands_on source.new ≡ S.stands_on source.old }
+    ensures report { P.stands_on report.new ≡ P.stands_on report.old }
+    ensures named { P.sketch report.new ≡ P.sketch report.old }
+    ensures room { feeders.new ≡ feeders.old }
+{
+    if plan.column == 0 {
+        return read_line_windows(rt, alloc, plan, source, window, feeders, opened, report);
+    }
+    read_field_windows(rt, alloc, plan, source, window, opened, report)
+}
+
+// Reads a source into a window, which is fed to one updater after another and reported each time it is full.
+fn read_field_windows<S: Source, C: Composable, P: Report<C>, R: Wait>(
     rt: &R,
     alloc: Global,
     plan: &Intake,

@@ -2,13 +2,16 @@
 #![tactic(auto)]
 
 mod at_once;
+mod beside;
 mod block;
 mod drain;
 mod feed;
 mod feeder;
 mod feeders;
+mod filling;
 mod ingesting;
 pub mod laws;
+mod line_windows;
 mod report;
 mod turns;
 mod ways;

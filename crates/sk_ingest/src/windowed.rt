@@ -91,7 +91,7 @@ fn take_unit<C: Composable, P: Report<C>, R: Wait>(
 }
 
 // Whether a unit is empty or an item.
-fn is_good(kind: Kind, unit: &[u8]) -> bool
+pub(crate) fn is_good(kind: Kind, unit: &[u8]) -> bool
     ensures good { result ≡ true → IsGood kind unit.now }
     ensures bad { result ≡ false → (0 < length unit.now) × IsNone (item_of kind unit.now) }
 {
@@ -129,7 +129,7 @@ fn pass_on<C: Composable, P: Report<C>, R: Wait>(
 }
 
 // Reports the hub, where interim replies are wanted.
-fn report_at<C: Composable, P: Report<C>>(
+pub(crate) fn report_at<C: Composable, P: Report<C>>(
     interim: bool,
     line: u64,
     opened: &mut Opened<C>,

@@ -8,5 +8,5 @@ returns-clause-front g c =
     let k = g.C.Composable in let lines = c.args.window.now.lines in
     let from : c.of-block.result.from ≡ place_of (length lines) c.args.i c.args.n = c.of-block.ensures.from ∙ ap (λ m. place_of m c.args.i c.args.n) c.len.ensures.value in
     let to : c.of-block.result.to ≡ place_of (length lines) (c.args.i + 1) c.args.n = c.of-block.ensures.to ∙ ap (λ m. place_of m (c.args.i + 1) c.args.n) c.len.ensures.value in
-    front_taken k.keeps_of k.hint_of c.args.kind lines c.args.i c.args.n c.of-block.result.from c.of-block.result.to c.args.self.now.updater c.feed_block-self.new.u c.feed_block-self.result c.requires.within from to
-    c.feed_block-self.ensures.place c.feed_block-self.ensures.taken c.feed_block-self.ensures.refused
+    front_taken k.keeps_of k.hint_of c.args.kind lines c.args.i c.args.n c.of-block.result.from c.of-block.result.to c.args.self.now.updater c.feed_whole-self.new.u c.feed_whole-self.result c.requires.within from to
+    c.feed_whole-self.ensures.place c.feed_whole-self.ensures.taken c.feed_whole-self.ensures.refused

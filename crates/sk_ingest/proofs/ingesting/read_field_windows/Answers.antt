@@ -2,7 +2,7 @@ use Rattle.std.proofs.Common.{rules}
 use Rattle.sk_ingest.specs.Hubs.{hub_of}
 use Rattle.sk_ingest.specs.Takers.{IsSetUp, SameReport, ReportStops}
 use Rattle.sk_ingest.proofs.Ingestion.{windows_read}
-use Rattle.sk_ingest.proofs.ingesting.read_windows.Goals as goal
+use Rattle.sk_ingest.proofs.ingesting.read_field_windows.Goals as goal
 
 pub returns-clause-read : goal.returns-clause-read
 returns-clause-read g c =
