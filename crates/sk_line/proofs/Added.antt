@@ -1,0 +1,99 @@
+-- What turns add up to.
+use Rattle.std.proofs.Common.{◌≡◌, ℕ, ◌+◌, ◌<◌, ◌≤◌, List, [], ◌∷◌, ◌++◌, length, refl, sym, ap, ◌∙◌, subst, arith, append-nil, append_assoc, length-append}
+use Rattle.sk_model.specs.Entries.{Entry, entries_by}
+use Rattle.sk_model.specs.Missing.{Begins}
+use Rattle.sk_model.proofs.Entries.{entries_by_append}
+use Rattle.sk_hub.specs.Updaters.{UpdaterState, handed_of, base_of, kept_of, LooksInVain}
+use Rattle.sk_ingest.specs.Feeds.{GoesOn}
+use Rattle.sk_theta.specs.Sizes.{Sizes}
+use Rattle.sk_line.specs.Pumps.{IsPumped}
+use Rattle.sk_line.specs.Requests.{request_of, item_of}
+use Rattle.sk_line.specs.Serving.{Turn, Takes, TakesEach, Does, item_kept, items_kept, counted_on, kept_since, busy_turn}
+use Rattle.sk_line.specs.declared.answers.Answer.{Answer}
+use Rattle.sk_line.specs.declared.answers.Answer.TheVariants as answer
+use Rattle.sk_line.specs.declared.requests.Request.{Request}
+use Rattle.sk_line.specs.declared.requests.Request.TheVariants as request
+use Rattle.sk_line.proofs.Updaters.{none_pumped, does_go, goes_trans, goes_same}
+
+-- ---- what was kept
+
+turn_goes : (shape : Sizes) (u : UpdaterState) (t : Turn) (u' : UpdaterState) → Takes shape u t u' → GoesOn u u' × (kept_of u' ≡ kept_of u ++ item_kept shape.seed t.line t.answer)
+turn_goes shape u t u' takes =
+    let none = none_pumped u takes.pumped takes.pump in
+    let does = does_go shape (request_of t.line) t.line t.answer takes.pumped u' takes.does in
+    (goes_trans u takes.pumped u' none.goes does.0, does.1 ∙ ap (λ (l : List ℕ). l ++ item_kept shape.seed t.line t.answer) none.kept)
+
+pub turns_keep : (shape : Sizes) (u : UpdaterState) (turns : List Turn) (u' : UpdaterState) → TakesEach shape u turns u' → GoesOn u u' × (kept_of u' ≡ kept_of u ++ items_kept shape.seed turns)
+unfolding TakesEach
+turns_keep shape u [] u' same = (goes_same u u' same, ap kept_of same ∙ sym (append-nil (kept_of u)))
+turns_keep shape u (t ∷ turns) u' each =
+    let first = turn_goes shape u t each.0 each.1 in
+    let then = turns_keep shape each.0 turns u' each.2 in (
+      goes_trans u each.0 u' first.0 then.0,
+      then.1 ∙ ap (λ (l : List ℕ). l ++ items_kept shape.seed turns) first.1 ∙ append_assoc (kept_of u) (item_kept shape.seed t.line t.answer) (items_kept shape.seed turns),
+    )
+
+-- ---- what may be busy
+
+-- how many of its own items are in the list that it filters by
+abbrev based : UpdaterState → ℕ
+based u = length (entries_by u.number (base_of u))
+
+-- no more than n items that were kept are behind that list
+abbrev AreBehind : ℕ → UpdaterState → Type 0
+AreBehind n u = length (kept_of u) ≤ n + based u
+
+based_more : (u u' : UpdaterState) → GoesOn u u' → based u ≤ based u'
+based_more u u' goes =
+    let rest = goes.base.0 in
+    let all : length (entries_by u'.number (base_of u')) ≡ length (entries_by u.number (base_of u ++ rest)) = cc in
+    omega (arith, all, ap length (entries_by_append u.number (base_of u) rest), length-append (entries_by u.number (base_of u)) (entries_by u.number rest))
+
+kept_behind : (n : ℕ) (u u' : UpdaterState) → GoesOn u u' → kept_of u' ≡ kept_of u ++ [] → AreBehind n u → AreBehind n u'
+kept_behind n u u' goes kept old = omega (arith, ap length kept, length-append (kept_of u) [], based_more u u' goes, old)
+
+does_behind : (shape : Sizes) (r : Request) (line : List ℕ) (a : Answer) (n : ℕ) (u u' : UpdaterState) → Does shape r line a u u' → AreBehind n u → AreBehind (counted_on n a) u'
+does_behind shape r line answer.Kept n u u' d old =
+    let go = does_go shape r line answer.Kept u u' d in omega (arith, ap length go.1, length-append (kept_of u) (item_of shape.seed line ∷ []), based_more u u' go.0, old)
+does_behind shape request.Sync line answer.Synced n u u' d old =
+    let all : length (kept_of u') ≡ length (entries_by u'.number (base_of u')) = ap length (d.goes.kept ∙ sym d.based) ∙ ap (λ (i : ℕ). length (entries_by i (base_of u'))) (sym d.goes.goes.number) in omega (arith, all)
+does_behind shape request.Add line answer.Synced n u u' d old = absurd d
+does_behind shape request.Ask line answer.Synced n u u' d old = absurd d
+does_behind shape request.Quit line answer.Synced n u u' d old = absurd d
+does_behind shape request.Bad line answer.Synced n u u' d old = absurd d
+does_behind shape r line answer.Filtered n u u' d old = let go = does_go shape r line answer.Filtered u u' d in kept_behind n u u' go.0 go.1 old
+does_behind shape r line answer.Busy n u u' d old = let go = does_go shape r line answer.Busy u u' d in kept_behind n u u' go.0 go.1 old
+does_behind shape r line (answer.Estimate x y) n u u' d old = let go = does_go shape r line (answer.Estimate x y) u u' d in kept_behind n u u' go.0 go.1 old
+does_behind shape r line answer.Bad n u u' d old = let go = does_go shape r line answer.Bad u u' d in kept_behind n u u' go.0 go.1 old
+
+pumped_behind : (n : ℕ) (u u' : UpdaterState) → IsPumped u u' → AreBehind n u → AreBehind n u'
+pumped_behind n u u' pump old = let none = none_pumped u u' pump in kept_behind n u u' none.goes (none.kept ∙ sym (append-nil (kept_of u))) old
+
+turns_behind : (shape : Sizes) (n : ℕ) (u : UpdaterState) (turns : List Turn) (u' : UpdaterState) → TakesEach shape u turns u' → AreBehind n u → AreBehind (kept_since n turns) u'
+unfolding TakesEach
+turns_behind shape n u [] u' same old = subst (AreBehind n) (sym same) old
+turns_behind shape n u (t ∷ turns) u' each old =
+    let takes = each.1 in
+    turns_behind shape (counted_on n t.answer) each.0 turns u' each.2
+    (does_behind shape (request_of t.line) t.line t.answer n takes.pumped each.0 takes.does (pumped_behind n u takes.pumped takes.pump old))
+
+busy_add : (shape : Sizes) (r : Request) (line : List ℕ) (n : ℕ) (u u' : UpdaterState) → r ≡ request.Add → Does shape r line answer.Busy u u' → AreBehind n u → u.size + 1 ≤ n
+busy_add shape request.Add line n u u' is d old = omega (arith, d.full, d.look.more, length-append (handed_of u) u.fill, old)
+busy_add shape _ line n u u' is d old = cc
+
+busy_sync : (shape : Sizes) (r : Request) (line : List ℕ) (n : ℕ) (u u' : UpdaterState) → r ≡ request.Sync → Does shape r line answer.Busy u u' → AreBehind n u → 1 ≤ n
+busy_sync shape request.Sync line n u u' is d old =
+    let now = kept_behind n u d.before d.goes.goes (d.goes.kept ∙ sym (append-nil (kept_of u))) old in
+    omega (arith, now, d.look.more, length-append (handed_of d.before) d.before.fill)
+busy_sync shape _ line n u u' is d old = cc
+
+pub busy_is_bounded : (shape : Sizes) (u v w : UpdaterState) (turns : List Turn) (line : List ℕ) → TakesEach shape u turns v → Takes shape v (busy_turn line) w →
+    (request_of line ≡ request.Add → u.size + 1 ≤ kept_since (length (kept_of u)) turns) × (request_of line ≡ request.Sync → 1 ≤ kept_since (length (kept_of u)) turns)
+busy_is_bounded shape u v w turns line each takes =
+    let n = kept_since (length (kept_of u)) turns in
+    let behind : AreBehind n v = turns_behind shape (length (kept_of u)) u turns v each (omega arith) in
+    let pumped : AreBehind n takes.pumped = pumped_behind n v takes.pumped takes.pump behind in
+    let size : takes.pumped.size ≡ u.size = (none_pumped v takes.pumped takes.pump).goes.size ∙ (turns_keep shape u turns v each).0.size in (
+      λ is. subst (λ (b : ℕ). b + 1 ≤ n) size (busy_add shape (request_of line) line n takes.pumped w is takes.does pumped),
+      λ is. busy_sync shape (request_of line) line n takes.pumped w is takes.does pumped,
+    )

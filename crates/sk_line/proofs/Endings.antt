@@ -1,0 +1,132 @@
+-- Where a turn leads: to the next one, or to an end.
+use Rattle.std.proofs.Common.{◌≡◌, inl, inr, ℕ, ◌+◌, ◌<◌, ◌≤◌, true, false, List, [], ◌∷◌, ◌++◌, length, Option, Some, None, Result, Ok, Err, refl, sym, ap, ◌∙◌, subst, arith, append-nil, length-append}
+use Rattle.sk_model.specs.Limits.{line_limit}
+use Rattle.sk_model.specs.Lines.{lines_of, AreWithin, IsFirstLong}
+use Rattle.sk_model.specs.Missing.{Begins}
+use Rattle.sk_io.specs.Traffic.{Traffic, Exchanges, SendsPart, left_of}
+use Rattle.sk_io.proofs.Links.{exchanges_trans}
+use Rattle.sk_hub.specs.Updaters.{UpdaterState}
+use Rattle.sk_theta.specs.Sizes.{Sizes}
+use Rattle.sk_read.specs.Reading.{Reading, HasRead, Goes}
+use Rattle.sk_read.specs.Reads.{IsSettled, IsInTime}
+use Rattle.sk_read.specs.declared.reader.LineFault.{LineFault}
+use Rattle.sk_read.specs.declared.reader.LineFault.TheVariants as fault
+use Rattle.sk_read.specs.declared.units.Units.TheVariants.{Lines}
+use Rattle.sk_read.proofs.LineEnds.{settled_so}
+use Rattle.sk_read.proofs.Readings.{given_settled}
+use Rattle.sk_line.specs.Courses.{Stands}
+use Rattle.sk_line.specs.Faults.{end_by}
+use Rattle.sk_line.specs.Pumps.{IsPumped, HasRisen, after_one}
+use Rattle.sk_line.specs.Replies.{reply_of}
+use Rattle.sk_line.specs.Requests.{request_of}
+use Rattle.sk_line.specs.Serving.{Turn, TakesEach, Does, lines_in, replies_to}
+use Rattle.sk_line.specs.Sessions.{Setting, setting, Went, Closes, Quits, IsTooLong, Waits, IsCutOff, Ends}
+use Rattle.sk_line.specs.declared.answers.Answer.{Answer}
+use Rattle.sk_line.specs.declared.requests.Request.TheVariants.{Quit}
+use Rattle.sk_line.specs.declared.sessions.End.TheVariants as end
+use Rattle.sk_line.proofs.Turns.{takes_more, lines_more, replies_more, lines_count}
+
+-- what is left to read, behind a reply
+left_sent : (x y : Option Traffic) (sent : List ℕ) → Exchanges x y [] sent → left_of y ≡ left_of x
+left_sent None None sent e = refl
+left_sent None (Some y) sent e = absurd e
+left_sent (Some x) None sent e = absurd e
+left_sent (Some x) (Some y) sent e = ap (λ (l : List ℕ). Some l) (sym e.left)
+
+module _ (shape : Sizes) (a b : Setting) (turns : List Turn) (taken more : List ℕ) (old r : Reading) (link : Option Traffic) (u : UpdaterState) (count : ℕ) (stands : Stands shape a turns taken old b) (came : Exchanges b.traffic link more [])
+    (pump : IsPumped b.updater u) (once : count ≡ after_one b.pumps) where
+  read_all : Exchanges a.traffic link (taken ++ more) (replies_to turns)
+  read_all = subst (λ (l : List ℕ). Exchanges a.traffic link (taken ++ more) l) (append-nil (replies_to turns)) (exchanges_trans a.traffic b.traffic link taken (replies_to turns) more [] stands.exchanges came)
+
+  went : (count' : ℕ) → HasRisen 0 count count' → Went shape a turns (taken ++ more) (setting link u count')
+  went count' risen = record { exchanges = read_all; last = b.updater; takes = stands.takes; pump = pump; pumped = omega (arith, stands.pumped, once, risen) }
+
+  stays : HasRisen 0 count count
+  stays = omega arith
+
+  -- the link has ended
+  pub closes : Goes r (left_of link) (lines_in turns) (taken ++ more) (Ok false) → Closes shape r.most a (setting link u count)
+  closes goes =
+      let read = goes.0 in record {
+        turns = turns;
+        taken = taken ++ more;
+        went = went count stays;
+        lines = read.has.whole goes.1;
+        within = subst (λ (m : ℕ). AreWithin m (lines_in turns)) read.limit read.has.within;
+        end = read.end goes.1;
+        size = omega (arith, read.has.size goes.1, read.has.count);
+      }
+
+  -- no line came
+  pub faults : (s : LineFault) → Goes r (left_of link) (lines_in turns) (taken ++ more) (Err s) → Ends shape r.most a (setting link u count) (end_by s)
+  faults fault.ReadFault goes = inl (record { turns = turns; taken = taken ++ more; went = went count stays; lines = goes.0; size = goes.1 })
+  faults fault.TooMuch goes = record { turns = turns; taken = taken ++ more; went = went count stays; lines = goes.0; size = goes.1 }
+  faults (fault.LongLine n) goes = record {
+    turns = turns;
+    taken = taken ++ more;
+    went = went count stays;
+    number = goes.0 ∙ ap (λ (m : ℕ). m + 1) (lines_count turns);
+    lines = settled_so (λ (text : List ℕ). Begins (lines_in turns) (lines_of text) × IsFirstLong line_limit (length (lines_in turns)) (lines_of text))
+        (λ (text : List ℕ). Begins (lines_in turns) (lines_of text) × IsFirstLong line_limit (length turns) (lines_of text)) (left_of link) (taken ++ more)
+        (λ text long. (long.0, subst (λ (m : ℕ). IsFirstLong line_limit m (lines_of text)) (lines_count turns) long.1)) goes.3;
+    in_time = goes.2;
+    size = goes.1;
+  }
+
+  module _ (line : List ℕ) (read : HasRead r (left_of link) (lines_in turns ++ line ∷ []) (taken ++ more)) (in_time : IsInTime Lines (lines_in turns) (taken ++ more)) where
+    comes : IsSettled (λ (text : List ℕ). Begins (lines_in turns ++ line ∷ []) (lines_of text)) (left_of link) (taken ++ more)
+    comes = given_settled r (left_of link) (lines_in turns ++ line ∷ []) (taken ++ more) read
+
+    short : AreWithin line_limit (lines_in turns ++ line ∷ [])
+    short = subst (λ (m : ℕ). AreWithin m (lines_in turns ++ line ∷ [])) read.limit read.has.within
+
+    few : length (taken ++ more) ≤ r.most
+    few = omega (arith, read.has.count, read.bound)
+
+    -- the line asks to quit
+    pub quits : (u' : UpdaterState) (count' : ℕ) → request_of line ≡ Quit → u' ≡ u → HasRisen 0 count count' → Quits shape r.most a (setting link u' count')
+    quits u' count' quit same risen = subst (λ (v : UpdaterState). Quits shape r.most a (setting link v count')) (sym same) (record {
+      turns = turns;
+      line = line;
+      taken = taken ++ more;
+      went = went count' risen;
+      quit = quit;
+      lines = comes;
+      within = short;
+      in_time = in_time;
+      size = few;
+    })
+
+    module _ (answer : Answer) (u' : UpdaterState) (count' : ℕ) (after : Option Traffic) (does : Does shape (request_of line) line answer u u') (risen : HasRisen 0 count count') where
+      all : TakesEach shape a.updater (turns ++ record { line = line; answer = answer } ∷ []) u'
+      all = takes_more shape a.updater b.updater u' turns (record { line = line; answer = answer }) stands.takes (record { pumped = u; pump = pump; does = does })
+
+      -- its reply was not sent whole
+      pub cut_off : SendsPart link after (reply_of answer) → IsCutOff shape r.most a (setting after u' count')
+      cut_off part = record {
+        turns = turns;
+        last = record { line = line; answer = answer };
+        taken = taken ++ more;
+        before = link;
+        exchanges = read_all;
+        part = part;
+        takes = all;
+        pumped = omega (arith, stands.pumped, once, risen);
+        lines = subst (λ (left : Option (List ℕ)). IsSettled (λ (text : List ℕ). Begins (lines_in turns ++ line ∷ []) (lines_of text)) left (taken ++ more)) (sym (left_sent link after _ part.2)) comes;
+        within = short;
+        in_time = in_time;
+        size = few;
+      }
+
+      -- its reply was sent
+      pub goes_on : Exchanges link after [] (reply_of answer) → Stands shape a (turns ++ record { line = line; answer = answer } ∷ []) (taken ++ more) r (setting after u' count')
+      goes_on sent =
+          let t : Turn = record { line = line; answer = answer } in record {
+            exchanges = subst (λ (l : List ℕ). Exchanges a.traffic after (taken ++ more) l) (sym (replies_more turns t))
+                (subst (λ (l : List ℕ). Exchanges a.traffic after l (replies_to turns ++ reply_of answer)) (append-nil (taken ++ more))
+                (exchanges_trans a.traffic link after (taken ++ more) (replies_to turns) [] (reply_of answer) read_all sent));
+            takes = all;
+            pumped = omega (arith, stands.pumped, once, risen, length-append turns (t ∷ []));
+            read = subst (λ (l : List (List ℕ)). HasRead r (left_of after) l (taken ++ more)) (sym (lines_more turns t))
+                (subst (λ (left : Option (List ℕ)). HasRead r left (lines_in turns ++ line ∷ []) (taken ++ more)) (sym (left_sent link after (reply_of answer) sent)) read);
+          }

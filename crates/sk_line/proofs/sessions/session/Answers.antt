@@ -1,0 +1,56 @@
+use Rattle.std.proofs.Common.{◌≡◌, ◌≤◌, ◌+◌, ◌-◌, ℕ, List, [], ◌∷◌, ◌++◌, length, Bool, true, false, Result, Ok, Err, Some, refl, sym, ap, ◌∙◌, subst, arith, length-append}
+use Rattle.sk_io.proofs.Links.{exchanges_none}
+use Rattle.sk_read.specs.Reading.{Reading, HasRead, remaining_of}
+use Rattle.sk_line.specs.Courses.{Proceeds}
+use Rattle.sk_line.specs.Sessions.{setting, Ends}
+use Rattle.sk_line.specs.declared.sessions.End.{End}
+use Rattle.sk_line.proofs.Turns.{takes_none}
+use Rattle.sk_line.proofs.sessions.session.Goals as goal
+
+-- a reader that has read nothing may give as many bytes as it may take
+fresh : (r : Reading) → HasRead r (Some (1 ∷ [])) [] [] → remaining_of r ≤ r.most
+fresh r read = go r.ended refl
+  where
+    go : (b : Bool) → r.ended ≡ b → remaining_of r ≤ r.most
+    go true ended = absurd (let none : 1 ∷ [] ≡ [] = read.end ended in cc)
+    go false going = let f = read.has.follows going in omega (arith, ap length f.joined, length-append f.front r.cutter.rest)
+
+pub turn-init : goal.turn-init
+turn-init g c = record {
+  turns = [];
+  taken = [];
+  stands = record { exchanges = exchanges_none (g.L.Link.traffic c.args.link.now); takes = takes_none c.args.shape.now c.args.u.now; pumped = omega arith; read = c.in-Ok.ensures.read _ };
+  k = c.requires.k;
+  room = omega (arith, fresh c.in-Ok.reader (c.in-Ok.ensures.read (Some (1 ∷ []))), c.in-Ok.ensures.most, c.requires.room);
+  most = c.in-Ok.ensures.most;
+  steady = refl;
+  stays = refl;
+}
+
+no_fault : {T : Type 0} (r : Result T End) (v : T) (e : End) → r ≡ Ok v → r ≡ Err e → ⊥
+no_fault r v e ok err = cc
+
+pub turn-preserved : goal.turn-preserved
+turn-preserved g c =
+    let inv = c.turn.invariant in
+    let a = setting (g.L.Link.traffic c.args.link.now) c.args.u.now (g.P.Pump.pumps c.args.pump.now) in
+    let b = setting (g.L.Link.traffic c.take_turn.new.link) c.take_turn.new.u (g.P.Pump.pumps c.take_turn.new.pump) in
+    let next : Proceeds c.args.shape.now a c.take_turn.new.reader b (Ok c.in-Ok-take_turn.field-0) = subst (Proceeds c.args.shape.now a c.take_turn.new.reader b) c.in-Ok-take_turn.is (c.take_turn.ensures.goes a inv.turns inv.taken inv.stands) in
+    record {
+      turns = next.0;
+      taken = next.1;
+      stands = next.2;
+      k = c.in-Ok-take_turn.ensures.k;
+      room = omega (arith, inv.room, c.in-Ok-take_turn.ensures.room);
+      most = c.take_turn.ensures.most ∙ inv.most;
+      steady = c.take_turn.ensures.cause.steady (no_fault c.take_turn.result c.in-Ok-take_turn.field-0 _ c.in-Ok-take_turn.is) ∙ inv.steady;
+      stays = c.take_turn.ensures.stays ∙ inv.stays;
+    }
+
+pub returns-in-Err-clause-ends : goal.returns-in-Err-clause-ends
+returns-in-Err-clause-ends g c =
+    let inv = c.turn.invariant in
+    let a = setting (g.L.Link.traffic c.args.link.now) c.args.u.now (g.P.Pump.pumps c.args.pump.now) in
+    let b = setting (g.L.Link.traffic c.take_turn.new.link) c.take_turn.new.u (g.P.Pump.pumps c.take_turn.new.pump) in
+    let ended : Ends c.args.shape.now c.take_turn.new.reader.most a b c.in-Err.end = subst (Proceeds c.args.shape.now a c.take_turn.new.reader b) c.in-Err.is (c.take_turn.ensures.goes a inv.turns inv.taken inv.stands) in
+    subst (λ (m : ℕ). Ends c.args.shape.now m a b c.in-Err.end) (c.take_turn.ensures.most ∙ inv.most) ended

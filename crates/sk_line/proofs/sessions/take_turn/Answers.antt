@@ -1,0 +1,69 @@
+use Rattle.std.proofs.Common.{◌≡◌, ◌≤◌, ◌+◌, ℕ, List, [], ◌∷◌, ◌++◌, length, Bool, true, false, Result, Ok, Err, inl, inr, refl, sym, ap, ◌∙◌, subst, arith}
+use Rattle.sk_io.specs.Traffic.{left_of}
+use Rattle.sk_read.specs.Reading.{HasRead, Goes}
+use Rattle.sk_read.specs.Reads.{IsInTime}
+use Rattle.sk_read.specs.declared.units.Units.TheVariants.{Lines}
+use Rattle.sk_line.specs.Sessions.{setting, Ends}
+use Rattle.sk_line.specs.Serving.{Turn, lines_in}
+use Rattle.sk_line.proofs.Endings.{closes, faults, quits, cut_off, goes_on}
+use Rattle.sk_line.proofs.sessions.take_turn.Given.{Over}
+use Rattle.sk_line.proofs.sessions.take_turn.Goals.{After-line}
+use Rattle.sk_line.proofs.sessions.take_turn.Goals as goal
+
+pub returns-in-Ok-false-clause-goes : goal.returns-in-Ok-false-clause-goes
+returns-in-Ok-false-clause-goes g c = λ a turns taken stands.
+    let b = setting (g.L.Link.traffic c.args.link.now) c.args.u.now (g.P.Pump.pumps c.args.pump.now) in
+    let link = g.L.Link.traffic c.next_line.new.link in
+    let next = c.next_line.ensures.comes.goes (lines_in turns) taken stands.read in
+    let none = c.in-Ok-false.is ∙ ap (λ (b : Bool). Ok b) c.in-Ok-false.field-0-test in
+    closes c.args.shape.now a b turns taken next.0 c.args.reader.now c.next_line.new.reader link c.pump.new.u (g.P.Pump.pumps c.pump.new.self) stands next.1 c.pump.ensures.updater c.pump.ensures.count
+    (subst (Goes c.next_line.new.reader (left_of link) (lines_in turns) (taken ++ next.0)) none next.2)
+
+pub returns-in-Err-clause-goes : goal.returns-in-Err-clause-goes
+returns-in-Err-clause-goes g c = λ a turns taken stands.
+    let b = setting (g.L.Link.traffic c.args.link.now) c.args.u.now (g.P.Pump.pumps c.args.pump.now) in
+    let link = g.L.Link.traffic c.next_line.new.link in
+    let next = c.next_line.ensures.comes.goes (lines_in turns) taken stands.read in
+    let now = setting link c.pump.new.u (g.P.Pump.pumps c.pump.new.self) in
+    subst (Ends c.args.shape.now c.next_line.new.reader.most a now) (sym c.end_by.ensures)
+    (faults c.args.shape.now a b turns taken next.0 c.args.reader.now c.next_line.new.reader link c.pump.new.u (g.P.Pump.pumps c.pump.new.self) stands next.1 c.pump.ensures.updater c.pump.ensures.count c.in-Err.fault
+    (subst (Goes c.next_line.new.reader (left_of link) (lines_in turns) (taken ++ next.0)) c.in-Err.is next.2))
+
+-- what came of the line that was read, as its parts are told
+line_read : (g : Over) (c : After-line g) (turns : List Turn) (taken more : List ℕ) → Goes c.next_line.new.reader (left_of (g.L.Link.traffic c.next_line.new.link)) (lines_in turns) (taken ++ more) c.next_line.result →
+    HasRead c.next_line.new.reader (left_of (g.L.Link.traffic c.next_line.new.link)) (lines_in turns ++ c.line.result.now ∷ []) (taken ++ more) × IsInTime Lines (lines_in turns) (taken ++ more)
+line_read g c turns taken more goes =
+    let some = c.in-Ok-true.is ∙ ap (λ (b : Bool). Ok b) c.in-Ok-true.field-0-test in
+    let left = left_of (g.L.Link.traffic c.next_line.new.link) in
+    let at : Goes c.next_line.new.reader left (lines_in turns) (taken ++ more) (Ok true) = subst (Goes c.next_line.new.reader left (lines_in turns) (taken ++ more)) some goes in
+    (subst (λ (l : List ℕ). HasRead c.next_line.new.reader left (lines_in turns ++ l ∷ []) (taken ++ more)) (sym c.line.ensures) at.0, at.1)
+
+pub returns-in_default-clause-goes : goal.returns-in_default-clause-goes
+returns-in_default-clause-goes g c = λ a turns taken stands.
+    let b = setting (g.L.Link.traffic c.args.link.now) c.args.u.now (g.P.Pump.pumps c.args.pump.now) in
+    let link = g.L.Link.traffic c.next_line.new.link in
+    let next = c.next_line.ensures.comes.goes (lines_in turns) taken stands.read in
+    let read = line_read g (goal.at.returns-in_default-clause-goes g c).After-line turns taken next.0 next.2 in
+    quits c.args.shape.now a b turns taken next.0 c.args.reader.now c.next_line.new.reader link c.pump.new.u (g.P.Pump.pumps c.pump.new.self) stands next.1 c.pump.ensures.updater c.pump.ensures.count
+    c.line.result.now read.0 read.1 c.serve.new.u (g.P.Pump.pumps c.serve.new.pump) ? ? c.serve.ensures.pumps
+
+pub returns-in-Ok-clause-goes : goal.returns-in-Ok-clause-goes
+returns-in-Ok-clause-goes g c = λ a turns taken stands.
+    let b = setting (g.L.Link.traffic c.args.link.now) c.args.u.now (g.P.Pump.pumps c.args.pump.now) in
+    let link = g.L.Link.traffic c.next_line.new.link in
+    let next = c.next_line.ensures.comes.goes (lines_in turns) taken stands.read in
+    let read = line_read g (goal.at.returns-in-Ok-clause-goes g c).After-line turns taken next.0 next.2 in (
+      turns ++ record { line = c.line.result.now; answer = c.in-Some.answer } ∷ [],
+      taken ++ next.0,
+      goes_on c.args.shape.now a b turns taken next.0 c.args.reader.now c.next_line.new.reader link c.pump.new.u (g.P.Pump.pumps c.pump.new.self) stands next.1 c.pump.ensures.updater c.pump.ensures.count
+          c.line.result.now read.0 read.1 c.in-Some.answer c.serve.new.u (g.P.Pump.pumps c.serve.new.pump) (g.L.Link.traffic c.send_reply.new.link) c.in-Some.ensures.done c.serve.ensures.pumps ?,
+    )
+
+pub returns-in-Err-send_reply-clause-goes : goal.returns-in-Err-send_reply-clause-goes
+returns-in-Err-send_reply-clause-goes g c = λ a turns taken stands.
+    let b = setting (g.L.Link.traffic c.args.link.now) c.args.u.now (g.P.Pump.pumps c.args.pump.now) in
+    let link = g.L.Link.traffic c.next_line.new.link in
+    let next = c.next_line.ensures.comes.goes (lines_in turns) taken stands.read in
+    let read = line_read g (goal.at.returns-in-Err-send_reply-clause-goes g c).After-line turns taken next.0 next.2 in
+    inr (cut_off c.args.shape.now a b turns taken next.0 c.args.reader.now c.next_line.new.reader link c.pump.new.u (g.P.Pump.pumps c.pump.new.self) stands next.1 c.pump.ensures.updater c.pump.ensures.count
+    c.line.result.now read.0 read.1 c.in-Some.answer c.serve.new.u (g.P.Pump.pumps c.serve.new.pump) (g.L.Link.traffic c.send_reply.new.link) c.in-Some.ensures.done c.serve.ensures.pumps ?)

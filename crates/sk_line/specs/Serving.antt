@@ -1,0 +1,137 @@
+-- What an updater does for a client's requests.
+use Rattle.std.specs.Prelude.{◌≡◌, ℕ, ◌+◌, List, [], ◌∷◌, ◌++◌, length, map, flat_map, fold}
+use Rattle.sk_model.specs.Entries.{Entry, items_of_entries, entries_by}
+use Rattle.sk_model.specs.Missing.{Begins}
+use Rattle.sk_model.specs.Sketch as k_min
+use Rattle.sk_theta.specs.Sizes.{Sizes}
+use Rattle.sk_compose.specs.Numbers.{k_of}
+use Rattle.sk_hub.specs.Replies.{IsOwnReply}
+use Rattle.sk_hub.specs.Updaters.{UpdaterState, handed_of, base_of, kept_of, LooksInVain}
+use Rattle.sk_ingest.specs.Feeds.{GoesOn, KeepsNone}
+use Rattle.sk_line.specs.Pumps.{IsPumped}
+use Rattle.sk_line.specs.Replies.{reply_of}
+use Rattle.sk_line.specs.Requests.{request_of, item_of}
+use Rattle.sk_line.specs.declared.answers.Answer.{Answer}
+use Rattle.sk_line.specs.declared.answers.Answer.TheVariants.{Kept, Filtered, Busy, Estimate, Synced, Bad}
+use Rattle.sk_line.specs.declared.requests.Request.{Request}
+use Rattle.sk_line.specs.declared.requests.Request.TheVariants as request
+
+-- ---- add
+
+-- the item is kept behind those that were
+pub record KeepsItem (item : ℕ) (u u' : UpdaterState) : Type 0 where
+  pub goes : GoesOn u u'
+  pub kept : kept_of u' ≡ kept_of u ++ item ∷ []
+
+-- the item can change no estimate of the list that the updater filters by, which it has seen, nor of one that goes on
+-- from there
+pub record DropsItem (k item : ℕ) (u u' : UpdaterState) : Type 0 where
+  pub stays : u' ≡ u
+  pub idle : k_min.IsIdle k item (items_of_entries (base_of u))
+  pub based : Begins (base_of u) u.view.seen
+
+-- the fill buffer is full, and the one look loaded 0
+pub record IsFull (u u' : UpdaterState) : Type 0 where
+  pub full : length u.fill ≡ u.size
+  pub look : LooksInVain u u'
+
+-- what comes of an item, where the sketch keeps k hashes
+abbrev pub Adds : ℕ → ℕ → Answer → UpdaterState → UpdaterState → Type 0
+Adds k item Kept u u' = KeepsItem item u u'
+Adds k item Filtered u u' = DropsItem k item u u'
+Adds k item Busy u u' = IsFull u u'
+Adds k item _ u u' = ⊥
+
+-- ---- ask
+
+-- one ask loaded the word of a list, and the estimate is that list's: it goes on from what was seen, and lacks of what
+-- the updater has kept at most its last two buffers
+pub record Estimates (k n d : ℕ) (u u' : UpdaterState) : Type 0 where
+  pub word : ℕ
+  pub reply : IsOwnReply (λ numbers list. k_min.packed_of (k_of numbers) (items_of_entries list)) u word u'
+  pub estimate : (n, d) ≡ k_min.estimate_of k (items_of_entries u'.view.seen)
+
+abbrev pub Asks : ℕ → Answer → UpdaterState → UpdaterState → Type 0
+Asks k (Estimate n d) u u' = Estimates k n d u u'
+Asks k _ u u' = ⊥
+
+-- ---- sync
+
+-- all that was kept is handed over, and is in the published list that the updater sees and filters by
+pub record IsSynced (u u' : UpdaterState) : Type 0 where
+  pub goes : KeepsNone u u'
+  pub fill : u'.fill ≡ []
+  pub sees : entries_by u.number u'.view.seen ≡ kept_of u
+  pub based : entries_by u.number (base_of u') ≡ kept_of u
+
+-- a look loaded 0: the one before the fill buffer was to be handed over, or one behind that
+pub record IsUnpublished (u u' : UpdaterState) : Type 0 where
+  pub before : UpdaterState
+  pub goes : KeepsNone u before
+  pub look : LooksInVain before u'
+
+abbrev pub Syncs : Answer → UpdaterState → UpdaterState → Type 0
+Syncs Synced u u' = IsSynced u u'
+Syncs Busy u u' = IsUnpublished u u'
+Syncs _ u u' = ⊥
+
+-- ---- any request
+
+abbrev pub DoesNothing : Answer → UpdaterState → UpdaterState → Type 0
+DoesNothing Bad u u' = u' ≡ u
+DoesNothing _ u u' = ⊥
+
+-- what is done for a request and answered; nothing for the one that ends the session
+abbrev pub Does : Sizes → Request → List ℕ → Answer → UpdaterState → UpdaterState → Type 0
+Does shape request.Add line answer u u' = Adds shape.k (item_of shape.seed line) answer u u'
+Does shape request.Ask line answer u u' = Asks shape.k answer u u'
+Does shape request.Sync line answer u u' = Syncs answer u u'
+Does shape request.Quit line answer u u' = ⊥
+Does shape request.Bad line answer u u' = DoesNothing answer u u'
+
+-- a line that was read, and its answer
+pub record Turn : Type 0 where
+  pub line : List ℕ
+  pub answer : Answer
+
+-- one pumping, and what is done for the line
+pub record Takes (shape : Sizes) (u : UpdaterState) (t : Turn) (u' : UpdaterState) : Type 0 where
+  pub pumped : UpdaterState
+  pub pump : IsPumped u pumped
+  pub does : Does shape (request_of t.line) t.line t.answer pumped u'
+
+-- so it was for each of these lines, one after another
+unfoldable pub TakesEach : Sizes → UpdaterState → List Turn → UpdaterState → Type 0
+TakesEach shape u [] u' = u' ≡ u
+TakesEach shape u (t ∷ turns) u' = (v : UpdaterState) × Takes shape u t v × TakesEach shape v turns u'
+
+-- the lines, and all their replies
+abbrev pub lines_in : List Turn → List (List ℕ)
+lines_in turns = map (λ t. t.line) turns
+
+abbrev pub replies_to : List Turn → List ℕ
+replies_to turns = flat_map (λ t. reply_of t.answer) turns
+
+-- ---- what was kept
+
+-- the item of an add that was answered so
+abbrev pub item_kept : ℕ → List ℕ → Answer → List ℕ
+item_kept seed line Kept = item_of seed line ∷ []
+item_kept seed line _ = []
+
+-- the items of all of them, in order
+abbrev pub items_kept : ℕ → List Turn → List ℕ
+items_kept seed turns = flat_map (λ t. item_kept seed t.line t.answer) turns
+
+-- how many items were kept since the last `synced`, where there were so many before these turns
+abbrev pub counted_on : ℕ → Answer → ℕ
+counted_on n Kept = n + 1
+counted_on n Synced = 0
+counted_on n _ = n
+
+abbrev pub kept_since : ℕ → List Turn → ℕ
+kept_since n turns = fold (λ m t. counted_on m t.answer) n turns
+
+-- a turn that was answered `busy`
+abbrev pub busy_turn : List ℕ → Turn
+busy_turn line = record { line = line; answer = Busy }
