@@ -117,7 +117,10 @@ fn next_line<L: Link>(link: &mut L, reader: &mut LineReader) -> Result<bool, Lin
 }
 
 // The same, of what comes over the link.
-fn next_over<L: Link>(source: &mut OnLink<'_, L>, reader: &mut LineReader) -> Result<bool, LineFault>
+fn next_over<L: Link>(
+    source: &mut OnLink<'_, L>,
+    reader: &mut LineReader,
+) -> Result<bool, LineFault>
     ensures comes { Comes reader.old reader.new (L.traffic source.old.link.now) (L.traffic source.new.link.now) result }
     ensures holds { result ≡ Ok true → reader.new.cutter.last ≡ next.Line }
     ensures progress { result ≡ Ok true → remaining_of reader.new < remaining_of reader.old }

@@ -1,4 +1,4 @@
-use Rattle.std.proofs.Common.{◌≡◌, ◌≤◌, ◌+◌, ℕ, List, [], ◌∷◌, ◌++◌, length, Bool, true, false, Result, Ok, Err, inl, inr, refl, sym, ap, ◌∙◌, subst, arith}
+use Rattle.std.proofs.Common.{◌≡◌, ◌≤◌, ◌+◌, ℕ, List, [], ◌∷◌, ◌++◌, length, Bool, true, false, Result, Ok, Err, inl, inr, refl, sym, ap, ◌∙◌, subst, rules}
 use Rattle.sk_io.specs.Traffic.{left_of}
 use Rattle.sk_read.specs.Reading.{HasRead, Goes}
 use Rattle.sk_read.specs.Reads.{IsInTime}
@@ -45,7 +45,7 @@ returns-in_default-clause-goes g c = λ a turns taken stands.
     let next = c.next_line.ensures.comes.goes (lines_in turns) taken stands.read in
     let read = line_read g (goal.at.returns-in_default-clause-goes g c).After-line turns taken next.0 next.2 in
     quits c.args.shape.now a b turns taken next.0 c.args.reader.now c.next_line.new.reader link c.pump.new.u (g.P.Pump.pumps c.pump.new.self) stands next.1 c.pump.ensures.updater c.pump.ensures.count
-    c.line.result.now read.0 read.1 c.serve.new.u (g.P.Pump.pumps c.serve.new.pump) ? ? c.serve.ensures.pumps
+    c.line.result.now read.0 read.1 c.serve.new.u (g.P.Pump.pumps c.serve.new.pump) (search rules) (search rules) c.serve.ensures.pumps
 
 pub returns-in-Ok-clause-goes : goal.returns-in-Ok-clause-goes
 returns-in-Ok-clause-goes g c = λ a turns taken stands.
@@ -56,7 +56,7 @@ returns-in-Ok-clause-goes g c = λ a turns taken stands.
       turns ++ record { line = c.line.result.now; answer = c.in-Some.answer } ∷ [],
       taken ++ next.0,
       goes_on c.args.shape.now a b turns taken next.0 c.args.reader.now c.next_line.new.reader link c.pump.new.u (g.P.Pump.pumps c.pump.new.self) stands next.1 c.pump.ensures.updater c.pump.ensures.count
-          c.line.result.now read.0 read.1 c.in-Some.answer c.serve.new.u (g.P.Pump.pumps c.serve.new.pump) (g.L.Link.traffic c.send_reply.new.link) c.in-Some.ensures.done c.serve.ensures.pumps ?,
+          c.line.result.now read.0 read.1 c.in-Some.answer c.serve.new.u (g.P.Pump.pumps c.serve.new.pump) (g.L.Link.traffic c.send_reply.new.link) c.in-Some.ensures.done c.serve.ensures.pumps c.in-Ok.ensures.ok,
     )
 
 pub returns-in-Err-send_reply-clause-goes : goal.returns-in-Err-send_reply-clause-goes
@@ -66,4 +66,4 @@ returns-in-Err-send_reply-clause-goes g c = λ a turns taken stands.
     let next = c.next_line.ensures.comes.goes (lines_in turns) taken stands.read in
     let read = line_read g (goal.at.returns-in-Err-send_reply-clause-goes g c).After-line turns taken next.0 next.2 in
     inr (cut_off c.args.shape.now a b turns taken next.0 c.args.reader.now c.next_line.new.reader link c.pump.new.u (g.P.Pump.pumps c.pump.new.self) stands next.1 c.pump.ensures.updater c.pump.ensures.count
-    c.line.result.now read.0 read.1 c.in-Some.answer c.serve.new.u (g.P.Pump.pumps c.serve.new.pump) (g.L.Link.traffic c.send_reply.new.link) c.in-Some.ensures.done c.serve.ensures.pumps ?)
+    c.line.result.now read.0 read.1 c.in-Some.answer c.serve.new.u (g.P.Pump.pumps c.serve.new.pump) (g.L.Link.traffic c.send_reply.new.link) c.in-Some.ensures.done c.serve.ensures.pumps c.in-Err-send_reply.ensures.err)
