@@ -16,3 +16,6 @@ pub use help_pump::HelpPump;
 pub use pumps::{NoPump, Pump};
 pub use requests::Request;
 pub use sessions::{End, session};
+
+#[cfg(test)]
+mod tests;
