@@ -5,3 +5,4 @@ pub mod Serving
 pub mod Sessions
 pub mod Courses
 pub mod Faults
+pub mod Jobs

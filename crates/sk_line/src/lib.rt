@@ -4,6 +4,7 @@
 mod answers;
 mod heart_pump;
 mod help_pump;
+mod jobs;
 pub mod laws;
 mod pumps;
 mod requests;
@@ -13,6 +14,7 @@ mod sessions;
 pub use answers::Answer;
 pub use heart_pump::HeartPump;
 pub use help_pump::HelpPump;
+pub use jobs::{Job, serve_links};
 pub use pumps::{NoPump, Pump};
 pub use requests::Request;
 pub use sessions::{End, session};
