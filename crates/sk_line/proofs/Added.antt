@@ -1,14 +1,19 @@
 -- What turns add up to.
-use Rattle.std.proofs.Common.{◌≡◌, ℕ, ◌+◌, ◌<◌, ◌≤◌, List, [], ◌∷◌, ◌++◌, length, refl, sym, ap, ◌∙◌, subst, arith, append-nil, append_assoc, length-append}
-use Rattle.sk_model.specs.Entries.{Entry, entries_by}
+use Rattle.std.proofs.Common.{◌≡◌, ℕ, ◌+◌, ◌<◌, ◌≤◌, nat_lt, false, List, [], ◌∷◌, ◌++◌, length, refl, sym, ap, ◌∙◌, subst, arith, append-nil, append_assoc, length-append}
+use Rattle.std.proofs.lemmas.Bool.Decides.{nat_tests}
+use Rattle.sk_compose.specs.Numbers.{k_of}
+use Rattle.sk_compose.proofs.Kept.{one_kept, one_dropped}
+use Rattle.sk_model.specs.Entries.{Entry, entries_by, items_of_entries}
 use Rattle.sk_model.specs.Missing.{Begins}
+use Rattle.sk_model.specs.Sketch.{theta_of}
 use Rattle.sk_model.proofs.Entries.{entries_by_append}
 use Rattle.sk_hub.specs.Updaters.{UpdaterState, handed_of, base_of, kept_of, LooksInVain}
 use Rattle.sk_ingest.specs.Feeds.{GoesOn}
+use Rattle.sk_ingest.proofs.Updaters.{takes_none, takes_trans, none_then_takes}
 use Rattle.sk_theta.specs.Sizes.{Sizes}
 use Rattle.sk_line.specs.Pumps.{IsPumped}
 use Rattle.sk_line.specs.Requests.{request_of, item_of}
-use Rattle.sk_line.specs.Serving.{Turn, Takes, TakesEach, Does, item_kept, items_kept, counted_on, kept_since, busy_turn}
+use Rattle.sk_line.specs.Serving.{Turn, Takes, TakesEach, Does, item_kept, items_kept, counted_on, kept_since, busy_turn, KeepsItem, DropsItem, item_offered, items_offered, theta_keeps, theta_hint, TakesOffered}
 use Rattle.sk_line.specs.declared.answers.Answer.{Answer}
 use Rattle.sk_line.specs.declared.answers.Answer.TheVariants as answer
 use Rattle.sk_line.specs.declared.requests.Request.{Request}
@@ -97,3 +102,52 @@ busy_is_bounded shape u v w turns line each takes =
       λ is. subst (λ (b : ℕ). b + 1 ≤ n) size (busy_add shape (request_of line) line n takes.pumped w is takes.does pumped),
       λ is. busy_sync shape (request_of line) line n takes.pumped w is takes.does pumped,
     )
+
+-- ---- what was taken of the items that were offered
+
+drops_it : (k item : ℕ) (u u' : UpdaterState) → k_of u.view.numbers ≡ k → DropsItem k item u u' → TakesOffered u (item ∷ []) u'
+drops_it k item u u' k_is d =
+    let past : theta_of (k_of u.view.numbers) (items_of_entries (base_of u)) ≤ item = subst (λ (m : ℕ). theta_of m (items_of_entries (base_of u)) ≤ item) (sym k_is) d.idle in
+    let dropped : nat_lt item (theta_of (k_of u.view.numbers) (items_of_entries (base_of u))) ≡ false = grind (arith, nat_tests) in
+    let same : base_of u' ≡ base_of u = ap base_of d.stays in
+    record {
+      goes = goes_same u u' d.stays;
+      more = [];
+      kept = ap kept_of d.stays ∙ sym (append-nil (kept_of u));
+      of_items = one_dropped theta_keeps (theta_hint u.view.numbers) (base_of u') item (base_of u, ([], same ∙ sym (append-nil (base_of u))), dropped);
+    }
+
+keeps_it : (item : ℕ) (u u' : UpdaterState) → KeepsItem item u u' → TakesOffered u (item ∷ []) u'
+keeps_it item u u' d = record { goes = d.goes; more = item ∷ []; kept = d.kept; of_items = one_kept theta_keeps (theta_hint u.view.numbers) (base_of u') item }
+
+nothing : (u u' : UpdaterState) → GoesOn u u' → kept_of u' ≡ kept_of u ++ [] → TakesOffered u [] u'
+nothing u u' goes kept = takes_none theta_keeps theta_hint u u' (record { goes = goes; kept = kept ∙ append-nil (kept_of u) })
+
+does_take : (shape : Sizes) (r : Request) (line : List ℕ) (a : Answer) (u u' : UpdaterState) → k_of u.view.numbers ≡ shape.k → Does shape r line a u u' → TakesOffered u (item_offered shape.seed line a) u'
+does_take shape request.Add line answer.Kept u u' k d = keeps_it (item_of shape.seed line) u u' d
+does_take shape request.Add line answer.Filtered u u' k d = drops_it shape.k (item_of shape.seed line) u u' k d
+does_take shape request.Ask line answer.Kept u u' k d = absurd d
+does_take shape request.Ask line answer.Filtered u u' k d = absurd d
+does_take shape request.Sync line answer.Kept u u' k d = absurd d
+does_take shape request.Sync line answer.Filtered u u' k d = absurd d
+does_take shape request.Quit line answer.Kept u u' k d = absurd d
+does_take shape request.Quit line answer.Filtered u u' k d = absurd d
+does_take shape request.Bad line answer.Kept u u' k d = absurd d
+does_take shape request.Bad line answer.Filtered u u' k d = absurd d
+does_take shape r line answer.Busy u u' k d = let go = does_go shape r line answer.Busy u u' d in nothing u u' go.0 go.1
+does_take shape r line (answer.Estimate x y) u u' k d = let go = does_go shape r line (answer.Estimate x y) u u' d in nothing u u' go.0 go.1
+does_take shape r line answer.Synced u u' k d = let go = does_go shape r line answer.Synced u u' d in nothing u u' go.0 go.1
+does_take shape r line answer.Bad u u' k d = let go = does_go shape r line answer.Bad u u' d in nothing u u' go.0 go.1
+
+turn_takes : (shape : Sizes) (u : UpdaterState) (t : Turn) (u' : UpdaterState) → k_of u.view.numbers ≡ shape.k → Takes shape u t u' → TakesOffered u (item_offered shape.seed t.line t.answer) u'
+turn_takes shape u t u' k takes =
+    let none = none_pumped u takes.pumped takes.pump in
+    none_then_takes theta_keeps theta_hint u takes.pumped u' (item_offered shape.seed t.line t.answer) none
+    (does_take shape (request_of t.line) t.line t.answer takes.pumped u' (ap k_of none.goes.numbers ∙ k) takes.does)
+
+pub turns_take : (shape : Sizes) (u : UpdaterState) (turns : List Turn) (u' : UpdaterState) → k_of u.view.numbers ≡ shape.k → TakesEach shape u turns u' → TakesOffered u (items_offered shape.seed turns) u'
+unfolding TakesEach
+turns_take shape u [] u' k same = nothing u u' (goes_same u u' same) (ap kept_of same ∙ sym (append-nil (kept_of u)))
+turns_take shape u (t ∷ turns) u' k each =
+    let first = turn_takes shape u t each.0 k each.1 in
+    takes_trans theta_keeps theta_hint u each.0 u' (item_offered shape.seed t.line t.answer) (items_offered shape.seed turns) first (turns_take shape each.0 turns u' (ap k_of first.goes.numbers ∙ k) each.2)

@@ -1,5 +1,5 @@
 -- What an updater does for a client's requests.
-use Rattle.std.specs.Prelude.{◌≡◌, ℕ, ◌+◌, List, [], ◌∷◌, ◌++◌, length, map, flat_map, fold}
+use Rattle.std.specs.Prelude.{◌≡◌, ℕ, ◌+◌, nat_lt, Bool, List, [], ◌∷◌, ◌++◌, length, map, flat_map, fold}
 use Rattle.sk_model.specs.Entries.{Entry, items_of_entries, entries_by}
 use Rattle.sk_model.specs.Missing.{Begins}
 use Rattle.sk_model.specs.Sketch as k_min
@@ -7,7 +7,7 @@ use Rattle.sk_theta.specs.Sizes.{Sizes}
 use Rattle.sk_compose.specs.Numbers.{k_of}
 use Rattle.sk_hub.specs.Replies.{IsOwnReply}
 use Rattle.sk_hub.specs.Updaters.{UpdaterState, handed_of, base_of, kept_of, LooksInVain}
-use Rattle.sk_ingest.specs.Feeds.{GoesOn, KeepsNone}
+use Rattle.sk_ingest.specs.Feeds.{GoesOn, KeepsNone, Takes as TakesItems}
 use Rattle.sk_line.specs.Pumps.{IsPumped}
 use Rattle.sk_line.specs.Replies.{reply_of}
 use Rattle.sk_line.specs.Requests.{request_of, item_of}
@@ -135,3 +135,26 @@ kept_since n turns = fold (λ m t. counted_on m t.answer) n turns
 -- a turn that was answered `busy`
 abbrev pub busy_turn : List ℕ → Turn
 busy_turn line = record { line = line; answer = Busy }
+
+-- ---- what was offered
+
+-- the item of an add that was answered `kept` or `filtered`
+abbrev pub item_offered : ℕ → List ℕ → Answer → List ℕ
+item_offered seed line Kept = item_of seed line ∷ []
+item_offered seed line Filtered = item_of seed line ∷ []
+item_offered seed line _ = []
+
+-- the items of all of them, in order
+abbrev pub items_offered : ℕ → List Turn → List ℕ
+items_offered seed turns = flat_map (λ t. item_offered seed t.line t.answer) turns
+
+-- how a sketch of the k smallest filters
+abbrev pub theta_keeps : ℕ → ℕ → Bool
+theta_keeps hint item = nat_lt item hint
+
+abbrev pub theta_hint : List ℕ → List Entry → ℕ
+theta_hint numbers list = k_min.theta_of (k_of numbers) (items_of_entries list)
+
+-- of items, in order, the updater has kept each that its base does not filter
+abbrev pub TakesOffered : UpdaterState → List ℕ → UpdaterState → Type 0
+TakesOffered u items u' = TakesItems theta_keeps theta_hint u items u'

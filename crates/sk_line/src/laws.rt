@@ -1,11 +1,12 @@
 //! What follows from the definitions alone.
 ghost use Rattle.std.specs.Prelude.{◌≡◌, ℕ, ◌+◌, ◌≤◌, List, ◌∷◌, ◌++◌, [], length, codes};
+ghost use Rattle.sk_compose.specs.Numbers.{k_of};
 ghost use Rattle.sk_hub.specs.Updaters.{UpdaterState, kept_of};
 ghost use Rattle.sk_ingest.specs.Feeds.{GoesOn};
 ghost use Rattle.sk_theta.specs.Sizes.{Sizes};
 ghost use Rattle.sk_line.specs.Replies.{reply_of};
 ghost use Rattle.sk_line.specs.Requests.{request_of};
-ghost use Rattle.sk_line.specs.Serving.{Turn, Takes, TakesEach, items_kept, kept_since, busy_turn};
+ghost use Rattle.sk_line.specs.Serving.{Turn, Takes, TakesEach, items_kept, kept_since, busy_turn, items_offered, TakesOffered};
 ghost use Rattle.sk_line.specs.declared.answers.Answer.TheVariants as answer;
 ghost use Rattle.sk_line.specs.declared.requests.Request.TheVariants as request;
 
@@ -15,6 +16,13 @@ pub fn turns_keep_items()
     ensures kept { (shape : Sizes) (u : UpdaterState) (turns : List Turn) (v : UpdaterState) → TakesEach shape u turns v
         → kept_of v ≡ kept_of u ++ items_kept shape.seed turns }
     ensures goes { (shape : Sizes) (u : UpdaterState) (turns : List Turn) (v : UpdaterState) → TakesEach shape u turns v → GoesOn u v }
+{}
+
+/// Of the items of all adds that were answered `kept` or `filtered`, in order, the updater has kept each that its base does
+/// not filter: so what is published in the end has the estimate of all of them.
+pub fn turns_take_items()
+    ensures { (shape : Sizes) (u : UpdaterState) (turns : List Turn) (v : UpdaterState) → k_of u.view.numbers ≡ shape.k → TakesEach shape u turns v
+        → TakesOffered u (items_offered shape.seed turns) v }
 {}
 
 /// Counted since the last `synced`, an add is `busy` only where more items were kept than a buffer holds, and a sync

@@ -40,9 +40,10 @@ pub enum End {
     OutOfMemory,
 }
 
-/// Answers the requests that come over a link by an updater of a hub, each before the next is examined, until one asks
-/// to quit, the link ends or fails, or a request is too long. It takes fewer than `most` bytes of the link, and
-/// all its memory before the first. The sketch of the hub keeps as many hashes as the shape says.
+/// Answers the requests that come over a link by an updater of a hub, each before the next is
+/// examined, until one asks to quit, the link ends or fails, or a request is too long. It takes fewer
+/// than `most` bytes of the link, and all its memory before the first. The sketch of the hub keeps as
+/// many hashes as the shape says.
 pub fn session<L: Link, P: Pump<C>, C: ThetaKind, R: Wait>(
     rt: &R,
     alloc: Global,
@@ -57,6 +58,7 @@ pub fn session<L: Link, P: Pump<C>, C: ThetaKind, R: Wait>(
     ensures ends { Ends shape.now most (setting (L.traffic link.old) u.old (P.pumps pump.old)) (setting (L.traffic link.new) u.new (P.pumps pump.new)) result }
     ensures fault { result ≡ End.LinkFault → Rose (L.faults link.old) (L.faults link.new) }
     ensures steady { result ≢ End.LinkFault → L.faults link.new ≡ L.faults link.old }
+    ensures untouched { result ≡ End.OutOfMemory → (link.new ≡ link.old) × (u.new ≡ u.old) × (pump.new ≡ pump.old) }
     ensures stays { P.stands_on pump.new ≡ P.stands_on pump.old }
 {
     let Ok(mut reader) = LineReader::new(alloc, most) else {
@@ -87,6 +89,7 @@ fn take_turn<L: Link, P: Pump<C>, C: ThetaKind, R: Wait>(
     ensures room { IfOk result (λ _. length (kept_of u.new) + remaining_of reader.new ≤ length (kept_of u.old) + remaining_of reader.old) }
     ensures progress { IfOk result (λ _. remaining_of reader.new < remaining_of reader.old) }
     ensures most { reader.new.most ≡ reader.old.most }
+    ensures memory { result ≢ Err End.OutOfMemory }
     ensures cause { HasCauseIn End.LinkFault (L.faults link.old) (L.faults link.new) result }
     ensures stays { P.stands_on pump.new ≡ P.stands_on pump.old }
 {
@@ -133,7 +136,8 @@ fn next_over<L: Link>(
 
 // How a session ends by a fault of reading.
 fn end_by(fault: LineFault) -> End
-    ensures { result ≡ end_by fault }
+    ensures value { result ≡ end_by fault }
+    ensures memory { result ≢ End.OutOfMemory }
 {
     match fault {
         LineFault::ReadFault => End::LinkFault,

@@ -3,9 +3,11 @@ ghost use Rattle.sk_compose.specs.Numbers.{k_of};
 ghost use Rattle.sk_hub.specs.Updaters.{kept_of};
 ghost use Rattle.sk_model.specs.Limits.{most_size, source_limit};
 
+mod at_once;
+
 use super::*;
 use sk_heap::HeapTheta;
-use sk_hub::{Heart, Opened, OutOfMemory, Updater, open};
+use sk_hub::{Heart, Opened, OutOfMemory, Updater, open_sized};
 use sk_io::MemLink;
 use sk_theta::Shape;
 use std::alloc::Global;
@@ -22,6 +24,7 @@ fn shape_of(b: u32, eager: bool) -> Result<Shape, OutOfMemory> {
 // The heart of a new hub and its first updater.
 #[tactic(auto, unfolding(sk_model::specs::Entries::items_of_entries))]
 fn hub(alloc: Global, shape: &Shape) -> Result<(Heart<HeapTheta>, Updater<HeapTheta>), OutOfMemory>
+    ensures heart { IfOk result (λ hub. k_of hub.0.view.numbers ≡ shape.now.k) }
     ensures k { IfOk result (λ hub. k_of hub.1.view.numbers ≡ shape.now.k) }
     ensures none { IfOk result (λ hub. kept_of hub.1 ≡ []) }
 {
@@ -32,7 +35,7 @@ fn hub(alloc: Global, shape: &Shape) -> Result<(Heart<HeapTheta>, Updater<HeapTh
         heart,
         mut updaters,
         token: _,
-    } = open(alloc, shape, global)?;
+    } = open_sized(alloc, shape, &[shape.b()], global)?;
     let updater = updaters.remove(0);
     Ok((heart, updater))
 }

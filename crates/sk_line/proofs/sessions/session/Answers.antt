@@ -54,3 +54,6 @@ returns-in-Err-clause-ends g c =
     let b = setting (g.L.Link.traffic c.take_turn.new.link) c.take_turn.new.u (g.P.Pump.pumps c.take_turn.new.pump) in
     let ended : Ends c.args.shape.now c.take_turn.new.reader.most a b c.in-Err.end = subst (Proceeds c.args.shape.now a c.take_turn.new.reader b) c.in-Err.is (c.take_turn.ensures.goes a inv.turns inv.taken inv.stands) in
     subst (λ (m : ℕ). Ends c.args.shape.now m a b c.in-Err.end) (c.take_turn.ensures.most ∙ inv.most) ended
+
+pub returns-in-Err-clause-untouched : goal.returns-in-Err-clause-untouched
+returns-in-Err-clause-untouched g c = λ is. absurd (c.take_turn.ensures.memory (c.in-Err.is ∙ ap (λ (e : End). Err e) is))

@@ -25,7 +25,7 @@ returns-in-Err-clause-goes g c = λ a turns taken stands.
     let link = g.L.Link.traffic c.next_line.new.link in
     let next = c.next_line.ensures.comes.goes (lines_in turns) taken stands.read in
     let now = setting link c.pump.new.u (g.P.Pump.pumps c.pump.new.self) in
-    subst (Ends c.args.shape.now c.next_line.new.reader.most a now) (sym c.end_by.ensures)
+    subst (Ends c.args.shape.now c.next_line.new.reader.most a now) (sym c.end_by.ensures.value)
     (faults c.args.shape.now a b turns taken next.0 c.args.reader.now c.next_line.new.reader link c.pump.new.u (g.P.Pump.pumps c.pump.new.self) stands next.1 c.pump.ensures.updater c.pump.ensures.count c.in-Err.fault
     (subst (Goes c.next_line.new.reader (left_of link) (lines_in turns) (taken ++ next.0)) c.in-Err.is next.2))
 

@@ -18,3 +18,6 @@ pub returns-clause-none : goal.returns-clause-none
 returns-clause-none c =
     let some : 0 < length c.in_ok-heart.field-0.updaters.items = search rules in
     (c.in_ok-heart.ensures.updaters 0 c.remove-updater.result (first_is _ _ some c.remove-updater.ensures.value)).kept
+
+pub returns-clause-heart : goal.returns-clause-heart
+returns-clause-heart c = ap k_of c.in_ok-heart.ensures.heart.numbers_are ∙ c.in_ok-global.ensures.numbers ∙ c.k.ensures.value
