@@ -1,13 +1,12 @@
 -- What turns add up to.
-use Rattle.std.proofs.Common.{◌≡◌, ℕ, ◌+◌, ◌<◌, ◌≤◌, nat_lt, false, List, [], ◌∷◌, ◌++◌, length, refl, sym, ap, ◌∙◌, subst, arith, append-nil, append_assoc, length-append}
+use Rattle.std.proofs.Common.{◌≡◌, ℕ, ◌+◌, ◌≤◌, nat_lt, false, List, [], ◌∷◌, ◌++◌, length, sym, ap, ◌∙◌, subst, arith, append-nil, append_assoc, length-append}
 use Rattle.std.proofs.lemmas.Bool.Decides.{nat_tests}
 use Rattle.sk_compose.specs.Numbers.{k_of}
 use Rattle.sk_compose.proofs.Kept.{one_kept, one_dropped}
-use Rattle.sk_model.specs.Entries.{Entry, entries_by, items_of_entries}
-use Rattle.sk_model.specs.Missing.{Begins}
+use Rattle.sk_model.specs.Entries.{entries_by, items_of_entries}
 use Rattle.sk_model.specs.Sketch.{theta_of}
 use Rattle.sk_model.proofs.Entries.{entries_by_append}
-use Rattle.sk_hub.specs.Updaters.{UpdaterState, handed_of, base_of, kept_of, LooksInVain}
+use Rattle.sk_hub.specs.Updaters.{UpdaterState, handed_of, base_of, kept_of}
 use Rattle.sk_ingest.specs.Feeds.{GoesOn}
 use Rattle.sk_ingest.proofs.Updaters.{takes_none, takes_trans, none_then_takes}
 use Rattle.sk_theta.specs.Sizes.{Sizes}

@@ -1,5 +1,5 @@
 -- Where a turn leads: to the next one, or to an end.
-use Rattle.std.proofs.Common.{◌≡◌, inl, inr, ℕ, ◌+◌, ◌<◌, ◌≤◌, true, false, List, [], ◌∷◌, ◌++◌, length, Option, Some, None, Result, Ok, Err, refl, sym, ap, ◌∙◌, subst, arith, append-nil, length-append}
+use Rattle.std.proofs.Common.{◌≡◌, inl, ℕ, ◌+◌, ◌≤◌, false, List, [], ◌∷◌, ◌++◌, length, Option, Some, None, Ok, Err, refl, sym, ap, ◌∙◌, subst, arith, append-nil, length-append}
 use Rattle.sk_model.specs.Limits.{line_limit}
 use Rattle.sk_model.specs.Lines.{lines_of, AreWithin, IsFirstLong}
 use Rattle.sk_model.specs.Missing.{Begins}
@@ -20,10 +20,9 @@ use Rattle.sk_line.specs.Pumps.{IsPumped, HasRisen, after_one}
 use Rattle.sk_line.specs.Replies.{reply_of}
 use Rattle.sk_line.specs.Requests.{request_of}
 use Rattle.sk_line.specs.Serving.{Turn, TakesEach, Does, lines_in, replies_to}
-use Rattle.sk_line.specs.Sessions.{Setting, setting, Went, Closes, Quits, IsTooLong, Waits, IsCutOff, Ends}
+use Rattle.sk_line.specs.Sessions.{Setting, setting, Went, Closes, Quits, IsCutOff, Ends}
 use Rattle.sk_line.specs.declared.answers.Answer.{Answer}
 use Rattle.sk_line.specs.declared.requests.Request.TheVariants.{Quit}
-use Rattle.sk_line.specs.declared.sessions.End.TheVariants as end
 use Rattle.sk_line.proofs.Turns.{takes_more, lines_more, replies_more, lines_count}
 
 -- what is left to read, behind a reply

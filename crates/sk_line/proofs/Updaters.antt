@@ -1,5 +1,5 @@
 -- What requests do to an updater.
-use Rattle.std.proofs.Common.{◌≡◌, inl, inr, ℕ, ◌+◌, ◌<◌, ◌≤◌, Bool, true, false, List, [], ◌∷◌, ◌++◌, length, All, nat_lt, not, refl, sym, ap, ◌∙◌, subst, arith, append-nil, length-append}
+use Rattle.std.proofs.Common.{◌≡◌, inl, inr, ℕ, ◌+◌, ◌≤◌, Bool, false, List, [], ◌∷◌, ◌++◌, length, All, nat_lt, not, refl, sym, ap, ◌∙◌, subst, arith, append-nil, length-append}
 use Rattle.std.proofs.lemmas.Bool.Decides.{nat_tests}
 use Rattle.std.proofs.lemmas.List.Elements.{All-map}
 use Rattle.sk_model.specs.Entries.{Entry, items_of_entries, entries_by}
@@ -20,7 +20,7 @@ use Rattle.sk_ingest.specs.Feeds.{GoesOn, KeepsNone}
 use Rattle.sk_ingest.proofs.Updaters.{none_refl, none_trans, helped}
 use Rattle.sk_theta.specs.Sizes.{Sizes}
 use Rattle.sk_line.specs.Pumps.{IsPumped}
-use Rattle.sk_line.specs.Serving.{KeepsItem, DropsItem, IsFull, Estimates, IsSynced, IsUnpublished, Does, item_kept}
+use Rattle.sk_line.specs.Serving.{DropsItem, Estimates, IsSynced, IsUnpublished, Does, item_kept}
 use Rattle.sk_line.specs.declared.answers.Answer.{Answer}
 use Rattle.sk_line.specs.declared.answers.Answer.TheVariants as answer
 use Rattle.sk_line.specs.declared.requests.Request.{Request}

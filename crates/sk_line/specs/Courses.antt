@@ -1,5 +1,5 @@
 -- Where a session is between two turns.
-use Rattle.std.specs.Prelude.{◌≡◌, ℕ, Bool, List, [], ◌++◌, length, Option, Result, Ok, Err}
+use Rattle.std.specs.Prelude.{ℕ, Bool, List, [], ◌++◌, length, Option, Result, Ok, Err}
 use Rattle.sk_io.specs.Traffic.{Traffic, Exchanges, left_of}
 use Rattle.sk_theta.specs.Sizes.{Sizes}
 use Rattle.sk_read.specs.Reading.{Reading, HasRead, Goes}

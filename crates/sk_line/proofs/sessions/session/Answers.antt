@@ -1,4 +1,4 @@
-use Rattle.std.proofs.Common.{◌≡◌, ◌≤◌, ◌+◌, ◌-◌, ℕ, List, [], ◌∷◌, ◌++◌, length, Bool, true, false, Result, Ok, Err, Some, refl, sym, ap, ◌∙◌, subst, arith, length-append}
+use Rattle.std.proofs.Common.{◌≡◌, ◌≤◌, ℕ, [], ◌∷◌, length, Bool, true, false, Result, Ok, Err, Some, refl, ap, ◌∙◌, subst, arith, length-append}
 use Rattle.sk_io.proofs.Links.{exchanges_none}
 use Rattle.sk_read.specs.Reading.{Reading, HasRead, remaining_of}
 use Rattle.sk_line.specs.Courses.{Proceeds}

@@ -1,4 +1,4 @@
-use Rattle.std.proofs.Common.{◌≡◌, ◌≤◌, ◌+◌, ℕ, List, [], ◌∷◌, ◌++◌, length, Bool, true, false, Result, Ok, Err, inl, inr, refl, sym, ap, ◌∙◌, subst, rules}
+use Rattle.std.proofs.Common.{ℕ, List, [], ◌∷◌, ◌++◌, Bool, true, Ok, inr, sym, ap, ◌∙◌, subst, rules}
 use Rattle.sk_io.specs.Traffic.{left_of}
 use Rattle.sk_read.specs.Reading.{HasRead, Goes}
 use Rattle.sk_read.specs.Reads.{IsInTime}
