@@ -1,6 +1,7 @@
 -- What turns add up to.
-use Rattle.std.proofs.Common.{◌≡◌, ℕ, ◌+◌, ◌≤◌, nat_lt, false, List, [], ◌∷◌, ◌++◌, length, sym, ap, ◌∙◌, subst, arith, append-nil, append_assoc, length-append}
+use Rattle.std.proofs.Common.{◌≡◌, ℕ, ◌+◌, ◌≤◌, nat_lt, false, All, List, [], ◌∷◌, ◌++◌, length, sym, ap, ◌∙◌, subst, arith, append-nil, append_assoc, length-append}
 use Rattle.std.proofs.lemmas.Bool.Decides.{nat_tests}
+use Rattle.std.proofs.lemmas.List.Elements.{All-nil, All-cons}
 use Rattle.sk_compose.specs.Numbers.{k_of}
 use Rattle.sk_compose.proofs.Kept.{one_kept, one_dropped}
 use Rattle.sk_model.specs.Entries.{entries_by, items_of_entries}
@@ -150,3 +151,16 @@ turns_take shape u [] u' k same = nothing u u' (goes_same u u' same) (ap kept_of
 turns_take shape u (t ∷ turns) u' k each =
     let first = turn_takes shape u t each.0 k each.1 in
     takes_trans theta_keeps theta_hint u each.0 u' (item_offered shape.seed t.line t.answer) (items_offered shape.seed turns) first (turns_take shape each.0 turns u' (ap k_of first.goes.numbers ∙ k) each.2)
+
+-- ---- no turn asks to quit
+
+abbrev IsNoQuit : Turn → Type 0
+IsNoQuit t = request_of t.line ≡ request.Quit → ⊥
+
+takes_no_quit : (shape : Sizes) (u : UpdaterState) (t : Turn) (u' : UpdaterState) → Takes shape u t u' → IsNoQuit t
+takes_no_quit shape u t u' takes = λ is. subst (λ (r : Request). Does shape r t.line t.answer takes.pumped u') is takes.does
+
+pub no_turn_quits : (shape : Sizes) (u : UpdaterState) (turns : List Turn) (u' : UpdaterState) → TakesEach shape u turns u' → All (λ (t : Turn). request_of t.line ≡ request.Quit → ⊥) turns
+unfolding TakesEach
+no_turn_quits shape u [] u' each = All-nil IsNoQuit
+no_turn_quits shape u (t ∷ turns) u' each = All-cons IsNoQuit t turns (takes_no_quit shape u t each.0 each.1) (no_turn_quits shape each.0 turns u' each.2)

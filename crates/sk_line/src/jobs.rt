@@ -49,7 +49,7 @@ impl<C: ThetaKind, L: Link + Drop, P: Pump<C> + Drop> Job<C, L, P> {
     }
 }
 
-/// Runs the sessions of all jobs at once, each in a thread of its own. For each it is as if `session` ran alone.
+/// Runs the sessions of all jobs at once, each in a thread of its own. Each is as `session` says.
 pub fn serve_links<
     C: ThetaKind + Send,
     L: Link + Drop + Send,
