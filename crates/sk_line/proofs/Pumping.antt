@@ -9,7 +9,9 @@ use Rattle.sk_hub.specs.Rounds.{FinishesHeld, ServesOne, ServesEach, FindsInVain
 use Rattle.sk_hub.specs.Updaters.{UpdaterState}
 use Rattle.sk_hub.specs.declared.answers.Help.{Help}
 use Rattle.sk_hub.specs.declared.answers.Help.TheVariants as help
-use Rattle.sk_line.specs.Pumps.{is_look, IsPumped, lasting}
+use Rattle.sk_hub.specs.declared.answers.Sweep.{Sweep}
+use Rattle.sk_hub.specs.declared.answers.Sweep.TheVariants as sweep
+use Rattle.sk_line.specs.Pumps.{is_look, IsPumped, TriesToSweep, lasting}
 
 -- ---- no look
 
@@ -95,3 +97,13 @@ pumped_helped u u' n help.OutOfMemory stays knows serves other refuses = told u 
 -- what stays of a heart that may have propagated
 pub lasts : (h h' : HeartState) → h' ≡ record h { view = h'.view } → KnowsAsMuch h.view h'.view → lasting h' ≡ lasting h
 lasts h h' stays knows = ap lasting stays ∙ ap (λ (v : View). record h { view = record v { seen = []; steps = []; given = []; sizes = [] } }) knows.view
+
+pub helps : (v w : View) (n : ℕ) (r : Help) → ((count : ℕ) → r ≡ help.Served count → Sweeps v n count w) → ((other : ℕ) → r ≡ help.Elsewhere other → IsElsewhere v other w) → (r ≡ help.OutOfMemory → Refuses v 0 n w) → TriesToSweep n v w
+helps v w n (help.Served count) serves other refuses = inl (count, serves count refl)
+helps v w n (help.Elsewhere i) serves other refuses = inr (inl (i, other i refl))
+helps v w n help.OutOfMemory serves other refuses = inr (inr (refuses refl))
+
+pub sweeps : (v w : View) (n : ℕ) (r : Sweep) → ((count : ℕ) → r ≡ sweep.Swept count → Sweeps v n count w) → ((other : ℕ) → r ≡ sweep.Elsewhere other → IsElsewhere v other w) → (r ≡ sweep.OutOfMemory → Refuses v 0 n w) → TriesToSweep n v w
+sweeps v w n (sweep.Swept count) serves other refuses = inl (count, serves count refl)
+sweeps v w n (sweep.Elsewhere i) serves other refuses = inr (inl (i, other i refl))
+sweeps v w n sweep.OutOfMemory serves other refuses = inr (inr (refuses refl))

@@ -1,9 +1,10 @@
 -- What a pump does to the updater that it is lent, and what it leaves alone.
-use Rattle.std.specs.Prelude.{◌≡◌, ℕ, ◌+◌, ◌-◌, ◌^◌, ◌≤◌, min, List, [], ◌++◌, All, Bool, true, false, Option}
+use Rattle.std.specs.Prelude.{◌≡◌, ◌⊎◌, ℕ, ◌+◌, ◌-◌, ◌^◌, ◌≤◌, min, List, [], ◌∷◌, ◌++◌, All, Bool, true, false, Option, None, Some}
 use Rattle.sk_machine.specs.declared.views.Move.{Move}
 use Rattle.sk_machine.specs.declared.views.Move.TheVariants.{Look}
 use Rattle.sk_hub.specs.Hearts.{HeartState}
-use Rattle.sk_hub.specs.Rounds.{KnowsAsMuch}
+use Rattle.sk_machine.specs.declared.views.View.{View}
+use Rattle.sk_hub.specs.Rounds.{KnowsAsMuch, Sweeps, IsElsewhere, Refuses}
 use Rattle.sk_hub.specs.Updaters.{UpdaterState}
 
 -- ---- its count
@@ -27,6 +28,19 @@ pub record Footing : Type 0 where
 -- a heart but for what propagating changes: its hub, what it knows of updaters, whom it drained and admitted
 abbrev pub lasting : HeartState → HeartState
 lasting h = record h { view = record h.view { seen = []; steps = []; given = []; sizes = [] } }
+
+abbrev pub no_footing : Footing
+no_footing = record { borrows = []; heart = None }
+
+abbrev pub footing_on : ℕ → HeartState → Footing
+footing_on name h = record { borrows = name ∷ []; heart = Some (lasting h) }
+
+-- ---- what it does
+
+-- whoever has this view took the turn and served each of n updaters once, or found another seat at it; or memory was
+-- wanting for a batch
+abbrev pub TriesToSweep : ℕ → View → View → Type 0
+TriesToSweep n v w = ((count : ℕ) × Sweeps v n count w) ⊎ (((other : ℕ) × IsElsewhere v other w) ⊎ Refuses v 0 n w)
 
 -- ---- the updater
 

@@ -1,5 +1,6 @@
 //! A pump that lets the updater itself propagate.
-ghost use Rattle.std.specs.Prelude.{◌≡◌};
+ghost use Rattle.std.specs.Prelude.{◌≡◌, length};
+ghost use Rattle.sk_line.specs.Pumps.{no_footing, IsPumped, TriesToSweep, after_one};
 
 use crate::pumps::Pump;
 use sk_compose::Composable;
@@ -22,13 +23,19 @@ impl HelpPump {
 }
 
 impl<C: Composable> Pump<C> for HelpPump {
-    ghost use Rattle.std.specs.Prelude.{[], None};
+    ghost use Rattle.sk_line.specs.Pumps.{no_footing};
 
     ghost pumps = { λ p. p.count };
 
-    ghost stands_on = { λ _. record { borrows = []; heart = None } };
+    ghost stands_on = { λ _. no_footing };
 
-    fn pump<R: Wait>(&mut self, rt: &R, u: &mut Updater<C>) {
+    /// Takes the turn for one round, unless another seat has it.
+    fn pump<R: Wait>(&mut self, rt: &R, u: &mut Updater<C>)
+        ensures updater { IsPumped u.old u.new }
+        ensures count { self.new.count ≡ after_one self.old.count }
+        ensures stays { no_footing ≡ no_footing }
+        ensures helps { TriesToSweep (length u.old.view.sizes) u.old.view u.new.view }
+    {
         self.count = self.count.saturating_add(1);
         u.help(rt);
     }

@@ -37,11 +37,11 @@ impl NoPump {
 }
 
 impl<C: Composable> Pump<C> for NoPump {
-    ghost use Rattle.std.specs.Prelude.{[], None};
+    ghost use Rattle.sk_line.specs.Pumps.{no_footing};
 
     ghost pumps = { λ p. p.count };
 
-    ghost stands_on = { λ _. record { borrows = []; heart = None } };
+    ghost stands_on = { λ _. no_footing };
 
     fn pump<R: Wait>(&mut self, _rt: &R, _u: &mut Updater<C>) {
         self.count = self.count.saturating_add(1);
