@@ -20,7 +20,7 @@ use Rattle.sk_ingest.specs.Feeds.{GoesOn, KeepsNone}
 use Rattle.sk_ingest.proofs.Updaters.{none_refl, none_trans, helped}
 use Rattle.sk_theta.specs.Sizes.{Sizes}
 use Rattle.sk_line.specs.Pumps.{IsPumped}
-use Rattle.sk_line.specs.Serving.{DropsItem, Estimates, IsSynced, IsUnpublished, Does, item_kept}
+use Rattle.sk_line.specs.Serving.{DropsItem, Estimates, IsSynced, IsUnpublished, AnswersRequest, item_kept}
 use Rattle.sk_line.specs.declared.answers.Answer.{Answer}
 use Rattle.sk_line.specs.declared.answers.Answer.TheVariants as answer
 use Rattle.sk_line.specs.declared.requests.Request.{Request}
@@ -180,7 +180,7 @@ same_more : (u u' : UpdaterState) → u' ≡ u → kept_of u' ≡ kept_of u ++ [
 same_more u u' same = ap kept_of same ∙ sym (append-nil (kept_of u))
 
 -- the updater goes on, and keeps the item of an add that is answered so
-pub does_go : (shape : Sizes) (r : Request) (line : List ℕ) (a : Answer) (u u' : UpdaterState) → Does shape r line a u u' → GoesOn u u' × (kept_of u' ≡ kept_of u ++ item_kept shape.seed line a)
+pub does_go : (shape : Sizes) (r : Request) (line : List ℕ) (a : Answer) (u u' : UpdaterState) → AnswersRequest shape r line a u u' → GoesOn u u' × (kept_of u' ≡ kept_of u ++ item_kept shape.seed line a)
 does_go shape request.Add line answer.Kept u u' d = (d.goes, d.kept)
 does_go shape request.Add line answer.Filtered u u' d = (goes_same u u' d.stays, same_more u u' d.stays)
 does_go shape request.Add line answer.Busy u u' d = let none : KeepsNone u u' = none_in_vain u u' d.look in (none.goes, none_more u u' none)
@@ -198,5 +198,5 @@ one_at_most : (seed : ℕ) (line : List ℕ) (a : Answer) → length (item_kept 
 one_at_most seed line answer.Kept = omega arith
 one_at_most seed line _ = omega arith
 
-pub does_few : (shape : Sizes) (r : Request) (line : List ℕ) (a : Answer) (u u' : UpdaterState) → Does shape r line a u u' → length (kept_of u') ≤ length (kept_of u) + 1
+pub does_few : (shape : Sizes) (r : Request) (line : List ℕ) (a : Answer) (u u' : UpdaterState) → AnswersRequest shape r line a u u' → length (kept_of u') ≤ length (kept_of u) + 1
 does_few shape r line a u u' d = omega (arith, ap length (does_go shape r line a u u' d).1, length-append (kept_of u) (item_kept shape.seed line a), one_at_most shape.seed line a)

@@ -10,8 +10,8 @@ abbrev pub is_add : List ℕ → Bool
 is_add line = nat_lt 4 (length line) && bytes_eq (take 4 line) (codes "add ")
 
 -- what a line asks for
-unfoldable pub request_of : List ℕ → Request
-request_of line =
+unfoldable pub client_request : List ℕ → Request
+client_request line =
     if bytes_eq line (codes "ask") then Ask
     else (if bytes_eq line (codes "sync") then Sync
     else (if bytes_eq line (codes "quit") then Quit
@@ -19,5 +19,5 @@ request_of line =
     else Bad)))
 
 -- the item of a line that adds one: the hash of all that stands behind the space
-abbrev pub item_of : ℕ → List ℕ → ℕ
-item_of seed line = hash_of seed (drop 4 line)
+abbrev pub added_item : ℕ → List ℕ → ℕ
+added_item seed line = hash_of seed (drop 4 line)

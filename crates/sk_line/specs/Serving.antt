@@ -9,8 +9,8 @@ use Rattle.sk_hub.specs.Replies.{IsOwnReply}
 use Rattle.sk_hub.specs.Updaters.{UpdaterState, base_of, kept_of, LooksInVain}
 use Rattle.sk_ingest.specs.Feeds.{GoesOn, KeepsNone, Takes as TakesItems}
 use Rattle.sk_line.specs.Pumps.{IsPumped}
-use Rattle.sk_line.specs.Replies.{reply_of}
-use Rattle.sk_line.specs.Requests.{request_of, item_of}
+use Rattle.sk_line.specs.Replies.{reply_line}
+use Rattle.sk_line.specs.Requests.{client_request, added_item}
 use Rattle.sk_line.specs.declared.answers.Answer.{Answer}
 use Rattle.sk_line.specs.declared.answers.Answer.TheVariants.{Kept, Filtered, Busy, Estimate, Synced, Bad}
 use Rattle.sk_line.specs.declared.requests.Request.{Request}
@@ -36,11 +36,11 @@ pub record IsFull (u u' : UpdaterState) : Type 0 where
   pub look : LooksInVain u u'
 
 -- what comes of an item, where the sketch keeps k hashes
-abbrev pub Adds : ℕ → ℕ → Answer → UpdaterState → UpdaterState → Type 0
-Adds k item Kept u u' = KeepsItem item u u'
-Adds k item Filtered u u' = DropsItem k item u u'
-Adds k item Busy u u' = IsFull u u'
-Adds k item _ u u' = ⊥
+abbrev pub AnswersAdd : ℕ → ℕ → Answer → UpdaterState → UpdaterState → Type 0
+AnswersAdd k item Kept u u' = KeepsItem item u u'
+AnswersAdd k item Filtered u u' = DropsItem k item u u'
+AnswersAdd k item Busy u u' = IsFull u u'
+AnswersAdd k item _ u u' = ⊥
 
 -- ---- ask
 
@@ -51,9 +51,9 @@ pub record Estimates (k n d : ℕ) (u u' : UpdaterState) : Type 0 where
   pub reply : IsOwnReply (λ numbers list. k_min.packed_of (k_of numbers) (items_of_entries list)) u word u'
   pub estimate : (n, d) ≡ k_min.estimate_of k (items_of_entries u'.view.seen)
 
-abbrev pub Asks : ℕ → Answer → UpdaterState → UpdaterState → Type 0
-Asks k (Estimate n d) u u' = Estimates k n d u u'
-Asks k _ u u' = ⊥
+abbrev pub AnswersAsk : ℕ → Answer → UpdaterState → UpdaterState → Type 0
+AnswersAsk k (Estimate n d) u u' = Estimates k n d u u'
+AnswersAsk k _ u u' = ⊥
 
 -- ---- sync
 
@@ -70,83 +70,83 @@ pub record IsUnpublished (u u' : UpdaterState) : Type 0 where
   pub goes : KeepsNone u before
   pub look : LooksInVain before u'
 
-abbrev pub Syncs : Answer → UpdaterState → UpdaterState → Type 0
-Syncs Synced u u' = IsSynced u u'
-Syncs Busy u u' = IsUnpublished u u'
-Syncs _ u u' = ⊥
+abbrev pub AnswersSync : Answer → UpdaterState → UpdaterState → Type 0
+AnswersSync Synced u u' = IsSynced u u'
+AnswersSync Busy u u' = IsUnpublished u u'
+AnswersSync _ u u' = ⊥
 
 -- ---- any request
 
-abbrev pub DoesNothing : Answer → UpdaterState → UpdaterState → Type 0
-DoesNothing Bad u u' = u' ≡ u
-DoesNothing _ u u' = ⊥
+abbrev pub AnswersBad : Answer → UpdaterState → UpdaterState → Type 0
+AnswersBad Bad u u' = u' ≡ u
+AnswersBad _ u u' = ⊥
 
 -- what is done for a request and answered; nothing for the one that ends the session
-abbrev pub Does : Sizes → Request → List ℕ → Answer → UpdaterState → UpdaterState → Type 0
-Does shape request.Add line answer u u' = Adds shape.k (item_of shape.seed line) answer u u'
-Does shape request.Ask line answer u u' = Asks shape.k answer u u'
-Does shape request.Sync line answer u u' = Syncs answer u u'
-Does shape request.Quit line answer u u' = ⊥
-Does shape request.Bad line answer u u' = DoesNothing answer u u'
+abbrev pub AnswersRequest : Sizes → Request → List ℕ → Answer → UpdaterState → UpdaterState → Type 0
+AnswersRequest shape request.Add line answer u u' = AnswersAdd shape.k (added_item shape.seed line) answer u u'
+AnswersRequest shape request.Ask line answer u u' = AnswersAsk shape.k answer u u'
+AnswersRequest shape request.Sync line answer u u' = AnswersSync answer u u'
+AnswersRequest shape request.Quit line answer u u' = ⊥
+AnswersRequest shape request.Bad line answer u u' = AnswersBad answer u u'
 
 -- a line that was read, and its answer
-pub record Turn : Type 0 where
+pub record Answered : Type 0 where
   pub line : List ℕ
   pub answer : Answer
 
 -- one pumping, and what is done for the line
-pub record Takes (shape : Sizes) (u : UpdaterState) (t : Turn) (u' : UpdaterState) : Type 0 where
+pub record AnswersLine (shape : Sizes) (u : UpdaterState) (t : Answered) (u' : UpdaterState) : Type 0 where
   pub pumped : UpdaterState
   pub pump : IsPumped u pumped
-  pub does : Does shape (request_of t.line) t.line t.answer pumped u'
+  pub does : AnswersRequest shape (client_request t.line) t.line t.answer pumped u'
 
 -- so it was for each of these lines, one after another
-unfoldable pub TakesEach : Sizes → UpdaterState → List Turn → UpdaterState → Type 0
-TakesEach shape u [] u' = u' ≡ u
-TakesEach shape u (t ∷ turns) u' = (v : UpdaterState) × Takes shape u t v × TakesEach shape v turns u'
+unfoldable pub AnswersEach : Sizes → UpdaterState → List Answered → UpdaterState → Type 0
+AnswersEach shape u [] u' = u' ≡ u
+AnswersEach shape u (t ∷ answered) u' = (v : UpdaterState) × AnswersLine shape u t v × AnswersEach shape v answered u'
 
 -- the lines, and all their replies
-abbrev pub lines_in : List Turn → List (List ℕ)
-lines_in turns = map (λ t. t.line) turns
+abbrev pub lines_in : List Answered → List (List ℕ)
+lines_in answered = map (λ t. t.line) answered
 
-abbrev pub replies_to : List Turn → List ℕ
-replies_to turns = flat_map (λ t. reply_of t.answer) turns
+abbrev pub replies_to : List Answered → List ℕ
+replies_to answered = flat_map (λ t. reply_line t.answer) answered
 
 -- ---- what was kept
 
 -- the item of an add that was answered so
 abbrev pub item_kept : ℕ → List ℕ → Answer → List ℕ
-item_kept seed line Kept = item_of seed line ∷ []
+item_kept seed line Kept = added_item seed line ∷ []
 item_kept seed line _ = []
 
 -- the items of all of them, in order
-abbrev pub items_kept : ℕ → List Turn → List ℕ
-items_kept seed turns = flat_map (λ t. item_kept seed t.line t.answer) turns
+abbrev pub items_kept : ℕ → List Answered → List ℕ
+items_kept seed answered = flat_map (λ t. item_kept seed t.line t.answer) answered
 
--- how many items were kept since the last `synced`, where there were so many before these turns
+-- how many items were kept since the last `synced`, where there were so many before these lines
 abbrev pub counted_on : ℕ → Answer → ℕ
 counted_on n Kept = n + 1
 counted_on n Synced = 0
 counted_on n _ = n
 
-abbrev pub kept_since : ℕ → List Turn → ℕ
-kept_since n turns = fold (λ m t. counted_on m t.answer) n turns
+abbrev pub kept_since : ℕ → List Answered → ℕ
+kept_since n answered = fold (λ m t. counted_on m t.answer) n answered
 
--- a turn that was answered `busy`
-abbrev pub busy_turn : List ℕ → Turn
-busy_turn line = record { line = line; answer = Busy }
+-- a line that was answered `busy`
+abbrev pub answered_busy : List ℕ → Answered
+answered_busy line = record { line = line; answer = Busy }
 
 -- ---- what was offered
 
 -- the item of an add that was answered `kept` or `filtered`
 abbrev pub item_offered : ℕ → List ℕ → Answer → List ℕ
-item_offered seed line Kept = item_of seed line ∷ []
-item_offered seed line Filtered = item_of seed line ∷ []
+item_offered seed line Kept = added_item seed line ∷ []
+item_offered seed line Filtered = added_item seed line ∷ []
 item_offered seed line _ = []
 
 -- the items of all of them, in order
-abbrev pub items_offered : ℕ → List Turn → List ℕ
-items_offered seed turns = flat_map (λ t. item_offered seed t.line t.answer) turns
+abbrev pub items_offered : ℕ → List Answered → List ℕ
+items_offered seed answered = flat_map (λ t. item_offered seed t.line t.answer) answered
 
 -- how a sketch of the k smallest filters
 abbrev pub theta_keeps : ℕ → ℕ → Bool

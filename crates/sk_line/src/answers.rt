@@ -2,7 +2,7 @@
 ghost use Rattle.std.specs.Prelude.{◌≡◌, ◌≤◌, [], OnOk, OnErr, take, length};
 ghost use Rattle.sk_model.specs.Causes.{HasCause};
 ghost use Rattle.sk_io.specs.Traffic.{Exchanges, SendsPart};
-ghost use Rattle.sk_line.specs.Replies.{reply_of};
+ghost use Rattle.sk_line.specs.Replies.{reply_line};
 
 use sk_io::{Failed, Link, send_all};
 use sk_lines::{put_estimate_line, put_text};
@@ -26,8 +26,8 @@ pub enum Answer {
 
 /// Sends the reply to a request.
 pub(crate) fn send_reply<L: Link>(link: &mut L, answer: Answer) -> Result<(), Failed>
-    ensures ok { OnOk result (Exchanges (L.traffic link.old) (L.traffic link.new) [] (reply_of answer)) }
-    ensures err { OnErr result (SendsPart (L.traffic link.old) (L.traffic link.new) (reply_of answer)) }
+    ensures ok { OnOk result (Exchanges (L.traffic link.old) (L.traffic link.new) [] (reply_line answer)) }
+    ensures err { OnErr result (SendsPart (L.traffic link.old) (L.traffic link.new) (reply_line answer)) }
     ensures cause { HasCause (L.faults link.old) (L.faults link.new) result }
 {
     let mut reply = [0; 64];
@@ -36,9 +36,9 @@ pub(crate) fn send_reply<L: Link>(link: &mut L, answer: Answer) -> Result<(), Fa
 }
 
 // Writes the reply to the front of `into`, and answers its length.
-#[tactic(auto, unfolding(crate::specs::Replies::reply_of))]
+#[tactic(auto, unfolding(crate::specs::Replies::reply_line))]
 fn put_reply(into: &mut [u8; 64], answer: Answer) -> usize
-    ensures text { take result into.new ≡ reply_of answer }
+    ensures text { take result into.new ≡ reply_line answer }
     ensures most { result ≤ 64 }
 {
     match answer {

@@ -3,8 +3,8 @@ ghost use Rattle.std.specs.Prelude.{◌≡◌, ◌+◌, ◌<◌, ◌≤◌, ℕ,
 ghost use Rattle.sk_compose.specs.Numbers.{k_of};
 ghost use Rattle.sk_hub.specs.Updaters.{kept_of};
 ghost use Rattle.sk_model.specs.Limits.{most_kept};
-ghost use Rattle.sk_line.specs.Jobs.{IsServed};
-ghost use Rattle.sk_line.specs.Sessions.{setting};
+ghost use Rattle.sk_line.specs.Jobs.{IsJobDone};
+ghost use Rattle.sk_line.specs.Sessions.{session_state};
 
 use crate::pumps::Pump;
 use crate::sessions::{End, session};
@@ -32,8 +32,8 @@ impl<C: ThetaKind, L: Link + Drop, P: Pump<C> + Drop> Job<C, L, P> {
     fn run<R: Wait>(&mut self, rt: &R, alloc: Global, shape: &Shape, most: u64)
         requires k { k_of self.old.updater.view.numbers ≡ shape.now.k }
         requires room { length (kept_of self.old.updater) + most ≤ most_kept }
-        ensures served { IsServed shape.now most (setting (L.traffic self.old.link) self.old.updater (P.pumps self.old.pump))
-            (setting (L.traffic self.new.link) self.new.updater (P.pumps self.new.pump)) (L.faults self.old.link) (L.faults self.new.link) self.new.end }
+        ensures served { IsJobDone shape.now most (session_state (L.traffic self.old.link) self.old.updater (P.pumps self.old.pump))
+            (session_state (L.traffic self.new.link) self.new.updater (P.pumps self.new.pump)) (L.faults self.old.link) (L.faults self.new.link) self.new.end }
         ensures stays { P.stands_on self.new.pump ≡ P.stands_on self.old.pump }
     {
         let end = session(
@@ -59,8 +59,8 @@ pub fn serve_links<
     requires k { All (λ job. k_of job.updater.view.numbers ≡ shape.now.k) jobs.old }
     requires room { All (λ job. length (kept_of job.updater) + most ≤ most_kept) jobs.old }
     ensures served { (i : ℕ) (d : _) → i < length jobs.old
-        → IsServed shape.now most (setting (L.traffic (slice_index_or jobs.old i d).link) (slice_index_or jobs.old i d).updater (P.pumps (slice_index_or jobs.old i d).pump))
-        (setting (L.traffic (slice_index_or jobs.new i d).link) (slice_index_or jobs.new i d).updater (P.pumps (slice_index_or jobs.new i d).pump))
+        → IsJobDone shape.now most (session_state (L.traffic (slice_index_or jobs.old i d).link) (slice_index_or jobs.old i d).updater (P.pumps (slice_index_or jobs.old i d).pump))
+        (session_state (L.traffic (slice_index_or jobs.new i d).link) (slice_index_or jobs.new i d).updater (P.pumps (slice_index_or jobs.new i d).pump))
         (L.faults (slice_index_or jobs.old i d).link) (L.faults (slice_index_or jobs.new i d).link) (slice_index_or jobs.new i d).end }
     ensures stays { (i : ℕ) (d : _) → i < length jobs.old
         → P.stands_on (slice_index_or jobs.new i d).pump ≡ P.stands_on (slice_index_or jobs.old i d).pump }

@@ -1,7 +1,7 @@
 //! What a client asks for.
 ghost use Rattle.std.specs.Prelude.{◌≡◌, ◌<◌, ◌&&◌, length, take, codes, nat_lt};
 ghost use Rattle.std.specs.Str.{bytes_eq};
-ghost use Rattle.sk_line.specs.Requests.{request_of, is_add};
+ghost use Rattle.sk_line.specs.Requests.{client_request, is_add};
 
 /// What a line of a client asks for.
 #[derive(Clone, Copy, Debug, PartialEq, Eq)]
@@ -20,9 +20,9 @@ pub enum Request {
 
 impl Request {
     /// The request that a line spells.
-    #[tactic(auto, unfolding(crate::specs::Requests::request_of))]
+    #[tactic(auto, unfolding(crate::specs::Requests::client_request))]
     pub fn of(line: &[u8]) -> Request
-        ensures value { result ≡ request_of line.now }
+        ensures value { result ≡ client_request line.now }
         ensures item { result ≡ Request.Add → 4 < length line.now }
     {
         match line {

@@ -8,8 +8,8 @@ ghost use Rattle.sk_model.specs.Limits.{least_k, most_k, most_kept};
 ghost use Rattle.sk_model.specs.Murmur.{hash_of};
 ghost use Rattle.sk_model.specs.Sketch.{fraction_of};
 ghost use Rattle.sk_line.specs.Pumps.{HasRisen};
-ghost use Rattle.sk_line.specs.Requests.{request_of};
-ghost use Rattle.sk_line.specs.Serving.{Adds, Asks, Syncs, Does};
+ghost use Rattle.sk_line.specs.Requests.{client_request};
+ghost use Rattle.sk_line.specs.Serving.{AnswersAdd, AnswersAsk, AnswersSync, AnswersRequest};
 
 use crate::answers::Answer;
 use crate::pumps::Pump;
@@ -30,8 +30,8 @@ pub(crate) fn serve<P: Pump<C>, C: ThetaKind, R: Wait>(
 ) -> Option<Answer>
     requires k { k_of u.old.view.numbers ≡ shape.now.k }
     requires room { length (kept_of u.old) < most_kept }
-    ensures done { IfSome result (λ answer. Does shape.now (request_of line.now) line.now answer u.old u.new) }
-    ensures quit { IsNone result → request_of line.now ≡ Request.Quit }
+    ensures done { IfSome result (λ answer. AnswersRequest shape.now (client_request line.now) line.now answer u.old u.new) }
+    ensures quit { IsNone result → client_request line.now ≡ Request.Quit }
     ensures left { IsNone result → u.new ≡ u.old }
     ensures pumps { HasRisen 0 (P.pumps pump.old) (P.pumps pump.new) }
     ensures stays { P.stands_on pump.new ≡ P.stands_on pump.old }
@@ -49,7 +49,7 @@ pub(crate) fn serve<P: Pump<C>, C: ThetaKind, R: Wait>(
 fn add<C: ThetaKind>(u: &mut Updater<C>, seed: u32, bytes: &[u8], k: u32) -> Answer
     requires k { k_of u.old.view.numbers ≡ k }
     requires room { length (kept_of u.old) < most_kept }
-    ensures { Adds k (hash_of seed bytes.now) result u.old u.new }
+    ensures { AnswersAdd k (hash_of seed bytes.now) result u.old u.new }
 {
     // It tells the proof what is true of every updater.
     let _number = u.number();
@@ -60,12 +60,12 @@ fn add<C: ThetaKind>(u: &mut Updater<C>, seed: u32, bytes: &[u8], k: u32) -> Ans
     }
 }
 
-// Asks for the estimate of what is published.
+// AnswersAsk for the estimate of what is published.
 fn ask<C: ThetaKind>(u: &mut Updater<C>, k: u32) -> Answer
     requires k { k_of u.old.view.numbers ≡ k }
     requires least { least_k ≤ k }
     requires most { k ≤ most_k }
-    ensures { Asks k result u.old u.new }
+    ensures { AnswersAsk k result u.old u.new }
 {
     let (n, d) = estimate_by(k, unpack(u.ask()));
     Answer::Estimate(n, d)
@@ -86,7 +86,7 @@ fn estimate_by(k: u32, reply: Reply) -> (u64, u64)
 
 // Sees to it that all that was kept is published, if it can be at once.
 fn sync<P: Pump<C>, C: ThetaKind, R: Wait>(rt: &R, u: &mut Updater<C>, pump: &mut P) -> Answer
-    ensures synced { Syncs result u.old u.new }
+    ensures synced { AnswersSync result u.old u.new }
     ensures pumps { HasRisen 0 (P.pumps pump.old) (P.pumps pump.new) }
     ensures stays { P.stands_on pump.new ≡ P.stands_on pump.old }
 {

@@ -7,10 +7,10 @@ ghost use Rattle.sk_lines.specs.declared.cutter.Next.TheVariants as next;
 ghost use Rattle.sk_model.specs.Causes.{HasCauseIn, Rose};
 ghost use Rattle.sk_model.specs.Limits.{most_kept, source_limit};
 ghost use Rattle.sk_read.specs.Reading.{HasRead, Goes, remaining_of};
-ghost use Rattle.sk_line.specs.Courses.{Stands, Proceeds, Comes};
+ghost use Rattle.sk_line.specs.Courses.{IsUnderWay, Proceeds, Comes};
 ghost use Rattle.sk_line.specs.Faults.{end_by};
-ghost use Rattle.sk_line.specs.Serving.{Turn};
-ghost use Rattle.sk_line.specs.Sessions.{Setting, setting, Ends};
+ghost use Rattle.sk_line.specs.Serving.{Answered};
+ghost use Rattle.sk_line.specs.Sessions.{SessionState, session_state, SessionEnds};
 
 use crate::answers::send_reply;
 use crate::pumps::Pump;
@@ -55,7 +55,7 @@ pub fn session<L: Link, P: Pump<C>, C: ThetaKind, R: Wait>(
 ) -> End
     requires k { k_of u.old.view.numbers ≡ shape.now.k }
     requires room { length (kept_of u.old) + most ≤ most_kept }
-    ensures ends { Ends shape.now most (setting (L.traffic link.old) u.old (P.pumps pump.old)) (setting (L.traffic link.new) u.new (P.pumps pump.new)) result }
+    ensures ends { SessionEnds shape.now most (session_state (L.traffic link.old) u.old (P.pumps pump.old)) (session_state (L.traffic link.new) u.new (P.pumps pump.new)) result }
     ensures fault { result ≡ End.LinkFault → Rose (L.faults link.old) (L.faults link.new) }
     ensures steady { result ≢ End.LinkFault → L.faults link.new ≡ L.faults link.old }
     ensures untouched { result ≡ End.OutOfMemory → (link.new ≡ link.old) × (u.new ≡ u.old) × (pump.new ≡ pump.old) }
@@ -64,8 +64,8 @@ pub fn session<L: Link, P: Pump<C>, C: ThetaKind, R: Wait>(
     let Ok(mut reader) = LineReader::new(alloc, most) else {
         return End::OutOfMemory;
     };
-    'turn: loop {
-        match take_turn(rt, link, u, pump, &mut reader, shape) {
+    'request: loop {
+        match serve_next(rt, link, u, pump, &mut reader, shape) {
             Ok(()) => {}
             Err(end) => return end,
         }
@@ -73,7 +73,7 @@ pub fn session<L: Link, P: Pump<C>, C: ThetaKind, R: Wait>(
 }
 
 // Pumps once, reads the next line, and does what it asks for.
-fn take_turn<L: Link, P: Pump<C>, C: ThetaKind, R: Wait>(
+fn serve_next<L: Link, P: Pump<C>, C: ThetaKind, R: Wait>(
     rt: &R,
     link: &mut L,
     u: &mut Updater<C>,
@@ -83,8 +83,8 @@ fn take_turn<L: Link, P: Pump<C>, C: ThetaKind, R: Wait>(
 ) -> Result<(), End>
     requires k { k_of u.old.view.numbers ≡ shape.now.k }
     requires room { length (kept_of u.old) + remaining_of reader.old ≤ most_kept }
-    ensures goes { (a : Setting) (turns : List Turn) (taken : List ℕ) → Stands shape.now a turns taken reader.old (setting (L.traffic link.old) u.old (P.pumps pump.old))
-        → Proceeds shape.now a reader.new (setting (L.traffic link.new) u.new (P.pumps pump.new)) result }
+    ensures goes { (a : SessionState) (answered : List Answered) (taken : List ℕ) → IsUnderWay shape.now a answered taken reader.old (session_state (L.traffic link.old) u.old (P.pumps pump.old))
+        → Proceeds shape.now a reader.new (session_state (L.traffic link.new) u.new (P.pumps pump.new)) result }
     ensures k { IfOk result (λ _. k_of u.new.view.numbers ≡ shape.now.k) }
     ensures room { IfOk result (λ _. length (kept_of u.new) + remaining_of reader.new ≤ length (kept_of u.old) + remaining_of reader.old) }
     ensures progress { IfOk result (λ _. remaining_of reader.new < remaining_of reader.old) }

@@ -1,5 +1,0 @@
-use Rattle.sk_line.proofs.Added as laws
-use Rattle.sk_line.proofs.laws.no_turn_quits.Goals as goal
-
-pub returns : goal.returns
-returns c = laws.no_turn_quits

@@ -1,5 +1,0 @@
-use Rattle.sk_line.proofs.Added as laws
-use Rattle.sk_line.proofs.laws.turns_take_items.Goals as goal
-
-pub returns : goal.returns
-returns c = laws.turns_take
