@@ -1,0 +1,15 @@
+use Rattle.std.proofs.Common.{◌≡◌, [], inl, inr, sym, ap, ◌∙◌, subst}
+use Rattle.sk_hub.specs.Updaters.{UpdaterState}
+use Rattle.sk_ingest.specs.Feeds.{KeepsNone}
+use Rattle.sk_ingest.proofs.Updaters.{none_refl}
+use Rattle.sk_line.proofs.Updaters.{none_handed, fill_handed}
+use Rattle.sk_line.proofs.serving.hand_over.Goals as goal
+
+pub returns-in-Empty : goal.returns-in-Empty
+returns-in-Empty g c =
+    let n = c.flush.ensures in let u = c.args.u.now in let v = c.flush.new.self in let hint = g.C.Composable.hint_of in
+    let handed : KeepsNone u v × (v.fill ≡ []) = elim c.in-Empty.is [
+      | inl empty ↦ (subst (KeepsNone u) (sym (n.unchanged empty)) (none_refl u), ap (λ (z : UpdaterState). z.fill) (n.unchanged empty) ∙ n.empty.0 empty)
+      | inr handed ↦ (none_handed hint u v (n.handed handed), fill_handed hint u v (n.handed handed))
+    ] in
+    record { handed = handed; busy = tt }

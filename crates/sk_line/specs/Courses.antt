@@ -1,0 +1,27 @@
+-- Where a session is between two requests.
+use Rattle.std.specs.Prelude.{ℕ, Bool, List, [], ◌++◌, length, Option, Result, Ok, Err}
+use Rattle.sk_io.specs.Traffic.{Traffic, Exchanges, left_of}
+use Rattle.sk_theta.specs.Sizes.{Sizes}
+use Rattle.sk_read.specs.Reading.{Reading, HasRead, Goes}
+use Rattle.sk_read.specs.declared.reader.LineFault.{LineFault}
+use Rattle.sk_line.specs.Pumps.{HasRisen}
+use Rattle.sk_line.specs.Serving.{Answered, AnswersEach, lines_in, replies_to}
+use Rattle.sk_line.specs.Sessions.{SessionState, SessionEnds}
+use Rattle.sk_line.specs.declared.sessions.End.{End}
+
+-- since the start these bytes were read, and these lines of them answered
+pub record IsUnderWay (shape : Sizes) (a : SessionState) (answered : List Answered) (taken : List ℕ) (r : Reading) (b : SessionState) : Type 0 where
+  pub exchanges : Exchanges a.traffic b.traffic taken (replies_to answered)
+  pub takes : AnswersEach shape a.updater answered b.updater
+  pub pumped : HasRisen (length answered) a.pumps b.pumps
+  pub read : HasRead r (left_of b.traffic) (lines_in answered) taken
+
+-- so it is after one line more, or it ended
+abbrev pub Proceeds : {T : Type 0} → Sizes → SessionState → Reading → SessionState → Result T End → Type 0
+Proceeds shape a r b (Ok _) = (answered : List Answered) × (taken : List ℕ) × IsUnderWay shape a answered taken r b
+Proceeds shape a r b (Err end) = SessionEnds shape r.most a b end
+
+-- the next line was read of a link, or none came
+pub record Comes (old new : Reading) (a b : Option Traffic) (result : Result Bool LineFault) : Type 0 where
+  pub goes : (given : List (List ℕ)) (taken : List ℕ) → HasRead old (left_of a) given taken →
+      (more : List ℕ) × Exchanges a b more [] × Goes new (left_of b) given (taken ++ more) result

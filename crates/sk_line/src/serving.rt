@@ -1,0 +1,112 @@
+//! What is done for a request.
+ghost use Rattle.std.specs.Prelude.{◌≡◌, ◌<◌, ◌≤◌, [], length, IsNone, IfSome};
+ghost use Rattle.std.specs.Bool.{OnTrue, OnFalse};
+ghost use Rattle.sk_compose.specs.Numbers.{k_of};
+ghost use Rattle.sk_hub.specs.Updaters.{kept_of, LooksInVain};
+ghost use Rattle.sk_ingest.specs.Feeds.{KeepsNone};
+ghost use Rattle.sk_model.specs.Limits.{least_k, most_k, most_kept};
+ghost use Rattle.sk_model.specs.Murmur.{hash_of};
+ghost use Rattle.sk_model.specs.Sketch.{fraction_of};
+ghost use Rattle.sk_line.specs.Pumps.{HasRisen};
+ghost use Rattle.sk_line.specs.Requests.{client_request};
+ghost use Rattle.sk_line.specs.Serving.{AnswersAdd, AnswersAsk, AnswersSync, AnswersRequest};
+
+use crate::answers::Answer;
+use crate::pumps::Pump;
+use crate::requests::Request;
+use sk_compose::ThetaKind;
+use sk_hash::hash48;
+use sk_hub::{Flush, Settle, Update, Updater};
+use sk_theta::{ITEM_END, Reply, Shape, unpack};
+use std::sync::Wait;
+
+/// Does what a line asks for. The line that ends the session has no answer.
+pub(crate) fn serve<P: Pump<C>, C: ThetaKind, R: Wait>(
+    rt: &R,
+    line: &[u8],
+    u: &mut Updater<C>,
+    pump: &mut P,
+    shape: &Shape,
+) -> Option<Answer>
+    requires k { k_of u.old.view.numbers ≡ shape.now.k }
+    requires room { length (kept_of u.old) < most_kept }
+    ensures done { IfSome result (λ answer. AnswersRequest shape.now (client_request line.now) line.now answer u.old u.new) }
+    ensures quit { IsNone result → client_request line.now ≡ Request.Quit }
+    ensures left { IsNone result → u.new ≡ u.old }
+    ensures pumps { HasRisen 0 (P.pumps pump.old) (P.pumps pump.new) }
+    ensures stays { P.stands_on pump.new ≡ P.stands_on pump.old }
+{
+    match Request::of(line) {
+        Request::Add => Some(add(u, shape.seed(), &line[4..], shape.k())),
+        Request::Ask => Some(ask(u, shape.k())),
+        Request::Sync => Some(sync(rt, u, pump)),
+        Request::Quit => None,
+        Request::Bad => Some(Answer::Bad),
+    }
+}
+
+// Offers an item to the updater of a sketch that keeps k hashes.
+fn add<C: ThetaKind>(u: &mut Updater<C>, seed: u32, bytes: &[u8], k: u32) -> Answer
+    requires k { k_of u.old.view.numbers ≡ k }
+    requires room { length (kept_of u.old) < most_kept }
+    ensures { AnswersAdd k (hash_of seed bytes.now) result u.old u.new }
+{
+    // It tells the proof what is true of every updater.
+    let _number = u.number();
+    match u.update(hash48(seed, bytes)) {
+        Update::Filtered => Answer::Filtered,
+        Update::Kept | Update::Handed => Answer::Kept,
+        Update::Busy => Answer::Busy,
+    }
+}
+
+// AnswersAsk for the estimate of what is published.
+fn ask<C: ThetaKind>(u: &mut Updater<C>, k: u32) -> Answer
+    requires k { k_of u.old.view.numbers ≡ k }
+    requires least { least_k ≤ k }
+    requires most { k ≤ most_k }
+    ensures { AnswersAsk k result u.old u.new }
+{
+    let (n, d) = estimate_by(k, unpack(u.ask()));
+    Answer::Estimate(n, d)
+}
+
+// The estimate of a count and a theta.
+fn estimate_by(k: u32, reply: Reply) -> (u64, u64)
+    requires least { least_k ≤ k }
+    requires most { k ≤ most_k }
+    ensures { result ≡ fraction_of k reply.count reply.theta }
+{
+    if reply.count < k {
+        (u64::from(reply.count), 1)
+    } else {
+        (u64::from(k - 1) * ITEM_END, reply.theta)
+    }
+}
+
+// Sees to it that all that was kept is published, if it can be at once.
+fn sync<P: Pump<C>, C: ThetaKind, R: Wait>(rt: &R, u: &mut Updater<C>, pump: &mut P) -> Answer
+    ensures synced { AnswersSync result u.old u.new }
+    ensures pumps { HasRisen 0 (P.pumps pump.old) (P.pumps pump.new) }
+    ensures stays { P.stands_on pump.new ≡ P.stands_on pump.old }
+{
+    if !hand_over(u) {
+        return Answer::Busy;
+    }
+    pump.pump(rt, u);
+    match u.settle() {
+        Settle::Settled => Answer::Synced,
+        Settle::Busy => Answer::Busy,
+    }
+}
+
+// Hands over what the fill buffer has, unless what was handed over last is not published.
+fn hand_over<C: ThetaKind>(u: &mut Updater<C>) -> bool
+    ensures handed { OnTrue result (KeepsNone u.old u.new × (u.new.fill ≡ [])) }
+    ensures busy { OnFalse result (LooksInVain u.old u.new) }
+{
+    match u.flush() {
+        Flush::Busy => false,
+        Flush::Empty | Flush::Handed => true,
+    }
+}
