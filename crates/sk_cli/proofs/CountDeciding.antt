@@ -88,11 +88,11 @@ breaks_once kind column u text f g one two =
 -- ---- what the definitions say of one unit
 
 -- one of the first records, and the width that they have
-even_in : (c n : ℕ) (rows : List Row) (i : ℕ) → AreEven c (take n rows) → i < n → i < length rows → (length (get_or rows i []) ≡ width_of rows) × (c < length (get_or rows i []))
-even_in c n rows i even near there =
-    let here : get_or (take n rows) i [] ≡ get_or rows i [] = get_or-take n rows i [] near in
-    let first : get_or (take n rows) 0 [] ≡ get_or rows 0 [] = get_or-take n rows 0 [] (omega (arith, near)) in
-    let both = even i [] (omega (arith, length-take n rows, near, there)) in
+even_in : (c n : ℕ) (records : List Row) (i : ℕ) → AreEven c (take n records) → i < n → i < length records → (length (get_or records i []) ≡ width_of records) × (c < length (get_or records i []))
+even_in c n records i even near there =
+    let here : get_or (take n records) i [] ≡ get_or records i [] = get_or-take n records i [] near in
+    let first : get_or (take n records) 0 [] ≡ get_or records 0 [] = get_or-take n records 0 [] (omega (arith, near)) in
+    let both = even i [] (omega (arith, length-take n records, near, there)) in
     (ap (λ (r : Row). length r) (sym here) ∙ both.0 ∙ ap (λ (r : Row). length r) first, subst (λ (r : Row). c < length r) here both.1)
 
 within_in : (n : ℕ) (units : List (List ℕ)) (i : ℕ) → AreWithin line_limit (take n units) → i < n → i < length units → length (get_or units i []) ≤ line_limit
@@ -103,11 +103,11 @@ good_in : (kind : Kind) (n : ℕ) (units : List (List ℕ)) (i : ℕ) → All (I
 good_in kind n units i good near there =
     subst (IsGood kind) (get_or-take n units i [] near) (good i [] (omega (arith, length-take n units, near, there)))
 
-rows_there : (c : ℕ) (rows : List Row) → length (fields_in c rows) ≡ length rows
-rows_there c rows = length-map rows (field_of c)
+rows_there : (c : ℕ) (records : List Row) → length (fields_in c records) ≡ length records
+rows_there c records = length-map records (field_of c)
 
-fields_taken : (c n : ℕ) (rows : List Row) → AreWithin line_limit (fields_in c (take n rows)) → AreWithin line_limit (take n (fields_in c rows))
-fields_taken c n rows within = subst (AreWithin line_limit) (sym (take-map (field_of c) n rows)) within
+fields_taken : (c n : ℕ) (records : List Row) → AreWithin line_limit (fields_in c (take n records)) → AreWithin line_limit (take n (fields_in c records))
+fields_taken c n records within = subst (AreWithin line_limit) (sym (take-map (field_of c) n records)) within
 
 -- the first units are sound
 sound_even : (u : Units) (n : ℕ) (text : List ℕ) (i : ℕ) → IsSoundUpTo u n text → i < n → i < length (units_of u text) → IsEvenAt u text i

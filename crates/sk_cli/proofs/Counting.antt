@@ -40,12 +40,12 @@ all_front P front given begins all = λ k d below.
     subst P (get_or_append_left front begins.0 d k below) (subst (λ (l : List (List ℕ)). P (get_or l k d)) begins.1 (all k d (omega (arith, ap length begins.1, length-append front begins.0, below))))
 
 -- records that are even are so without the last
-even_less : (c n : ℕ) (rows : List Row) → AreEven c rows → AreEven c (take n rows)
-even_less c n rows even = λ k d below.
-    let inside : k < n = omega (arith, below, length-take n rows) in
-    let here : get_or (take n rows) k d ≡ get_or rows k d = get_or-take n rows k d inside in
-    let first : get_or (take n rows) 0 [] ≡ get_or rows 0 [] = get_or-take n rows 0 [] (omega (arith, inside)) in
-    let both = even k d (omega (arith, below, length-take n rows)) in
+even_less : (c n : ℕ) (records : List Row) → AreEven c records → AreEven c (take n records)
+even_less c n records even = λ k d below.
+    let inside : k < n = omega (arith, below, length-take n records) in
+    let here : get_or (take n records) k d ≡ get_or records k d = get_or-take n records k d inside in
+    let first : get_or (take n records) 0 [] ≡ get_or records 0 [] = get_or-take n records 0 [] (omega (arith, inside)) in
+    let both = even k d (omega (arith, below, length-take n records)) in
     (ap (λ (r : Row). length r) here ∙ both.0 ∙ sym (ap (λ (r : Row). length r) first), subst (λ (r : Row). c < length r) (sym here) both.1)
 
 one_less : {A : Type 0} (n : ℕ) (xs : List A) → take n (take (n + 1) xs) ≡ take n xs
@@ -55,10 +55,10 @@ one_less n xs = take-take n (n + 1) xs (omega arith)
 sound_less : (u : Units) (n : ℕ) (text : List ℕ) → IsSoundUpTo u (n + 1) text → IsSoundUpTo u n text
 sound_less Lines n text sound = subst (AreWithin line_limit) (one_less n (lines_of text)) (All-take (λ (l : List ℕ). length l ≤ line_limit) n (take (n + 1) (lines_of text)) sound)
 sound_less (Column c) n text sound =
-    let rows : List Row = take (n + 1) (records_of text) in
-    let fewer : AreSoundRows c (take n rows) = record {
-      even = even_less c n rows sound.even;
-      within = subst (AreWithin line_limit) (take-map (field_of c) n rows) (All-take (λ (l : List ℕ). length l ≤ line_limit) n (fields_in c rows) sound.within);
+    let records : List Row = take (n + 1) (records_of text) in
+    let fewer : AreSoundRows c (take n records) = record {
+      even = even_less c n records sound.even;
+      within = subst (AreWithin line_limit) (take-map (field_of c) n records) (All-take (λ (l : List ℕ). length l ≤ line_limit) n (fields_in c records) sound.within);
     } in
     subst (AreSoundRows c) (one_less n (records_of text)) fewer
 
