@@ -28,6 +28,7 @@ fn counted_within<R: Threads + Wait + Sync>(
         eager: true,
         propagator: true,
         alarms: Numbers::new(),
+        made: None,
     };
     let mut input = MemSource::new(text.to_vec(alloc)?, 3, Vec::new(alloc));
     let mut out = MemSink::new(alloc, 100, 7, Vec::new(alloc))?;
