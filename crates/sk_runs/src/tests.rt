@@ -7,6 +7,7 @@ mod faults;
 mod files;
 mod hashes;
 mod interim;
+mod makes;
 mod replays;
 mod rows;
 mod stage;

@@ -33,6 +33,16 @@ replay --seed 1
 replay --file a --file b
 hash --k 4
 hash --window 1
+make
+make --n
+make --n 10000001
+make --n 1 --n 1
+make --n 1 --key 281474976710656
+make --n 1 --file x
+make --n 1 --b 4,5
+make --n 1 --raw
+count --n 1
+count --key 1
 replay --alarm 1
 count --updaters 0
 count --updaters 65
@@ -104,7 +114,7 @@ fn check_refused<R: Threads + Wait + Abort + Sync>(
 
 #[test]
 fn words_that_are_no_command(rt: HostRuntime) -> Result<(), Fail> {
-    check_refused(&rt, rt.alloc(), REFUSED, 57)
+    check_refused(&rt, rt.alloc(), REFUSED, 67)
 }
 
 #[test]
