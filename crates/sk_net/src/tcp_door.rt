@@ -1,11 +1,15 @@
 // Where connections over TCP are accepted.
-ghost use Rattle.std.specs.Prelude.{◌≡◌, ◌+◌, ◌≤◌, [], is_some, vec_len, vec_capacity};
+ghost use Rattle.std.specs.Prelude.{◌≡◌, ◌+◌, ◌≤◌, [], All, IfOk, IfSome, None, false, true, is_some, vec_len, vec_capacity};
+ghost use Rattle.sk_model.specs.Causes.{HasCause};
+ghost use Rattle.sk_io.specs.Traffic.{IsUntouched};
 ghost use Rattle.sk_net.specs.Doors.{all_ended};
+ghost use Rattle.sk_net.specs.Links.{waiting_of};
+ghost use Rattle.sk_net.specs.Waiting.{IsUnused};
 
 use crate::replies::Replies;
 use crate::steps::count_fault;
 use crate::tcp_link::TcpLink;
-use sk_io::{Door, DoorFault, Failed};
+use sk_io::{Door, DoorFault, Failed, Link};
 use std::alloc::{AllocError, Global};
 use std::io::ErrorKind;
 use std::net::{Ipv4Addr, Net, OpenListener, OpenStream, SocketAddr};
@@ -25,6 +29,7 @@ pub struct TcpDoor<R: Net> {
     room: u32,
     faults: u64,
     ghost reserved: { vec_len closed + room ≤ vec_capacity closed },
+    ghost unused: { All IsUnused spare.items },
 }
 
 impl<R: Net> TcpDoor<R> {
@@ -33,6 +38,7 @@ impl<R: Net> TcpDoor<R> {
         ensures faults { ⟦<TcpDoor<R> as Door>⟧.faults result ≡ 0 }
         ensures ended { ⟦<TcpDoor<R> as Door>⟧.ended result ≡ [] }
         ensures room { ⟦<TcpDoor<R> as Door>⟧.room result ≡ 0 }
+        ensures listens { ⟦<TcpDoor<R> as Door>⟧.listens result ≡ false }
     {
         TcpDoor {
             rt,
@@ -46,7 +52,9 @@ impl<R: Net> TcpDoor<R> {
     }
 
     /// The port at which it listens, where the system tells it.
-    pub fn port(&self) -> Option<u16> {
+    pub fn port(&self) -> Option<u16>
+        ensures { ⟦<TcpDoor<R> as Door>⟧.listens self.now ≡ false → result ≡ None }
+    {
         let listener = self.listener.as_ref()?;
         match listener.local_addr() {
             Ok(addr) => Some(addr.port()),
@@ -86,7 +94,16 @@ impl<R: Net> Door for TcpDoor<R> {
         Ok(())
     }
 
-    fn accept(&mut self) -> Result<TcpLink<R::Stream>, Failed> {
+    fn accept(&mut self) -> Result<TcpLink<R::Stream>, Failed>
+        requires { ⟦<TcpDoor<R> as Door>⟧.listens self.old ≡ true }
+        ensures untouched { IfOk result (λ link. IfSome None IsUntouched) }
+        ensures count { IfOk result (λ link. ⟦<TcpLink<R::Stream> as Link>⟧.faults link ≡ 0) }
+        ensures cause { let faults = ⟦<TcpDoor<R> as Door>⟧.faults in HasCause (faults self.old) (faults self.new) result }
+        ensures ended { let ended = ⟦<TcpDoor<R> as Door>⟧.ended in ended self.new ≡ ended self.old }
+        ensures listens { let listens = ⟦<TcpDoor<R> as Door>⟧.listens in listens self.new ≡ listens self.old }
+        ensures room { let room = ⟦<TcpDoor<R> as Door>⟧.room in room self.new ≡ room self.old }
+        ensures unused { IfOk result (λ link. waiting_of link ≡ []) }
+    {
         let Some(listener) = &self.listener else {
             unreachable!()
         };
@@ -107,7 +124,9 @@ impl<R: Net> Door for TcpDoor<R> {
 }
 
 // Replies for so many links.
-fn spare_replies(alloc: Global, links: u32) -> Result<Vec<Replies>, AllocError> {
+fn spare_replies(alloc: Global, links: u32) -> Result<Vec<Replies>, AllocError>
+    ensures { IfOk result (λ spare. All IsUnused spare.items) }
+{
     let mut spare = Vec::with_capacity(alloc, links as usize)?;
     'link: for _link in 0..links {
         spare.push(Replies::new(alloc, WAITING)?)?;

@@ -28,7 +28,8 @@ pub struct TcpLink<S = TcpStream> {
 impl<S: Read + Write> TcpLink<S> {
     // A link over this stream, with this room for what is written.
     pub(crate) fn new(stream: S, replies: Replies) -> Self
-        ensures { ⟦<TcpLink<S> as Link>⟧.faults result ≡ 0 }
+        ensures faults { ⟦<TcpLink<S> as Link>⟧.faults result ≡ 0 }
+        ensures waiting { waiting_of result ≡ replies.bytes }
     {
         TcpLink {
             stream,
@@ -97,3 +98,6 @@ impl<S: Read + Write> Link for TcpLink<S> {
         }
     }
 }
+
+#[cfg(test)]
+mod tests;
