@@ -3,10 +3,17 @@ ghost use Rattle.std.specs.Prelude.{◌≡◌, ◌<◌, IfOk, true};
 use crate::{TcpDoor, TcpLink};
 use sk_io::{Door, DoorFault, Failed, Link, send_all};
 use std::alloc::Global;
+use std::fmt::Debug;
 use std::io::{Read, Write};
 use std::net::{Ipv4Addr, Net, Shutdown, SocketAddr, TcpStream};
+use std::process::Abort;
 use std::test::Fail;
 use std::{io, thread};
+
+// An `assert_eq!` that costs the proof of a test one call.
+pub(crate) fn expect<R: Abort, T: PartialEq + Debug + Copy>(rt: &R, got: T, want: T) {
+    assert_eq!(rt; got, want);
+}
 
 // A door that listens at a free port, for this many links.
 fn door_for<R: Net + Drop>(rt: R, alloc: Global, links: u32) -> Result<TcpDoor<R>, DoorFault>
@@ -66,7 +73,7 @@ fn clients_get_their_replies(rt: HostRuntime) -> Result<(), Fail> {
         let answer = answer_to(&mut client, text, step)?;
         assert_eq!(rt; answer, *text, "in steps of {step}");
         door.close(server.join(&rt));
-        assert_eq!(rt; door.closed(), [0].as_slice(), "in steps of {step}");
+        expect(&rt, door.closed(), [0].as_slice());
     }
     Ok(())
 }
@@ -78,18 +85,18 @@ fn a_peer_that_resets_is_a_fault_of_its_link_alone(rt: HostRuntime) -> Result<()
     let (mut first, mut second) = (door.accept()?, door.accept()?);
     let mut piece = [0; 8];
     one.write_all(b"add x\n")?;
-    assert_eq!(rt; first.read(&mut piece), Ok(6));
-    assert_eq!(rt; first.write(b"kept\n"), Ok(5));
+    expect(&rt, first.read(&mut piece), Ok(6));
+    expect(&rt, first.write(b"kept\n"), Ok(5));
     one.write_all(b"ask\n")?;
-    assert_eq!(rt; first.read(&mut piece), Ok(4));
+    expect(&rt, first.read(&mut piece), Ok(4));
     // The system resets a connection that is closed before all that came was read.
     drop(one);
-    assert_eq!(rt; first.read(&mut piece), Err(Failed));
+    expect(&rt, first.read(&mut piece), Err(Failed));
     two.write_all(b"ask\n")?;
-    assert_eq!(rt; second.read(&mut piece), Ok(4));
+    expect(&rt, second.read(&mut piece), Ok(4));
     door.close(first);
     door.close(second);
-    assert_eq!(rt; door.closed(), [1, 0].as_slice());
+    expect(&rt, door.closed(), [1, 0].as_slice());
     Ok(())
 }
 
@@ -100,7 +107,7 @@ fn a_peer_that_left_is_a_fault_and_no_signal(rt: HostRuntime) -> Result<(), Fail
     let mut link = door.accept()?;
     drop(client);
     let mut piece = [0; 8];
-    assert_eq!(rt; link.read(&mut piece), Ok(0));
+    expect(&rt, link.read(&mut piece), Ok(0));
     // The first may still be taken.
     let mut failed = false;
     'reply: for _ in 0..1000 {
@@ -108,9 +115,9 @@ fn a_peer_that_left_is_a_fault_and_no_signal(rt: HostRuntime) -> Result<(), Fail
             failed = link.write(b"kept\n").is_err();
         }
     }
-    assert!(rt; failed);
+    expect(&rt, failed, true);
     door.close(link);
-    assert_eq!(rt; door.closed(), [1].as_slice());
+    expect(&rt, door.closed(), [1].as_slice());
     Ok(())
 }
 
@@ -119,11 +126,27 @@ fn what_waits_is_sent_at_the_close(rt: HostRuntime) -> Result<(), Fail> {
     let mut door = door_for(&rt, rt.alloc(), 1)?;
     let mut client = client_of(&rt, door.port())?;
     let mut link = door.accept()?;
-    assert_eq!(rt; link.write(b"kept\n"), Ok(5));
+    expect(&rt, link.write(b"kept\n"), Ok(5));
+    let mut answer = [0; 5];
+    client.set_nonblocking(true)?;
+    expect(&rt, client.read(&mut answer).is_err(), true);
+    client.set_nonblocking(false)?;
     door.close(link);
-    let mut answer = Vec::new(rt.alloc());
-    client.read_to_end(&mut answer)?;
-    assert_eq!(rt; answer.as_slice(), b"kept\n".as_slice());
+    client.read_exact(&mut answer)?;
+    expect(&rt, answer, *b"kept\n");
+    expect(&rt, client.read(&mut answer)?, 0);
+    Ok(())
+}
+
+#[test]
+fn a_link_past_the_memory_sends_at_once(rt: HostRuntime) -> Result<(), Fail> {
+    let mut door = door_for(&rt, rt.alloc(), 0)?;
+    let mut client = client_of(&rt, door.port())?;
+    let mut link = door.accept()?;
+    expect(&rt, link.write(b"kept\n"), Ok(5));
+    let mut answer = [0; 5];
+    client.read_exact(&mut answer)?;
+    expect(&rt, answer, *b"kept\n");
     Ok(())
 }
 
@@ -132,10 +155,10 @@ fn a_port_is_listened_at_once(rt: HostRuntime) -> Result<(), Fail> {
     let door = door_for(&rt, rt.alloc(), 1)?;
     let port = door.port().unwrap_or(0);
     let mut other = TcpDoor::new(&rt, rt.alloc());
-    assert_eq!(rt; other.port(), None);
-    assert_eq!(rt; other.listen(port, 1), Err(DoorFault::Failed));
+    expect(&rt, other.port(), None);
+    expect(&rt, other.listen(port, 1), Err(DoorFault::Failed));
     drop(door);
-    assert_eq!(rt; other.listen(port, 1), Ok(()));
-    assert_eq!(rt; other.port(), Some(port));
+    expect(&rt, other.listen(port, 1), Ok(()));
+    expect(&rt, other.port(), Some(port));
     Ok(())
 }

@@ -1,8 +1,7 @@
 // Links over a stream that interrupts, moves small pieces and fails where it is told to.
-ghost use Rattle.std.specs.Prelude.{◌<◌, ◌≡◌};
-
 use super::TcpLink;
 use crate::replies::Replies;
+use crate::tests::expect;
 use sk_io::{Failed, Link, send_all};
 use std::alloc::Global;
 use std::io;
@@ -81,12 +80,12 @@ fn interrupted_calls_are_taken_up_again(rt: HostRuntime) -> Result<(), Fail> {
     wire.piece = 2;
     let mut link = TcpLink::new(wire, Replies::new(alloc, 64)?);
     let mut piece = [0; 8];
-    assert_eq!(rt; send_all(&mut link, b"one\ntwo\n"), Ok(()));
+    expect(&rt, send_all(&mut link, b"one\ntwo\n"), Ok(()));
     for n in [2, 2, 1, 0] {
-        assert_eq!(rt; link.read(&mut piece), Ok(n));
+        expect(&rt, link.read(&mut piece), Ok(n));
     }
-    assert_eq!(rt; link.stream.output.as_slice(), b"one\ntwo\n".as_slice());
-    assert_eq!(rt; link.faults(), 0);
+    expect(&rt, link.stream.output.as_slice(), b"one\ntwo\n");
+    expect(&rt, link.faults(), 0);
     Ok(())
 }
 
@@ -100,16 +99,15 @@ fn a_send_that_fails_is_a_fault_and_goes_on_where_it_stopped(rt: HostRuntime) ->
         wire.fails = call;
         let mut link = TcpLink::new(wire, Replies::new(alloc, 64)?);
         let mut piece = [0; 8];
-        assert_eq!(rt; send_all(&mut link, b"one\ntwo\n"), Ok(()));
-        assert_eq!(rt; link.read(&mut piece), Err(Failed), "at call {call}");
-        assert_eq!(rt; link.faults(), 1, "at call {call}");
-        assert_eq!(rt; link.read(&mut piece), Ok(3), "at call {call}");
-        assert_eq!(rt; link.faults(), 1, "at call {call}");
+        expect(&rt, send_all(&mut link, b"one\ntwo\n"), Ok(()));
+        let first = (link.read(&mut piece), link.faults());
+        let then = (link.read(&mut piece), link.faults());
         assert_eq!(rt;
-            link.stream.output.as_slice(),
-            b"one\ntwo\n".as_slice(),
+            (first, then),
+            ((Err(Failed), 1), (Ok(3), 1)),
             "at call {call}"
         );
+        expect(&rt, link.stream.output.as_slice(), b"one\ntwo\n");
     }
     Ok(())
 }
@@ -126,18 +124,14 @@ fn many_replies_go_in_few_sends(rt: HostRuntime) -> Result<(), Fail> {
     ] {
         let mut link = TcpLink::new(Wire::new(alloc, b"ask\n"), Replies::new(alloc, room)?);
         for _ in 0..replies {
-            assert_eq!(rt; send_all(&mut link, b"kept\n"), Ok(()));
+            expect(&rt, send_all(&mut link, b"kept\n"), Ok(()));
         }
+        let first = link.stream.writes;
+        expect(&rt, link.read(&mut [0; 8]), Ok(4));
+        let got = (first, link.stream.writes, link.stream.output.len());
         assert_eq!(rt;
-            link.stream.writes,
-            before,
-            "{replies} replies, room {room}"
-        );
-        assert_eq!(rt; link.read(&mut [0; 8]), Ok(4));
-        assert_eq!(rt; link.stream.writes, with, "{replies} replies, room {room}");
-        assert_eq!(rt;
-            link.stream.output.len(),
-            5 * replies,
+            got,
+            (before, with, 5 * replies),
             "{replies} replies, room {room}"
         );
     }
@@ -148,13 +142,13 @@ fn many_replies_go_in_few_sends(rt: HostRuntime) -> Result<(), Fail> {
 fn behind_the_end_replies_are_sent_at_once(rt: HostRuntime) -> Result<(), Fail> {
     let alloc = rt.alloc();
     let mut link = TcpLink::new(Wire::new(alloc, b""), Replies::new(alloc, 64)?);
-    assert_eq!(rt; link.write(b"kept\n"), Ok(5));
-    assert_eq!(rt; link.read(&mut [0; 8]), Ok(0));
-    assert_eq!(rt; link.write(b"bad\n"), Ok(4));
-    assert_eq!(rt; link.stream.output.as_slice(), b"kept\nbad\n".as_slice());
+    expect(&rt, link.write(b"kept\n"), Ok(5));
+    expect(&rt, link.read(&mut [0; 8]), Ok(0));
+    expect(&rt, link.write(b"bad\n"), Ok(4));
+    expect(&rt, link.stream.output.as_slice(), b"kept\nbad\n");
     link.stream.fails = link.stream.calls;
-    assert_eq!(rt; link.write(b"bad\n"), Err(Failed));
-    assert_eq!(rt; link.faults(), 1);
+    expect(&rt, link.write(b"bad\n"), Err(Failed));
+    expect(&rt, link.faults(), 1);
     Ok(())
 }
 
@@ -171,9 +165,9 @@ fn closing_does_not_wait_for_a_peer_that_stopped_reading(rt: HostRuntime) -> Res
             failed = link.write(&[b'x'; 1024]).is_err();
         }
     }
-    assert!(rt; failed);
+    expect(&rt, failed, true);
     link.finish();
-    assert_eq!(rt; link.faults(), 1);
+    expect(&rt, link.faults(), 1);
     drop(client);
     Ok(())
 }
