@@ -1,0 +1,13 @@
+//! Links and a door over TCP on 127.0.0.1.
+#![tactic(auto)]
+
+mod replies;
+mod steps;
+mod tcp_door;
+mod tcp_link;
+
+pub use tcp_door::TcpDoor;
+pub use tcp_link::TcpLink;
+
+#[cfg(test)]
+mod tests;

@@ -1,0 +1,152 @@
+// Where connections over TCP are accepted.
+ghost use Rattle.std.specs.Prelude.{◌≡◌, ◌+◌, ◌≤◌, [], All, IfOk, IfSome, None, false, true, is_some, vec_len, vec_capacity};
+ghost use Rattle.sk_model.specs.Causes.{HasCause};
+ghost use Rattle.sk_io.specs.Traffic.{IsUntouched};
+ghost use Rattle.sk_net.specs.Doors.{all_ended};
+ghost use Rattle.sk_net.specs.Links.{waiting_of};
+ghost use Rattle.sk_net.specs.Waiting.{IsUnused};
+
+use crate::replies::Replies;
+use crate::steps::count_fault;
+use crate::tcp_link::TcpLink;
+use sk_io::{Door, DoorFault, Failed, Link};
+use std::alloc::{AllocError, Global};
+use std::io::ErrorKind;
+use std::net::{Ipv4Addr, Net, OpenListener, OpenStream, SocketAddr};
+
+// How many bytes may wait on a link before they are sent.
+const WAITING: usize = 16_384;
+
+/// A door over TCP at a port of 127.0.0.1. Where it listens it takes the memory of so many links, and
+/// links beyond them hold nothing back.
+#[derive(Drop)]
+pub struct TcpDoor<R: Net> {
+    rt: R,
+    alloc: Global,
+    listener: Option<R::Listener>,
+    spare: Vec<Replies>,
+    closed: Vec<u64>,
+    room: u32,
+    faults: u64,
+    ghost reserved: { vec_len closed + room ≤ vec_capacity closed },
+    ghost unused: { All IsUnused spare.items },
+}
+
+impl<R: Net> TcpDoor<R> {
+    /// A door that does not listen yet.
+    pub fn new(rt: R, alloc: Global) -> Self
+        ensures faults { ⟦<TcpDoor<R> as Door>⟧.faults result ≡ 0 }
+        ensures ended { ⟦<TcpDoor<R> as Door>⟧.ended result ≡ [] }
+        ensures room { ⟦<TcpDoor<R> as Door>⟧.room result ≡ 0 }
+        ensures listens { ⟦<TcpDoor<R> as Door>⟧.listens result ≡ false }
+    {
+        TcpDoor {
+            rt,
+            alloc,
+            listener: None,
+            spare: Vec::new(alloc),
+            closed: Vec::new(alloc),
+            room: 0,
+            faults: 0,
+        }
+    }
+
+    /// The port at which it listens, where the system tells it.
+    pub fn port(&self) -> Option<u16>
+        ensures { ⟦<TcpDoor<R> as Door>⟧.listens self.now ≡ false → result ≡ None }
+    {
+        let listener = self.listener.as_ref()?;
+        match listener.local_addr() {
+            Ok(addr) => Some(addr.port()),
+            Err(_) => None,
+        }
+    }
+
+    /// The counts of faults of the links that were closed, in order.
+    pub fn closed(&self) -> &[u64]
+        ensures { all_ended result.now ≡ ⟦<TcpDoor<R> as Door>⟧.ended self.now }
+    {
+        &self.closed
+    }
+}
+
+impl<R: Net> Door for TcpDoor<R> {
+    type Link = TcpLink<R::Stream>;
+
+    ghost faults = { λ d. d.faults };
+
+    ghost ended = { λ d. all_ended d.closed.items };
+
+    ghost listens = { λ d. is_some d.listener };
+
+    ghost room = { λ d. d.room };
+
+    fn listen(&mut self, port: u16, links: u32) -> Result<(), DoorFault> {
+        let spare = spare_replies(self.alloc, links)?;
+        self.closed.reserve(links as usize)?;
+        let addr = SocketAddr::from((Ipv4Addr::LOCALHOST, port));
+        let Ok(listener) = self.rt.bind(addr) else {
+            return Err(count_fault(&mut self.faults).into());
+        };
+        self.listener = Some(listener);
+        self.spare = spare;
+        self.room = links;
+        Ok(())
+    }
+
+    fn accept(&mut self) -> Result<TcpLink<R::Stream>, Failed>
+        requires { ⟦<TcpDoor<R> as Door>⟧.listens self.old ≡ true }
+        ensures untouched { IfOk result (λ link. IfSome None IsUntouched) }
+        ensures count { IfOk result (λ link. ⟦<TcpLink<R::Stream> as Link>⟧.faults link ≡ 0) }
+        ensures cause { let faults = ⟦<TcpDoor<R> as Door>⟧.faults in HasCause (faults self.old) (faults self.new) result }
+        ensures ended { let ended = ⟦<TcpDoor<R> as Door>⟧.ended in ended self.new ≡ ended self.old }
+        ensures listens { let listens = ⟦<TcpDoor<R> as Door>⟧.listens in listens self.new ≡ listens self.old }
+        ensures room { let room = ⟦<TcpDoor<R> as Door>⟧.room in room self.new ≡ room self.old }
+        ensures unused { IfOk result (λ link. waiting_of link ≡ []) }
+    {
+        let Some(listener) = &self.listener else {
+            unreachable!()
+        };
+        let Ok(stream) = next_stream(listener) else {
+            return Err(count_fault(&mut self.faults));
+        };
+        // Where the peer is gone already, the first read tells.
+        let _ = stream.set_nodelay(true);
+        let replies = self.spare.pop().unwrap_or(Replies::none(self.alloc));
+        Ok(TcpLink::new(stream, replies))
+    }
+
+    fn close(&mut self, mut link: TcpLink<R::Stream>) {
+        link.finish();
+        self.room -= 1;
+        self.closed.push_reserved(link.faults());
+    }
+}
+
+// Replies for so many links.
+fn spare_replies(alloc: Global, links: u32) -> Result<Vec<Replies>, AllocError>
+    ensures { IfOk result (λ spare. All IsUnused spare.items) }
+{
+    let mut spare = Vec::with_capacity(alloc, links as usize)?;
+    'link: for _link in 0..links {
+        spare.push(Replies::new(alloc, WAITING)?)?;
+    }
+    Ok(spare)
+}
+
+// Waits for the next connection that its peer has not broken off yet.
+fn next_stream<L: OpenListener>(listener: &L) -> Result<L::Stream, Failed> {
+    'next: for _ in 0..u64::MAX {
+        match listener.accept() {
+            Ok((stream, _)) => return Ok(stream),
+            Err(e) if is_passing(e.kind()) => {}
+            Err(_) => return Err(Failed),
+        }
+    }
+    Err(Failed)
+}
+
+// Whether an error of `accept` says nothing of the door: a signal came, or a peer broke off.
+fn is_passing(kind: ErrorKind) -> bool {
+    matches!(kind, ErrorKind::Interrupted | ErrorKind::ConnectionAborted)
+}

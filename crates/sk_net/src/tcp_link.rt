@@ -1,0 +1,103 @@
+// A connection over TCP.
+ghost use Rattle.std.specs.Prelude.{◌≡◌, ◌<◌, [], None, IfOk, OnOk, length};
+ghost use Rattle.std.specs.Io.{ReadsAtMost, WritesAtMost};
+ghost use Rattle.std.specs.Io.KnownBytes.{IsAtEnd, WriteAppends, append_known};
+ghost use Rattle.sk_model.specs.Causes.{HasCause};
+ghost use Rattle.sk_io.specs.Traffic.{Receives, Sends, left_of};
+ghost use Rattle.sk_net.specs.Links.{stream_of, waiting_of};
+
+use crate::replies::Replies;
+use crate::steps::{count_fault, read_some};
+use sk_io::{Failed, Link};
+use std::io::{Read, Write};
+use std::net::{OpenStream, TcpStream};
+use std::time::Duration;
+
+// How long closing a link waits for a peer that does not read, in seconds.
+const CLOSE_WAIT: u64 = 2;
+
+/// A connection over a stream. What is written waits until the next read, or until much waits, and is
+/// sent then: a fault of sending is one of that call. Behind the end of what comes it is sent at once.
+#[derive(Drop)]
+pub struct TcpLink<S = TcpStream> {
+    stream: S,
+    replies: Replies,
+    faults: u64,
+}
+
+impl<S: Read + Write> TcpLink<S> {
+    // A link over this stream, with this room for what is written.
+    pub(crate) fn new(stream: S, replies: Replies) -> Self
+        ensures faults { ⟦<TcpLink<S> as Link>⟧.faults result ≡ 0 }
+        ensures waiting { waiting_of result ≡ replies.bytes }
+    {
+        TcpLink {
+            stream,
+            replies,
+            faults: 0,
+        }
+    }
+
+    // How often a read or a write has failed.
+    pub(crate) fn faults(&self) -> u64
+        ensures { result ≡ ⟦<TcpLink<S> as Link>⟧.faults self.now }
+    {
+        self.faults
+    }
+}
+
+impl<S: Read + Write + OpenStream> TcpLink<S> {
+    // Sends what waits, for the last time, but waits for no peer that does not read.
+    pub(crate) fn finish(&mut self)
+        ensures { let faults = ⟦<TcpLink<S> as Link>⟧.faults in faults self.new ≡ faults self.old }
+    {
+        let wait = Duration::from_secs(CLOSE_WAIT);
+        if self.stream.set_write_timeout(Some(wait)).is_ok() {
+            let _ = self.replies.send(&mut self.stream);
+        }
+    }
+}
+
+impl<S: Read + Write> Link for TcpLink<S> {
+    ghost traffic = { λ _. None };
+
+    ghost faults = { λ l. l.faults };
+
+    fn read(&mut self, buf: &mut [u8]) -> Result<usize, Failed>
+        requires { 0 < length buf.old }
+        ensures bound { ReadsAtMost result buf.new }
+        ensures bytes { Receives None None result buf.new }
+        ensures end { IfOk result (λ n. n ≡ 0 → IsAtEnd (left_of None)) }
+        ensures cause { let faults = ⟦<TcpLink<S> as Link>⟧.faults in HasCause (faults self.old) (faults self.new) result }
+        ensures sends { OnOk result (waiting_of self.new ≡ []) }
+    {
+        let Ok(()) = self.replies.send(&mut self.stream) else {
+            return Err(count_fault(&mut self.faults));
+        };
+        let Ok(n) = read_some(&mut self.stream, buf) else {
+            return Err(count_fault(&mut self.faults));
+        };
+        if n == 0 {
+            self.replies.end();
+        }
+        Ok(n)
+    }
+
+    fn write(&mut self, bytes: &[u8]) -> Result<usize, Failed>
+        requires { 0 < length bytes.now }
+        ensures bound { WritesAtMost result bytes.now }
+        ensures some { IfOk result (λ n. 0 < n) }
+        ensures bytes { Sends None None result bytes.now }
+        ensures cause { let faults = ⟦<TcpLink<S> as Link>⟧.faults in HasCause (faults self.old) (faults self.new) result }
+        ensures waits { WriteAppends (append_known (S.contents (stream_of self.old)) (waiting_of self.old))
+            (append_known (S.contents (stream_of self.new)) (waiting_of self.new)) result bytes.now }
+    {
+        match self.replies.write(&mut self.stream, bytes) {
+            Ok(n) => Ok(n),
+            Err(_) => Err(count_fault(&mut self.faults)),
+        }
+    }
+}
+
+#[cfg(test)]
+mod tests;

@@ -1,0 +1,175 @@
+// Links over a stream that interrupts, moves small pieces and fails where it is told to.
+use super::TcpLink;
+use crate::replies::Replies;
+use crate::tests::expect;
+use sk_io::{Failed, Link, send_all};
+use std::alloc::Global;
+use std::io;
+use std::io::{ErrorKind, Read, Write};
+use std::net::{Ipv4Addr, SocketAddr, TcpListener, TcpStream};
+use std::test::Fail;
+use std::time::Duration;
+
+// A stream over which a text comes. It counts its calls, and its writes apart.
+#[derive(Drop)]
+struct Wire<'a> {
+    left: &'a [u8],
+    output: Vec<u8>,
+    piece: usize,
+    calls: u32,
+    writes: u32,
+    // Whether each other call is interrupted.
+    interrupts: bool,
+    // The number of the call that fails, from 0.
+    fails: u32,
+}
+
+impl<'a> Wire<'a> {
+    // A stream that moves everything at once, and never fails.
+    fn new(alloc: Global, left: &'a [u8]) -> Self {
+        Wire {
+            left,
+            output: Vec::new(alloc),
+            piece: 1_000_000,
+            calls: 0,
+            writes: 0,
+            interrupts: false,
+            fails: u32::MAX,
+        }
+    }
+
+    // Counts a call that moves bytes, and fails where it is to.
+    fn call(&mut self) -> io::Result<()> {
+        let number = self.calls;
+        self.calls = number.saturating_add(1);
+        if self.interrupts && number % 2 == 0 {
+            return Err(io::Error::from(ErrorKind::Interrupted));
+        }
+        if number == self.fails {
+            return Err(io::Error::from(ErrorKind::ConnectionReset));
+        }
+        Ok(())
+    }
+}
+
+impl Read for Wire<'_> {
+    fn read(&mut self, buf: &mut [u8]) -> io::Result<usize> {
+        self.call()?;
+        let n = buf.len().min(self.piece);
+        self.left.read(&mut buf[..n])
+    }
+}
+
+impl Write for Wire<'_> {
+    fn write(&mut self, bytes: &[u8]) -> io::Result<usize> {
+        self.call()?;
+        self.writes = self.writes.saturating_add(1);
+        self.output.write(&bytes[..bytes.len().min(self.piece)])
+    }
+
+    fn flush(&mut self) -> io::Result<()> {
+        Ok(())
+    }
+}
+
+#[test]
+fn interrupted_calls_are_taken_up_again(rt: HostRuntime) -> Result<(), Fail> {
+    let alloc = rt.alloc();
+    let mut wire = Wire::new(alloc, b"sync\n");
+    wire.interrupts = true;
+    wire.piece = 2;
+    let mut link = TcpLink::new(wire, Replies::new(alloc, 64)?);
+    let mut piece = [0; 8];
+    expect(&rt, send_all(&mut link, b"one\ntwo\n"), Ok(()));
+    for n in [2, 2, 1, 0] {
+        expect(&rt, link.read(&mut piece), Ok(n));
+    }
+    expect(&rt, link.stream.output.as_slice(), b"one\ntwo\n");
+    expect(&rt, link.faults(), 0);
+    Ok(())
+}
+
+#[test]
+fn a_send_that_fails_is_a_fault_and_goes_on_where_it_stopped(rt: HostRuntime) -> Result<(), Fail> {
+    let alloc = rt.alloc();
+    // Three sends, and the read.
+    for call in 0..4 {
+        let mut wire = Wire::new(alloc, b"ask\n");
+        wire.piece = 3;
+        wire.fails = call;
+        let mut link = TcpLink::new(wire, Replies::new(alloc, 64)?);
+        let mut piece = [0; 8];
+        expect(&rt, send_all(&mut link, b"one\ntwo\n"), Ok(()));
+        let first = (link.read(&mut piece), link.faults());
+        let then = (link.read(&mut piece), link.faults());
+        assert_eq!(rt;
+            (first, then),
+            ((Err(Failed), 1), (Ok(3), 1)),
+            "at call {call}"
+        );
+        expect(&rt, link.stream.output.as_slice(), b"one\ntwo\n");
+    }
+    Ok(())
+}
+
+#[test]
+fn many_replies_go_in_few_sends(rt: HostRuntime) -> Result<(), Fail> {
+    let alloc = rt.alloc();
+    // The room, the replies of five bytes each, and the sends before the next read and with it.
+    for (room, replies, before, with) in [
+        (16_384, 1000, 0, 1),
+        (16_384, 10_000, 3, 4),
+        (5, 3, 2, 3),
+        (0, 3, 3, 3),
+    ] {
+        let mut link = TcpLink::new(Wire::new(alloc, b"ask\n"), Replies::new(alloc, room)?);
+        for _ in 0..replies {
+            expect(&rt, send_all(&mut link, b"kept\n"), Ok(()));
+        }
+        let first = link.stream.writes;
+        expect(&rt, link.read(&mut [0; 8]), Ok(4));
+        let got = (first, link.stream.writes, link.stream.output.len());
+        assert_eq!(rt;
+            got,
+            (before, with, 5 * replies),
+            "{replies} replies, room {room}"
+        );
+    }
+    Ok(())
+}
+
+#[test]
+fn behind_the_end_replies_are_sent_at_once(rt: HostRuntime) -> Result<(), Fail> {
+    let alloc = rt.alloc();
+    let mut link = TcpLink::new(Wire::new(alloc, b""), Replies::new(alloc, 64)?);
+    expect(&rt, link.write(b"kept\n"), Ok(5));
+    expect(&rt, link.read(&mut [0; 8]), Ok(0));
+    expect(&rt, link.write(b"bad\n"), Ok(4));
+    expect(&rt, link.stream.output.as_slice(), b"kept\nbad\n");
+    link.stream.fails = link.stream.calls;
+    expect(&rt, link.write(b"bad\n"), Err(Failed));
+    expect(&rt, link.faults(), 1);
+    Ok(())
+}
+
+#[test]
+fn closing_does_not_wait_for_a_peer_that_stopped_reading(rt: HostRuntime) -> Result<(), Fail> {
+    let listener = TcpListener::bind(&rt, SocketAddr::from((Ipv4Addr::LOCALHOST, 0)))?;
+    let client = TcpStream::connect(&rt, listener.local_addr()?)?;
+    let (stream, _) = listener.accept()?;
+    stream.set_write_timeout(Some(Duration::from_millis(20)))?;
+    let mut link = TcpLink::new(stream, Replies::new(rt.alloc(), 16_384)?);
+    // The system takes more a while after a send that failed, until its buffers are full.
+    let mut fails = 0;
+    'fill: for _ in 0..1_000_000 {
+        if fails < 10 && link.write(&[b'x'; 1024]).is_err() {
+            fails += 1;
+        }
+    }
+    expect(&rt, link.faults(), 10);
+    link.stream.set_write_timeout(None)?;
+    link.finish();
+    expect(&rt, link.faults(), 10);
+    drop(client);
+    Ok(())
+}

@@ -1,0 +1,164 @@
+ghost use Rattle.std.specs.Prelude.{◌≡◌, ◌<◌, IfOk, true};
+
+use crate::{TcpDoor, TcpLink};
+use sk_io::{Door, DoorFault, Failed, Link, send_all};
+use std::alloc::Global;
+use std::fmt::Debug;
+use std::io::{Read, Write};
+use std::net::{Ipv4Addr, Net, Shutdown, SocketAddr, TcpStream};
+use std::process::Abort;
+use std::test::Fail;
+use std::{io, thread};
+
+// An `assert_eq!` that costs the proof of a test one call.
+pub(crate) fn expect<R: Abort, T: PartialEq + Debug + Copy>(rt: &R, got: T, want: T) {
+    assert_eq!(rt; got, want);
+}
+
+// A door that listens at a free port, for this many links.
+fn door_for<R: Net + Drop>(rt: R, alloc: Global, links: u32) -> Result<TcpDoor<R>, DoorFault>
+    ensures listens { IfOk result (λ door. ⟦<TcpDoor<R> as Door>⟧.listens door ≡ true) }
+    ensures room { IfOk result (λ door. ⟦<TcpDoor<R> as Door>⟧.room door ≡ links) }
+{
+    let mut door = TcpDoor::new(rt, alloc);
+    door.listen(0, links)?;
+    Ok(door)
+}
+
+// A client of a port.
+fn client_of(rt: &HostRuntime, port: Option<u16>) -> io::Result<TcpStream> {
+    TcpStream::connect(
+        rt,
+        SocketAddr::from((Ipv4Addr::LOCALHOST, port.unwrap_or(0))),
+    )
+}
+
+// Sends back what comes over a link, and answers the link.
+fn echoed(mut link: TcpLink) -> TcpLink {
+    let mut piece = [0; 64];
+    'read: for _ in 0..1000 {
+        match link.read(&mut piece) {
+            Ok(0) | Err(Failed) => break,
+            Ok(n) => {
+                let _ = send_all(&mut link, &piece[..n]);
+            }
+        }
+    }
+    link
+}
+
+// Sends a text in pieces of `step` bytes, and answers what comes back of as many bytes.
+fn answer_to(client: &mut TcpStream, text: &[u8; 8], step: usize) -> io::Result<[u8; 8]>
+    requires { 0 < step }
+{
+    client.set_nodelay(true)?;
+    'piece: for piece in text.chunks(step) {
+        client.write_all(piece)?;
+    }
+    client.shutdown(Shutdown::Write)?;
+    let mut answer = [0; 8];
+    client.read_exact(&mut answer)?;
+    Ok(answer)
+}
+
+#[test]
+fn clients_get_their_replies(rt: HostRuntime) -> Result<(), Fail> {
+    let text = b"one\ntwo\n";
+    // In one write, byte by byte, and cut within lines.
+    for step in [8, 1, 3] {
+        let mut door = door_for(&rt, rt.alloc(), 1)?;
+        let mut client = client_of(&rt, door.port())?;
+        let link = door.accept()?;
+        let server = thread::spawn(&rt, move || echoed(link))?;
+        let answer = answer_to(&mut client, text, step)?;
+        assert_eq!(rt; answer, *text, "in steps of {step}");
+        door.close(server.join(&rt));
+        expect(&rt, door.closed(), [0].as_slice());
+    }
+    Ok(())
+}
+
+#[test]
+fn a_peer_that_resets_is_a_fault_of_its_link_alone(rt: HostRuntime) -> Result<(), Fail> {
+    let mut door = door_for(&rt, rt.alloc(), 2)?;
+    let (mut one, mut two) = (client_of(&rt, door.port())?, client_of(&rt, door.port())?);
+    let (mut first, mut second) = (door.accept()?, door.accept()?);
+    let mut piece = [0; 8];
+    one.write_all(b"add x\n")?;
+    expect(&rt, first.read(&mut piece), Ok(6));
+    expect(&rt, first.write(b"kept\n"), Ok(5));
+    one.write_all(b"ask\n")?;
+    expect(&rt, first.read(&mut piece), Ok(4));
+    // The system resets a connection that is closed before all that came was read.
+    drop(one);
+    expect(&rt, first.read(&mut piece), Err(Failed));
+    two.write_all(b"ask\n")?;
+    expect(&rt, second.read(&mut piece), Ok(4));
+    door.close(first);
+    door.close(second);
+    expect(&rt, door.closed(), [1, 0].as_slice());
+    Ok(())
+}
+
+#[test]
+fn a_peer_that_left_is_a_fault_and_no_signal(rt: HostRuntime) -> Result<(), Fail> {
+    let mut door = door_for(&rt, rt.alloc(), 1)?;
+    let client = client_of(&rt, door.port())?;
+    let mut link = door.accept()?;
+    drop(client);
+    let mut piece = [0; 8];
+    expect(&rt, link.read(&mut piece), Ok(0));
+    // The first may still be taken.
+    let mut failed = false;
+    'reply: for _ in 0..1000 {
+        if !failed {
+            failed = link.write(b"kept\n").is_err();
+        }
+    }
+    expect(&rt, failed, true);
+    door.close(link);
+    expect(&rt, door.closed(), [1].as_slice());
+    Ok(())
+}
+
+#[test]
+fn what_waits_is_sent_at_the_close(rt: HostRuntime) -> Result<(), Fail> {
+    let mut door = door_for(&rt, rt.alloc(), 1)?;
+    let mut client = client_of(&rt, door.port())?;
+    let mut link = door.accept()?;
+    expect(&rt, link.write(b"kept\n"), Ok(5));
+    let mut answer = [0; 5];
+    client.set_nonblocking(true)?;
+    expect(&rt, client.read(&mut answer).is_err(), true);
+    client.set_nonblocking(false)?;
+    door.close(link);
+    client.read_exact(&mut answer)?;
+    expect(&rt, answer, *b"kept\n");
+    expect(&rt, client.read(&mut answer)?, 0);
+    Ok(())
+}
+
+#[test]
+fn a_link_past_the_memory_sends_at_once(rt: HostRuntime) -> Result<(), Fail> {
+    let mut door = door_for(&rt, rt.alloc(), 0)?;
+    let mut client = client_of(&rt, door.port())?;
+    let mut link = door.accept()?;
+    expect(&rt, link.write(b"kept\n"), Ok(5));
+    let mut answer = [0; 5];
+    client.read_exact(&mut answer)?;
+    expect(&rt, answer, *b"kept\n");
+    Ok(())
+}
+
+#[test]
+fn a_port_is_listened_at_once(rt: HostRuntime) -> Result<(), Fail> {
+    let door = door_for(&rt, rt.alloc(), 1)?;
+    let port = door.port().unwrap_or(0);
+    let mut other = TcpDoor::new(&rt, rt.alloc());
+    expect(&rt, other.port(), None);
+    expect(&rt, other.listen(port, 1), Err(DoorFault::Failed));
+    drop(door);
+    expect(&rt, other.listen(port, 1), Ok(()));
+    expect(&rt, other.port(), Some(port));
+    Ok(())
+}
