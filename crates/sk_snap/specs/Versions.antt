@@ -1,0 +1,49 @@
+-- What a version is, and what one more batch makes of it.
+use Rattle.std.specs.Prelude.{◌≡◌, ℕ, ◌+◌, ◌≤◌, nat_lt, if◌then◌else◌, List, [], ◌∷◌, ◌++◌, length, fold}
+use Rattle.std.specs.Int.{abs_diff}
+use Rattle.sk_model.specs.Entries.{Entry, items_of_entries, tagged}
+use Rattle.sk_quant.specs.Held.{ranked}
+use Rattle.sk_quant.specs.Limits.{most_items}
+use Rattle.sk_quant.specs.Quantiles.{Quantiles, updated, IsSketchOf}
+use Rattle.sk_quant.specs.Ranks.{rank_of, rank_error}
+use Rattle.sk_snap.specs.History.{Beginning, entries_in, name_of}
+use Rattle.sk_snap.specs.declared.version.Version.{Version}
+use Rattle.sk_snap.specs.declared.version.Batch.{Batch}
+
+-- the items that a list of entries has
+abbrev pub items_in : Beginning → List ℕ
+items_in beginning = items_of_entries (entries_in beginning)
+
+-- a version is a sketch of the beginning of the history that it has seen
+abbrev pub IsVersion : Version → Type 0
+IsVersion version = IsSketchOf version.quant (items_in version.known)
+
+-- one more item, where there is room in the count
+abbrev pub put : Quantiles → ℕ → Quantiles
+put sketch x = if nat_lt sketch.count most_items then updated sketch x else sketch
+
+unfoldable pub put_all : Quantiles → List ℕ → Quantiles
+put_all sketch items = fold put sketch items
+
+-- what a batch makes of a version
+abbrev pub with_batch : Version → Batch → Version
+with_batch version batch = record {
+  quant = put_all version.quant batch.items.items;
+  known = batch.known;
+}
+
+-- the batch continues the history that this beginning has seen
+pub record Continues (known : Beginning) (batch : Batch) : Type 0 where
+  pub book : batch.known.book ≡ known.book
+  pub batches : batch.known.batches ≡ known.batches ++ tagged batch.from batch.items.items ∷ []
+
+-- what a version is of: numbers that no batch changes, and the name of the history
+abbrev pub about : Version → List ℕ
+about version = version.quant.k ∷ version.quant.key ∷ name_of version.known.book
+
+-- n, below and within answer x for this list, by a sketch with this k and key
+pub record IsRank (x k key : ℕ) (items : List ℕ) (n below within : ℕ) : Type 0 where
+  pub count : n ≡ length items
+  pub value : below ≡ ranked x k key items
+  pub error : within ≡ rank_error (length items) k
+  pub near : abs_diff below (rank_of x items) ≤ within

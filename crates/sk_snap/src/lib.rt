@@ -1,0 +1,7 @@
+//! Quantiles by versions, for readers beside a writer.
+#![tactic(auto)]
+
+mod history;
+mod version;
+
+pub use history::Known;
