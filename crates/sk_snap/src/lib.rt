@@ -4,4 +4,5 @@
 mod history;
 mod version;
 
-pub use history::Known;
+pub use history::{History, Known};
+pub use version::{Batch, Rank, Version};
