@@ -22,7 +22,7 @@ IsVersion version = IsSketchOf version.quant (items_in version.known)
 abbrev pub put : Quantiles → ℕ → Quantiles
 put sketch x = if nat_lt sketch.count most_items then updated sketch x else sketch
 
-unfoldable pub put_all : Quantiles → List ℕ → Quantiles
+abbrev pub put_all : Quantiles → List ℕ → Quantiles
 put_all sketch items = fold put sketch items
 
 -- what a batch makes of a version
@@ -36,6 +36,12 @@ with_batch version batch = record {
 pub record Continues (known : Beginning) (batch : Batch) : Type 0 where
   pub book : batch.known.book ≡ known.book
   pub batches : batch.known.batches ≡ known.batches ++ tagged batch.from batch.items.items ∷ []
+
+-- what a reader has learnt: the fixed numbers of its sketch, and a beginning of its history
+pub record Learnt : Type 0 where
+  pub k : ℕ
+  pub key : ℕ
+  pub known : Beginning
 
 -- what a version is of: numbers that no batch changes, and the name of the history
 abbrev pub about : Version → List ℕ

@@ -2,7 +2,13 @@
 #![tactic(auto)]
 
 mod history;
+mod reader;
+mod rule;
+mod sketch;
 mod version;
 
-pub use history::{History, Known};
-pub use version::{Batch, Rank, Version};
+pub use history::Known;
+pub use reader::QuantReader;
+pub use sk_model::OutOfMemory;
+pub use sketch::VersionedQuant;
+pub use version::Rank;
