@@ -1,5 +1,5 @@
 -- The steps of readers and of the writer keep the rule of what is published.
-use Rattle.std.proofs.Common.{◌≡◌, ◌≢◌, ◌⊎◌, ℕ, List, [], ◌∷◌, ◌++◌, set, refl, sym, ◌∙◌, subst, inl, inr, ⊎_elim}
+use Rattle.std.proofs.Common.{◌≡◌, ◌≢◌, ◌⊎◌, ℕ, List, [], ◌∷◌, ◌++◌, set, refl, sym, ap, ◌∙◌, subst, inl, inr, ⊎_elim}
 use mathlib.Core.Option.{some}
 use lib.ListN.{get_elem?}
 use Rattle.left_right.specs.Register.{Admits, TurnsAt, Forks, Merges}
@@ -77,3 +77,8 @@ merges seat view other note version views published at apart there =
       whole = published.whole;
       known = known_with version (set views seat note) other [] (known_with version views seat note published.known right) (inl refl);
     }
+
+pub publishes_same : (seat : ℕ) (view : List ℕ) (version next : Version) → next ≡ version
+    → TurnsAt (λ (version : Version) (views : List (List ℕ)). IsPublished version views) seat view version next Publishes
+publishes_same seat view version next same =
+    publishes seat view version next (ap about same) (λ whole. subst IsVersion (sym same) whole)
