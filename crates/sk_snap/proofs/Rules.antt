@@ -1,11 +1,14 @@
 -- The steps of readers and of the writer keep the rule of what is published.
-use Rattle.std.proofs.Common.{◌≡◌, ◌≢◌, ◌⊎◌, ℕ, List, [], ◌∷◌, ◌++◌, set, refl, sym, ap, ◌∙◌, subst, inl, inr, ⊎_elim}
+use Rattle.std.proofs.Common.{◌≡◌, ◌≢◌, ◌⊎◌, ℕ, ◌+◌, ◌≤◌, length, List, [], ◌∷◌, ◌++◌, set, refl, sym, ap, ◌∙◌, subst, inl, inr, ⊎_elim}
 use mathlib.Core.Option.{some}
 use lib.ListN.{get_elem?}
 use Rattle.left_right.specs.Register.{Admits, TurnsAt, Forks, Merges}
 use Rattle.atomic_table.proofs.Lists.{at_set, at_snoc}
 use Rattle.sk_snap.specs.Rule.{IsPublished, Enters, Publishes}
-use Rattle.sk_snap.specs.Versions.{IsVersion, about}
+use Rattle.sk_quant.specs.Limits.{most_items}
+use Rattle.sk_snap.specs.Versions.{IsVersion, Continues, with_batch, about, items_in}
+use Rattle.sk_snap.specs.declared.version.Batch.{Batch}
+use Rattle.sk_snap.proofs.Versions.{next_is_version, about_same}
 use Rattle.sk_snap.specs.declared.version.Version.{Version}
 
 
@@ -82,3 +85,11 @@ pub publishes_same : (seat : ℕ) (view : List ℕ) (version next : Version) →
     → TurnsAt (λ (version : Version) (views : List (List ℕ)). IsPublished version views) seat view version next Publishes
 publishes_same seat view version next same =
     publishes seat view version next (ap about same) (λ whole. subst IsVersion (sym same) whole)
+
+-- a batch that continues the history makes a version of a version
+pub publishes_batch : (seat : ℕ) (view : List ℕ) (version next : Version) (batch : Batch) → next ≡ with_batch version batch
+    → Continues version.known batch → length (items_in version.known) + length batch.items.items ≤ most_items
+    → TurnsAt (λ (version : Version) (views : List (List ℕ)). IsPublished version views) seat view version next Publishes
+publishes_batch seat view version next batch is continues few =
+    publishes seat view version next (ap about is ∙ about_same version batch continues)
+    (λ whole. subst IsVersion (sym is) (next_is_version version batch continues few whole))
