@@ -1,5 +1,5 @@
 -- What a version is, and what one more batch makes of it.
-use Rattle.std.specs.Prelude.{◌≡◌, ℕ, ◌+◌, ◌≤◌, nat_lt, if◌then◌else◌, List, [], ◌∷◌, ◌++◌, length, fold}
+use Rattle.std.specs.Prelude.{◌≡◌, ℕ, ◌+◌, ◌≤◌, nat_lt, if◌then◌else◌, List, [], ◌∷◌, ◌++◌, length, fold, Option, Some}
 use Rattle.std.specs.Int.{abs_diff}
 use Rattle.sk_model.specs.Entries.{Entry, items_of_entries, tagged}
 use Rattle.sk_quant.specs.Held.{ranked}
@@ -36,6 +36,10 @@ with_batch version batch = record {
 pub record Continues (known : Beginning) (batch : Batch) : Type 0 where
   pub book : batch.known.book ≡ known.book
   pub batches : batch.known.batches ≡ known.batches ++ tagged batch.from batch.items.items ∷ []
+
+-- a batch that was refused continues it too
+abbrev pub WillContinue : Beginning → Option Batch → Type 0
+WillContinue known refused = (batch : Batch) → refused ≡ Some batch → Continues known batch
 
 -- what a reader has learnt: the fixed numbers of its sketch, and a beginning of its history
 pub record Learnt : Type 0 where

@@ -23,20 +23,20 @@ pub struct QuantReader {
 
 impl Model for QuantReader {
     ghost use Rattle.std.specs.Prelude.{◌≡◌, ◌∷◌, slice_index};
-    ghost use Rattle.left_right.specs.Sides.{view};
+    ghost use Rattle.left_right.specs.Sides as Sides;
     ghost use Rattle.sk_snap.specs.History.{name_of};
     ghost use Rattle.sk_snap.specs.Versions.{Learnt};
 
     ghost Value = { Learnt };
 
     ghost view = { λ r. record {
-        k = slice_index (view r.reader.place) 0;
-        key = slice_index (view r.reader.place) 1;
+        k = slice_index (Sides.view r.reader.place) 0;
+        key = slice_index (Sides.view r.reader.place) 1;
         known = r.known;
     } };
 
-    ghost invariant = { λ r. view r.reader.place ≡ slice_index (view r.reader.place) 0
-        ∷ slice_index (view r.reader.place) 1 ∷ name_of r.known.book };
+    ghost invariant = { λ r. Sides.view r.reader.place ≡ slice_index (Sides.view r.reader.place) 0
+        ∷ slice_index (Sides.view r.reader.place) 1 ∷ name_of r.known.book };
 }
 
 impl QuantReader {

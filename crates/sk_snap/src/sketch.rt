@@ -1,9 +1,9 @@
 //! The sketch that is read by versions, under a writer.
-ghost use Rattle.std.specs.Prelude.{◌≡◌, ◌∷◌, ◌+◌, ◌≤◌, ◌<◌, [], drop, OnSome, length, IfOk, IfErr, IfSome, MatchResult, None};
+ghost use Rattle.std.specs.Prelude.{◌≡◌, ◌∷◌, ◌+◌, ◌≤◌, ◌<◌, [], drop, length, IfOk, IfErr, IfSome, MatchResult, None};
 ghost use Rattle.left_right.specs.Sides.{view};
 ghost use Rattle.sk_quant.specs.Limits.{least_quantile_k, most_quantile_k, key_end, most_items};
 ghost use Rattle.sk_snap.specs.History.{length_word, name_of};
-ghost use Rattle.sk_snap.specs.Versions.{Continues, with_batch, about, items_in};
+ghost use Rattle.sk_snap.specs.Versions.{Continues, WillContinue, with_batch, about, items_in};
 ghost use Rattle.sk_snap.specs.declared.version.Batch.{Batch};
 
 use crate::history::{History, Known};
@@ -31,9 +31,9 @@ pub struct VersionedQuant<R: Wait + Drop> {
 }
 
 impl<R: Wait + Drop> Model for VersionedQuant<R> {
-    ghost use Rattle.std.specs.Prelude.{◌≡◌, [], drop, OnSome};
+    ghost use Rattle.std.specs.Prelude.{◌≡◌, [], drop};
     ghost use Rattle.sk_snap.specs.History.{length_word};
-    ghost use Rattle.sk_snap.specs.Versions.{IsVersion, Continues};
+    ghost use Rattle.sk_snap.specs.Versions.{IsVersion, WillContinue};
     ghost use Rattle.sk_snap.specs.declared.version.Version.{Version};
 
     ghost Value = { Version };
@@ -43,7 +43,7 @@ impl<R: Wait + Drop> Model for VersionedQuant<R> {
     ghost invariant = { λ s. IsVersion s.writer.desk.shown.value
         × (drop s.writer.behind s.writer.log.items ≡ [])
         × (s.history.word ≡ length_word s.writer.desk.shown.value.known.book)
-        × OnSome s.refused (λ batch. Continues s.writer.desk.shown.value.known batch) };
+        × WillContinue s.writer.desk.shown.value.known s.refused };
 }
 
 impl<R: Wait + Drop> Drop for VersionedQuant<R> {
@@ -69,12 +69,12 @@ fn next_batch(
     items: &[u64],
 ) -> Result<Batch, OutOfMemory>
     requires word { history.now.word ≡ length_word known.now.book }
-    requires refused { OnSome refused.old (λ batch. Continues known.now batch) }
+    requires refused { WillContinue known.now refused.old }
     ensures continues { IfOk result (λ batch. Continues known.now batch) }
     ensures from { IfOk result (λ batch. batch.from ≡ from) }
     ensures items { IfOk result (λ batch. batch.items.items ≡ items.now) }
     ensures none { IfOk result (λ _. refused.new ≡ None) }
-    ensures kept { IfErr result (λ _. OnSome refused.new (λ batch. Continues known.now batch)) }
+    ensures kept { IfErr result (λ _. WillContinue known.now refused.new) }
 {
     if let Some(batch) = refused.take() {
         if batch.from == from && batch.items.as_slice() == items {
