@@ -1,6 +1,6 @@
 -- The steps of readers and of the writer keep the rule of what is published.
 use Rattle.std.proofs.Common.{◌≡◌, ◌≢◌, ◌⊎◌, ℕ, ◌+◌, ◌≤◌, length, List, [], ◌∷◌, ◌++◌, set, refl, sym, ap, ◌∙◌, subst, inl, inr, ⊎_elim}
-use mathlib.Core.Option.{some}
+use mathlib.Core.Option.{some, some-ne-none}
 use lib.ListN.{get_elem?}
 use Rattle.left_right.specs.Register.{Admits, TurnsAt, Forks, Merges}
 use Rattle.atomic_table.proofs.Lists.{at_set, at_snoc}
@@ -93,3 +93,13 @@ pub publishes_batch : (seat : ℕ) (view : List ℕ) (version next : Version) (b
 publishes_batch seat view version next batch is continues few =
     publishes seat view version next (ap about is ∙ about_same version batch continues)
     (λ whole. subst IsVersion (sym is) (next_is_version version batch continues few whole))
+
+-- at the start nobody knows anything
+pub begins_published : (version : Version) → IsVersion version → IsPublished version ([] ∷ [])
+begins_published version whole = record { whole = whole; known = λ seat view at. known_first seat view at }
+  where
+    known_first : (seat : ℕ) (view : List ℕ) → get_elem? ([] ∷ []) seat ≡ some view → Knows version view
+    known_first seat view at = ⊎_elim
+        (λ (there : get_elem? [] seat ≡ some view). absurd (some-ne-none view (sym there)))
+        (λ (here : [] ≡ view). inl (sym here))
+        (at_snoc [] [] view seat at)

@@ -30,6 +30,10 @@ joined_none = refl
 pub joined_more : (xs : List (List Entry)) (batch : List Entry) → joined (xs ++ batch ∷ []) ≡ joined xs ++ batch
 joined_more xs batch = joined_append xs (batch ∷ []) ∙ ap (λ l. joined xs ++ l) (joined_one batch)
 
+items_none : items_of_entries (joined []) ≡ []
+unfolding items_of_entries joined
+items_none = refl
+
 -- a longer history has a longer list
 pub begins_joined : (xs ys : List (List Entry)) → Begins xs ys → Begins (joined xs) (joined ys)
 begins_joined xs ys begins = (joined begins.0, ap joined begins.1 ∙ joined_append xs begins.0)
@@ -106,3 +110,8 @@ module _ (k key k' key' : ℕ) (a b : Book) (same : k ∷ key ∷ name_of a ≡ 
     log_name = slice_index (same i) 3;
     cells_name = slice_index (same i) 4;
   }
+
+-- the version of no batch
+pub empty_is_version : (version : Version) → IsSketchOf version.quant [] → version.known.batches ≡ [] → IsVersion version
+empty_is_version version empty none =
+    subst (λ (l : List ℕ). IsSketchOf version.quant l) (sym (ap (λ (bs : List (List Entry)). items_of_entries (joined bs)) none ∙ items_none)) empty

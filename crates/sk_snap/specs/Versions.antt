@@ -1,5 +1,5 @@
 -- What a version is, and what one more batch makes of it.
-use Rattle.std.specs.Prelude.{◌≡◌, ℕ, ◌+◌, ◌≤◌, nat_lt, if◌then◌else◌, List, [], ◌∷◌, ◌++◌, length, fold, Option, Some}
+use Rattle.std.specs.Prelude.{◌≡◌, ℕ, ◌+◌, ◌≤◌, nat_lt, if◌then◌else◌, List, [], ◌∷◌, ◌++◌, length, fold, Option, Some, IfSome, Result, MatchResult}
 use Rattle.std.specs.Int.{abs_diff}
 use Rattle.sk_model.specs.Entries.{Entry, items_of_entries, tagged}
 use Rattle.sk_quant.specs.Held.{ranked}
@@ -9,6 +9,8 @@ use Rattle.sk_quant.specs.Ranks.{rank_of, rank_error}
 use Rattle.sk_snap.specs.History.{Beginning, entries_in, name_of}
 use Rattle.sk_snap.specs.declared.version.Version.{Version}
 use Rattle.sk_snap.specs.declared.version.Batch.{Batch}
+use Rattle.sk_snap.specs.declared.version.Rank.{Rank}
+use Rattle.logbook.specs.Pages.{Book}
 
 -- the items that a list of entries has
 abbrev pub items_in : Beginning → List ℕ
@@ -57,3 +59,20 @@ pub record IsRank (x k key : ℕ) (items : List ℕ) (n below within : ℕ) : Ty
   pub value : below ≡ ranked x k key items
   pub error : within ≡ rank_error (length items) k
   pub near : abs_diff below (rank_of x items) ≤ within
+
+-- an entry of who knows what the versions are of leaves that known, and may show a rank in a list
+abbrev pub IsEntry : ℕ → List ℕ → List ℕ → Option (Beginning × Rank) → Type 0
+IsEntry x view after seen = (k key : ℕ) (book : Book) → view ≡ k ∷ key ∷ name_of book → (after ≡ view)
+  × IfSome seen (λ s. (s.0.book ≡ book) × IsRank x k key (items_in s.0) s.1.n s.1.below s.1.within)
+
+-- a version that is shown, with no batch pending, can take this one
+pub record CanTake (version : Version) (pending : List Batch) (batch : Batch) : Type 0 where
+  pub none : pending ≡ []
+  pub continues : Continues version.known batch
+  pub room : length (items_in version.known) + length batch.items.items ≤ most_items
+
+-- the version that is shown took the batch, or the batch came back; again none is pending
+pub record HasTaken (version next : Version) (pending : List Batch) (batch : Batch) (given : Result (Unit {0}) Batch) : Type 0 where
+  pub none : pending ≡ []
+  pub shown : MatchResult given (λ _. next ≡ with_batch version batch)
+    (λ back. (back ≡ batch) × (next ≡ version))

@@ -3,8 +3,7 @@ ghost use Rattle.std.specs.Prelude.{◌≡◌, ◌∷◌, ℕ, IfSome};
 ghost use Rattle.left_right.specs.Sides.{view};
 ghost use Rattle.sk_model.specs.Missing.{Begins};
 ghost use Rattle.sk_snap.specs.History.{name_of, entries_in};
-ghost use Rattle.sk_snap.specs.Versions.{Learnt, IsRank, items_in};
-ghost use Rattle.logbook.specs.Pages.{Book};
+ghost use Rattle.sk_snap.specs.Versions.{IsEntry, IsRank, items_in};
 
 use crate::history::Known;
 use crate::rule::{About, Enters, Versions};
@@ -88,7 +87,15 @@ impl QuantReader {
         ensures key { self.new.key ≡ self.old.key }
         ensures name { self.new.known.book ≡ self.old.known.book }
     {
-        let (known, rank) = replace_with(&mut self.reader, x, |reader, x| entered(reader, x))?;
+        let (known, rank) = replace_with(
+            &mut self.reader,
+            x,
+            |reader: Reader<Version, About, Versions>,
+             x: u64|
+             -> (Reader<Version, About, Versions>, Option<(Known, Rank)>)
+                ensures { IsEntry x (view reader.place) (view result.0.place) result.1 }
+            { entered(reader, x) },
+        )?;
         if self.known.advance(&known) {
             Some(rank)
         } else {
@@ -102,11 +109,7 @@ fn entered(
     reader: Reader<Version, About, Versions>,
     x: u64,
 ) -> (Reader<Version, About, Versions>, Option<(Known, Rank)>)
-    ensures view { (k key : ℕ) (book : Book) → view reader.place ≡ k ∷ key ∷ name_of book
-        → view result.0.place ≡ k ∷ key ∷ name_of book }
-    ensures rank { IfSome result.1 (λ seen. (k key : ℕ) (book : Book)
-        → view reader.place ≡ k ∷ key ∷ name_of book
-        → (seen.0.book ≡ book) × IsRank x k key (items_in seen.0) seen.1.n seen.1.below seen.1.within) }
+    ensures { IsEntry x (view reader.place) (view result.0.place) result.1 }
 {
     match reader.enter_as::<Enters>() {
         Ok(reading) => {

@@ -3,7 +3,7 @@ ghost use Rattle.std.specs.Prelude.{◌≡◌, ◌∷◌, ◌+◌, ◌≤◌, �
 ghost use Rattle.left_right.specs.Sides.{view};
 ghost use Rattle.sk_quant.specs.Limits.{least_quantile_k, most_quantile_k, key_end, most_items};
 ghost use Rattle.sk_snap.specs.History.{length_word, name_of};
-ghost use Rattle.sk_snap.specs.Versions.{Continues, WillContinue, with_batch, about, items_in};
+ghost use Rattle.sk_snap.specs.Versions.{Continues, WillContinue, CanTake, HasTaken, with_batch, about, items_in};
 ghost use Rattle.sk_snap.specs.declared.version.Batch.{Batch};
 
 use crate::history::{History, Known};
@@ -101,13 +101,9 @@ fn give<W: Wait>(
     rt: &W,
     batch: Batch,
 ) -> (Writer<Version, Batch, About, Versions>, Result<(), Batch>)
-    requires pending { drop writer.behind writer.log.items ≡ [] }
-    requires continues { Continues writer.desk.shown.value.known batch }
-    requires room { length (items_in writer.desk.shown.value.known) + length batch.items.items ≤ most_items }
-    ensures pending { drop result.0.behind result.0.log.items ≡ [] }
-    ensures shown { MatchResult result.1
-        (λ _. result.0.desk.shown.value ≡ with_batch writer.desk.shown.value batch)
-        (λ back. (back ≡ batch) × (result.0.desk.shown.value ≡ writer.desk.shown.value)) }
+    requires takes { CanTake writer.desk.shown.value (drop writer.behind writer.log.items) batch }
+    ensures taken { HasTaken writer.desk.shown.value result.0.desk.shown.value
+        (drop result.0.behind result.0.log.items) batch result.1 }
 {
     let mut writer = writer;
     match writer.append(batch) {
@@ -195,7 +191,17 @@ impl<R: Wait + Drop> VersionedQuant<R> {
     {
         let known = &self.writer.published().known;
         let batch = next_batch(self.alloc, &self.history, known, &mut self.refused, from, items)?;
-        let given = replace_with(&mut self.writer, (rt, batch), |writer, x| give(writer, x.0, x.1));
+        let given = replace_with(
+            &mut self.writer,
+            batch,
+            |writer: Writer<Version, Batch, About, Versions>,
+             batch: Batch|
+             -> (Writer<Version, Batch, About, Versions>, Result<(), Batch>)
+                requires takes { CanTake writer.desk.shown.value (drop writer.behind writer.log.items) batch }
+                ensures taken { HasTaken writer.desk.shown.value result.0.desk.shown.value
+                    (drop result.0.behind result.0.log.items) batch result.1 }
+            { give(writer, rt, batch) },
+        );
         match given {
             Ok(()) => Ok(()),
             Err(batch) => {

@@ -12,8 +12,8 @@ publish_as-writer-requires g c next is =
     let before = c.args.writer.desk.shown.value in
     let now = c.append.new.self.desk.shown.value in
     let same : now ≡ before = ap (λ d. d.shown.value) c.append.ensures.desk in
-    let one : drop c.append.new.self.behind c.append.new.self.log.items ≡ batch ∷ [] = c.in-Ok.ensures.pending ∙ ap (λ (l : List Batch). l ++ batch ∷ []) c.requires.pending in
+    let one : drop c.append.new.self.behind c.append.new.self.log.items ≡ batch ∷ [] = c.in-Ok.ensures.pending ∙ ap (λ (l : List Batch). l ++ batch ∷ []) c.requires.takes.none in
     let next_is : next ≡ with_batch now batch = is ∙ ap (λ (l : List Batch). fold with_batch now l) one in
     publishes_batch _ _ now next batch next_is
-    (subst (λ (v : Version). Continues v.known batch) (sym same) c.requires.continues)
-    (subst (λ (v : Version). length (items_in v.known) + length batch.items.items ≤ most_items) (sym same) c.requires.room)
+    (subst (λ (v : Version). Continues v.known batch) (sym same) c.requires.takes.continues)
+    (subst (λ (v : Version). length (items_in v.known) + length batch.items.items ≤ most_items) (sym same) c.requires.takes.room)
