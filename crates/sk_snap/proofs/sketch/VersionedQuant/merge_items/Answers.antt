@@ -1,0 +1,46 @@
+use Rattle.std.proofs.Common.{◌≡◌, ◌+◌, ◌≤◌, [], ap, sym, subst, ◌∙◌, drop, length}
+use Rattle.sk_quant.specs.Limits.{most_items}
+use Rattle.sk_snap.specs.History.{length_word}
+use Rattle.sk_snap.specs.Versions.{IsVersion, Continues, WillContinue, with_batch, items_in}
+use Rattle.sk_snap.specs.declared.version.Version.{Version}
+use Rattle.sk_snap.proofs.Versions.{next_is_version}
+use Rattle.sk_snap.proofs.sketch.VersionedQuant.merge_items.Goals as goal
+
+pub next_batch-requires-clause-refused : goal.next_batch-requires-clause-refused
+next_batch-requires-clause-refused g c =
+    subst (λ (v : Version). WillContinue v.known c.self.inside.refused) (sym c.published.ensures) c.self.invariant.3
+
+pub invariant_of-self : goal.invariant_of-self
+invariant_of-self g c = (
+  c.self.invariant.0,
+  c.self.invariant.1,
+  c.self.invariant.2,
+  subst (λ (v : Version). WillContinue v.known c.next_batch.new.refused) c.published.ensures c.in_err-batch.ensures.kept,
+)
+
+pub invariant_of-self-in-Ok : goal.invariant_of-self-in-Ok
+invariant_of-self-in-Ok g c =
+    let now = c.self.inside.writer.desk.shown.value in
+    let batch = c.in_ok-batch.batch in
+    let continues : Continues now.known batch = subst (λ (v : Version). Continues v.known batch) c.published.ensures c.in_ok-batch.ensures.continues in
+    let few : length (items_in now.known) + length batch.items.items ≤ most_items =
+        rw (c.in_ok-batch.ensures.items) (subst (λ (v : Version). length (items_in v.known) + length c.args.items.now ≤ most_items) (sym c.self.view_is) c.requires.room) in
+    let taken = c.in-Ok.ensures in
+    let next : c.replace_with-given.new.dest.desk.shown.value ≡ with_batch now batch = taken.shown in (
+      subst IsVersion (sym next) (next_is_version now batch continues few c.self.invariant.0),
+      taken.none,
+      c.self.invariant.2 ∙ ap length_word (sym continues.book) ∙ ap (λ (v : Version). length_word v.known.book) (sym next),
+      λ other is. absurd (cc (sym c.in_ok-batch.ensures.none ∙ is)),
+    )
+
+pub returns-in-Ok-clause-done : goal.returns-in-Ok-clause-done
+returns-in-Ok-clause-done g c =
+    let batch = c.in_ok-batch.batch in
+    let continues : Continues c.args.self.now.known batch =
+        subst (λ (v : Version). Continues v.known batch) (c.published.ensures ∙ c.self.view_is) c.in_ok-batch.ensures.continues in (
+      batch,
+      continues,
+      c.in_ok-batch.ensures.from,
+      c.in_ok-batch.ensures.items,
+      c.in-Ok.ensures.shown ∙ ap (λ (v : Version). with_batch v batch) c.self.view_is,
+    )
