@@ -1,6 +1,6 @@
 -- What a batch makes of a version, and what names tell.
 use Rattle.std.proofs.Common.{◌≡◌, ℕ, ◌+◌, ◌<◌, ◌≤◌, Bool, true, false, nat_lt, if◌then◌else◌, List, [], ◌∷◌, ◌++◌, length, slice_index, refl, sym, ap, subst, ◌∙◌, arith, append_assoc, length-append}
-use Rattle.std.proofs.lemmas.List.{append-nil}
+use Rattle.std.proofs.lemmas.List.{append-nil, length-map}
 use Rattle.std.proofs.lemmas.Bool.Decides.{nat_tests}
 use Rattle.logbook.specs.Pages.{Book}
 use Rattle.sk_model.specs.Entries.{Entry, items_of_entries, tagged}
@@ -115,3 +115,8 @@ module _ (k key k' key' : ℕ) (a b : Book) (same : k ∷ key ∷ name_of a ≡ 
 pub empty_is_version : (version : Version) → IsSketchOf version.quant [] → version.known.batches ≡ [] → IsVersion version
 empty_is_version version empty none =
     subst (λ (l : List ℕ). IsSketchOf version.quant l) (sym (ap (λ (bs : List (List Entry)). items_of_entries (joined bs)) none ∙ items_none)) empty
+
+-- as many items as entries
+pub as_many : (entries : List Entry) → length (items_of_entries entries) ≡ length entries
+unfolding items_of_entries
+as_many entries = length-map entries (λ (entry : Entry). entry.1)

@@ -1,4 +1,3 @@
 pub mod History
 pub mod Rule
 pub mod Versions
-pub mod Idle

@@ -2,6 +2,7 @@
 #![tactic(auto)]
 
 mod history;
+mod kind;
 mod reader;
 mod rule;
 mod sketch;

@@ -1,10 +1,10 @@
 //! The sketch that is read by versions, under a writer.
-ghost use Rattle.std.specs.Prelude.{◌≡◌, ◌∷◌, ◌+◌, ◌≤◌, ◌<◌, [], drop, length, IfOk, IfErr, IfSome, MatchResult, None};
+ghost use Rattle.std.specs.Prelude.{◌≡◌, ◌∷◌, ◌++◌, ◌+◌, ◌≤◌, ◌<◌, [], drop, length, IfOk, IfErr, IfSome, MatchResult, None};
 ghost use Rattle.left_right.specs.Sides.{view};
 ghost use Rattle.sk_quant.specs.Limits.{least_quantile_k, most_quantile_k, key_end, most_items};
-ghost use Rattle.sk_snap.specs.History.{length_word, name_of};
+ghost use Rattle.sk_snap.specs.History.{length_word, entries_in};
 ghost use Rattle.sk_snap.specs.Versions.{Continues, WillContinue, CanTake, HasTaken, with_batch, about, items_in};
-ghost use Rattle.sk_snap.specs.declared.version.Batch.{Batch};
+ghost use Rattle.sk_model.specs.Entries.{tagged};
 
 use crate::history::{History, Known};
 use crate::reader::QuantReader;
@@ -176,6 +176,21 @@ impl<R: Wait + Drop> VersionedQuant<R> {
         Ok((sketch, QuantReader::over(reader?, learnt)))
     }
 
+    /// How many items its list has.
+    pub fn len(&self) -> u64
+        ensures value { result ≡ length (items_in self.now.known) }
+        ensures entries { result ≡ length (entries_in self.now.known) }
+    {
+        self.writer.published().quant.len()
+    }
+
+    // The beginning of the history that the version which is published is of.
+    pub(crate) fn known(&self) -> Known
+        ensures { result ≡ self.now.known }
+    {
+        self.writer.published().known.again()
+    }
+
     // Merges a batch, or changes nothing.
     pub(crate) fn merge_items<W: Wait>(
         &mut self,
@@ -184,10 +199,12 @@ impl<R: Wait + Drop> VersionedQuant<R> {
         items: &[u64],
     ) -> Result<(), OutOfMemory>
         requires room { length (items_in self.old.known) + length items.now ≤ most_items }
-        ensures done { IfOk result (λ _. (batch : Batch) × Continues self.old.known batch
-            × (batch.from ≡ from) × (batch.items.items ≡ items.now)
-            × (self.new ≡ with_batch self.old batch)) }
+        ensures entries { IfOk result (λ _. entries_in self.new.known
+            ≡ entries_in self.old.known ++ tagged from items.now) }
         ensures refused { IfErr result (λ _. self.new ≡ self.old) }
+        ensures k { self.new.quant.k ≡ self.old.quant.k }
+        ensures key { self.new.quant.key ≡ self.old.quant.key }
+        ensures name { self.new.known.book ≡ self.old.known.book }
     {
         let known = &self.writer.published().known;
         let batch = next_batch(self.alloc, &self.history, known, &mut self.refused, from, items)?;

@@ -1,9 +1,10 @@
-use Rattle.std.proofs.Common.{◌≡◌, ◌+◌, ◌≤◌, [], ap, sym, subst, ◌∙◌, drop, length}
+use Rattle.std.proofs.Common.{◌≡◌, ◌++◌, ℕ, List, ◌+◌, ◌≤◌, [], ap, sym, subst, ◌∙◌, drop, length}
+use Rattle.sk_model.specs.Entries.{tagged}
 use Rattle.sk_quant.specs.Limits.{most_items}
-use Rattle.sk_snap.specs.History.{length_word}
+use Rattle.sk_snap.specs.History.{length_word, entries_in}
 use Rattle.sk_snap.specs.Versions.{IsVersion, Continues, WillContinue, with_batch, items_in}
 use Rattle.sk_snap.specs.declared.version.Version.{Version}
-use Rattle.sk_snap.proofs.Versions.{next_is_version}
+use Rattle.sk_snap.proofs.Versions.{next_is_version, entries_more, put_all_k, put_all_key}
 use Rattle.sk_snap.proofs.sketch.VersionedQuant.merge_items.Goals as goal
 
 pub next_batch-requires-clause-refused : goal.next_batch-requires-clause-refused
@@ -33,14 +34,31 @@ invariant_of-self-in-Ok g c =
       λ other is. absurd (cc (sym c.in_ok-batch.ensures.none ∙ is)),
     )
 
-pub returns-in-Ok-clause-done : goal.returns-in-Ok-clause-done
-returns-in-Ok-clause-done g c =
+pub returns-in-Ok-clause-entries : goal.returns-in-Ok-clause-entries
+returns-in-Ok-clause-entries g c =
     let batch = c.in_ok-batch.batch in
-    let continues : Continues c.args.self.now.known batch =
-        subst (λ (v : Version). Continues v.known batch) (c.published.ensures ∙ c.self.view_is) c.in_ok-batch.ensures.continues in (
-      batch,
-      continues,
-      c.in_ok-batch.ensures.from,
-      c.in_ok-batch.ensures.items,
-      c.in-Ok.ensures.shown ∙ ap (λ (v : Version). with_batch v batch) c.self.view_is,
-    )
+    let now = c.args.self.now in
+    let continues : Continues now.known batch =
+        subst (λ (v : Version). Continues v.known batch) (c.published.ensures ∙ c.self.view_is) c.in_ok-batch.ensures.continues in
+    ap (λ (v : Version). entries_in v.known) c.in-Ok.ensures.shown
+    ∙ entries_more now.known batch continues
+    ∙ ap (λ (i : ℕ). entries_in now.known ++ tagged i batch.items.items) c.in_ok-batch.ensures.from
+    ∙ ap (λ (items : List ℕ). entries_in now.known ++ tagged c.args.from items) c.in_ok-batch.ensures.items
+
+pub returns-in-Ok-clause-k : goal.returns-in-Ok-clause-k
+returns-in-Ok-clause-k g c =
+    ap (λ (v : Version). v.quant.k) c.in-Ok.ensures.shown
+    ∙ put_all_k c.self.inside.writer.desk.shown.value.quant c.in_ok-batch.batch.items.items
+    ∙ ap (λ (v : Version). v.quant.k) c.self.view_is
+
+pub returns-in-Ok-clause-key : goal.returns-in-Ok-clause-key
+returns-in-Ok-clause-key g c =
+    ap (λ (v : Version). v.quant.key) c.in-Ok.ensures.shown
+    ∙ put_all_key c.self.inside.writer.desk.shown.value.quant c.in_ok-batch.batch.items.items
+    ∙ ap (λ (v : Version). v.quant.key) c.self.view_is
+
+pub returns-in-Ok-clause-name : goal.returns-in-Ok-clause-name
+returns-in-Ok-clause-name g c =
+    ap (λ (v : Version). v.known.book) c.in-Ok.ensures.shown
+    ∙ c.in_ok-batch.ensures.continues.book
+    ∙ ap (λ (v : Version). v.known.book) (c.published.ensures ∙ c.self.view_is)
