@@ -11,7 +11,6 @@ use Rattle.sk_snap.specs.declared.version.Batch.{Batch}
 use Rattle.sk_snap.proofs.Versions.{next_is_version, about_same}
 use Rattle.sk_snap.specs.declared.version.Version.{Version}
 
-
 abbrev pub Knows : Version → List ℕ → Type 0
 Knows version view = (view ≡ []) ⊎ (view ≡ about version)
 
@@ -55,7 +54,7 @@ pub publishes : (seat : ℕ) (view : List ℕ) (version next : Version) → abou
     → TurnsAt (λ (version : Version) (views : List (List ℕ)). IsPublished version views) seat view version next Publishes
 publishes seat view version next same whole views published at =
     let known : (j : ℕ) (v : List ℕ) → get_elem? views j ≡ some v → Knows next v =
-        λ j v there. ⊎_elim (λ (none : v ≡ []). inl none) (λ (right : v ≡ about version). inr (right ∙ sym same)) (published.known j v there) in (
+    λ j v there. ⊎_elim (λ (none : v ≡ []). inl none) (λ (right : v ≡ about version). inr (right ∙ sym same)) (published.known j v there) in (
       about next,
       record {
         whole = whole published.whole;
@@ -73,9 +72,9 @@ forks seat view version views published at = record {
 pub merges : (seat : ℕ) (view : List ℕ) (other : ℕ) (note : List ℕ) → Merges (λ (version : Version) (views : List (List ℕ)). IsPublished version views) seat view other note note []
 merges seat view other note version views published at apart there =
     let right : Knows version note = ⊎_elim
-        (λ (here : (other ≡ seat) × (note ≡ note)). absurd (apart here.0))
-        (λ (far : (other ≢ seat) × (get_elem? views other ≡ some note)). published.known other note far.1)
-        (at_set views seat other note note there) in
+    (λ (here : (other ≡ seat) × (note ≡ note)). absurd (apart here.0))
+    (λ (far : (other ≢ seat) × (get_elem? views other ≡ some note)). published.known other note far.1)
+    (at_set views seat other note note there) in
     record {
       whole = published.whole;
       known = known_with version (set views seat note) other [] (known_with version views seat note published.known right) (inl refl);

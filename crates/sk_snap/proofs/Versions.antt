@@ -79,7 +79,7 @@ pub next_is_version : (version : Version) (batch : Batch) → Continues version.
     → IsVersion version → IsVersion (with_batch version batch)
 next_is_version version batch continues few whole =
     let items : items_in batch.known ≡ items_in version.known ++ batch.items.items =
-        ap items_of_entries (entries_more version.known batch continues) ∙ items_more batch.from (entries_in version.known) batch.items.items in
+    ap items_of_entries (entries_more version.known batch continues) ∙ items_more batch.from (entries_in version.known) batch.items.items in
     subst (λ (l : List ℕ). IsSketchOf (put_all version.quant batch.items.items) l) (sym items)
     (put_all_is_of version.quant (items_in version.known) batch.items.items whole few)
 

@@ -9,7 +9,7 @@ use Rattle.sk_snap.specs.declared.version.Version.{Version}
 pub record IsPublished (version : Version) (views : List (List ℕ)) : Type 0 where
   pub whole : IsVersion version
   pub known : (seat : ℕ) (view : List ℕ) → get_elem? views seat ≡ some view
-    → (view ≡ []) ⊎ (view ≡ about version)
+      → (view ≡ []) ⊎ (view ≡ about version)
 
 -- an entry gives a version of what was known, and then it is known
 abbrev pub Enters : List ℕ → Version → Version → List ℕ → Type 0

@@ -1,7 +1,7 @@
 -- What a version is, and what one more batch makes of it.
 use Rattle.std.specs.Prelude.{◌≡◌, ℕ, ◌+◌, ◌≤◌, nat_lt, if◌then◌else◌, List, [], ◌∷◌, ◌++◌, length, fold, Option, Some, IfSome, Result, MatchResult}
 use Rattle.std.specs.Int.{abs_diff}
-use Rattle.sk_model.specs.Entries.{Entry, items_of_entries, tagged}
+use Rattle.sk_model.specs.Entries.{items_of_entries, tagged}
 use Rattle.sk_quant.specs.Held.{ranked}
 use Rattle.sk_quant.specs.Limits.{most_items}
 use Rattle.sk_quant.specs.Quantiles.{Quantiles, updated, IsSketchOf}
@@ -63,7 +63,7 @@ pub record IsRank (x k key : ℕ) (items : List ℕ) (n below within : ℕ) : Ty
 -- an entry of who knows what the versions are of leaves that known, and may show a rank in a list
 abbrev pub IsEntry : ℕ → List ℕ → List ℕ → Option (Beginning × Rank) → Type 0
 IsEntry x view after seen = (k key : ℕ) (book : Book) → view ≡ k ∷ key ∷ name_of book → (after ≡ view)
-  × IfSome seen (λ s. (s.0.book ≡ book) × IsRank x k key (items_in s.0) s.1.n s.1.below s.1.within)
+    × IfSome seen (λ s. (s.0.book ≡ book) × IsRank x k key (items_in s.0) s.1.n s.1.below s.1.within)
 
 -- a version that is shown, with no batch pending, can take this one
 pub record CanTake (version : Version) (pending : List Batch) (batch : Batch) : Type 0 where
@@ -75,4 +75,4 @@ pub record CanTake (version : Version) (pending : List Batch) (batch : Batch) : 
 pub record HasTaken (version next : Version) (pending : List Batch) (batch : Batch) (given : Result (Unit {0}) Batch) : Type 0 where
   pub none : pending ≡ []
   pub shown : MatchResult given (λ _. next ≡ with_batch version batch)
-    (λ back. (back ≡ batch) × (next ≡ version))
+      (λ back. (back ≡ batch) × (next ≡ version))

@@ -180,15 +180,13 @@ impl History {
         ensures book { seen.new.book ≡ seen.old.book }
         ensures added { IsTrue result → seen.new.log ≡ seen.old.log ++ tagged asked.now.from asked.now.items.now ∷ [] }
     {
-        let mut offer: Offer<Entries, u64, Counted, Nothing> = seen.plain::<Nothing, Asked, Add>(asked);
-        let mut pen = seen.no_pen();
-        let found = self.word.compare_exchange::<Add, Nothing>(
-            turns,
-            turns + 1,
-            seen,
-            &mut offer,
-            &mut pen,
+        let mut offer: Offer<Entries, u64, Counted, Nothing> = seen.plain::<Nothing, Asked, Add>(
+            asked,
         );
+        let mut pen = seen.no_pen();
+        let found = self
+            .word
+            .compare_exchange::<Add, Nothing>(turns, turns + 1, seen, &mut offer, &mut pen);
         found == turns
     }
 }

@@ -13,3 +13,6 @@ pub use reader::QuantReader;
 pub use sk_model::OutOfMemory;
 pub use sketch::VersionedQuant;
 pub use version::Rank;
+
+#[cfg(test)]
+mod tests;

@@ -8,9 +8,9 @@ ghost use Rattle.sk_snap.specs.Versions.{IsEntry, IsRank, items_in};
 use crate::history::Known;
 use crate::rule::{About, Enters, Versions};
 use crate::version::{Rank, Version};
+use core::mem::replace_with;
 use left_right::reader::Reader;
 use std::marker::Model;
-use core::mem::replace_with;
 use std::sync::Wait;
 
 /// Reads ranks of the versions that are published, each over a list that begins with all that it has learnt and read.
@@ -29,9 +29,9 @@ impl Model for QuantReader {
     ghost Value = { Learnt };
 
     ghost view = { λ r. record {
-        k = slice_index (Sides.view r.reader.place) 0;
-        key = slice_index (Sides.view r.reader.place) 1;
-        known = r.known;
+      k = slice_index (Sides.view r.reader.place) 0;
+      key = slice_index (Sides.view r.reader.place) 1;
+      known = r.known;
     } };
 
     ghost invariant = { λ r. Sides.view r.reader.place ≡ slice_index (Sides.view r.reader.place) 0
@@ -90,9 +90,10 @@ impl QuantReader {
         let (known, rank) = replace_with(
             &mut self.reader,
             x,
-            |reader: Reader<Version, About, Versions>,
-             x: u64|
-             -> (Reader<Version, About, Versions>, Option<(Known, Rank)>)
+            |reader: Reader<Version, About, Versions>, x: u64| -> (
+                Reader<Version, About, Versions>,
+                Option<(Known, Rank)>,
+            )
                 ensures { IsEntry x (view reader.place) (view result.0.place) result.1 }
             { entered(reader, x) },
         )?;

@@ -10,13 +10,13 @@ use crate::history::{History, Known};
 use crate::reader::QuantReader;
 use crate::rule::{About, Other, Publishes, Twice, Versions};
 use crate::version::{Batch, Version};
+use core::mem::replace_with;
 use left_right::reader::Reader;
 use left_right::writer::Writer;
 use sk_model::OutOfMemory;
 use sk_quant::Quant;
 use std::alloc::Global;
 use std::marker::Model;
-use core::mem::replace_with;
 use std::sync::Wait;
 
 // A refused batch is kept, since the history has it already. Until it is merged no other is taken.
@@ -119,7 +119,10 @@ fn give<W: Wait>(
 fn paired<W: Wait>(
     writer: Writer<Version, Batch, About, Versions>,
     rt: &W,
-) -> (Writer<Version, Batch, About, Versions>, Result<Reader<Version, About, Versions>, OutOfMemory>)
+) -> (
+    Writer<Version, Batch, About, Versions>,
+    Result<Reader<Version, About, Versions>, OutOfMemory>,
+)
     requires pending { drop writer.behind writer.log.items ≡ [] }
     ensures pending { drop result.0.behind result.0.log.items ≡ [] }
     ensures shown { result.0.desk.shown.value ≡ writer.desk.shown.value }
@@ -198,7 +201,7 @@ impl<R: Wait + Drop> VersionedQuant<R> {
         from: u32,
         items: &[u64],
     ) -> Result<(), OutOfMemory>
-        requires room { length (items_in self.old.known) + length items.now ≤ most_items }
+        requires room { length (entries_in self.old.known) + length items.now ≤ most_items }
         ensures entries { IfOk result (λ _. entries_in self.new.known
             ≡ entries_in self.old.known ++ tagged from items.now) }
         ensures refused { IfErr result (λ _. self.new ≡ self.old) }
@@ -207,13 +210,21 @@ impl<R: Wait + Drop> VersionedQuant<R> {
         ensures name { self.new.known.book ≡ self.old.known.book }
     {
         let known = &self.writer.published().known;
-        let batch = next_batch(self.alloc, &self.history, known, &mut self.refused, from, items)?;
+        let batch = next_batch(
+            self.alloc,
+            &self.history,
+            known,
+            &mut self.refused,
+            from,
+            items,
+        )?;
         let given = replace_with(
             &mut self.writer,
             batch,
-            |writer: Writer<Version, Batch, About, Versions>,
-             batch: Batch|
-             -> (Writer<Version, Batch, About, Versions>, Result<(), Batch>)
+            |writer: Writer<Version, Batch, About, Versions>, batch: Batch| -> (
+                Writer<Version, Batch, About, Versions>,
+                Result<(), Batch>,
+            )
                 requires takes { CanTake writer.desk.shown.value (drop writer.behind writer.log.items) batch }
                 ensures taken { HasTaken writer.desk.shown.value result.0.desk.shown.value
                     (drop result.0.behind result.0.log.items) batch result.1 }

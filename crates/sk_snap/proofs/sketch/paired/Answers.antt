@@ -1,6 +1,5 @@
-use Rattle.std.proofs.Common.{◌≡◌, ap, sym, ◌∙◌, fold, List}
-use Rattle.sk_snap.specs.Versions.{IsVersion, about, with_batch}
-use Rattle.sk_snap.specs.declared.version.Version.{Version}
+use Rattle.std.proofs.Common.{◌≡◌, ap, ◌∙◌, fold, List}
+use Rattle.sk_snap.specs.Versions.{with_batch}
 use Rattle.sk_snap.specs.declared.version.Batch.{Batch}
 use Rattle.sk_snap.proofs.Rules.{admits, forks, merges, publishes_same}
 use Rattle.sk_snap.proofs.sketch.paired.Goals as goal

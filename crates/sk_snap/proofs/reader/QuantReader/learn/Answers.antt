@@ -1,8 +1,4 @@
-use Rattle.std.proofs.Common.{◌≡◌, List, ap, subst}
-use Rattle.sk_model.specs.Entries.{Entry}
-use Rattle.sk_model.specs.Missing.{Begins}
-use Rattle.sk_snap.specs.History.{Beginning, entries_in, joined}
-use Rattle.sk_snap.specs.Versions.{Learnt}
+use Rattle.sk_snap.specs.History.{entries_in, joined}
 use Rattle.sk_snap.proofs.Beginnings.{begins_trans}
 use Rattle.sk_snap.proofs.Versions.{begins_joined}
 use Rattle.sk_snap.proofs.reader.QuantReader.learn.Goals as goal

@@ -2,7 +2,7 @@ use Rattle.std.proofs.Common.{◌≡◌, ◌∷◌, ℕ, List, slice_index, refl
 use Rattle.left_right.specs.Sides.{view}
 use Rattle.logbook.specs.Pages.{Book}
 use Rattle.sk_snap.specs.History.{Beginning, name_of}
-use Rattle.sk_snap.specs.Versions.{Learnt, IsRank, items_in}
+use Rattle.sk_snap.specs.Versions.{Learnt}
 use Rattle.sk_snap.proofs.reader.QuantReader.look.Goals as goal
 
 pub advance-requires : goal.advance-requires

@@ -9,5 +9,5 @@ pub returns-clause-entries : goal.returns-clause-entries
 returns-clause-entries g c =
     let now = c.self.inside.writer.desk.shown.value in
     let many : c.len.result ≡ length (items_in now.known) =
-        rw (c.published.ensures) at (c.len.ensures.value) (items_in now.known) c.self.invariant.0 in
+    rw (c.published.ensures) at (c.len.ensures.value) (items_in now.known) c.self.invariant.0 in
     many ∙ as_many (entries_in now.known) ∙ ap (λ (v : Version). length (entries_in v.known)) c.self.view_is

@@ -1,6 +1,6 @@
-use Rattle.std.proofs.Common.{◌≡◌, [], ap, sym, subst, ◌∙◌, drop}
-use Rattle.sk_snap.specs.History.{length_word, Beginning}
-use Rattle.sk_snap.specs.Versions.{IsVersion, items_in}
+use Rattle.std.proofs.Common.{◌≡◌, ap, sym, subst, ◌∙◌}
+use Rattle.sk_snap.specs.History.{length_word}
+use Rattle.sk_snap.specs.Versions.{IsVersion}
 use Rattle.sk_snap.specs.declared.version.Version.{Version}
 use Rattle.sk_snap.proofs.Rules.{begins_published}
 use Rattle.sk_snap.proofs.Versions.{empty_is_version}
