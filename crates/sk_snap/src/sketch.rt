@@ -141,6 +141,7 @@ fn paired<W: Wait>(
 
 impl<R: Wait + Drop> VersionedQuant<R> {
     /// The sketch of the empty list, with these coins, and its reader.
+    #[tactic(auto, unfolding(crate::specs::History::joined))]
     pub fn new(
         alloc: Global,
         rt: R,
@@ -152,7 +153,8 @@ impl<R: Wait + Drop> VersionedQuant<R> {
         requires key { key < key_end }
         ensures k { IfOk result (λ made. (made.0.quant.k ≡ k) × (made.1.k ≡ k)) }
         ensures key { IfOk result (λ made. (made.0.quant.key ≡ key) × (made.1.key ≡ key)) }
-        ensures empty { IfOk result (λ made. (made.0.known.batches ≡ []) × (made.1.known.batches ≡ [])) }
+        ensures list { IfOk result (λ made. entries_in made.0.known ≡ []) }
+        ensures learnt { IfOk result (λ made. entries_in made.1.known ≡ []) }
         ensures name { IfOk result (λ made. made.1.known.book ≡ made.0.known.book) }
     {
         let first = Quant::new(alloc, k, key)?;
