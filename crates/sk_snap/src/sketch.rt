@@ -19,12 +19,12 @@ use std::alloc::Global;
 use std::marker::Model;
 use std::sync::Wait;
 
-// A refused batch is kept, since the history has it already. Until it is merged no other is taken.
 /// A quantiles sketch that readers see by versions: each merge of a batch publishes one. It keeps the
 /// runtime, since its end waits for a reader that is inside a call.
 pub struct VersionedQuant<R: Wait + Drop> {
     writer: Writer<Version, Batch, About, Versions>,
     history: History,
+    // The history has it already, so no other is taken until it is merged.
     refused: Option<Batch>,
     alloc: Global,
     rt: R,

@@ -1,7 +1,7 @@
-ghost use Rattle.std.specs.Prelude.{◌≡◌, ◌+◌, ◌<◌, ◌≤◌, [], length, IfOk};
+ghost use Rattle.std.specs.Prelude.{◌≡◌, ◌<◌, ◌≤◌, IfOk};
 ghost use Rattle.sk_model.specs.Width.{IsItem, AreItems};
 ghost use Rattle.sk_quant.specs.Limits.{least_quantile_k, most_quantile_k, key_end};
-ghost use Rattle.sk_snap.specs.History.{entries_in};
+ghost use Rattle.sk_snap.specs.History.{name_of};
 
 use super::*;
 use sk_compose::{Buffer, Composable};
@@ -25,15 +25,15 @@ fn merge_two<R: Wait + Drop, W: Wait + Abort>(
 ) -> Result<Known, OutOfMemory>
     requires first { IsItem first }
     requires second { IsItem second }
-    ensures told { IfOk result (λ told. told ≡ sketch.new.known) }
-    ensures name { IfOk result (λ _. sketch.new.known.book ≡ sketch.old.known.book) }
+    ensures told { IfOk result (λ told. name_of told.book ≡ name_of sketch.old.known.book) }
+    ensures name { IfOk result (λ _. name_of sketch.new.known.book ≡ name_of sketch.old.known.book) }
 {
     assert!(rt; sketch.len() < 1_000);
     let mut batch = Buffer::new(alloc, 2)?;
     batch.push(first);
     batch.push(second);
-    sketch.merge_items(rt, 0, batch.items())?;
-    Ok(sketch.known())
+    Composable::merge(sketch, rt, 0, &batch)?;
+    Ok(Composable::told(sketch))
 }
 
 // Merges two batches of two items, reads below a number after each, and expects these ranks.
@@ -118,7 +118,7 @@ fn write<R: Wait + Drop, W: Wait + Abort>(
     alloc: Global,
     mut sketch: VersionedQuant<R>,
 ) -> Result<(VersionedQuant<R>, Known), OutOfMemory>
-    ensures told { IfOk result (λ r. r.1.book ≡ sketch.known.book) }
+    ensures told { IfOk result (λ r. name_of r.1.book ≡ name_of sketch.known.book) }
 {
     merge_two(rt, alloc, &mut sketch, 1, 2)?;
     let told = merge_two(rt, alloc, &mut sketch, 3, 4)?;
