@@ -121,7 +121,8 @@ impl Known {
         }
     }
 
-    /// Takes the other in its place where it begins that, and answers whether it does. Both are of one history.
+    /// Takes the other in its place where it begins that, and answers whether it does. Both are of
+    /// one history.
     pub fn advance(&mut self, to: &Known) -> bool
         requires history { to.now.book ≡ self.old.book }
         ensures taken { IsTrue result → self.new ≡ to.now }
@@ -178,7 +179,8 @@ impl History {
         requires turns { turns ≡ length seen.old.log }
         requires room { turns < 2 ^ 64 - 1 }
         ensures book { seen.new.book ≡ seen.old.book }
-        ensures added { IsTrue result → seen.new.log ≡ seen.old.log ++ tagged asked.now.from asked.now.items.now ∷ [] }
+        ensures added { IsTrue result → seen.new.log
+            ≡ seen.old.log ++ tagged asked.now.from asked.now.items.now ∷ [] }
     {
         let mut offer: Offer<Entries, u64, Counted, Nothing> = seen.plain::<Nothing, Asked, Add>(
             asked,

@@ -13,7 +13,8 @@ use left_right::reader::Reader;
 use std::marker::Model;
 use std::sync::Wait;
 
-/// Reads ranks of the versions that are published, each over a list that begins with all that it has learnt and read.
+/// Reads ranks of the versions that are published, each over a list that begins with all that it has
+/// learnt and read. Once its sketch is gone a call waits for ever.
 #[derive(Drop)]
 pub struct QuantReader {
     reader: Reader<Version, About, Versions>,
@@ -61,7 +62,8 @@ impl QuantReader {
         self.read(rt, 0);
     }
 
-    /// The rank of a number in a list that begins with all that was learnt and read, and is known from then on.
+    /// The rank of a number in a list that begins with all that was learnt and read, and is known
+    /// from then on.
     pub fn read<R: Wait>(&mut self, rt: &R, x: u64) -> Rank
         ensures rank { IsRank x self.old.k self.old.key (items_in self.new.known)
             result.n result.below result.within }
@@ -80,8 +82,8 @@ impl QuantReader {
 
     // One entry. It gives nothing where the version is older than what is known, or there is none.
     fn look(&mut self, x: u64) -> Option<Rank>
-        ensures rank { IfSome result (λ rank. IsRank x self.old.k self.old.key (items_in self.new.known)
-            rank.n rank.below rank.within) }
+        ensures rank { IfSome result (λ rank. IsRank x self.old.k self.old.key
+            (items_in self.new.known) rank.n rank.below rank.within) }
         ensures begins { Begins self.old.known.batches self.new.known.batches }
         ensures k { self.new.k ≡ self.old.k }
         ensures key { self.new.key ≡ self.old.key }

@@ -23,8 +23,8 @@ pub struct Batch {
     pub(crate) known: Known,
 }
 
-/// A rank, and the list that it is over: how many items it has, how many of them are below a number,
-/// and by how much that may be off.
+/// A rank: how many items the list has, how many of them are below a number, and by how much that
+/// may be off.
 #[derive(Clone, Copy, Debug, PartialEq, Eq)]
 pub struct Rank {
     pub n: u64,
