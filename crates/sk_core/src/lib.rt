@@ -13,6 +13,3 @@ pub use answer::push_answer;
 pub use event::{Answer, Event, NotEnabled};
 pub use state::State;
 pub use text::{read_event, read_machine, read_vacant};
-
-#[cfg(test)]
-mod tests;

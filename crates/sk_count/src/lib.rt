@@ -17,6 +17,3 @@ pub use numbers::Numbers;
 pub use plan::Plan;
 pub use remains::Remains;
 pub use sk_read::{Fault, Kind};
-
-#[cfg(test)]
-mod tests;

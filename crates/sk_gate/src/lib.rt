@@ -19,6 +19,3 @@ pub use seat::{HeartSeat, OfHeart, OfUpdater, Propagator, Role, UpdaterSeat};
 pub use sk_model::OutOfMemory;
 pub use start::{Made, make};
 pub use token::{NoteSeat, TokenSeat};
-
-#[cfg(test)]
-mod tests;

@@ -14,6 +14,3 @@ pub use opened::{Opened, open, open_sized};
 pub use sk_model::OutOfMemory;
 pub use token::{Note, Token};
 pub use updater::Updater;
-
-#[cfg(test)]
-mod tests;

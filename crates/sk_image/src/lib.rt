@@ -17,6 +17,3 @@ pub use reader::read;
 pub use sk_model::OutOfMemory;
 pub use stop::ReadStop;
 pub use writer::{WriteStop, write};
-
-#[cfg(test)]
-mod tests;

@@ -1,6 +1,5 @@
 -- Units that go to one updater at once.
-use Rattle.std.proofs.Common.{◌≡◌, ◌≢◌, ◌==◌, inl, inr, ℕ, ◌+◌, ◌<◌, ◌≤◌, Bool, true, false, List, [], ◌∷◌, ◌++◌, length, get_or, set, Option, Some, IsSome, Result, All, sym, ap, refl, ◌∙◌, subst, arith, append-nil, length-append}
-use Rattle.std.specs.List.{range_with_len}
+use Rattle.std.proofs.Common.{◌≡◌, ◌≢◌, ◌==◌, inl, inr, ℕ, ◌+◌, ◌<◌, ◌≤◌, Bool, true, false, List, [], ◌∷◌, ◌++◌, length, get_or, set, Option, Some, IsSome, Result, All, sym, ap, refl, ◌∙◌, subst, arith, append-nil}
 use Rattle.std.proofs.lemmas.Bool.{false≢true, eqb-false}
 use Rattle.std.proofs.lemmas.List.{get_or-set_same, get_or_read}
 use Rattle.std.proofs.lemmas.List.Elements.{All-nil, All-push}
@@ -25,8 +24,8 @@ use Rattle.sk_ingest.proofs.Items.{items_append, one_item, no_item}
 use Rattle.sk_ingest.proofs.Shares.{share_one}
 use Rattle.sk_ingest.proofs.Updaters.{none_refl, takes_none, takes_trans}
 use Rattle.sk_ingest.proofs.Cutting.{no_units, unit_left, unit_fills}
-use Rattle.sk_ingest.proofs.HubLaws.{heart_waits, heart_goes, hub_fed, few_left, few_fed, no_window}
-use Rattle.sk_ingest.proofs.Ingestion.{reads_by, one_unit_more, no_windows, reported_next, place_is}
+use Rattle.sk_ingest.proofs.HubLaws.{heart_goes, hub_fed, few_left, few_fed, no_window}
+use Rattle.sk_ingest.proofs.Ingestion.{reads_by, one_unit_more, no_windows, reported_next}
 
 -- ---- one updater
 

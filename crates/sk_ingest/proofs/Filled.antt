@@ -1,18 +1,21 @@
 -- A window that is filled with the lines of a source.
-use Rattle.std.proofs.Common.{◌≡◌, ℕ, ◌+◌, ◌≤◌, List, [], ◌∷◌, ◌++◌, length, take, Bool, true, false, Option, All, sym, ap, ◌∙◌, subst, arith, append_assoc, length-append}
+use Rattle.std.proofs.Common.{◌≡◌, ◌≢◌, ℕ, ◌+◌, ◌≤◌, List, [], ◌∷◌, ◌++◌, length, take, Bool, true, false, Option, Result, Ok, Err, OnOk, IfErr, All, sym, ap, ◌∙◌, subst, arith, append_assoc, length-append}
 use Rattle.std.specs.Io.KnownBytes.{Consumes}
 use Rattle.std.proofs.KnownBytes.{Consumes-trans}
 use Rattle.std.proofs.lemmas.List.{take_all}
 use Rattle.std.proofs.lemmas.List.Elements.{All-push}
-use Rattle.sk_model.specs.Limits.{line_limit, source_limit, most_kept}
+use Rattle.sk_model.specs.Limits.{line_limit, most_kept}
 use Rattle.sk_read.specs.Items.{IsGood}
-use Rattle.sk_read.specs.Reading.{Reading, HasRead}
+use Rattle.sk_model.proofs.Missing.{begins_more}
+use Rattle.sk_read.specs.Reading.{Reading, HasRead, GoesHeld}
+use Rattle.sk_read.specs.Units.{complete_units_of}
+use Rattle.sk_read.specs.declared.reader.LineFault.{LineFault}
 use Rattle.sk_read.specs.Reads.{IsInTime}
 use Rattle.sk_read.specs.declared.kind.Kind.{Kind}
 use Rattle.sk_read.specs.declared.units.Units.TheVariants.{Lines}
 use Rattle.sk_read.proofs.ItemLaws.{has_few, last_within}
 use Rattle.sk_ingest.specs.Windows.{WindowState, fills, is_full, FillsNone, IsFullWindow}
-use Rattle.sk_ingest.specs.Fills.{ReadsLine}
+use Rattle.sk_ingest.specs.Fills.{ReadsLine, EndsWithLine}
 use Rattle.sk_ingest.proofs.Cutting.{one_full, one_unfilled}
 
 -- it was given by the second of two calls
@@ -67,3 +70,48 @@ now_unfilled w w' line tells unfilled most added told answer =
 
 pub still_good : (kind : Kind) (lines lines' : List (List ℕ)) (line : List ℕ) → All (IsGood kind) lines → IsGood kind line → lines' ≡ lines ++ line ∷ [] → All (IsGood kind) lines'
 still_good kind lines lines' line good one added = subst (All (IsGood kind)) (sym added) (All-push (IsGood kind) lines line good one)
+
+-- ---- the lines that a reader held
+
+-- the reader behind one that it held
+pub held_line : (r : Reading) (left : Option (List ℕ)) (given : List (List ℕ)) (taken : List ℕ) (result : Result Bool LineFault) → result ≡ Ok true → GoesHeld r left given taken result → HasRead r left (given ++ r.cutter.line ∷ []) taken
+held_line r left given taken result is goes = subst (GoesHeld r left given taken) is goes
+
+-- all lines given so far are in time where fewer were
+pub in_time_on : (given more : List (List ℕ)) (taken : List ℕ) → IsInTime Lines given taken → IsInTime Lines (given ++ more) taken
+in_time_on given more taken is = record {
+  front = is.front;
+  piece = is.piece;
+  joined = is.joined;
+  size = is.size;
+  sound = is.sound;
+  earlier = begins_more (complete_units_of Lines is.front) given more is.earlier;
+}
+
+-- the last of the lines that went on, where their reader stands behind it
+pub held_last : (r : Reading) (old new : Option (List ℕ)) (given lines lines' : List (List ℕ)) (taken more : List ℕ) → Consumes old new more → EndsWithLine lines lines' → IsInTime Lines (given ++ lines) (taken ++ more) → HasRead r new (given ++ lines') (taken ++ more)
+    → (front : List (List ℕ)) × (line : List ℕ) × (lines' ≡ front ++ line ∷ []) × ReadsLine r old new (given ++ front) line taken
+held_last r old new given lines lines' taken more consumed ends in_time read =
+    let front = ends.0 in
+    let line = ends.1 in
+    let begins = ends.3 in (
+      front,
+      line,
+      ends.2,
+      record {
+        more = more;
+        consumed = consumed;
+        read = subst (λ l. HasRead r new l (taken ++ more)) (ap (λ l. given ++ l) ends.2 ∙ sym (append_assoc given front (line ∷ []))) read;
+        in_time = subst (λ l. IsInTime Lines l (taken ++ more)) (append_assoc given lines begins.0 ∙ ap (λ l. given ++ l) (sym begins.1)) (in_time_on (given ++ lines) begins.0 (taken ++ more) in_time);
+      },
+    )
+
+-- what a call says of its result
+pub held_stopped : {E : Type 0} (r : Result Bool E) (why : E) (P : E → Type 0) → r ≡ Err why → IfErr r P → P why
+held_stopped r why P is p = subst (λ x. IfErr x P) is p
+
+pub held_on : {E : Type 0} (r : Result Bool E) (b : Bool) (P : Type 0) → r ≡ Ok b → OnOk r P → P
+held_on r b P is p = subst (λ x. OnOk x P) is p
+
+pub not_yet : {E : Type 0} (r : Result Bool E) → r ≡ Ok false → r ≢ Ok true
+not_yet r is = λ other. cc

@@ -1,5 +1,5 @@
 -- Handles of one hub that go on.
-use Rattle.std.proofs.Common.{◌≡◌, ◌⊎◌, inl, inr, ⊎_elim, ℕ, ◌+◌, ◌<◌, ◌≤◌, Bool, List, [], ◌∷◌, ◌++◌, length, get_or, Option, IfSome, All, sym, ap, refl, ◌∙◌, subst, arith, length-append}
+use Rattle.std.proofs.Common.{◌≡◌, ◌⊎◌, inl, inr, ⊎_elim, ℕ, ◌+◌, ◌<◌, ◌≤◌, Bool, List, [], ◌∷◌, ◌++◌, length, get_or, sym, ap, refl, ◌∙◌, subst, arith, length-append}
 use Rattle.sk_model.specs.Entries.{Entry}
 use Rattle.sk_model.specs.Missing.{Begins}
 use Rattle.sk_model.specs.Limits.{most_kept}
@@ -8,7 +8,6 @@ use Rattle.sk_gate.specs.Views.{known_of, size_of}
 use Rattle.sk_hub.specs.Replies.{IsRelaxedReply}
 use Rattle.sk_hub.specs.Hearts.{HeartState}
 use Rattle.sk_hub.specs.Updaters.{UpdaterState, handed_of, kept_of}
-use Rattle.sk_hub.specs.Rounds.{KnowsAsMuch}
 use Rattle.sk_hub.proofs.Leaves.{knows_none, knows_trans}
 use Rattle.sk_read.specs.declared.kind.Kind.{Kind}
 use Rattle.sk_ingest.specs.Feeds.{Takes}

@@ -1,9 +1,9 @@
 -- Units that are fed to a hub, one after another.
-use Rattle.std.proofs.Common.{◌≡◌, ◌≢◌, ◌⊎◌, inl, inr, ℕ, ◌+◌, ◌<◌, ◌≤◌, Bool, true, false, List, [], ◌∷◌, ◌++◌, length, get_or, take, drop, slice_range, Option, Result, Ok, Err, OnOk, IfOk, IfErr, IsErrAnd, IfSome, IsSome, All, sym, ap, refl, ◌∙◌, subst, arith, append-nil, append_assoc, length-append}
+use Rattle.std.proofs.Common.{◌≡◌, ◌≢◌, inl, inr, ℕ, ◌+◌, ◌<◌, ◌≤◌, Bool, true, false, List, [], ◌∷◌, ◌++◌, length, get_or, take, Option, Result, Ok, Err, OnOk, IfOk, IfErr, IsErrAnd, sym, ap, refl, ◌∙◌, subst, arith, length-append}
 use Rattle.std.proofs.lemmas.List.{take_all}
 use Rattle.std.proofs.lemmas.List.Elements.{All-nil, All-push}
 use Rattle.sk_model.specs.Entries.{Entry}
-use Rattle.sk_read.specs.Items.{item_of, IsGood}
+use Rattle.sk_read.specs.Items.{IsGood}
 use Rattle.sk_read.specs.Reads.{Reads, ReadsAll, ReadsSome, BreaksOff, StopsAt, Ends}
 use Rattle.sk_read.specs.declared.fault.Fault.{Fault}
 use Rattle.sk_read.specs.declared.fault.Fault.TheVariants as fault
@@ -23,11 +23,10 @@ use Rattle.sk_read.proofs.ColumnLaws.{none_sound}
 use Rattle.sk_read.specs.declared.kind.Kind.{Kind}
 use Rattle.sk_hub.specs.Updaters.{UpdaterState}
 use Rattle.sk_ingest.specs.Windows.{fills, AreWindows, all_lines}
-use Rattle.sk_ingest.specs.Rounds.{block_of, TakeBlocks, HaveFew}
-use Rattle.sk_ingest.specs.Feeds.{Takes}
-use Rattle.sk_ingest.specs.Hubs.{Hub, IsHub, HeartGoesOn, IsLeft, FeedsWindow}
+use Rattle.sk_ingest.specs.Rounds.{HaveFew}
+use Rattle.sk_ingest.specs.Hubs.{Hub, IsHub, HeartGoesOn, IsLeft}
 use Rattle.sk_ingest.specs.Shares.{KeepsMore, KeepShares}
-use Rattle.sk_ingest.specs.Ingests.{Terms, terms_of, Feeds, IsReported, Reported, GoesThrough, Ingests, StopsAtReport, GoesSoFar, StopsAtUnit}
+use Rattle.sk_ingest.specs.Ingests.{Terms, terms_of, Feeds, IsReported, Reported, GoesThrough, Ingests, StopsAtReport, StopsAtUnit}
 use Rattle.sk_ingest.specs.Takers.{WindowsWent, StopsPassing}
 use Rattle.sk_ingest.specs.declared.report.Stop.{Stop}
 use Rattle.sk_ingest.specs.declared.report.Stop.TheVariants as stop

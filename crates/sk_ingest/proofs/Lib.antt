@@ -1,5 +1,4 @@
-pub mod Cuts
-pub mod Fields
+pub mod Spans
 pub mod Blocks
 pub mod Items
 pub mod Joined
@@ -15,5 +14,6 @@ pub mod Cutting
 pub mod HubLaws
 pub mod Ingestion
 pub mod Filled
+pub mod HeldLines
 pub mod WindowLaws
 pub mod AtOnceLaws

@@ -1,13 +1,13 @@
 -- Windows of lines that come full, one after another.
-use Rattle.std.proofs.Common.{◌≡◌, ◌≢◌, ℕ, ◌+◌, ◌<◌, ◌≤◌, List, [], ◌∷◌, ◌++◌, length, take, Option, Some, Result, Ok, Err, OnOk, IfErr, IsErrAnd, All, inl, refl, sym, ap, ◌∙◌, subst, arith, append-nil, append_assoc, length-append}
+use Rattle.std.proofs.Common.{◌≡◌, ℕ, ◌+◌, ◌≤◌, List, [], ◌∷◌, ◌++◌, length, Some, All, inl, refl, sym, ap, ◌∙◌, subst, arith, append-nil, length-append}
 use Rattle.std.proofs.lemmas.List.{take-append-le}
 use Rattle.std.proofs.lemmas.List.Elements.{All-append, All-pop}
 use Rattle.sk_model.specs.Limits.{most_kept}
-use Rattle.sk_read.specs.Items.{item_of, IsGood}
+use Rattle.sk_read.specs.Items.{IsGood}
 use Rattle.sk_read.specs.declared.fault.Fault.{Fault}
 use Rattle.sk_read.specs.declared.fault.Fault.TheVariants as fault
-use Rattle.sk_ingest.specs.Windows.{fills, FillsNone, IsFullWindow, AreWindows, all_lines}
-use Rattle.sk_ingest.specs.Rounds.{HaveRoom, HaveFew}
+use Rattle.sk_ingest.specs.Windows.{fills, FillsNone, IsFullWindow, all_lines}
+use Rattle.sk_ingest.specs.Rounds.{HaveRoom}
 use Rattle.sk_ingest.proofs.HubLaws.{few_room}
 use Rattle.sk_ingest.specs.Fills.{RefusesLine}
 use Rattle.sk_ingest.specs.Hubs.{Hub}

@@ -1,9 +1,11 @@
 -- What contracts see of a window, and the items of its lines.
-use Rattle.std.specs.Prelude.{◌≡◌, ℕ, ◌+◌, ◌<◌, ◌≤◌, ◌==◌, ◌||◌, nat_le, Bool, true, false, List, [], ◌∷◌, ◌++◌, length, take, slice_range, Option, None, filter_map, flat_map, All}
+use Rattle.std.specs.Prelude.{◌≡◌, ℕ, ◌+◌, ◌-◌, ◌<◌, ◌≤◌, ◌==◌, ◌||◌, nat_le, Bool, true, false, List, [], ◌∷◌, ◌++◌, length, take, drop, map, slice_range, Option, None, filter_map, flat_map, All}
 use Rattle.std.specs.List.{concat}
 use Rattle.sk_model.specs.Limits.{line_limit}
+use Rattle.sk_lines.specs.Cutter.{Cutter}
 use Rattle.sk_read.specs.Items.{item_of}
 use Rattle.sk_read.specs.declared.kind.Kind.{Kind}
+use Rattle.sk_ingest.specs.declared.marks.Span.{Span}
 
 pub record WindowState : Type 0 where
   pub lines : List (List ℕ)
@@ -59,29 +61,22 @@ items_in kind lines = filter_map (item_in kind) lines
 
 -- ---- its fields
 
--- the pieces of a text, from a place to the next
-unfoldable pub cut_from : ℕ → List ℕ → List ℕ → List (List ℕ)
-cut_from from [] text = []
-cut_from from (to ∷ more) text = slice_range text from to ∷ cut_from to more text
+-- the lines that lie in a text
+abbrev pub lines_at : List Span → List ℕ → List (List ℕ)
+lines_at spans text = map (λ span. slice_range text span.from span.to) spans
 
--- the pieces of a text between these places
-abbrev pub cut_at : List ℕ → List ℕ → List (List ℕ)
-cut_at [] text = []
-cut_at (from ∷ more) text = cut_from from more text
+-- a text, and behind it the bytes that a reader has given since, up to a place
+abbrev pub text_with : List ℕ → Cutter → Cutter → ℕ → List ℕ
+text_with text old new end = text ++ take (end - length text) (drop (length old.front) new.front)
 
--- the places rise, from one on to another
-unfoldable pub Rises : ℕ → List ℕ → ℕ → Type 0
-Rises from [] end = from ≡ end
-Rises from (to ∷ more) end = (from ≤ to) × Rises to more end
-
--- the places rise from 0 to the end of the text
-abbrev pub AreCuts : List ℕ → List ℕ → Type 0
-AreCuts [] text = ⊥
-AreCuts (from ∷ more) text = (from ≡ 0) × Rises from more (length text)
-
-pub record IsWindow (places bytes : List ℕ) (most : ℕ) : Type 0 where
-  pub cuts : AreCuts places bytes
+-- a window of lines that lie in a text
+pub record IsWindow (spans : List Span) (end size most : ℕ) (text : List ℕ) : Type 0 where
+  pub within : All (λ span. (span.from ≤ span.to) × (span.to ≤ length text)) spans
+  pub at_end : end ≡ length text
   pub least : 1 ≤ most
   pub highest : most ≤ most_lines
-  pub count : length places ≤ most + 1
-  pub size : length bytes ≤ full_bytes + line_limit
+  pub count : length spans ≤ most
+  pub total : size ≡ length (concat (lines_at spans text))
+  pub bytes : size ≤ full_bytes + line_limit
+  -- two bytes end a line at most
+  pub ends : length text ≤ size + (length spans + length spans)

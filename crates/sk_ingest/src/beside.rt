@@ -36,32 +36,42 @@ impl<C: Composable> Propagates for Heart<C> {
     ghost takes_memory = { λ h. IsTrue C.TAKES_MEMORY };
 
     fn propagate_on<R: Wait>(&mut self, rt: &R) -> Result<(), OutOfMemory> {
+        let backoff = Backoff::new();
         let mut idle = 0;
         'sweep: for _ in rt.forever() {
             if idle == MOST_IDLE {
                 return Ok(());
             }
-            idle = sweep_counting(rt, self, idle)?;
+            idle = sweep_counting(rt, self, idle, &backoff)?;
         }
         unreachable!()
     }
 }
 
-// Sweeps once, and counts how many sweeps in a row found nothing.
+// Sweeps once, and counts how many sweeps in a row found nothing. Behind such a one, and one that found another seat
+// at work, it waits.
 fn sweep_counting<C: Composable, R: Wait>(
     rt: &R,
     heart: &mut Heart<C>,
     idle: u32,
+    backoff: &Backoff,
 ) -> Result<u32, OutOfMemory>
     ensures heart { HeartGoesOn heart.old heart.new }
     ensures cause { OnErr result (IsTrue C.TAKES_MEMORY) }
 {
     match heart.sweep(rt) {
         Sweep::Swept(0) => {
-            Backoff::new().snooze();
+            backoff.snooze();
             Ok(idle.saturating_add(1))
         }
-        Sweep::Swept(_) | Sweep::Elsewhere(_) => Ok(0),
+        Sweep::Swept(_) => {
+            backoff.reset();
+            Ok(0)
+        }
+        Sweep::Elsewhere(_) => {
+            backoff.snooze();
+            Ok(0)
+        }
         Sweep::OutOfMemory => Err(OutOfMemory),
     }
 }

@@ -43,13 +43,16 @@ pub(crate) fn fill<S: Source>(
     ensures cause { HasCauseIn Fault.ReadFault (S.faults source.old) (S.faults source.new) result }
     ensures stays { S.stands_on source.new ≡ S.stands_on source.old }
 {
-    'line: while reader.next(source)? {
+    'piece: while reader.next(source)? {
         let line = reader.line();
         if !is_good(kind, line) {
             return Err(Fault::BadItem(reader.number()));
         }
         window.push(line)?;
         if window.is_full() {
+            return Ok(true);
+        }
+        if window.take_held(reader, kind)? {
             return Ok(true);
         }
     }

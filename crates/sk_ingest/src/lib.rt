@@ -9,9 +9,11 @@ mod feed;
 mod feeder;
 mod feeders;
 mod filling;
+mod held;
 mod ingesting;
 pub mod laws;
 mod line_windows;
+mod marks;
 mod report;
 mod turns;
 mod ways;
@@ -29,6 +31,3 @@ pub use sk_model::OutOfMemory;
 pub use sk_read::{Fault, Intake, Kind};
 pub use window::Window;
 pub use word::word_of_source;
-
-#[cfg(test)]
-mod tests;

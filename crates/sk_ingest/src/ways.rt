@@ -8,7 +8,7 @@ use crate::feeders::Feeders;
 use crate::turns::feed_in_turn;
 use crate::window::Window;
 use sk_compose::Composable;
-use sk_hub::Opened;
+use sk_hub::{Opened, Updater};
 use sk_model::OutOfMemory;
 use sk_model::limits::MOST_UPDATERS;
 use sk_read::Kind;
@@ -57,6 +57,14 @@ pub(crate) fn feeders_for<C: Composable, R: Threads>(
     Feeders::new(alloc, MOST_UPDATERS, threads as u32)
 }
 
+// Whether updaters propagate behind each item that they keep: at once they would only wait for one another.
+fn is_early<C: Composable>(updaters: &[Updater<C>]) -> bool {
+    match updaters.first() {
+        Some(updater) => updater.is_eager(),
+        None => false,
+    }
+}
+
 // Feeds a window to all updaters as `feed_window` does, but at once where that is faster.
 pub(crate) fn feed_at_once<C: Composable + Send, R: Threads + Wait + Sync>(
     rt: &R,
@@ -74,7 +82,10 @@ where
     ensures fed { OnOk result (FeedsWindow C.keeps_of C.hint_of kind window.now.lines (hub_of opened.old) (hub_of opened.new)) }
     ensures stays { feeders.new ≡ feeders.old }
 {
-    if window.len() < LEAST_AT_ONCE || feeders.threads() < 2 {
+    if window.len() < LEAST_AT_ONCE
+        || feeders.threads() < 2
+        || (!propagator && is_early(&opened.updaters))
+    {
         return feed_window(rt, opened, window, kind, propagator);
     }
     // It tells the proof how many updaters a hub has at most.

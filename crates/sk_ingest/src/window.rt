@@ -1,50 +1,48 @@
 //! A window: lines that are kept until they are fed.
-ghost use Rattle.std.specs.Prelude.{◌≡◌, ◌<◌, ◌≤◌, ◌++◌, ◌∷◌, ◌==◌, [], length, slice_index_or, false, OnOk, OnErr, IfOk, IfSome};
-ghost use Rattle.sk_ingest.specs.Windows.{most_lines, is_full, item_in};
+ghost use Rattle.std.specs.Prelude.{◌≡◌, ◌≢◌, ◌<◌, ◌≤◌, ◌++◌, ◌∷◌, ◌==◌, ℕ, List, [], length, slice_index_or, All, Option, Err, false, OnOk, OnErr, IfOk, IfSome};
+ghost use Rattle.sk_ingest.specs.Windows.{most_lines, is_full, item_in, FillsNone};
+ghost use Rattle.sk_ingest.specs.Fills.{TakesHeld};
 ghost use Rattle.sk_model.specs.Width.{IsItem};
+ghost use Rattle.sk_read.specs.Items.{IsGood};
+ghost use Rattle.sk_read.specs.Reading.{HasRead, remaining_of};
 
+use crate::held::mark_held;
+use crate::marks::Marks;
 use sk_model::OutOfMemory;
-use sk_read::{Kind, LINE_LIMIT};
+use sk_read::{Fault, Kind, LINE_LIMIT, LineReader};
 use std::alloc::Global;
 use std::marker::Model;
-
-// As many bytes of lines as this make a window full.
-const FULL_BYTES: usize = 67_108_864;
 
 /// The lines of a source, or the fields of a column, that are fed together.
 #[derive(Drop)]
 pub struct Window {
-    // its lines, one behind the other
-    bytes: Vec<u8>,
-    // where the first begins, and where each ends
-    places: Vec<u32>,
-    most: u32,
+    // its lines, one behind the other, each with what ended it or without
+    text: Vec<u8>,
+    marks: Marks,
 }
 
 impl Model for Window {
-    ghost use Rattle.sk_ingest.specs.Windows.{WindowState, cut_at, IsWindow};
+    ghost use Rattle.std.specs.Prelude.{◌≤◌, vec_capacity};
+    ghost use Rattle.sk_ingest.specs.Windows.{WindowState, lines_at, IsWindow};
 
     ghost Value = { WindowState };
 
-    ghost view = { λ w. record { lines = cut_at w.places.items w.bytes.items; most = w.most } };
+    ghost view = { λ w. record { lines = lines_at w.marks.spans.items w.text.items; most = w.marks.most } };
 
-    ghost invariant = { λ w. IsWindow w.places.items w.bytes.items w.most };
+    ghost invariant = { λ w. IsWindow w.marks.spans.items w.marks.end w.marks.size w.marks.most w.text.items × (w.marks.most ≤ vec_capacity w.marks.spans) };
 }
 
 impl Window {
-    /// A window of at most so many lines, from 1 to 1,000,000. Memory is taken as they come.
+    /// A window of at most so many lines, from 1 to 1,000,000. Memory for their bytes is taken as they come.
     pub fn new(alloc: Global, lines: u32) -> Result<Window, OutOfMemory>
         requires least { 1 ≤ lines }
         requires most { lines ≤ most_lines }
         ensures lines { IfOk result (λ w. w.lines ≡ []) }
         ensures most { IfOk result (λ w. w.most ≡ lines) }
     {
-        let mut places = Vec::new(alloc);
-        places.push(0)?;
         Ok(Window {
-            bytes: Vec::new(alloc),
-            places,
-            most: lines,
+            text: Vec::new(alloc),
+            marks: Marks::new(alloc, lines)?,
         })
     }
 
@@ -56,10 +54,30 @@ impl Window {
         ensures refused { OnErr result (self.new.lines ≡ self.old.lines) }
         ensures most { self.new.most ≡ self.old.most }
     {
-        self.places.reserve(1)?;
-        self.bytes.extend_from_slice(line)?;
-        self.places.push_reserved(self.bytes.len() as u32);
+        self.text.extend_from_slice(line)?;
+        self.marks.push(line.len());
         Ok(())
+    }
+
+    // Takes the lines that a reader holds until the window is full, and answers whether it is.
+    pub(crate) fn take_held(&mut self, reader: &mut LineReader, kind: Kind) -> Result<bool, Fault>
+        requires unfilled { FillsNone self.old.most self.old.lines }
+        requires good { All (IsGood kind) self.old.lines }
+        requires started { (left : Option (List ℕ)) × (given : List (List ℕ)) × (taken : List ℕ) × HasRead reader.old left (given ++ self.old.lines) taken }
+        ensures takes { TakesHeld kind self.new.most self.old.lines self.new.lines reader.old reader.new result }
+        ensures most { self.new.most ≡ self.old.most }
+        ensures cause { result ≢ Err Fault.ReadFault }
+        ensures remaining { remaining_of reader.new ≤ remaining_of reader.old }
+        ensures bound { reader.new.most ≡ reader.old.most }
+    {
+        self.text.reserve(reader.rest().len())?;
+        let from = reader.front().len();
+        let taken = mark_held(reader, &mut self.marks, &self.text, kind);
+        let len = self.marks.end - self.text.len();
+        self.text
+            .extend_from_slice(&reader.front()[from..from + len])
+            .unwrap();
+        taken
     }
 
     /// How many lines it has.
@@ -68,7 +86,7 @@ impl Window {
         ensures within { result ≤ self.now.most }
         ensures most { self.now.most ≤ most_lines }
     {
-        (self.places.len() - 1) as u32
+        self.marks.spans.len() as u32
     }
 
     pub fn is_empty(&self) -> bool
@@ -81,19 +99,21 @@ impl Window {
     pub fn is_full(&self) -> bool
         ensures { result ≡ is_full self.now }
     {
-        self.len() == self.most || self.bytes.len() >= FULL_BYTES
+        self.marks.is_full()
     }
 
     /// The line at a place, counted from 0.
+    #[inline]
     pub fn line(&self, i: u32) -> &[u8]
         requires { i < length self.now.lines }
         ensures { result.now ≡ slice_index_or self.now.lines i [] }
     {
-        let i = i as usize;
-        &self.bytes[self.places[i] as usize..self.places[i + 1] as usize]
+        let span = self.marks.spans[i as usize];
+        &self.text[span.from as usize..span.to as usize]
     }
 
     /// The item of the line at a place: none where it is empty, or has to spell a number and does not.
+    #[inline]
     pub fn item(&self, i: u32, kind: Kind) -> Option<u64>
         requires { i < length self.now.lines }
         ensures value { result ≡ item_in kind (slice_index_or self.now.lines i []) }
@@ -112,7 +132,7 @@ impl Window {
         ensures lines { self.new.lines ≡ [] }
         ensures most { self.new.most ≡ self.old.most }
     {
-        self.bytes.clear();
-        self.places.truncate(1);
+        self.text.clear();
+        self.marks.clear();
     }
 }

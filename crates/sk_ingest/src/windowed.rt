@@ -97,7 +97,7 @@ pub(crate) fn is_good(kind: Kind, unit: &[u8]) -> bool
 {
     match kind {
         Kind::Hash(_) => true,
-        Kind::Raw => unit.is_empty() || kind.item(unit).is_some(),
+        Kind::Raw => unit.is_empty() || kind.has_item(unit),
     }
 }
 

@@ -18,6 +18,7 @@ mod shelf;
 mod standard;
 mod stream;
 mod sure_source;
+mod words;
 
 pub use bounded::{BoundFault, read_within};
 pub use door::{Door, DoorFault};
@@ -34,6 +35,7 @@ pub use sk_model::OutOfMemory;
 pub use standard::{StdSink, StdSource};
 pub use stream::{Failed, Sink, Source, write_all};
 pub use sure_source::SureSource;
+pub use words::words_of;
 
 #[cfg(test)]
 mod tests;

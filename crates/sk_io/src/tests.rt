@@ -5,6 +5,7 @@ ghost use Rattle.sk_model.specs.Causes.{HasCause, Rose};
 ghost use Rattle.sk_io.specs.Files.{told_file, IsMissing};
 
 mod links;
+mod words;
 
 use super::*;
 use std::alloc::Global;

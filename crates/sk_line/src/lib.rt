@@ -18,6 +18,3 @@ pub use jobs::{Job, serve_links};
 pub use pumps::{NoPump, Pump};
 pub use requests::Request;
 pub use sessions::{End, session};
-
-#[cfg(test)]
-mod tests;

@@ -1,11 +1,12 @@
 -- Lemmas on numbers as decimal digits.
-use Rattle.std.proofs.Common.{◌≡◌, ℕ, zero, suc, ◌+◌, ◌-◌, ◌*◌, ◌/◌, ◌%◌, ◌^◌, ◌<◌, ◌≤◌, Bool, true, false, ◌&&◌, nat_lt, nat_le, cond, ◌⊎◌, inl, inr, List, [], ◌∷◌, ◌++◌, length, take, drop, get_or, Some, None, fold, decimal, refl, sym, ap, ◌∙◌, arith, take-append-drop, length-append, pow-suc, take-add, take_at, drop_at, lt-ltb, le-ltb, le-leb}
+use Rattle.std.proofs.Common.{◌≡◌, ℕ, zero, suc, ◌+◌, ◌-◌, ◌*◌, ◌/◌, ◌%◌, ◌^◌, ◌<◌, ◌≤◌, Bool, true, false, ◌&&◌, nat_lt, nat_le, cond, ◌⊎◌, inl, inr, List, [], ◌∷◌, ◌++◌, length, take, drop, get_or, Some, None, fold, decimal, refl, sym, ap, ◌∙◌, arith, take-append-drop, length-append, pow-suc, take-add, take_at, drop_at, lt-ltb, le-ltb, le-leb, true≢false, take_all}
 use borrow.Author.Tests.{lt-leb}
 use Rattle.std.specs.List.{list_all}
 use Rattle.std.specs.Char.{is_ascii_digit}
 use Rattle.std.proofs.lemmas.Fmt.{decimal_step, decimal_digit, length-decimal-le}
 use Rattle.std.proofs.lemmas.List.Sums.{fold-append, fold_more}
-use Rattle.std.proofs.lemmas.List.Folds.{list_all-append, list_all_more}
+use Rattle.std.proofs.lemmas.Bool.{cases_Bool, and_parts, leb-true}
+use Rattle.std.proofs.lemmas.List.Folds.{list_all-append, list_all_more, list_all_at}
 use Rattle.std.proofs.lemmas.List.{take-append-le}
 use Rattle.sk_lines.specs.Fractions.{fraction_text}
 use Rattle.sk_model.specs.Numbers.{value_of, number_of}
@@ -128,3 +129,37 @@ length_fraction n d = omega (arith, length-append (decimal n ++ 47 ∷ []) (deci
 pub fraction_parts : (n d : ℕ) → (decimal n ++ 47 ∷ []) ++ decimal d ≡ fraction_text n d
 unfolding fraction_text
 fraction_parts n d = refl
+
+-- ---- few digits
+
+digit_at : (bytes : List ℕ) (i : ℕ) → i < length bytes → list_all is_ascii_digit bytes ≡ true → get_or bytes i 0 - 48 ≤ 9
+digit_at bytes i in_bytes digits = elim (cases_Bool (is_ascii_digit (get_or bytes i 0))) [
+  | inl digit ↦ is_at_most (get_or bytes i 0) digit
+  | inr other ↦ absurd (true≢false (sym digits ∙ list_all_at is_ascii_digit bytes i 0 in_bytes other))
+]
+  where
+    is_at_most : (byte : ℕ) → is_ascii_digit byte ≡ true → byte - 48 ≤ 9
+    is_at_most byte digit = omega (arith, leb-true byte 57 (and_parts (nat_le 48 byte) (nat_le byte 57) digit).1)
+
+-- so many digits spell less than this power of ten
+value_below : (bytes : List ℕ) (n : ℕ) → n ≤ length bytes → list_all is_ascii_digit bytes ≡ true → value_of (take n bytes) < 10 ^ n
+value_below bytes zero within digits = omega (arith, value_of_none)
+value_below bytes (suc n) within digits =
+    let less = value_below bytes n (omega arith) digits in
+    let more = value_of_more bytes n (omega arith) in
+    let last = digit_at bytes n (omega arith) digits in
+    let next : suc n ≡ n + 1 = omega arith in
+    omega (arith, less, more, last, pow-suc 10 n, ap (λ (m : ℕ). value_of (take m bytes)) next)
+
+ten_power_rises : (k j : ℕ) → 10 ^ k ≤ 10 ^ (k + j)
+ten_power_rises k zero = let same : k + 0 ≡ k = omega arith in omega (arith, ap (λ (n : ℕ). 10 ^ n) same)
+ten_power_rises k (suc j) = let next : k + suc j ≡ suc (k + j) = omega arith in omega (arith, ten_power_rises k j, ap (λ (n : ℕ). 10 ^ n) next, pow-suc 10 (k + j))
+
+-- a few digits spell a number below an end that is at or above the power of ten
+pub few_digits : (end most : ℕ) (bytes : List ℕ) → 10 ^ most ≤ end → most ≤ length (decimal (end - 1)) → 0 < length bytes → length bytes ≤ most → list_all is_ascii_digit bytes ≡ true → Some (value_of bytes) ≡ number_of end bytes
+few_digits end most bytes high long some few digits =
+    let whole = ap value_of (take_all (length bytes) bytes (omega arith)) in
+    let less = value_below bytes (length bytes) (omega arith) digits in
+    let rises = ten_power_rises (length bytes) (most - length bytes) in
+    let same : length bytes + (most - length bytes) ≡ most = omega arith in
+    number_by_digits end bytes digits some (omega arith) (omega (arith, whole, less, rises, ap (λ (n : ℕ). 10 ^ n) same))

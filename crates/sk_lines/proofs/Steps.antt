@@ -1,5 +1,5 @@
 -- What a step of the reader does to the lines given.
-use Rattle.std.proofs.Common.{◌≡◌, ◌≢◌, ℕ, ◌+◌, ◌-◌, ◌<◌, ◌≤◌, ◌==◌, inr, ⊎_elim, le_refl, take_at, take-take, true≢false, Bool, true, false, cond, List, [], ◌∷◌, ◌++◌, length, take, drop, get_or, slice_index, refl, sym, ap, ◌∙◌, subst, arith, append_assoc, append-nil, length-append, length-take, length-drop, take-append-drop, get_or-take, get_or-drop, drop-drop, eqb-true}
+use Rattle.std.proofs.Common.{◌≡◌, ◌≢◌, ℕ, ◌+◌, ◌-◌, ◌<◌, ◌≤◌, ◌==◌, inr, ⊎_elim, le_refl, take_at, take-take, take-add, true≢false, Bool, true, false, cond, List, [], ◌∷◌, ◌++◌, length, take, drop, get_or, slice_index, refl, sym, ap, ◌∙◌, subst, arith, append_assoc, append-nil, length-append, length-take, length-drop, take-append-drop, get_or-take, get_or-drop, drop-drop, eqb-true}
 use Rattle.std.specs.Str.Lines.{strip_carriage_return}
 use Rattle.std.proofs.lemmas.List.{drop_more, drop-take, take_more, take_all, get_or_default, get_or_at}
 use Rattle.std.proofs.lemmas.Bool.{cases_lt}
@@ -208,10 +208,20 @@ not_nothing : (len place : ℕ) (ending : Ending) → EndsBy len place ending �
 not_nothing len place ending (by_cr_lf less is) = λ none. cc
 not_nothing len place ending (by_lf most is) = λ none. cc
 
+lf_byte : (text : List ℕ) (place : ℕ) → HasLfAt text place → slice_index text place ≡ 10
+lf_byte text place lf =
+    ap (λ (l : List ℕ). get_or l place 0) lf.split ∙ get_or_at (take place text) 10 (drop (place + 1) text) 0 place (omega (arith, length-take place text, lf.within))
+
+-- the bytes up to an LF, with it
+up_to_lf : (text line : List ℕ) (place : ℕ) (ending : Ending) → HasLfAt text place → Stripped (take place text) line → EndsBy (length line) (length (take place text)) ending → take (place + 1) text ≡ line ++ end_bytes ending
+up_to_lf text line place ending lf s e =
+    take_more text place 0 lf.within ∙ ap (λ (byte : ℕ). take place text ++ byte ∷ []) (lf_byte text place lf)
+    ∙ bytes_of (take place text) line [] ending s e ∙ append-nil (line ++ end_bytes ending)
+
 pub gives_line : (old new : Cutter) (place : ℕ) → HasLfAt old.rest place → new.limit ≡ old.limit → new.rest ≡ drop (place + 1) old.rest
     → new.number ≡ counted (old.number + 1) → new.line ≡ strip_carriage_return (take place old.rest) → length new.line ≤ old.limit
-    → EndsBy (length new.line) place new.ending → GivesLine old new
-gives_line old new place lf limit rest number line fits ends =
+    → EndsBy (length new.line) place new.ending → new.front ≡ old.front ++ take (place + 1) old.rest → GivesLine old new
+gives_line old new place lf limit rest number line fits ends front =
     let piece : List ℕ = take place old.rest in
     let size : length piece ≡ place = omega (arith, length-take place old.rest, lf.within) in
     let s : Stripped piece new.line = subst (Stripped piece) (sym line) (stripped piece) in
@@ -220,14 +230,13 @@ gives_line old new place lf limit rest number line fits ends =
       follows = follows_line old new place lf limit rest number line fits;
       number = number;
       bytes = lf.split ∙ bytes_of piece new.line (drop (place + 1) old.rest) new.ending s e ∙ ap (λ (l : List ℕ). new.line ++ end_bytes new.ending ++ l) (sym rest);
+      front = front ∙ ap (λ (l : List ℕ). old.front ++ l) (up_to_lf old.rest new.line place new.ending lf s e);
       ending = not_nothing (length new.line) place new.ending ends;
       shorter = omega (arith, ap length rest, length-drop (place + 1) old.rest, lf.within);
     }
 
 lf_stands : (text : List ℕ) (place : ℕ) → HasLfAt text place → ¬ HasNoLf text
-lf_stands text place lf none =
-    none place 0 lf.within
-    (ap (λ (l : List ℕ). get_or l place 0) lf.split ∙ get_or_at (take place text) 10 (drop (place + 1) text) 0 place (omega (arith, length-take place text, lf.within)))
+lf_stands text place lf none = none place 0 lf.within (lf_byte text place lf)
 
 pub sound_line : (old new : Cutter) (place : ℕ) → IsSound old → HasLfAt old.rest place → is_long old.last ≡ false → new.hungry ≡ old.hungry → new.ended ≡ old.ended → new.last ≡ Next.Line → IsSound new
 sound_line old new place sound lf going hungry ended last = record {
@@ -353,6 +362,13 @@ sound_fed c fed last going = record {
   ended_long = λ n long _. absurd (cc);
   ended = λ over _. absurd (true≢false (sym over ∙ going));
 }
+
+-- the text up to a place behind another
+pub front_more : (bytes : List ℕ) (at have end : ℕ) → at ≤ end → end < have → take (end + 1) bytes ≡ take at bytes ++ take (end - at + 1) (take (have - at) (drop at bytes))
+front_more bytes at have end from text =
+    let place : end + 1 ≡ at + (end - at + 1) = omega arith in
+    ap (λ (n : ℕ). take n bytes) place ∙ take-add at (end - at + 1) bytes
+    ∙ ap (λ (l : List ℕ). take at bytes ++ l) (sym (take-take (end - at + 1) (have - at) (drop at bytes) (omega arith)))
 
 -- an LF lies in the text and not in the block behind it
 pub lf_in_text : (bytes : List ℕ) (end n : ℕ) → slice_index bytes end ≡ 10 → ((i : ℕ) → n ≤ i + 64 → slice_index bytes i ≡ 0) → end + 64 < n

@@ -10,6 +10,8 @@ use Rattle.sk_lines.specs.declared.cutter.Next.TheVariants.{Line, More, Long}
 pub record Cutter : Type 0 where
   -- the most bytes of a line
   pub limit : ℕ
+  -- the bytes of the lines given since the last piece was fed, with what ended them
+  pub front : List ℕ
   -- the bytes fed that no line given has
   pub rest : List ℕ
   -- how many lines were given
@@ -67,6 +69,7 @@ pub record GivesLine (old new : Cutter) : Type 0 where
   pub follows : (given : List (List ℕ)) (text : List ℕ) → Follows old given text → Follows new (given ++ new.line ∷ []) text
   pub number : new.number ≡ counted (old.number + 1)
   pub bytes : old.rest ≡ new.line ++ end_bytes new.ending ++ new.rest
+  pub front : new.front ≡ old.front ++ (new.line ++ end_bytes new.ending)
   pub ending : new.ending ≢ Ending.Nothing
   pub shorter : length new.rest < length old.rest
 

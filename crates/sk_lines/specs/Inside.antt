@@ -14,6 +14,7 @@ most_piece = 65536
 abbrev pub cutter_of : Inside → Cutter
 cutter_of a = record {
   limit = a.limit;
+  front = take a.at a.buffer.items;
   rest = take (vec_len a.buffer - 64 - a.at) (drop a.at a.buffer.items);
   number = a.number;
   line = take (a.line_end - a.line_start) (drop a.line_start a.buffer.items);

@@ -109,6 +109,7 @@ impl Lines {
         requires not_ended { self.old.ended ≡ false }
         ensures follows { (given : List (List ℕ)) (text : List ℕ)
             → Follows self.old given text → Follows self.new given (text ++ piece.now) }
+        ensures front { self.new.front ≡ [] }
         ensures rest { self.new.rest ≡ self.old.rest ++ piece.now }
         ensures number { self.new.number ≡ self.old.number }
         ensures ending { self.new.ending ≡ self.old.ending }
@@ -140,6 +141,7 @@ impl Lines {
 
         // What was too long stays so, and behind the end there is nothing.
         ensures again { is_long self.old.last ≡ true → result ≡ self.old.last }
+        ensures front { result ≢ Next.Line → self.new.front ≡ self.old.front }
         ensures rest { result ≢ Next.Line → self.new.rest ≡ self.old.rest }
         ensures number { result ≢ Next.Line → self.new.number ≡ self.old.number }
         ensures ending { result ≢ Next.Line → self.new.ending ≡ self.old.ending }
@@ -193,6 +195,7 @@ impl Lines {
         ensures last { self.new.last ≡ result }
         ensures limit { self.new.limit ≡ self.old.limit }
         ensures ended { self.new.ended ≡ self.old.ended }
+        ensures front { self.new.front ≡ self.old.front }
         ensures rest { self.new.rest ≡ self.old.rest }
         ensures number { self.new.number ≡ self.old.number }
         ensures ending { self.new.ending ≡ self.old.ending }
@@ -218,6 +221,7 @@ impl Lines {
         ensures last { self.new.last ≡ result }
         ensures limit { self.new.limit ≡ self.old.limit }
         ensures ended { self.new.ended ≡ self.old.ended }
+        ensures front { self.new.front ≡ self.old.front }
         ensures rest { self.new.rest ≡ self.old.rest }
         ensures number { self.new.number ≡ self.old.number }
         ensures ending { self.new.ending ≡ self.old.ending }
@@ -277,6 +281,21 @@ impl Lines {
         ensures { result.now ≡ self.now.line }
     {
         &self.buffer[self.line_start..self.line_end]
+    }
+
+    /// The bytes of the lines that were given since the last piece was fed, with what ended them.
+    #[inline(always)]
+    pub fn front(&self) -> &[u8]
+        ensures { result.now ≡ self.now.front }
+    {
+        &self.buffer[..self.at]
+    }
+
+    /// The bytes that no line given has.
+    pub fn rest(&self) -> &[u8]
+        ensures { result.now ≡ self.now.rest }
+    {
+        &self.buffer[self.at..self.buffer.len() - BLOCK]
     }
 
     /// How many lines were given. The count stops at the largest `u64`.

@@ -1,5 +1,7 @@
 // Numbers, fractions and estimates as decimal text.
 ghost use Rattle.std.specs.Prelude.{◌≡◌, ◌+◌, ◌≤◌, ◌++◌, OnOk, OnErr, decimal, codes, length, take};
+ghost use Rattle.std.specs.List.{list_all};
+ghost use Rattle.std.specs.Char.{is_ascii_digit};
 ghost use Rattle.sk_model.specs.Numbers.{number_of};
 ghost use Rattle.sk_lines.specs.Fractions.{fraction_text, estimate_text, estimate_line};
 
@@ -23,6 +25,19 @@ pub fn read_number(bytes: &[u8], below: u64) -> Option<u64>
         value = value.checked_mul(10)?.checked_add(u64::from(*byte - b'0'))?;
     }
     if value < below { Some(value) } else { None }
+}
+
+/// Whether all bytes are digits.
+#[inline]
+pub fn are_digits(bytes: &[u8]) -> bool
+    ensures { result ≡ list_all is_ascii_digit bytes.now }
+{
+    let mut digits = true;
+    // no way out in the middle: such a loop is made of wide steps
+    'byte: for byte in bytes {
+        digits &= byte.is_ascii_digit();
+    }
+    digits
 }
 
 /// Appends `n/d`. Where there is no memory, the text stays.

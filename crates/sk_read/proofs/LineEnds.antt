@@ -83,6 +83,21 @@ module _ (Gave : List (List ℕ) → Type 0) (Stopped : Fault → List (List ℕ
     comes = inl (λ later. ((lines_of later, refl), All-nil (λ (l : List ℕ). length l ≤ line_limit)));
   })
 
+  -- no memory behind the lines given
+  pub no_memory : (r : Reading) (old left : Option (List ℕ)) (given : List (List ℕ)) (taken : List ℕ) → r.most ≡ most → Consumes old left taken → Gave given → HasRead r left given taken →
+      Ends Lines most Gave Stopped old left fault.OutOfMemory
+  no_memory r old left given taken is consumed gave read = inl (record {
+    given = given;
+    taken = taken;
+    consumed = consumed;
+    size = omega (arith, read.has.count, read.bound, is);
+    in_time = read.in_time;
+    known = gave;
+    comes = settled_so (λ (text : List ℕ). Begins given (lines_of text)) (λ (text : List ℕ). Begins given (lines_of text) × IsSoundUpTo Lines (length given) text) left taken
+        (λ text begins. (begins, subst (AreWithin line_limit) (sym (front_is given (lines_of text) begins)) (subst (λ (m : ℕ). AreWithin m given) read.limit read.has.within)))
+        (given_settled r left given taken read);
+  })
+
   -- no line came
   pub no_line : (r : Reading) (old left : Option (List ℕ)) (given : List (List ℕ)) (taken : List ℕ) (s : LineFault) → r.most ≡ most → Consumes old left taken → Gave given → Goes r left given taken (Err s) →
       Ends Lines most Gave Stopped old left (fault_by s)

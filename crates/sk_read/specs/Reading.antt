@@ -2,7 +2,7 @@
 use Rattle.std.specs.Prelude.{◌≡◌, ℕ, ◌+◌, ◌-◌, ◌<◌, ◌≤◌, Bool, true, false, List, [], ◌∷◌, ◌++◌, length, Option, Result, Ok, Err}
 use Rattle.std.specs.Str.Lines.{strip_carriage_return}
 use Rattle.sk_model.specs.Lines.{lines_of, open_lines_of, AreWithin, IsFirstLong}
-use Rattle.sk_lines.specs.Cutter.{Cutter, Follows, is_long, counted}
+use Rattle.sk_lines.specs.Cutter.{Cutter, Follows, end_bytes, is_long, counted}
 use Rattle.std.specs.Io.KnownBytes.{IsAtEnd}
 use Rattle.sk_model.specs.Missing.{Begins}
 use Rattle.sk_model.specs.Limits.{line_limit, source_limit}
@@ -78,6 +78,11 @@ pub record HasRead (r : Reading) (left : Option (List ℕ)) (given : List (List 
   pub few : r.most ≤ source_limit
   pub in_time : IsInTime Lines given taken
 
+-- a line was given of the bytes held: it lies where those given before it end
+pub record MovesOn (old new : Cutter) : Type 0 where
+  pub front : new.front ≡ old.front ++ (new.line ++ end_bytes new.ending)
+  pub rest : old.rest ≡ new.line ++ end_bytes new.ending ++ new.rest
+
 -- no line is too long so far in these bytes, and the lines that LF ended in them are these
 abbrev pub HaveEnded : List (List ℕ) → List ℕ → Type 0
 HaveEnded given taken = (complete_lines_of taken ≡ given) × AreWithin line_limit (open_lines_of taken)
@@ -90,3 +95,9 @@ Goes r left given taken (Err stop.ReadFault) = HaveEnded given taken × (length 
 Goes r left given taken (Err stop.TooMuch) = HaveEnded given taken × (length taken ≡ r.most)
 Goes r left given taken (Err (stop.LongLine n)) = (n ≡ length given + 1) × (length taken ≤ r.most) × IsInTime Lines given taken
     × IsSettled (λ text. Begins given (lines_of text) × IsFirstLong line_limit (length given) (lines_of text)) left taken
+
+-- how a call of `next_held` went
+abbrev pub GoesHeld : Reading → Option (List ℕ) → List (List ℕ) → List ℕ → Result Bool LineFault → Type 0
+GoesHeld r left given taken (Ok true) = HasRead r left (given ++ r.cutter.line ∷ []) taken
+GoesHeld r left given taken (Ok false) = HasRead r left given taken
+GoesHeld r left given taken (Err why) = Goes r left given taken (Err why)

@@ -1,11 +1,15 @@
 // How a line becomes an item.
-ghost use Rattle.std.specs.Prelude.{◌≡◌, ◌<◌, IfSome};
+ghost use Rattle.std.specs.Prelude.{◌≡◌, ◌<◌, ℕ, Some, is_some, IfSome, true};
+ghost use Rattle.sk_model.specs.Numbers.{number_of};
 ghost use Rattle.sk_read.specs.Items.{item_of};
-ghost use Rattle.sk_model.specs.Width.{IsItem};
+ghost use Rattle.sk_model.specs.Width.{IsItem, item_end};
 
 use sk_hash::hash48;
-use sk_lines::read_number;
+use sk_lines::{are_digits, read_number};
 use sk_theta::ITEM_END;
+
+// Any so many digits spell a number below the end of the items.
+const FEW_DIGITS: usize = 14;
 
 /// How a line that is not empty becomes an item.
 #[derive(Clone, Copy, Debug, PartialEq, Eq)]
@@ -28,4 +32,26 @@ impl Kind {
             Kind::Raw => read_number(line, ITEM_END),
         }
     }
+
+    /// Whether a line that is not empty has an item.
+    #[inline(always)]
+    pub fn has_item(self, line: &[u8]) -> bool
+        ensures { result ≡ is_some (item_of self line.now) }
+    {
+        match self {
+            Kind::Hash(_) => true,
+            Kind::Raw => is_short_number(line) || self.item(line).is_some(),
+        }
+    }
+}
+
+// Whether a line is of so few digits that they spell an item.
+#[inline(always)]
+fn is_short_number(line: &[u8]) -> bool
+    ensures { result ≡ true → (n : ℕ) × (number_of item_end line.now ≡ Some n) }
+{
+    if line.is_empty() || line.len() > FEW_DIGITS {
+        return false;
+    }
+    are_digits(line)
 }

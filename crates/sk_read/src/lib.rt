@@ -17,6 +17,3 @@ pub use kind::Kind;
 pub use reader::{LineFault, LineReader};
 pub use sk_model::limits::LINE_LIMIT;
 pub use units::{UnitTaker, Units, read_units};
-
-#[cfg(test)]
-mod tests;

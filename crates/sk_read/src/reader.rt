@@ -4,7 +4,7 @@ ghost use Rattle.std.specs.Io.KnownBytes.{Consumes, IsAtEnd, Keeps};
 ghost use Rattle.sk_model.specs.Causes.{HasCauseIn};
 ghost use Rattle.sk_model.specs.Lines.{lines_of};
 ghost use Rattle.sk_lines.specs.declared.cutter.Next.TheVariants as next;
-ghost use Rattle.sk_read.specs.Reading.{HasGiven, GivesLine, HasRead, Goes, Stands, IsLongNext, IsLongLast, Feeds, remaining_of};
+ghost use Rattle.sk_read.specs.Reading.{HasGiven, GivesLine, HasRead, Goes, GoesHeld, MovesOn, Stands, IsLongNext, IsLongLast, Feeds, remaining_of};
 ghost use Rattle.sk_model.specs.Limits.{source_limit};
 
 use sk_io::{BoundFault, Source, read_within};
@@ -113,6 +113,8 @@ impl LineReader {
         ensures hungry { result ≡ next.More → self.new.cutter.hungry ≡ true }
         ensures long { (n : ℕ) → result ≡ next.Long n → IsLongNext self.old n }
         ensures last { self.new.cutter.last ≡ result }
+        ensures moves { result ≡ next.Line → MovesOn self.old.cutter self.new.cutter }
+        ensures held { result ≢ next.Line → self.new.cutter.front ≡ self.old.cutter.front }
         ensures limit { self.new.cutter.limit ≡ self.old.cutter.limit }
         ensures ended { self.new.ended ≡ self.old.ended }
         ensures most { (self.new.most ≡ self.old.most) × (self.new.taken ≡ self.old.taken) }
@@ -173,13 +175,48 @@ impl LineReader {
         }
     }
 
-    /// The line that the last call of `next` gave.
+    /// Moves on to the next line of the bytes that were read, and answers `false` where these hold no
+    /// complete one: `next` reads on. After an error it is not used again.
+    #[inline]
+    pub fn next_held(&mut self) -> Result<bool, LineFault>
+        ensures goes { (left : Option (List ℕ)) (given : List (List ℕ)) (taken : List ℕ) → HasRead self.old left given taken → GoesHeld self.new left given taken result }
+        ensures holds { result ≡ Ok true → self.new.cutter.last ≡ next.Line }
+        ensures moves { result ≡ Ok true → MovesOn self.old.cutter self.new.cutter }
+        ensures held { result ≢ Ok true → self.new.cutter.front ≡ self.old.cutter.front }
+        ensures long { (result ≢ Err LineFault.ReadFault) × (result ≢ Err LineFault.TooMuch) }
+        ensures progress { result ≡ Ok true → remaining_of self.new < remaining_of self.old }
+        ensures remaining { remaining_of self.new ≤ remaining_of self.old }
+        ensures most { self.new.most ≡ self.old.most }
+    {
+        match self.cut() {
+            Next::Line => Ok(true),
+            Next::More => Ok(false),
+            Next::Long(line) => Err(LineFault::LongLine(line)),
+        }
+    }
+
+    /// The line that the last call of `next` or `next_held` gave.
     #[inline(always)]
     pub fn line(&self) -> &[u8]
         requires { self.now.cutter.last ≡ next.Line }
         ensures { result.now ≡ self.now.cutter.line }
     {
         self.lines.line()
+    }
+
+    /// The bytes of the lines that were given since the last read, with what ended them.
+    #[inline(always)]
+    pub fn front(&self) -> &[u8]
+        ensures { result.now ≡ self.now.cutter.front }
+    {
+        self.lines.front()
+    }
+
+    /// The bytes read that no line given has.
+    pub fn rest(&self) -> &[u8]
+        ensures { result.now ≡ self.now.cutter.rest }
+    {
+        self.lines.rest()
     }
 
     /// How many lines were given.

@@ -2,45 +2,12 @@
 #![tactic(auto)]
 
 use sk_cli::{BOARD_PLACES, Remains, board_of, run};
-use sk_io::{FileShelf, StdSink, StdSource};
+use sk_io::{FileShelf, StdSink, StdSource, words_of};
 use sk_watch::{Alarm, Watcher};
-use std::alloc::{AllocError, Global};
-use std::env::FillError;
 use std::io::writer;
 use std::process::ExitCode;
-use std::rt::Env;
 
 const OUT_OF_MEMORY: u8 = 1;
-
-// The word at a place of the command line, if there is one. A word that is no text is empty.
-fn word_at(rt: &impl Env, alloc: Global, place: usize) -> Result<Option<String>, AllocError> {
-    let mut bytes = Vec::new(alloc);
-    let mut room: usize = 256;
-    'grow: for _ in 0..usize::BITS {
-        bytes.resize(room, 0u8)?;
-        match rt.arg(place, &mut bytes) {
-            Ok(len) => {
-                bytes.truncate(len);
-                return Ok(Some(String::from_utf8(bytes).unwrap_or(String::new(alloc))));
-            }
-            Err(FillError::NotPresent) => return Ok(None),
-            Err(FillError::TooLong) => room = room.saturating_mul(2),
-        }
-    }
-    Err(AllocError)
-}
-
-// The words behind the program's name.
-fn words_of(rt: &impl Env, alloc: Global) -> Result<Vec<String>, AllocError> {
-    let mut words = Vec::new(alloc);
-    'words: for place in 1..usize::MAX {
-        match word_at(rt, alloc, place)? {
-            Some(word) => words.push(word)?,
-            None => break,
-        }
-    }
-    Ok(words)
-}
 
 fn main(rt: HostRuntime) -> ExitCode {
     let alloc = rt.alloc();
@@ -78,6 +45,3 @@ fn main(rt: HostRuntime) -> ExitCode {
         &mut remains,
     ))
 }
-
-#[cfg(test)]
-mod tests;

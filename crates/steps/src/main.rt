@@ -1,8 +1,9 @@
 //! Takes so many steps of a table with one updater, or updates of a sketch and of a hub, for `bench/steps` to
 //! time. The words are a kind (`asks`, `turns` or `exchanges`, `sketch` or `hub`) and a number; without words
-//! nothing is done.
+//! nothing is done. `lines 0` and `numbers 0` count the lines of the standard input by the sketch alone.
 #![tactic(auto)]
 
+mod direct;
 mod updates;
 
 ghost use Rattle.std.specs.Prelude.{◌≡◌, true, false, IfOk};
@@ -10,6 +11,8 @@ ghost use Rattle.sk_gate.specs.Views.{leads};
 
 use sk_compose::{Buffer, OutOfMemory, Parcel};
 use sk_gate::{HeartSeat, Made, TokenSeat, make};
+use sk_io::StdSource;
+use sk_read::Kind;
 use sk_theta::Theta;
 use std::alloc::Global;
 use std::env;
@@ -64,6 +67,15 @@ fn outcome(done: Result<(), OutOfMemory>) -> ExitCode {
     }
 }
 
+// How lines become items, where they are to be counted.
+fn kind_of(word: &str) -> Option<Kind> {
+    match word {
+        "lines" => Some(Kind::Hash(0)),
+        "numbers" => Some(Kind::Raw),
+        _ => None,
+    }
+}
+
 fn main(rt: HostRuntime) -> ExitCode {
     let alloc = rt.alloc();
     let Ok(mut words) = env::args(&rt) else {
@@ -73,6 +85,15 @@ fn main(rt: HostRuntime) -> ExitCode {
     let (Some(kind), Some(count)) = (words.next(), words.next()) else {
         return ExitCode::SUCCESS;
     };
+    if let Some(kind) = kind_of(kind.as_str()) {
+        let Ok((n, d)) = direct::count(alloc, kind, &mut StdSource::new(rt.stdin())) else {
+            return ExitCode::FAILURE;
+        };
+        return match println!(rt; "estimate {n}/{d}") {
+            Ok(()) => ExitCode::SUCCESS,
+            Err(_) => ExitCode::FAILURE,
+        };
+    }
     let (Ok(count), Ok(mut made)) = (count.parse::<u64>(), table(alloc)) else {
         return ExitCode::FAILURE;
     };

@@ -17,6 +17,8 @@ const FIXED: &str = "\
 | at 2 estimate 0/1;at 4 estimate 2/1;estimate 4/1; |
 | count --raw --k 8 --b 2 --updaters 1 --window 2 --eager no --propagator no | 1;2;3;4; | 0 \
 | at 2 estimate 0/1;at 4 estimate 0/1;estimate 4/1; |
+| count --raw --k 8 --b 2 --updaters 1 --window 2 --eager yes --propagator no | 1;2;3; | 0 \
+| at 2 estimate 2/1;estimate 3/1; |
 | count --raw --k 2 --b 1 --updaters 1 --window 3 --eager yes --propagator no | 5;4;3; | 0 \
 | at 3 estimate 281474976710656/5;estimate 281474976710656/4; |
 | count --raw --k 2 --b 2 --updaters 1 --window 3 --eager yes --propagator no | 5;4;3; | 0 \
@@ -51,7 +53,7 @@ const RELAXED: &str = "\
 
 #[test]
 fn interim_estimates(rt: HostRuntime) -> Result<(), Fail> {
-    check_rows(&rt, rt.alloc(), FIXED, 19)
+    check_rows(&rt, rt.alloc(), FIXED, 20)
 }
 
 #[test]

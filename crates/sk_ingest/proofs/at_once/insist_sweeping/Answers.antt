@@ -1,4 +1,4 @@
-use Rattle.std.proofs.Common.{◌<◌, [], ◌∷◌, length, ap, arith}
+use Rattle.std.proofs.Common.{[], ◌∷◌, length, ap, arith}
 use Rattle.sk_ingest.proofs.Updaters.{none_refl, none_trans, none_then_takes}
 use Rattle.sk_ingest.proofs.HubLaws.{heart_waits, heart_goes}
 use Rattle.sk_ingest.proofs.at_once.insist_sweeping.Goals as goal

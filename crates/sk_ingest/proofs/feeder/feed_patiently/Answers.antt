@@ -1,6 +1,5 @@
-use Rattle.std.proofs.Common.{◌+◌, ◌-◌, ◌≤◌, length, slice_range, ap, arith}
+use Rattle.std.proofs.Common.{length, slice_range, ap, arith}
 use Rattle.sk_model.specs.Limits.{most_kept}
-use Rattle.sk_hub.specs.Updaters.{kept_of}
 use Rattle.sk_ingest.specs.Windows.{items_in}
 use Rattle.sk_ingest.proofs.Updaters.{takes_then_none, on_err}
 use Rattle.sk_ingest.proofs.Feeding.{no_line, parts_add_up, room_then}

@@ -1,4 +1,4 @@
-use Rattle.std.proofs.Common.{◌≡◌, length, drop, map, sym, ap, subst, ◌∙◌, arith}
+use Rattle.std.proofs.Common.{◌≡◌, length, drop, map, sym, ap, subst, arith}
 use Rattle.std.proofs.lemmas.List.{take_at}
 use Rattle.sk_ingest.specs.Rounds.{TakeBlocks, TakeFronts}
 use Rattle.sk_ingest.proofs.Rounds.{ok_then, err_then}

@@ -5,8 +5,8 @@ use Rattle.sk_read.specs.Reading.{HasRead, remaining_of}
 use Rattle.sk_ingest.specs.Windows.{FillsNone}
 use Rattle.sk_ingest.proofs.filling.fill.Given as goal
 
-abbrev pub invariant-line : goal.invariant-line
-invariant-line g l = record {
+abbrev pub invariant-piece : goal.invariant-piece
+invariant-piece g l = record {
   unfilled : FillsNone l.window.most l.window.lines;
   good : All (IsGood l.kind) l.window.lines;
   most : l.window.most ≡ l.initial.window.most;
@@ -18,5 +18,5 @@ invariant-line g l = record {
   stays : g.S.Source.stands_on l.source ≡ g.S.Source.stands_on l.initial.source;
 }
 
-abbrev pub decreases-line : goal.decreases-line
-decreases-line g l = remaining_of l.reader
+abbrev pub decreases-piece : goal.decreases-piece
+decreases-piece g l = remaining_of l.reader

@@ -1,4 +1,4 @@
-use Rattle.std.proofs.Common.{[], inl}
+use Rattle.std.proofs.Common.{inl}
 use Rattle.sk_read.specs.Units.{units_by}
 use Rattle.sk_read.specs.Reads.{Ends}
 use Rattle.sk_ingest.specs.Hubs.{hub_of}

@@ -1,4 +1,4 @@
-use Rattle.std.proofs.Common.{[], sym, subst, refl, inl, inr}
+use Rattle.std.proofs.Common.{[], refl, inl, inr}
 use Rattle.sk_read.specs.declared.fault.Fault.TheVariants as fault
 use Rattle.sk_read.specs.Units.{units_by}
 use Rattle.sk_ingest.specs.Hubs.{hub_of}

@@ -1,8 +1,6 @@
 use Rattle.std.proofs.Common.{◌≡◌, ◌≤◌, ◌+◌, ℕ, List, [], ◌∷◌, ◌++◌, length, Bool, true, false, Result, Ok, Some, OnOk, All, refl, sym, ap, ◌∙◌, subst, arith, length-append}
-use Rattle.std.specs.Io.KnownBytes.{Consumes}
 use Rattle.std.proofs.KnownBytes.{Consumes-nil, Consumes-trans}
 use Rattle.std.proofs.lemmas.List.Elements.{All-pop}
-use Rattle.sk_read.specs.Faults.{IsOfTaker}
 use Rattle.sk_read.specs.Items.{IsGood}
 use Rattle.sk_read.specs.Reads.{Reads, ReadsAll, Ends}
 use Rattle.sk_read.specs.Units.{units_by}

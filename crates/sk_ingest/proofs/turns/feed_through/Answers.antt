@@ -1,4 +1,4 @@
-use Rattle.std.proofs.Common.{◌+◌, ◌-◌, ◌≤◌, length, slice_range, subst, arith}
+use Rattle.std.proofs.Common.{slice_range, subst, arith}
 use Rattle.sk_model.specs.Limits.{most_kept}
 use Rattle.sk_ingest.specs.Windows.{items_in}
 use Rattle.sk_ingest.specs.Feeds.{Takes}

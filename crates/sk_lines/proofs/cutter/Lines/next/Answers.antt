@@ -1,4 +1,4 @@
-use Rattle.std.proofs.Common.{◌≡◌, ℕ, ◌+◌, ◌-◌, ◌≤◌, false, true≢false, List, length, take, drop, vec_len, refl, sym, ap, ◌∙◌, subst, arith, take-take, length-take}
+use Rattle.std.proofs.Common.{◌≡◌, ℕ, ◌+◌, ◌-◌, ◌≤◌, ◌++◌, false, true≢false, List, length, take, drop, vec_len, refl, sym, ap, ◌∙◌, subst, arith, take-take, length-take}
 use Rattle.std.specs.Str.Lines.{strip_carriage_return}
 use Rattle.sk_model.specs.Lines.{open_lines_of}
 use Rattle.sk_model.proofs.Lines.{length-strip}
@@ -182,6 +182,8 @@ returns-clause-line c =
       | then-len-end w ↦ by_cr_lf w.if-len-end.true w.self-is
       | else-len-end w ↦ by_lf w.if-len-end.false w.self-is
     ]))
+    (steps.front_more a.buffer.items a.at (vec_len a.buffer - 64) end f.from (omega (arith, f.text))
+    ∙ ap (λ (x : Cutter). x.front ++ take (end - a.at + 1) x.rest) is)
 
 pub returns-clause-after_end : goal.returns-clause-after_end
 returns-clause-after_end c =

@@ -1,0 +1,7 @@
+mod gate;
+mod hub;
+mod image;
+mod ingest;
+mod read;
+mod schedules;
+mod sessions;
