@@ -47,6 +47,7 @@ where
     requires room { All (λ stream. length stream.items ≤ most_kept) streams.now }
     ensures last { IfOk result (λ counted. counted.last
         ≡ packed_of (k_of (C.numbers global)) (flat_map (λ stream. stream.items) streams.now)) }
+    ensures asked { IfOk result (λ counted. length counted.meanwhile.items ≡ asks) }
     ensures meanwhile { IfOk result (λ counted. (to : List Entry)
         × AreWords (C.packed_of (C.numbers global)) shape.now.n [] counted.meanwhile.items to) }
 {
@@ -79,7 +80,8 @@ fn ask_often<C: Composable>(
     token: Token<C>,
     asks: usize,
 ) -> Result<Vec<u64>, OutOfMemory>
-    ensures { IfOk result (λ words. (to : List Entry)
+    ensures count { IfOk result (λ words. length words.items ≡ asks) }
+    ensures words { IfOk result (λ words. (to : List Entry)
         × AreWords (C.packed_of token.view.numbers) (length token.view.sizes) token.view.seen
         words.items to) }
 {
