@@ -1,5 +1,5 @@
 -- One word more.
-use Rattle.std.proofs.Common.{◌≡◌, ℕ, List, [], ◌∷◌, ◌++◌, All, refl, sym, subst}
+use Rattle.std.proofs.Common.{◌≡◌, ℕ, List, [], ◌∷◌, ◌++◌, All, refl, subst}
 use Rattle.sk_model.specs.Entries.{Entry}
 use Rattle.sk_model.specs.Missing.{Begins}
 use Rattle.sk_machine.specs.Coarse.{IsEntry}

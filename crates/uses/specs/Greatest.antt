@@ -1,9 +1,9 @@
 -- The greatest member of a list, and what a sketch that keeps it owes of an item that is not above it.
-use Rattle.std.proofs.Common.{◌≡◌, ◌↔◌, ℕ, ◌+◌, ◌<◌, ◌≤◌, max, nat_le, false, List, [], ◌∷◌, ◌++◌, length, fold, All, refl, sym, ap, ◌∙◌, arith}
+use Rattle.std.proofs.Common.{◌≡◌, ◌↔◌, ℕ, ◌+◌, ◌≤◌, max, nat_le, false, List, [], ◌∷◌, ◌++◌, fold, refl, sym, ap, ◌∙◌, arith}
 use Rattle.std.proofs.lemmas.Bool.Decides.{nat_tests}
 use Rattle.std.proofs.lemmas.List.Elements.{All-head, All-tail}
 use Rattle.sk_model.specs.Entries.{Entry, items_of_entries}
-use Rattle.sk_model.specs.Width.{item_end, IsItem, AreItems}
+use Rattle.sk_model.specs.Width.{IsItem, AreItems}
 
 -- the greatest member, 0 where there is none
 abbrev pub greatest_of : List ℕ → ℕ

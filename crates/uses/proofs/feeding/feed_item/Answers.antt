@@ -1,4 +1,4 @@
-use Rattle.uses.proofs.Fed.{none_refl, none_trans, none_then_one}
+use Rattle.uses.proofs.Fed.{none_refl}
 use Rattle.uses.proofs.feeding.feed_item.Goals as goal
 
 pub again-init : goal.again-init

@@ -1,4 +1,4 @@
-use Rattle.uses.proofs.Fed.{looked, offered}
+use Rattle.uses.proofs.Fed.{looked}
 use Rattle.uses.proofs.feeding.offer.Goals as goal
 
 pub returns-in-Busy-clause-busy : goal.returns-in-Busy-clause-busy

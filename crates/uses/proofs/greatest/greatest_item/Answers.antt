@@ -1,4 +1,4 @@
-use Rattle.std.proofs.Common.{◌≡◌, List, ℕ, [], length, get_or, sym, ap, subst, ◌∙◌, arith}
+use Rattle.std.proofs.Common.{◌≡◌, [], length, get_or, sym, ap, subst, ◌∙◌, arith}
 use Rattle.sk_hub.specs.Updaters.{kept_of}
 use Rattle.uses.specs.Fed.{Takes}
 use Rattle.uses.proofs.Maximum.{above, hint_in, none_greatest}

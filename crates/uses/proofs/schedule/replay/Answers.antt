@@ -1,4 +1,4 @@
-use Rattle.std.proofs.Common.{◌≡◌, List, [], ◌∷◌, length, refl, sym, ap, subst, ◌∙◌, arith, length-append}
+use Rattle.std.proofs.Common.{List, [], ◌∷◌, length, refl, sym, ap, subst, ◌∙◌, arith, length-append}
 use Rattle.sk_core.specs.Stored.{machine_of}
 use Rattle.sk_core.specs.Runs.{IsRun}
 use Rattle.sk_core.specs.declared.event.Answer.{Answer}

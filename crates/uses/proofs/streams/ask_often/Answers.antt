@@ -1,4 +1,4 @@
-use Rattle.std.proofs.Common.{List, ℕ, ◌∷◌, [], ◌++◌, length, All, refl, sym, ap, subst, ◌∙◌, arith, length-append}
+use Rattle.std.proofs.Common.{List, ℕ, ◌∷◌, [], length, All, refl, sym, ap, subst, ◌∙◌, arith, length-append}
 use Rattle.sk_machine.specs.Coarse.{IsEntry}
 use Rattle.uses.specs.Words.{AreWords}
 use Rattle.uses.proofs.Words.{no_words, words_more}
