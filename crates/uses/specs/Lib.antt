@@ -1,0 +1,4 @@
+pub mod Fed
+pub mod Greatest
+pub mod Lengths
+pub mod Words

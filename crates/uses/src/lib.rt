@@ -1,0 +1,18 @@
+//! One short proved caller for each handle of the library.
+#![tactic(auto)]
+
+mod feeding;
+mod greatest;
+mod lines;
+mod schedule;
+mod streams;
+
+pub use feeding::{feed_all, feed_item};
+pub use greatest::{Greatest, greatest_item};
+pub use lines::{Measured, Threes, measure_lines, measure_text};
+pub use schedule::replay;
+pub use sk_model::OutOfMemory;
+pub use streams::{Counted, count_streams};
+
+#[cfg(test)]
+mod tests;

@@ -1,0 +1,133 @@
+//! A source of one's own, and a taker of its lines.
+ghost use Rattle.std.specs.Prelude.{◌≡◌, ◌<◌, ℕ, List, [], ◌∷◌, ◌++◌, min, length, take, drop, IfOk};
+ghost use Rattle.std.specs.Io.KnownBytes.{Consumes, IsAtEnd};
+ghost use Rattle.sk_model.specs.Causes.{HasCauseIn};
+ghost use Rattle.sk_model.specs.Lines.{lines_of};
+ghost use Rattle.uses.specs.Lengths.{longest_of};
+
+use sk_io::{Failed, Source};
+use sk_model::limits::SOURCE_LIMIT;
+use sk_read::{Fault, UnitTaker, Units, read_units};
+use std::alloc::Global;
+use std::marker::Model;
+
+/// The most bytes that `Threes` gives a read.
+const MOST_GIVEN: usize = 3;
+
+/// A text that gives at most three bytes a read. Contracts see the bytes that are left.
+#[derive(Drop)]
+pub struct Threes {
+    bytes: Vec<u8>,
+    at: usize,
+}
+
+impl Model for Threes {
+    ghost use Rattle.std.specs.Prelude.{ℕ, List, ◌≤◌, drop, vec_len};
+
+    ghost Value = { List ℕ };
+
+    ghost view = { λ t. drop t.at t.bytes.items };
+
+    ghost invariant = { λ t. t.at ≤ vec_len t.bytes };
+}
+
+impl Threes {
+    /// All of a text is left.
+    pub fn new(bytes: Vec<u8>) -> Threes
+        ensures { result ≡ bytes.items }
+    {
+        Threes { bytes, at: 0 }
+    }
+
+    // Moves bytes to the front of `buf`, none only at the end.
+    fn give(&mut self, buf: &mut [u8]) -> usize
+        ensures count { result ≡ min (min (length buf.old) 3) (length self.old) }
+        ensures bytes { self.old ≡ take result buf.new ++ self.new }
+        ensures end { result ≡ 0 → 0 < length buf.old → self.new ≡ [] }
+    {
+        let (_, left) = self.bytes.split_at(self.at);
+        let n = copy_front(left, buf);
+        self.at += n;
+        n
+    }
+}
+
+impl Source for Threes {
+    ghost use Rattle.std.specs.Prelude.{Some};
+    ghost use Rattle.sk_io.specs.Base.{nothing};
+
+    ghost left = { λ t. Some t };
+
+    ghost faults = { λ _. 0 };
+
+    ghost stands_on = { λ _. nothing };
+
+    fn read(&mut self, buf: &mut [u8]) -> Result<usize, Failed> {
+        Ok(self.give(buf))
+    }
+}
+
+// Copies bytes from one front to another, at most three, and answers how many.
+fn copy_front(from: &[u8], buf: &mut [u8]) -> usize
+    ensures count { result ≡ min (min (length buf.old) 3) (length from.now) }
+    ensures bytes { from.now ≡ take result buf.new ++ drop result from.now }
+    ensures end { result ≡ 0 → 0 < length buf.old → from.now ≡ [] }
+{
+    let n = buf.len().min(MOST_GIVEN).min(from.len());
+    let (front, _) = from.split_at(n);
+    buf[..n].copy_from_slice(front);
+    n
+}
+
+/// How many bytes the longest line has.
+#[derive(Drop)]
+struct Longest {
+    bytes: usize,
+}
+
+impl UnitTaker for Longest {
+    ghost use Rattle.std.specs.Prelude.{◌≡◌, None, []};
+    ghost use Rattle.uses.specs.Lengths.{longest_of};
+
+    ghost went = { λ _ s lines. s.bytes ≡ longest_of lines };
+
+    ghost stopped = { λ _ _ _ _ _. ⊥ };
+
+    ghost stands_on = { λ _. record { kind = None; borrows = []; numbers = [] } };
+
+    fn take(&mut self, line: &[u8], _number: u64) -> Result<(), Fault> {
+        self.bytes = self.bytes.max(line.len());
+        Ok(())
+    }
+}
+
+/// How many lines there are, and how many bytes the longest has.
+#[derive(Clone, Copy, Debug, PartialEq, Eq)]
+pub struct Measured {
+    pub lines: u64,
+    pub longest: usize,
+}
+
+/// Measures the lines of a source of fewer than 2^40 bytes.
+pub fn measure_lines<S: Source>(alloc: Global, source: &mut S) -> Result<Measured, Fault>
+    ensures measured { IfOk result (λ m. (bytes : List ℕ)
+        × Consumes (S.left source.old) (S.left source.new) bytes × IsAtEnd (S.left source.new)
+        × (m.lines ≡ length (lines_of bytes)) × (m.longest ≡ longest_of (lines_of bytes))) }
+    ensures cause { HasCauseIn Fault.ReadFault (S.faults source.old) (S.faults source.new) result }
+{
+    let mut longest = Longest { bytes: 0 };
+    let lines = read_units(alloc, Units::Lines, SOURCE_LIMIT, source, &mut longest)?;
+    Ok(Measured {
+        lines,
+        longest: longest.bytes,
+    })
+}
+
+/// Measures the lines of a text.
+pub fn measure_text(alloc: Global, text: Vec<u8>) -> Result<Measured, Fault>
+    ensures lines { IfOk result (λ m. m.lines ≡ length (lines_of text.items)) }
+    ensures longest { IfOk result (λ m. m.longest ≡ longest_of (lines_of text.items)) }
+{
+    let mut source = Threes::new(text);
+    measure_lines(alloc, &mut source)
+}

@@ -1,0 +1,121 @@
+ghost use Rattle.std.specs.Prelude.{◌≡◌, ◌≤◌, [], length, All, IfOk};
+ghost use Rattle.sk_model.specs.Entries.{items_of_entries};
+ghost use Rattle.sk_model.specs.Limits.{least_k, most_k, most_kept};
+ghost use Rattle.sk_model.specs.Width.{AreItems};
+ghost use Rattle.sk_theta.specs.Kept.{StandsFor};
+
+use super::*;
+use sk_core::{Answer, Event, State};
+use sk_heap::HeapTheta;
+use sk_theta::{Reply, Shape, unpack};
+use std::alloc::Global;
+use std::fmt::Debug;
+use std::process::Abort;
+use std::test::Fail;
+
+// An `assert_eq!` that costs the proof of a test one call.
+fn expect<R: Abort, T: PartialEq + Debug + Copy>(rt: &R, got: T, want: T) {
+    assert_eq!(rt; got, want);
+}
+
+#[tactic(auto, unfolding(sk_model::specs::Entries::items_of_entries))]
+fn sketch(alloc: Global, k: u32) -> Result<HeapTheta, OutOfMemory>
+    requires least { least_k ≤ k }
+    requires most { k ≤ most_k }
+    ensures { IfOk result (λ s. StandsFor s (items_of_entries [])) }
+{
+    HeapTheta::new(alloc, k)
+}
+
+// A hundred and fifty numbers, from this one on.
+fn numbers_from(alloc: Global, first: u64) -> Result<Vec<u64>, OutOfMemory>
+    requires { first ≤ 1000 }
+    ensures items { IfOk result (λ numbers. AreItems numbers.items) }
+    ensures few { IfOk result (λ numbers. length numbers.items ≤ most_kept) }
+{
+    let mut numbers = Vec::new(alloc);
+    'number: for number in first..first + 150 {
+        numbers.push(number)?;
+    }
+    Ok(numbers)
+}
+
+// Four streams, each of which shares a third with the next.
+fn four_streams(alloc: Global) -> Result<Vec<Vec<u64>>, OutOfMemory>
+    ensures count { IfOk result (λ streams. length streams.items ≡ 4) }
+    ensures items { IfOk result (λ streams. All (λ stream. AreItems stream.items) streams.items) }
+    ensures room { IfOk result (λ streams. All (λ stream. length stream.items ≤ most_kept) streams.items) }
+{
+    let mut streams = Vec::new(alloc);
+    'stream: for i in 0..4 {
+        streams.push(numbers_from(alloc, 100 * i)?)?;
+    }
+    Ok(streams)
+}
+
+#[test]
+fn four_threads_count_as_one(rt: HostRuntime) -> Result<(), Fail> {
+    let alloc = rt.alloc();
+    let Ok(shape) = Shape::new(32, 4, 4, 0, false) else {
+        panic!(rt; "no shape");
+    };
+    let streams = four_streams(alloc)?;
+    let counted = count_streams(&rt, alloc, &shape, sketch(alloc, 32)?, &streams, 16)?;
+    let want = Reply {
+        count: 32,
+        theta: 31,
+    };
+    expect(&rt, unpack(counted.last), want);
+    expect(&rt, counted.meanwhile.len(), 16);
+    Ok(())
+}
+
+#[test]
+fn a_sketch_of_ones_own_finds_the_greatest(rt: HostRuntime) -> Result<(), Fail> {
+    let Ok(shape) = Shape::new(2, 2, 1, 0, false) else {
+        panic!(rt; "no shape");
+    };
+    let greatest = greatest_item(&rt, rt.alloc(), &shape, &[5, 9, 3, 9, 1])?;
+    expect(&rt, greatest, 9);
+    Ok(())
+}
+
+#[test]
+fn a_batch_goes_round(rt: HostRuntime) -> Result<(), Fail> {
+    let mut state = State::new(rt.alloc(), 2, 1, 1)?;
+    let events = [
+        Event::Offer(0, 5),
+        Event::Look(0),
+        Event::Swap(0),
+        Event::Hand(0),
+        Event::Find(0),
+        Event::Take(0),
+        Event::Publish(0),
+        Event::Ask(0),
+        Event::Hand(0),
+    ];
+    let answers = replay(rt.alloc(), &mut state, &events)?;
+    let want = [
+        Answer::Kept,
+        Answer::Hint(1 << 48),
+        Answer::Swapped,
+        Answer::Handed(1),
+        Answer::Waiting,
+        Answer::Took(1),
+        Answer::Published(1),
+        Answer::Estimate(1, 1),
+    ];
+    assert_eq!(rt; answers.as_slice(), want.as_slice());
+    Ok(())
+}
+
+#[test]
+fn a_text_comes_three_bytes_at_a_time(rt: HostRuntime) -> Result<(), Fail> {
+    let text = b"one\ntwo words\r\n\nlast".to_vec(rt.alloc())?;
+    let want = Measured {
+        lines: 4,
+        longest: 9,
+    };
+    expect(&rt, measure_text(rt.alloc(), text), Ok(want));
+    Ok(())
+}
