@@ -10,7 +10,7 @@ use Rattle.sk_model.specs.Missing.{Begins}
 use Rattle.sk_model.proofs.Missing.{begins_more}
 use Rattle.sk_read.specs.Faults.{fault_by}
 use Rattle.sk_read.specs.Items.{item_of, IsGood}
-use Rattle.sk_read.specs.Reading.{Reading, HasRead, Goes, MovesOn}
+use Rattle.sk_read.specs.Reading.{Reading, HasRead, HoldsNone, Goes, MovesOn}
 use Rattle.sk_read.specs.Reads.{Ends}
 use Rattle.sk_read.specs.declared.fault.Fault.{Fault}
 use Rattle.sk_read.specs.declared.fault.Fault.TheVariants as fault
@@ -168,8 +168,8 @@ left_full kind text r0 r r' spans' end end' size' most from held moves end_is wi
 
 -- ---- why no more was marked
 
-not_then : (result : Result Bool Fault) (why : Fault) → result ≡ Err why → result ≡ Ok true → ⊥
-not_then result why one other = cc
+not_then : (result : Result Bool Fault) (why : Fault) (b : Bool) → result ≡ Err why → result ≡ Ok b → ⊥
+not_then result why b one other = cc
 
 not_now : (result : Result Bool Fault) → result ≡ Ok false → result ≡ Ok true → ⊥
 not_now result one other = cc
@@ -190,13 +190,14 @@ module _ (kind : Kind) (text : List ℕ) (r0 r r' : Reading) (spans0 spans : Lis
   few_found left given taken has = read_few r left (given ++ lines_found) taken (m.read left given taken has)
 
   -- none was held
-  pub none_held : ((left : Option (List ℕ)) (given : List (List ℕ)) (taken : List ℕ) → HasRead r left given taken → HasRead r' left given taken) → TakesHeld kind most lines_before lines_found r0 r' (Ok false)
+  pub none_held : ((left : Option (List ℕ)) (given : List (List ℕ)) (taken : List ℕ) → HasRead r left given taken → HasRead r' left given taken × HoldsNone r' given taken) → TakesHeld kind most lines_before lines_found r0 r' (Ok false)
   none_held stays = record {
     full = λ is. absurd (not_now (Ok false) refl is);
     unfilled = λ _. m.unfilled;
     good = m.good;
     last = λ is. absurd (not_now (Ok false) refl is);
-    read = λ left given taken has. stays left (given ++ lines_found) taken (m.read left given taken has);
+    read = λ left given taken has. (stays left (given ++ lines_found) taken (m.read left given taken has)).0;
+    none = λ _ left given taken has. (stays left (given ++ lines_found) taken (m.read left given taken has)).1;
     few = few_found;
     stopped = tt;
   }
@@ -205,11 +206,12 @@ module _ (kind : Kind) (text : List ℕ) (r0 r r' : Reading) (spans0 spans : Lis
   fault_held : (why : Fault) → ((first left : Option (List ℕ)) (given : List (List ℕ)) (taken : List ℕ) → Consumes first left taken → HasRead r0 left (given ++ lines_before) taken
       → Ends Lines r0.most (λ lines. lines ≡ given ++ lines_found) (RefusesLine kind (given ++ lines_found)) first left why) → TakesHeld kind most lines_before lines_found r0 r' (Err why)
   fault_held why ends = record {
-    full = λ is. absurd (not_then (Err why) why refl is);
+    full = λ is. absurd (not_then (Err why) why true refl is);
     unfilled = λ _. m.unfilled;
     good = m.good;
-    last = λ is. absurd (not_then (Err why) why refl is);
+    last = λ is. absurd (not_then (Err why) why true refl is);
     read = tt;
+    none = λ is. absurd (not_then (Err why) why false refl is);
     few = few_found;
     stopped = ends;
   }
@@ -241,6 +243,7 @@ full_held kind most old new r0 r' full good last read = record {
   good = good;
   last = λ _. last;
   read = read;
+  none = λ other. absurd (not_now (Ok true) other refl);
   few = λ left given taken has. read_few r' left (given ++ new) taken (read left given taken has);
   stopped = tt;
 }
@@ -253,11 +256,12 @@ short_line r left given line own taken is read = subst (λ l. length l ≤ line_
 pub no_room_held : (kind : Kind) (most : ℕ) (lines : List (List ℕ)) (r : Reading) (result : Result Bool Fault) → IsErrAnd result (λ x. x ≡ fault.OutOfMemory) → FillsNone most lines → All (IsGood kind) lines → TakesHeld kind most lines lines r r result
 no_room_held kind most lines r result is unfilled good =
     subst (TakesHeld kind most lines lines r r) (sym (err_is result fault.OutOfMemory is)) (record {
-      full = λ other. absurd (not_then (Err fault.OutOfMemory) fault.OutOfMemory refl other);
+      full = λ other. absurd (not_then (Err fault.OutOfMemory) fault.OutOfMemory true refl other);
       unfilled = λ _. unfilled;
       good = good;
-      last = λ other. absurd (not_then (Err fault.OutOfMemory) fault.OutOfMemory refl other);
+      last = λ other. absurd (not_then (Err fault.OutOfMemory) fault.OutOfMemory true refl other);
       read = tt;
+      none = λ other. absurd (not_then (Err fault.OutOfMemory) fault.OutOfMemory false refl other);
       few = λ left given taken has. read_few r left (given ++ lines) taken has;
       stopped = λ first left given taken consumed has.
           no_memory (λ l. l ≡ given ++ lines) (RefusesLine kind (given ++ lines)) r.most r first left (given ++ lines) taken refl consumed refl has;

@@ -1,7 +1,7 @@
 -- What it means that a window was filled with the lines of a source, and that it was not.
-use Rattle.std.specs.Prelude.{◌≡◌, ◌≢◌, ℕ, ◌<◌, ◌≤◌, Bool, true, List, [], ◌∷◌, ◌++◌, length, All, Option, IsNone, Result, Ok, OnOk, IfErr}
+use Rattle.std.specs.Prelude.{◌≡◌, ◌≢◌, ℕ, ◌<◌, ◌≤◌, Bool, true, false, List, [], ◌∷◌, ◌++◌, length, All, Option, IsNone, Result, Ok, OnOk, IfErr}
 use Rattle.std.specs.Io.KnownBytes.{Consumes}
-use Rattle.sk_read.specs.Reading.{Reading, HasRead}
+use Rattle.sk_read.specs.Reading.{Reading, HasRead, HoldsNone}
 use Rattle.sk_read.specs.Reads.{IsInTime, Ends}
 use Rattle.sk_read.specs.declared.units.Units.TheVariants.{Lines}
 use Rattle.sk_read.specs.Items.{item_of, IsGood}
@@ -29,13 +29,14 @@ pub record ReadsLine (r : Reading) (old new : Option (List ℕ)) (given : List (
 abbrev pub EndsWithLine : List (List ℕ) → List (List ℕ) → Type 0
 EndsWithLine old new = (front : List (List ℕ)) × (line : List ℕ) × (new ≡ front ++ line ∷ []) × Begins old front
 
--- the lines of a window went on by those that a reader held, until it was full, or none was held, or one refused
+-- the lines of a window went on by those that a reader held, until it was full, or none was left, or one refused
 pub record TakesHeld (kind : Kind) (most : ℕ) (old new : List (List ℕ)) (r r' : Reading) (result : Result Bool Fault) : Type 0 where
   pub full : result ≡ Ok true → IsFullWindow most new
   pub unfilled : result ≢ Ok true → FillsNone most new
   pub good : All (IsGood kind) new
   pub last : result ≡ Ok true → EndsWithLine old new
   pub read : OnOk result ((left : Option (List ℕ)) (given : List (List ℕ)) (taken : List ℕ) → HasRead r left (given ++ old) taken → HasRead r' left (given ++ new) taken)
+  pub none : result ≡ Ok false → (left : Option (List ℕ)) (given : List (List ℕ)) (taken : List ℕ) → HasRead r left (given ++ old) taken → HoldsNone r' (given ++ new) taken
   pub few : (left : Option (List ℕ)) (given : List (List ℕ)) (taken : List ℕ) → HasRead r left (given ++ old) taken → length (given ++ new) ≤ most_kept
   pub stopped : IfErr result (λ why. (first left : Option (List ℕ)) (given : List (List ℕ)) (taken : List ℕ) → Consumes first left taken → HasRead r left (given ++ old) taken
       → Ends Lines r.most (λ lines. lines ≡ given ++ new) (RefusesLine kind (given ++ new)) first left why)

@@ -96,8 +96,12 @@ Goes r left given taken (Err stop.TooMuch) = HaveEnded given taken × (length ta
 Goes r left given taken (Err (stop.LongLine n)) = (n ≡ length given + 1) × (length taken ≤ r.most) × IsInTime Lines given taken
     × IsSettled (λ text. Begins given (lines_of text) × IsFirstLong line_limit (length given) (lines_of text)) left taken
 
+-- of the bytes taken no complete line is left to give
+abbrev pub HoldsNone : Reading → List (List ℕ) → List ℕ → Type 0
+HoldsNone r given taken = r.ended ≡ false → HaveEnded given taken
+
 -- how a call of `next_held` went
 abbrev pub GoesHeld : Reading → Option (List ℕ) → List (List ℕ) → List ℕ → Result Bool LineFault → Type 0
 GoesHeld r left given taken (Ok true) = HasRead r left (given ++ r.cutter.line ∷ []) taken
-GoesHeld r left given taken (Ok false) = HasRead r left given taken
+GoesHeld r left given taken (Ok false) = HasRead r left given taken × HoldsNone r given taken
 GoesHeld r left given taken (Err why) = Goes r left given taken (Err why)
