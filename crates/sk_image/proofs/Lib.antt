@@ -4,3 +4,4 @@ pub mod Joins
 pub mod Numbers
 pub mod Splits
 pub mod Texts
+pub mod Unions

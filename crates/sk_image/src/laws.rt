@@ -1,9 +1,10 @@
 //! Laws of images. Each function is empty: its contract is the law.
 
-ghost use Rattle.std.specs.Prelude.{◌≡◌, ◌+◌, ℕ, List, ◌∷◌, length, map};
+ghost use Rattle.std.specs.Prelude.{◌≡◌, ◌+◌, ℕ, List, ◌∷◌, ◌++◌, length, map};
 ghost use Rattle.sk_image.specs.Images.{IsImage, first_line, joined, text_of};
 ghost use Rattle.sk_lines.specs.Hashes.{hash_digits};
 ghost use Rattle.sk_image.specs.Reading.{IsBadAt};
+ghost use Rattle.sk_model.specs.Sketch.{k_smallest, estimate_of};
 
 pub mod worked;
 
@@ -26,4 +27,16 @@ pub fn one_bad_line()
 pub fn the_last_line_is_missed()
     ensures { (k seed : ℕ) (hashes : List ℕ) → IsImage k seed hashes
         → IsBadAt (length hashes + 2) (joined (first_line k seed ∷ map hash_digits hashes)) }
+{}
+
+/// What is joined of the images of two lists is the image of the one behind the other. So any tree of joins
+/// gives the one image of all lists, in any order.
+pub fn joins_are_one()
+    ensures one { (k : ℕ) (a b : List ℕ) → k_smallest k (k_smallest k a ++ k_smallest k b) ≡ k_smallest k (a ++ b) }
+    ensures either_first { (k : ℕ) (a b : List ℕ) → k_smallest k (a ++ b) ≡ k_smallest k (b ++ a) }
+{}
+
+/// The hashes of an image have the estimate of the list that it is of.
+pub fn an_image_estimates()
+    ensures { (k : ℕ) (hashes : List ℕ) → estimate_of k (k_smallest k hashes) ≡ estimate_of k hashes }
 {}
