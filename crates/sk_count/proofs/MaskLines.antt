@@ -12,7 +12,7 @@ use Rattle.sk_count.specs.Texts.{alarm_line, alarm_at, alarm_lines}
 abbrev pub lines_before : ℕ → ℕ → List ℕ
 lines_before mask place = flat_map (alarm_at mask) (range_with_len 0 place)
 
-range_split : (from m n : ℕ) → range_with_len from (m + n) ≡ range_with_len from m ++ range_with_len (from + m) n
+pub range_split : (from m n : ℕ) → range_with_len from (m + n) ≡ range_with_len from m ++ range_with_len (from + m) n
 range_split from zero n =
     let none : zero + n ≡ n = omega arith in let here : from ≡ from + zero = omega arith in ap (λ k. range_with_len from k) none ∙ ap (λ k. range_with_len k n) here
 range_split from (suc m) n =

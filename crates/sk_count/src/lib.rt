@@ -17,3 +17,4 @@ pub use numbers::Numbers;
 pub use plan::Plan;
 pub use remains::Remains;
 pub use sk_read::{Fault, Kind};
+pub use text::{estimate_by, write_alarms, write_end, write_number};

@@ -17,7 +17,7 @@ use sk_theta::Reply;
 pub(crate) const PLACES: u32 = 64;
 
 /// The estimate of a count and a theta, whatever sketch they are of.
-pub(crate) fn estimate_by(k: u32, reply: Reply) -> (u64, u64)
+pub fn estimate_by(k: u32, reply: Reply) -> (u64, u64)
     requires least { least_k ≤ k }
     requires most { k ≤ most_k }
     ensures { result ≡ fraction_of k reply.count reply.theta }
@@ -30,7 +30,7 @@ pub(crate) fn estimate_by(k: u32, reply: Reply) -> (u64, u64)
 }
 
 /// Writes what is due last: how many lines were made, where that is told, and an estimate.
-pub(crate) fn write_end<O: Sink>(
+pub fn write_end<O: Sink>(
     out: &mut O,
     made: Option<u64>,
     estimate: (u64, u64),
@@ -104,8 +104,8 @@ fn write_at<O: Sink>(out: &mut O, units: u64, estimate: (u64, u64)) -> Result<()
     write_estimate(out, estimate)
 }
 
-// Writes the digits of a number.
-fn write_number<O: Sink>(out: &mut O, number: u64) -> Result<(), Failed>
+/// Writes the digits of a number.
+pub fn write_number<O: Sink>(out: &mut O, number: u64) -> Result<(), Failed>
     ensures ok { OnOk result (Appends (O.written out.old) (O.written out.new) (decimal number)) }
     ensures part { OnErr result (AppendsPart (O.written out.old) (O.written out.new) (decimal number)) }
     ensures cause { HasCause (O.faults out.old) (O.faults out.new) result }
@@ -115,8 +115,8 @@ fn write_number<O: Sink>(out: &mut O, number: u64) -> Result<(), Failed>
     write_all(out, &digits[..len])
 }
 
-// Writes a line for each place of a mask.
-fn write_alarms<O: Sink>(out: &mut O, gone: u64) -> Result<(), Failed>
+/// Writes a line for each place of a mask.
+pub fn write_alarms<O: Sink>(out: &mut O, gone: u64) -> Result<(), Failed>
     ensures ok { OnOk result (Appends (O.written out.old) (O.written out.new) (alarm_lines gone)) }
     ensures part { OnErr result (AppendsPart (O.written out.old) (O.written out.new) (alarm_lines gone)) }
     ensures cause { HasCause (O.faults out.old) (O.faults out.new) result }

@@ -1,0 +1,49 @@
+-- Links that are accepted, one after another.
+use Rattle.std.proofs.Common.{◌≡◌, ℕ, ◌+◌, List, [], ◌∷◌, ◌++◌, length, Result, sym, ap, subst, ◌∙◌, arith}
+use Rattle.atomic_table.specs.Seated.{TableId}
+use Rattle.sk_model.specs.Causes.{HasCauseIn}
+use Rattle.sk_model.specs.Entries.{Entry}
+use Rattle.sk_compose.specs.Numbers.{k_of}
+use Rattle.sk_hub.specs.Drains.{IsNew}
+use Rattle.sk_hub.specs.Hearts.{HeartState}
+use Rattle.sk_hub.specs.Updaters.{UpdaterState}
+use Rattle.sk_count.specs.Plans.{size_at}
+use Rattle.sk_serve.specs.declared.plan.ServePlan.{ServePlan}
+use Rattle.sk_serve.specs.Served.{IsFresh}
+use Rattle.sk_serve.specs.Waves.{Visit, IsHeartOf, IsReady, AreReady}
+use Rattle.sk_serve.proofs.Each.{each_none, each_last}
+
+pub new_fresh : (hint_of : List ℕ → List Entry → ℕ) (plan : ServePlan) (i b : ℕ) (h : HeartState) (u : UpdaterState) → IsNew hint_of i b h u → b ≡ size_at plan.sizes i → IsHeartOf plan h → IsFresh plan i u
+new_fresh hint_of plan i b h u new b_is hub = record { number_is = new.number_is; size_is = new.size_is ∙ b_is; k = ap k_of new.numbers ∙ hub.k; eager_is = new.eager ∙ hub.eager_is; kept = new.kept; base = new.base; seen = new.seen }
+
+-- ---- a heart that admits
+
+pub admitted_none : (h : HeartState) → h ≡ record h { admitted = h.admitted + 0 }
+admitted_none h = let same : h.admitted ≡ h.admitted + 0 = omega arith in ap (λ n. record h { admitted = n }) same
+
+pub admitted_more : (h h1 h2 : HeartState) (n : ℕ) → h1 ≡ record h { admitted = h.admitted + n } → h2 ≡ record h1 { admitted = h1.admitted + 1 } → h2 ≡ record h { admitted = h.admitted + (n + 1) }
+admitted_more h h1 h2 n first then =
+    let next : h.admitted + n + 1 ≡ h.admitted + (n + 1) = omega arith in
+    then ∙ ap (λ (z : HeartState). record z { admitted = z.admitted + 1 }) first ∙ ap (λ m. record h { admitted = m }) next
+
+pub still_hub : (plan : ServePlan) (h h1 : HeartState) (n : ℕ) → h1 ≡ record h { admitted = h.admitted + n } → IsHeartOf plan h → IsHeartOf plan h1
+still_hub plan h h1 n is hub = subst (IsHeartOf plan) (sym is) (record { updaters = hub.updaters; k = hub.k; eager_is = hub.eager_is })
+
+-- ---- jobs
+
+pub ready_none : {J : Type 0} (plan : ServePlan) (table : TableId) (from : ℕ) (visit_of : J → Visit) (jobs : List J) → jobs ≡ [] → AreReady plan table from visit_of jobs
+ready_none plan table from visit_of jobs none = subst (AreReady plan table from visit_of) (sym none) (each_none (λ i job. IsReady plan table i (visit_of job)) from)
+
+pub ready_more : {J : Type 0} (plan : ServePlan) (h h1 : HeartState) (n : ℕ) (visit_of : J → Visit) (jobs jobs' : List J) (job : J) → h1 ≡ record h { admitted = h.admitted + n } → length jobs ≡ n → jobs' ≡ jobs ++ job ∷ []
+    → AreReady plan h.table h.admitted visit_of jobs → IsReady plan h1.table h1.admitted (visit_of job) → AreReady plan h.table h.admitted visit_of jobs'
+ready_more plan h h1 n visit_of jobs jobs' job h1_is count more ready this =
+    let table : h1.table ≡ h.table = ap (λ z. z.table) h1_is in
+    let number : h1.admitted ≡ h.admitted + length jobs = ap (λ z. z.admitted) h1_is ∙ ap (λ m. h.admitted + m) (sym count) in
+    subst (AreReady plan h.table h.admitted visit_of) (sym more)
+    (each_last (λ i (j : _). IsReady plan h.table i (visit_of j)) h.admitted jobs job ready
+    (subst (λ m. IsReady plan h.table m (visit_of job)) number (subst (λ t. IsReady plan t h1.admitted (visit_of job)) table this)))
+
+-- ---- counts of faults
+
+pub cause_so : {T E : Type 0} (f : E) (before before' now now' : ℕ) (r : Result T E) → before' ≡ before → now' ≡ now → HasCauseIn f before' now r → HasCauseIn f before now' r
+cause_so f before before' now now' r same_before same_now cause = subst (λ n. HasCauseIn f n now' r) same_before (subst (λ n. HasCauseIn f before' n r) (sym same_now) cause)

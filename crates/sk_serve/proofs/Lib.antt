@@ -1,0 +1,9 @@
+pub mod Each
+pub mod Going
+pub mod Draining
+pub mod Admitting
+pub mod Sessions
+pub mod Waving
+pub mod Lines
+pub mod Showing
+pub mod Conclusions

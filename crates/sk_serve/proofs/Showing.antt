@@ -1,0 +1,135 @@
+-- What a heart shows behind its last ask, and what is due for it.
+use Rattle.std.proofs.Common.{◌≡◌, ◌≢◌, ℕ, ◌+◌, ◌<◌, ◌≤◌, List, [], ◌∷◌, ◌++◌, length, map, get_or, All, Contains, Option, Some, Result, Ok, Err, IsErrAnd, refl, sym, ap, subst, ◌∙◌, arith}
+use Rattle.std.specs.List.{range_with_len}
+use Rattle.std.specs.Io.KnownBytes.{Appends}
+use Rattle.std.proofs.lemmas.List.{get_or-map, length-map}
+use Rattle.std.proofs.lemmas.List.Elements.{All-map}
+use Rattle.std.proofs.lemmas.List.FromFn.{length-range_with_len, get_or-range_with_len}
+use Rattle.sk_model.specs.Causes.{AppendsPart}
+use Rattle.sk_model.specs.Entries.{Entry, items_of_entries, entries_by}
+use Rattle.sk_model.specs.Limits.{least_k}
+use Rattle.sk_model.specs.Sketch.{packed_of, unpacked, count_of, theta_of, fraction_of}
+use Rattle.sk_model.specs.Width.{IsItem, AreItems}
+use Rattle.sk_model.proofs.Missing.{begins_trans}
+use Rattle.sk_model.proofs.Sketch.{packed_reads_back}
+use Rattle.sk_compose.specs.Numbers.{k_of}
+use Rattle.sk_lines.specs.Fractions.{estimate_line}
+use Rattle.sk_machine.specs.Coarse.{IsEntry}
+use Rattle.sk_machine.specs.declared.views.Move.TheVariants.{Ask}
+use Rattle.sk_gate.specs.Hands.{TokenState}
+use Rattle.sk_gate.specs.Views.{known_of}
+use Rattle.sk_hub.specs.Hearts.{HeartState, IsWholeHeart}
+use Rattle.sk_hub.specs.Replies.{IsRelaxedReply, HasDrained}
+use Rattle.sk_io.specs.Traffic.{Ended}
+use Rattle.sk_theta.specs.declared.reply.Reply.{Reply}
+use Rattle.sk_watch.specs.Masks.{mask_of}
+use Rattle.sk_watch.specs.Places.{Place, answers_at, told}
+use Rattle.sk_line.specs.declared.sessions.End.{End}
+use Rattle.sk_line.specs.declared.sessions.End.TheVariants.{OutOfMemory}
+use Rattle.sk_count.specs.Texts.{alarm_lines, reply_of, armed_with}
+use Rattle.sk_serve.specs.declared.plan.ServePlan.{ServePlan}
+use Rattle.sk_count.specs.declared.remains.Remains.{Remains}
+use Rattle.sk_serve.specs.declared.fault.ServeFault.{ServeFault}
+use Rattle.sk_serve.specs.Plans.{IsServable}
+use Rattle.sk_serve.specs.Served.{Served, ShowsSessions, ServesSessions, ends_of}
+use Rattle.sk_serve.specs.Waves.{IsHeartOf, HasDrainedThem, ServesSome}
+use Rattle.sk_serve.specs.Texts.{session_lines, served_text}
+use Rattle.sk_serve.specs.Serves.{Surroundings, surroundings, ServesAndTells, TellsSessions, TellsPartOfSessions, ServeEnds, ServesPlan}
+
+-- ---- the last ask
+
+-- how the sketch packs a list
+abbrev pub packed : List ℕ → List Entry → ℕ
+packed numbers list = packed_of (k_of numbers) (items_of_entries list)
+
+in_range : (n i : ℕ) → i < n → Contains (range_with_len 0 n) i
+in_range n i below =
+    let place : 0 + i ≡ i = omega arith in
+    (i, omega (arith, below, length-range_with_len 0 n), get_or-range_with_len 0 n i i below ∙ place)
+
+pub word_is : (plan : ServePlan) (h h' : HeartState) (word : ℕ) → IsHeartOf plan h → IsRelaxedReply packed h.view word h'.view → word ≡ packed_of plan.k (items_of_entries h'.view.seen)
+word_is plan h h' word hub r = r.value ∙ ap (λ k. packed_of k (items_of_entries h'.view.seen)) hub.k
+
+pub shows : (plan : ServePlan) (sessions : List Served) (h h' : HeartState) (word : ℕ) → length sessions ≡ plan.sessions → HasDrainedThem sessions h → IsWholeHeart h → IsHeartOf plan h → IsRelaxedReply packed h.view word h'.view → HasDrained h.view h'.view → ShowsSessions plan sessions h'
+shows plan sessions h h' word count d whole hub r drained = record {
+  drained = ap (λ v. v.drained) r.stays ∙ all_drained;
+  known = λ i below. ap (λ v. known_of v i) r.stays ∙ sym (listed_at i below);
+  listed = λ i e within. record {
+    kept = listed_at i (omega (arith, within, count)) ∙ d.known i e within;
+    seen = begins_trans _ _ _ (d.seen i e within) r.grows;
+    base = begins_trans _ _ _ (d.bases i e within) r.grows;
+  };
+  entries = subst (λ n. All (IsEntry n) h'.view.seen) (whole.sized ∙ hub.updaters) r.entries;
+  steps = (h.view.steps, ap (λ v. v.steps) r.stays ∙ ap (λ n. h.view.steps ++ Ask n ∷ []) (word_is plan h h' word hub r));
+}
+  where
+    all_drained : h.view.drained ≡ range_with_len 0 plan.sessions
+    all_drained = d.drained ∙ ap (range_with_len 0) count
+
+    listed_at : (i : ℕ) → i < plan.sessions → entries_by i h'.view.seen ≡ known_of h.view i
+    listed_at i below = drained i (subst (λ l. Contains l i) (sym all_drained) (in_range plan.sessions i below))
+
+-- no session ended for want of memory
+pub had_memory : (sessions : List Served) (ends : List End) → ends ≡ ends_of sessions → All (λ e. e ≢ OutOfMemory) ends → All (λ s. s.end ≢ OutOfMemory) sessions
+had_memory sessions ends are all i d within =
+    let inside : i < length ends = omega (arith, within, ap length are, length-map sessions (λ (s : Served). s.end)) in
+    subst (λ (e : End). e ≢ OutOfMemory) (ap (λ l. get_or l i d.end) are ∙ get_or-map (λ (s : Served). s.end) sessions i d d.end within) (all i d.end inside)
+
+pub all_served : (plan : ServePlan) (most : ℕ) (before now : List Ended) (ends : List End) (sessions : List Served) (h h' : HeartState) (word : ℕ) → length sessions ≡ plan.sessions → ServesSome plan most before now ends sessions h → All (λ e. e ≢ OutOfMemory) ends → IsWholeHeart h → IsHeartOf plan h → IsRelaxedReply packed h.view word h'.view → HasDrained h.view h'.view
+    → ServesSessions plan most before now sessions h'
+all_served plan most before now ends sessions h h' word count s memory whole hub r drained = record {
+  count = count;
+  served = s.served;
+  memory = had_memory sessions ends s.ended memory;
+  closed = s.closed;
+  shows = shows plan sessions h h' word count s.heart whole hub r drained;
+}
+
+-- ---- the reply
+
+items_of : (n : ℕ) (l : List Entry) → All (IsEntry n) l → AreItems (items_of_entries l)
+unfolding items_of_entries
+items_of n l all = All-map IsItem (λ (e : Entry). e.1) l (λ i d inside. (all i d inside).1)
+
+-- both numbers of a reply
+abbrev pub pair_of : Reply → ℕ × ℕ
+pair_of reply = (reply.count, reply.theta)
+
+module _ (plan : ServePlan) (least : least_k ≤ plan.k) (list : List Entry) (entries : All (IsEntry plan.sessions) list) (word : ℕ) (word_of : word ≡ packed_of plan.k (items_of_entries list)) (reply : Reply) (reads : pair_of reply ≡ unpacked word) where
+  reads_back : pair_of reply ≡ (count_of plan.k (items_of_entries list), theta_of plan.k (items_of_entries list))
+  reads_back = reads ∙ ap unpacked word_of ∙ packed_reads_back plan.k (items_of_entries list) least (items_of plan.sessions list entries)
+
+  pub reply_is : reply ≡ reply_of plan.k list
+  reply_is = λ i. record { count = (reads_back i).0; theta = (reads_back i).1 }
+
+  -- what is written for it
+  pub text_is : (places armed : List Place) (ends : List End) (sessions : List Served) (gone : ℕ) (estimate : ℕ × ℕ) → armed ≡ armed_with plan.k plan.alarms places → ends ≡ ends_of sessions → gone ≡ mask_of (map (answers_at reply) armed) → estimate ≡ fraction_of plan.k reply.count reply.theta
+      → session_lines 0 ends ++ (alarm_lines gone ++ estimate_line estimate) ≡ served_text plan.k (armed_with plan.k plan.alarms places) (ends_of sessions) list
+  text_is places armed ends sessions gone estimate armed_is ends_are gone_is estimate_is =
+      ap (λ l. session_lines 0 l ++ (alarm_lines gone ++ estimate_line estimate)) ends_are
+      ∙ ap (λ n. session_lines 0 (ends_of sessions) ++ (alarm_lines n ++ estimate_line estimate)) (gone_is ∙ ap (λ p. mask_of (map (answers_at reply) p)) armed_is ∙ ap (λ z. mask_of (map (answers_at z) (armed_with plan.k plan.alarms places))) reply_is)
+      ∙ ap (λ z. session_lines 0 (ends_of sessions) ++ (alarm_lines (mask_of (map (answers_at (reply_of plan.k list)) (armed_with plan.k plan.alarms places))) ++ estimate_line z)) (estimate_is ∙ ap (λ z. fraction_of plan.k z.count z.theta) reply_is)
+
+  pub places_are : (places armed places' : List Place) → armed ≡ armed_with plan.k plan.alarms places → places' ≡ map (told reply) armed → places' ≡ map (told (reply_of plan.k list)) (armed_with plan.k plan.alarms places)
+  places_are places armed places' armed_is is = is ∙ ap (λ p. map (told reply) p) armed_is ∙ ap (λ z. map (told z) (armed_with plan.k plan.alarms places)) reply_is
+
+-- ---- a server that served all sessions
+
+pub ends_by : (plan : ServePlan) (most : ℕ) (old new : Surroundings) (remains : Remains) (r : Result (Unit {0}) ServeFault) (f : ServeFault) → IsErrAnd r (λ e. e ≡ f) → ServeEnds plan most old new f → ServesPlan plan most old new remains r
+ends_by plan most old new remains (Ok x) f is ends = absurd is
+ends_by plan most old new remains (Err e) f is ends = subst (ServeEnds plan most old new) (sym is) ends
+
+module _ (plan : ServePlan) (most : ℕ) (within : IsServable plan) (w w' : Option (List ℕ)) (places armed places' : List Place) (before now : List Ended) (ends : List End) (sessions : List Served) (h : HeartState) (word : ℕ) (reply : Reply) (gone : ℕ) (estimate : ℕ × ℕ)
+    (armed_is : armed ≡ armed_with plan.k plan.alarms places) (serves : ServesSessions plan most before now sessions h) (ends_are : ends ≡ ends_of sessions) (word_of : word ≡ packed_of plan.k (items_of_entries h.view.seen)) (reads : pair_of reply ≡ unpacked word)
+    (gone_is : gone ≡ mask_of (map (answers_at reply) armed)) (places_is : places' ≡ map (told reply) armed) (estimate_is : estimate ≡ fraction_of plan.k reply.count reply.theta) where
+  text : session_lines 0 ends ++ (alarm_lines gone ++ estimate_line estimate) ≡ served_text plan.k (armed_with plan.k plan.alarms places) (ends_of sessions) h.view.seen
+  text = text_is plan within.k.0 h.view.seen serves.shows.entries word word_of reply reads places armed ends sessions gone estimate armed_is ends_are gone_is estimate_is
+
+  tells : ServesAndTells plan most (surroundings w places before) (surroundings w' places' now) sessions h
+  tells = record { serves = serves; places = places_are plan within.k.0 h.view.seen serves.shows.entries word word_of reply reads places armed places' armed_is places_is }
+
+  pub told_all : (token : TokenState) → token.table ≡ h.table → Appends w w' (session_lines 0 ends ++ (alarm_lines gone ++ estimate_line estimate)) → TellsSessions plan most (surroundings w places before) (surroundings w' places' now) (record { heart = Some h; token = Some token })
+  told_all token hub written = record { sessions = sessions; heart = h; token = token; served = tells; written = subst (Appends w w') text written; left = refl; hub = hub }
+
+  pub told_part : AppendsPart w w' (session_lines 0 ends ++ (alarm_lines gone ++ estimate_line estimate)) → TellsPartOfSessions plan most (surroundings w places before) (surroundings w' places' now)
+  told_part written = record { sessions = sessions; heart = h; served = tells; written = subst (AppendsPart w w') text written }

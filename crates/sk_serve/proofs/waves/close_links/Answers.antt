@@ -1,0 +1,50 @@
+use Rattle.std.proofs.Common.{◌≡◌, ◌+◌, ◌++◌, ◌∷◌, [], length, true, false, is_some, sym, ap, subst, refl, ◌∙◌, arith, append_assoc, length-append}
+use Rattle.sk_serve.specs.Waves.{visit, WasRun, ClosesLinks}
+use Rattle.sk_serve.proofs.Each.{each_next}
+use Rattle.sk_serve.proofs.Sessions.{none_closed, one_closed}
+use Rattle.sk_serve.proofs.waves.close_links.Goals as goal
+
+pub job-init : goal.job-init
+job-init g c = let door = g.D.Door in record {
+  all = c.into_iter-job-iterator.ensures.into_iter_gives.0;
+  closes = λ plan most table from run. none_closed plan most table from (door.ended c.args.door.now) c.args.ends.now.items c.args.updaters.now.items c.requires.none;
+  room = omega arith;
+  ends = omega arith;
+  updaters = ap length c.requires.none;
+  reserved = refl;
+  place = refl;
+  faults = refl;
+  listens = refl;
+}
+
+pub unreachable-requires : goal.unreachable-requires
+unreachable-requires g c =
+    let all = ap (λ l. c.job.yielded ++ l) (sym c.in-Some.ensures.steps.0) ∙ c.job.invariant.all in
+    let told : is_some c.in-Some.job.end ≡ true = each_next (λ _ job. is_some job.end ≡ true) 0 c.args.jobs.items c.job.yielded c.next.new.self.rest.items c.in-Some.job all c.requires.told in
+    let no : false ≡ true = ap (λ o. is_some o) (sym c.in_default.is) ∙ told in
+    cc
+
+pub job-preserved : goal.job-preserved
+job-preserved g c =
+    let i = c.job.invariant in let door = g.D.Door in let link = g.D.Link.Link in let job = c.in-Some.job in let e = c.in-Some-end.end in
+    let before = c.job.yielded in let rest = c.next.new.self.rest.items in
+    let all = ap (λ l. before ++ l) (sym c.in-Some.ensures.steps.0) ∙ i.all in
+    let count : length before + 1 ≡ length (before ++ job ∷ []) = omega (arith, length-append before (job ∷ [])) in
+    let ended : length c.push_reserved.new.self.items ≡ length (c.job.ends.items ++ e ∷ []) = ap length c.push_reserved.ensures.items in
+    let kept : length c.push_reserved-in-job.new.self.items ≡ length (c.job.updaters.items ++ job.updater ∷ []) = ap length c.push_reserved-in-job.ensures.items in
+    record {
+      all = append_assoc before (job ∷ []) rest ∙ all;
+      closes = λ plan most table from run.
+          subst (λ n. ClosesLinks plan most table from n (door.ended c.args.door.now) (door.ended c.close.new.self) c.args.ends.now.items c.push_reserved.new.self.items c.push_reserved-in-job.new.self.items) count
+          (one_closed plan most table from (length before) (door.ended c.args.door.now) (door.ended c.job.door) (door.ended c.close.new.self) c.args.ends.now.items c.job.ends.items c.push_reserved.new.self.items c.job.updaters.items c.push_reserved-in-job.new.self.items
+          (visit (link.traffic job.link) (link.faults job.link) job.updater job.pump.count job.end) e (i.closes plan most table from run)
+          (each_next (λ n job. WasRun plan most table n (visit (link.traffic job.link) (link.faults job.link) job.updater job.pump.count job.end)) from c.args.jobs.items before rest job all run)
+          c.in-Some-end.is c.close.ensures.ended c.push_reserved.ensures.items c.push_reserved-in-job.ensures.items);
+      room = let r = c.close.ensures.room in omega (arith, r, i.room, count);
+      ends = omega (arith, ended, length-append c.job.ends.items (e ∷ []), i.ends, count);
+      updaters = omega (arith, kept, length-append c.job.updaters.items (job.updater ∷ []), i.updaters, count);
+      reserved = c.push_reserved.ensures.capacity ∙ i.reserved;
+      place = c.push_reserved-in-job.ensures.capacity ∙ i.place;
+      faults = c.close.ensures.faults ∙ i.faults;
+      listens = c.close.ensures.listens ∙ i.listens;
+    }

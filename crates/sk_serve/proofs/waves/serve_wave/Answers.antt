@@ -1,0 +1,26 @@
+use Rattle.std.proofs.Common.{◌≡◌, length, is_some, sym, ap, subst, ◌∙◌}
+use Rattle.sk_serve.specs.Waves.{AreOfHub}
+use Rattle.sk_serve.proofs.Waving.{a_wave}
+use Rattle.sk_serve.proofs.waves.serve_wave.Goals as goal
+
+pub close_links-requires-clause-told : goal.close_links-requires-clause-told
+close_links-requires-clause-told g c = λ k d within.
+    let h = c.args.heart.now in
+    ap (λ o. is_some o) (c.run_wave-jobs.ensures.run h.table h.admitted c.in_ok-jobs.ensures.ready k d within).told_is
+
+pub drain_each-requires : goal.drain_each-requires
+drain_each-requires g c =
+    let h = c.args.heart.now in let h1 = c.accept_wave.new.heart in
+    let table : h1.table ≡ h.table = ap (λ z. z.table) c.in_ok-jobs.ensures.heart in
+    let closed = c.close_links.ensures.closes c.args.plan.now c.args.most h.table h.admitted (c.run_wave-jobs.ensures.run h.table h.admitted c.in_ok-jobs.ensures.ready) in
+    record { table = λ k d within. closed.of_hub.tables k d within ∙ sym table }
+
+pub returns-clause-serves : goal.returns-clause-serves
+returns-clause-serves g c =
+    let door = g.D.Door in let plan = c.args.plan.now in let h = c.args.heart.now in let h1 = c.accept_wave.new.heart in let h2 = c.drain_each.new.heart in
+    let us = c.close_links.new.updaters.items in
+    let table : h1.table ≡ h.table = ap (λ z. z.table) c.in_ok-jobs.ensures.heart in
+    let closed = c.close_links.ensures.closes plan c.args.most h.table h.admitted (c.run_wave-jobs.ensures.run h.table h.admitted c.in_ok-jobs.ensures.ready) in
+    a_wave plan c.args.most c.args.count h h1 h2 (door.ended c.args.door.now) (door.ended c.accept_wave.new.door) (door.ended c.close_links.new.door) c.args.ends.now.items c.close_links.new.ends.items (length c.run_wave-jobs.result.items) us
+    (c.run_wave-jobs.ensures.count ∙ c.in_ok-jobs.ensures.count) c.in_ok-jobs.ensures.ended c.in_ok-jobs.ensures.heart closed
+    (c.drain_each.ensures.drained h.admitted (subst (λ t. AreOfHub t h.admitted us) (sym table) closed.of_hub))

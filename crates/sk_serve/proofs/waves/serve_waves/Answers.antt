@@ -1,0 +1,57 @@
+use Rattle.std.proofs.Common.{◌≡◌, ◌+◌, ◌-◌, ◌≤◌, ◌++◌, ◌*◌, suc, length, [], refl, sym, ap, subst, ◌∙◌, arith, length-append}
+use Rattle.sk_count.proofs.Results.{if_err_is}
+use Rattle.sk_serve.specs.declared.fault.ServeFault.TheVariants as fault
+use Rattle.sk_serve.specs.Served.{StopsAccepting}
+use Rattle.sk_serve.proofs.Waving.{none_served, none_accepted, drained_hub, wave_more, stops, next_wave}
+use Rattle.sk_serve.proofs.waves.serve_waves.Goals as goal
+
+pub returns-in_err-ends-clause-stops : goal.returns-in_err-ends-clause-stops
+returns-in_err-ends-clause-stops g c =
+    let ended = g.D.Door.ended c.args.door.now in
+    if_err_is c.from_residual.result fault.OutOfMemory (λ _. StopsAccepting c.args.plan.now c.args.most ended ended) c.from_residual.ensures.1 (none_accepted c.args.plan.now c.args.most ended ended c.requires.within refl)
+
+pub wave-init : goal.wave-init
+wave-init g c = record {
+  within = omega arith;
+  sessions = [];
+  as_many = refl;
+  waves = 0;
+  in_waves = omega arith;
+  some = none_served c.args.plan.now c.args.most (g.D.Door.ended c.args.door.now) c.in_ok-ends.ends.items c.args.heart.now c.in_ok-ends.ensures.items c.requires.admitted c.requires.drained;
+  hub = c.requires.hub;
+  table = refl;
+  listens = c.requires.listens;
+  room = omega (arith, c.requires.room);
+  reserved = c.in_ok-ends.ensures.capacity;
+  faults = refl;
+}
+
+pub wave-preserved : goal.wave-preserved
+wave-preserved g c =
+    let i = c.wave.invariant in let plan = c.args.plan.now in let door = g.D.Door in let w = c.in_ok-serve_wave.ensures.serves in
+    let count = c.min-count.result in
+    let left : count ≤ plan.sessions - c.wave.served = omega (arith, c.min-count.ensures) in
+    record {
+      within = omega (arith, left, c.wave-test.true);
+      sessions = i.sessions ++ w.sessions;
+      as_many = length-append i.sessions w.sessions ∙ ap (λ n. n + length w.sessions) i.as_many ∙ ap (λ n. c.wave.served + n) w.as_many;
+      waves = suc i.waves;
+      in_waves = next_wave i.waves plan.wave c.wave.served plan.sessions count i.in_waves (omega (arith, c.wave-test.true)) c.min-count.ensures;
+      some = wave_more plan c.args.most count c.wave.heart c.serve_wave.new.heart (door.ended c.args.door.now) (door.ended c.wave.door) (door.ended c.serve_wave.new.door) c.wave.ends.items c.serve_wave.new.ends.items i.sessions i.some w;
+      hub = drained_hub plan c.wave.heart.admitted c.wave.heart c.serve_wave.new.heart _ (c.wave.heart.admitted + count) i.hub w.drains;
+      table = w.drains.table ∙ i.table;
+      listens = c.serve_wave.ensures.listens;
+      room = let r = c.in_ok-serve_wave.ensures.room in omega (arith, r, i.room);
+      reserved = subst (λ n. plan.sessions ≤ n) (sym c.in_ok-serve_wave.ensures.reserved) i.reserved;
+      faults = c.in_ok-serve_wave.ensures.cause.steady (λ no. cc) ∙ i.faults;
+    }
+
+pub returns-in_err-serve_wave-clause-stops : goal.returns-in_err-serve_wave-clause-stops
+returns-in_err-serve_wave-clause-stops g c =
+    let i = c.wave.invariant in let plan = c.args.plan.now in let door = g.D.Door in let count = c.min-count.result in
+    let u = c.in_err-serve_wave.ensures.unread in
+    let small : count ≤ plan.wave = omega (arith, c.min-count.ensures) in
+    let few : length i.sessions + count ≤ plan.sessions = omega (arith, c.min-count.ensures, i.as_many, c.wave-test.true) in
+    let whole : length i.sessions ≡ i.waves * plan.wave = omega (arith, i.as_many, i.in_waves, c.wave-test.true) in
+    if_err_is c.from_residual-in_err-serve_wave.result c.in_err-serve_wave.field-0.0 (λ _. StopsAccepting plan c.args.most (door.ended c.args.door.now) (door.ended c.serve_wave.new.door)) c.from_residual-in_err-serve_wave.ensures.1
+    (stops plan c.args.most count (door.ended c.args.door.now) (door.ended c.wave.door) (door.ended c.serve_wave.new.door) c.wave.ends.items i.sessions c.wave.heart i.some small few u.0 u.1 u.2 i.waves whole)

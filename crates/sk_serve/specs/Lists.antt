@@ -1,0 +1,35 @@
+-- What the answers of a session say of one list of updates, which grows from answer to answer.
+use Rattle.std.specs.Prelude.{◌≡◌, ℕ, ◌*◌, List, [], ◌∷◌, ◌++◌, IfSome}
+use Rattle.sk_model.specs.Entries.{Entry, items_of_entries, entries_by}
+use Rattle.sk_model.specs.Missing.{Begins, LacksAtMost}
+use Rattle.sk_model.specs.Sketch.{estimate_of, IsIdle}
+use Rattle.sk_io.specs.Traffic.{Ended}
+use Rattle.sk_line.specs.Requests.{added_item}
+use Rattle.sk_line.specs.Serving.{Answered, item_kept, replies_to}
+use Rattle.sk_line.specs.declared.answers.Answer.{Answer}
+use Rattle.sk_line.specs.declared.answers.Answer.TheVariants.{Filtered, Estimate, Synced}
+
+-- an estimate is the list's, which has of number i only what this kept so far, and lacks of that at most the last two buffers
+pub record IsEstimated (k i size n d : ℕ) (kept : List ℕ) (list : List Entry) : Type 0 where
+  pub estimate : (n, d) ≡ estimate_of k (items_of_entries list)
+  pub own : Begins (entries_by i list) kept
+  pub lacks : LacksAtMost kept (entries_by i list) (2 * size)
+
+-- what an answer says of the list, where number i had kept these items: behind `synced` all of them are in it, and an
+-- item that was `filtered` changes no estimate of it or of what goes on from there
+abbrev pub SaysOf : ℕ → ℕ → ℕ → ℕ → List ℕ → List ℕ → Answer → List Entry → Type 0
+SaysOf k seed i size kept line (Estimate n d) list = IsEstimated k i size n d kept list
+SaysOf k seed i size kept line Synced list = entries_by i list ≡ kept
+SaysOf k seed i size kept line Filtered list = IsIdle k (added_item seed line) (items_of_entries list)
+SaysOf k seed i size kept line _ list = Unit {0}
+
+-- so say all of these, each of a list that goes on from the one before, and the last one is a beginning of this
+unfoldable pub SayOfOneList : ℕ → ℕ → ℕ → ℕ → List Entry → List ℕ → List Answered → List Entry → Type 0
+SayOfOneList k seed i size from kept [] list = Begins from list
+SayOfOneList k seed i size from kept (t ∷ answered) list = (front : List Entry) × Begins from front × SaysOf k seed i size kept t.line t.answer front
+    × SayOfOneList k seed i size front (kept ++ item_kept seed t.line t.answer) answered list
+
+-- the bytes written on a link that was closed are a front of the replies to these lines, and all of them where no call
+-- of it failed
+abbrev pub HoldsReplies : Ended → List Answered → Type 0
+HoldsReplies ended answered = IfSome ended.traffic (λ t. Begins t.written (replies_to answered) × (ended.faults ≡ 0 → t.written ≡ replies_to answered))

@@ -1,0 +1,130 @@
+-- The sessions of a server: each from its link's accept to its close, and what becomes of what its updater kept.
+use Rattle.std.specs.Prelude.{◌≡◌, ◌≢◌, ℕ, ◌+◌, ◌*◌, ◌<◌, List, [], ◌∷◌, ◌++◌, length, All, Option, IfSome, slice_index_or, map, flat_map}
+use Rattle.std.specs.List.{range_with_len}
+use Rattle.std.proofs.Common.{inl, inr}
+use Rattle.sk_model.specs.Entries.{Entry, entries_by, items_of_entries}
+use Rattle.sk_model.specs.Missing.{Begins}
+use Rattle.sk_model.specs.Sketch.{packed_of}
+use Rattle.sk_io.specs.Traffic.{Traffic, Ended, IsUntouched}
+use Rattle.sk_theta.specs.Sizes.{Sizes}
+use Rattle.sk_compose.specs.Numbers.{k_of}
+use Rattle.sk_machine.specs.Coarse.{IsEntry}
+use Rattle.sk_machine.specs.declared.views.Move.{Move}
+use Rattle.sk_machine.specs.declared.views.Move.TheVariants.{Ask}
+use Rattle.sk_gate.specs.Views.{known_of}
+use Rattle.sk_hub.specs.Hearts.{HeartState}
+use Rattle.sk_hub.specs.Updaters.{UpdaterState, base_of, kept_of}
+use Rattle.sk_line.specs.Serving.{Answered, items_offered}
+use Rattle.sk_line.specs.Sessions.{SessionState, session_state, SessionEnds}
+use Rattle.sk_line.specs.declared.sessions.End.{End}
+use Rattle.sk_line.specs.declared.sessions.End.TheVariants.{Quit, Closed, LinkFault, Long, TooMuch, OutOfMemory}
+use Rattle.sk_count.specs.Plans.{size_at}
+use Rattle.sk_serve.specs.declared.plan.ServePlan.{ServePlan}
+use Rattle.sk_serve.specs.Plans.{shape_of}
+
+-- ---- one session
+
+-- updater i of a hub of this plan, which has seen and kept nothing
+pub record IsFresh (plan : ServePlan) (i : ℕ) (u : UpdaterState) : Type 0 where
+  pub number_is : u.number ≡ i
+  pub size_is : u.size ≡ size_at plan.sizes i
+  pub k : k_of u.view.numbers ≡ plan.k
+  pub eager_is : u.eager ≡ plan.eager
+  pub kept : kept_of u ≡ []
+  pub base : base_of u ≡ []
+  pub seen : u.view.seen ≡ []
+
+-- the lines that an updater answered in a session that ended so; the last reply may not have been sent whole
+abbrev pub answered_in : (shape : Sizes) (most : ℕ) (a b : SessionState) (end : End) → SessionEnds shape most a b end → List Answered
+answered_in shape most a b Quit went = went.answered
+answered_in shape most a b Closed went = went.answered
+answered_in shape most a b LinkFault (inl went) = went.answered
+answered_in shape most a b LinkFault (inr went) = went.answered ++ went.last ∷ []
+answered_in shape most a b (Long n) went = went.answered
+answered_in shape most a b TooMuch went = went.answered
+answered_in shape most a b OutOfMemory went = []
+
+-- a session that was served
+pub record Served : Type 0 where
+  pub end : End
+  -- its link, as it was closed
+  pub ended : Ended
+  -- its updater, as the session left it
+  pub updater : UpdaterState
+  -- the lines that the updater answered
+  pub answered : List Answered
+
+-- it was number i of the plan: run over a link of which nothing was read, by a fresh updater; the link's count of faults
+-- tells exactly the fault that ended it
+pub record IsServed (plan : ServePlan) (most i : ℕ) (s : Served) : Type 0 where
+  pub link : Option Traffic
+  pub untouched : IfSome link IsUntouched
+  pub before : UpdaterState
+  pub fresh : IsFresh plan i before
+  pub pumps : ℕ
+  pub ends : SessionEnds (shape_of plan) most (session_state link before 0) (session_state s.ended.traffic s.updater pumps) s.end
+  pub answers : s.answered ≡ answered_in (shape_of plan) most (session_state link before 0) (session_state s.ended.traffic s.updater pumps) s.end ends
+  pub fault : s.end ≡ LinkFault → s.ended.faults ≡ 1
+  pub steady : s.end ≢ LinkFault → s.ended.faults ≡ 0
+
+-- they were those from this number on, in order
+abbrev pub AreServed : ServePlan → ℕ → ℕ → List Served → Type 0
+AreServed plan most from sessions = (i : ℕ) (d : Served) → i < length sessions → IsServed plan most (from + i) (slice_index_or sessions i d)
+
+-- ---- what a heart shows of them
+
+-- the list has of number i exactly what the session's updater kept, and goes on from all that this saw and filtered by
+pub record IsListed (i : ℕ) (s : Served) (list : List Entry) : Type 0 where
+  pub kept : entries_by i list ≡ kept_of s.updater
+  pub seen : Begins s.updater.view.seen list
+  pub base : Begins (base_of s.updater) list
+
+-- the heart drained the updaters of all sessions, in number order, knows what each kept, and then loaded the word of
+-- exactly that
+pub record ShowsSessions (plan : ServePlan) (sessions : List Served) (h : HeartState) : Type 0 where
+  pub drained : h.view.drained ≡ range_with_len 0 plan.sessions
+  pub known : (i : ℕ) → i < plan.sessions → known_of h.view i ≡ entries_by i h.view.seen
+  pub listed : (i : ℕ) (d : Served) → i < length sessions → IsListed i (slice_index_or sessions i d) h.view.seen
+  pub entries : All (IsEntry plan.sessions) h.view.seen
+  pub steps : (earlier : List Move) × (h.view.steps ≡ earlier ++ Ask (packed_of plan.k (items_of_entries h.view.seen)) ∷ [])
+
+-- ---- all of them
+
+-- the records of their links, in order, and how they ended
+abbrev pub links_of : List Served → List Ended
+links_of sessions = map (λ s. s.ended) sessions
+
+abbrev pub ends_of : List Served → List End
+ends_of sessions = map (λ s. s.end) sessions
+
+-- the items of all adds that were answered `kept` or `filtered`
+abbrev pub all_offered : ℕ → List Served → List ℕ
+all_offered seed sessions = flat_map (λ s. items_offered seed s.answered) sessions
+
+-- all sessions of the plan were served, none for want of memory; the door closed their links in number order, and the
+-- heart shows them
+pub record ServesSessions (plan : ServePlan) (most : ℕ) (before now : List Ended) (sessions : List Served) (h : HeartState) : Type 0 where
+  pub count : length sessions ≡ plan.sessions
+  pub served : AreServed plan most 0 sessions
+  pub memory : All (λ s. s.end ≢ OutOfMemory) sessions
+  pub closed : now ≡ before ++ links_of sessions
+  pub shows : ShowsSessions plan sessions h
+
+-- ---- where an accept fails
+
+-- nothing was read of the link or written on it
+pub record IsUnread (ended : Ended) : Type 0 where
+  pub untouched : IfSome ended.traffic IsUntouched
+  pub faults : ended.faults ≡ 0
+
+-- so many whole waves of sessions were served, and of the next one some links were accepted and closed unread
+pub record StopsAccepting (plan : ServePlan) (most : ℕ) (before now : List Ended) : Type 0 where
+  pub sessions : List Served
+  pub unread : List Ended
+  pub fewer : length sessions + length unread < plan.sessions
+  pub in_wave : length unread < plan.wave
+  pub waves : ℕ
+  pub whole : length sessions ≡ waves * plan.wave
+  pub served : AreServed plan most 0 sessions
+  pub none : All IsUnread unread
+  pub closed : now ≡ before ++ (links_of sessions ++ unread)

@@ -1,0 +1,108 @@
+//! Links that are accepted, each with an updater of its own.
+ghost use Rattle.std.specs.Prelude.{◌≡◌, ◌≢◌, ℕ, ◌+◌, ◌<◌, ◌≤◌, true, length, IfOk, OnOk, IfErr, slice_index_or};
+ghost use Rattle.sk_model.specs.Causes.{HasCauseIn};
+ghost use Rattle.sk_serve.specs.Plans.{IsServable};
+ghost use Rattle.sk_serve.specs.Served.{IsUnread};
+ghost use Rattle.sk_serve.specs.Waves.{IsHeartOf, visit, IsReady, AreReady, ClosesUnread};
+
+use crate::fault::ServeFault;
+use crate::plan::{ServePlan, size_for};
+use sk_heap::HeapTheta;
+use sk_hub::{Admit, Heart};
+use sk_io::Door;
+use sk_line::{HelpPump, Job};
+use std::alloc::Global;
+
+// Accepts the next links, each with the next updater. Where one can't be, those before it are closed unread.
+pub(crate) fn accept_wave<D: Door>(
+    alloc: Global,
+    plan: &ServePlan,
+    heart: &mut Heart<HeapTheta>,
+    door: &mut D,
+    count: u32,
+) -> Result<Vec<Job<HeapTheta, D::Link, HelpPump>>, ServeFault>
+    requires within { IsServable plan.now }
+    requires hub { IsHeartOf plan.now heart.old }
+    requires vacant { heart.old.admitted + count ≤ plan.now.sessions }
+    requires listens { D.listens door.old ≡ true }
+    requires room { count ≤ D.room door.old }
+    ensures count { IfOk result (λ jobs. length jobs.items ≡ count) }
+    ensures ready { IfOk result (λ jobs. AreReady plan.now heart.old.table heart.old.admitted
+        (λ job. visit (D.Link.traffic job.link) (D.Link.faults job.link) job.updater job.pump.count job.end) jobs.items) }
+    ensures heart { IfOk result (λ _. heart.new ≡ record heart.old { admitted = heart.old.admitted + count }) }
+    ensures ended { OnOk result (D.ended door.new ≡ D.ended door.old) }
+    ensures room { OnOk result (D.room door.new ≡ D.room door.old) }
+    ensures unread { IfErr result (λ _. (n : ℕ) × (n < count) × ClosesUnread n (D.ended door.old) (D.ended door.new)) }
+    ensures listens { D.listens door.new ≡ true }
+    ensures write { IfErr result (λ fault. fault ≢ ServeFault.WriteFault) }
+    ensures cause { HasCauseIn ServeFault.NetFault (D.faults door.old) (D.faults door.new) result }
+{
+    let mut jobs = Vec::with_capacity(alloc, count as usize)?;
+    'link: for _ in 0..count {
+        match accept_one(alloc, plan, heart, door) {
+            Ok(job) => jobs.push_reserved(job),
+            Err(fault) => {
+                close_unread(door, jobs);
+                return Err(fault);
+            }
+        }
+    }
+    Ok(jobs)
+}
+
+// Accepts the next link, with the next updater.
+fn accept_one<D: Door>(
+    alloc: Global,
+    plan: &ServePlan,
+    heart: &mut Heart<HeapTheta>,
+    door: &mut D,
+) -> Result<Job<HeapTheta, D::Link, HelpPump>, ServeFault>
+    requires within { IsServable plan.now }
+    requires hub { IsHeartOf plan.now heart.old }
+    requires vacant { heart.old.admitted < plan.now.sessions }
+    requires listens { D.listens door.old ≡ true }
+    requires room { 0 < D.room door.old }
+    ensures ready { IfOk result (λ job. IsReady plan.now heart.old.table heart.old.admitted
+        (visit (D.Link.traffic job.link) (D.Link.faults job.link) job.updater job.pump.count job.end)) }
+    ensures heart { IfOk result (λ _. heart.new ≡ record heart.old { admitted = heart.old.admitted + 1 }) }
+    ensures ended { D.ended door.new ≡ D.ended door.old }
+    ensures room { D.room door.new ≡ D.room door.old }
+    ensures listens { D.listens door.new ≡ true }
+    ensures write { IfErr result (λ fault. fault ≢ ServeFault.WriteFault) }
+    ensures cause { HasCauseIn ServeFault.NetFault (D.faults door.old) (D.faults door.new) result }
+{
+    let number = heart.admitted();
+    let link = door.accept()?;
+    match heart.admit(alloc, size_for(plan, number)) {
+        Admit::Admitted(updater) => Ok(Job {
+            updater,
+            link,
+            pump: HelpPump::new(),
+            end: None,
+        }),
+        Admit::Full => unreachable!(),
+        Admit::OutOfMemory => Err(ServeFault::OutOfMemory),
+    }
+}
+
+// Closes links of which nothing was read, in order.
+fn close_unread<D: Door>(door: &mut D, jobs: Vec<Job<HeapTheta, D::Link, HelpPump>>)
+    requires room { length jobs.items ≤ D.room door.old }
+    requires unread { (i : ℕ) (d : _) → i < length jobs.items → IsUnread (record {
+      traffic = D.Link.traffic (slice_index_or jobs.items i d).link;
+      faults = D.Link.faults (slice_index_or jobs.items i d).link;
+    }) }
+    ensures ended { ClosesUnread (length jobs.items) (D.ended door.old) (D.ended door.new) }
+    ensures faults { D.faults door.new ≡ D.faults door.old }
+    ensures listens { D.listens door.new ≡ D.listens door.old }
+{
+    'job: for job in jobs {
+        let Job {
+            updater: _,
+            link,
+            pump: _,
+            end: _,
+        } = job;
+        door.close(link);
+    }
+}
