@@ -5,23 +5,29 @@ use Rattle.std.specs.Io.KnownBytes.{Consumes, IsAtEnd}
 use Rattle.sk_read.specs.Reads.{IsSettled}
 use Rattle.sk_cli.specs.Behaviour.{Behaviour, IsDecided}
 use Rattle.sk_cli.specs.Beside.{Beside}
-use Rattle.sk_cli.specs.Command.{Asked, behaviour_of}
+use Rattle.sk_cli.specs.Command.{OneText, behaviour_of}
 use Rattle.sk_cli.specs.Fault.{status_of}
 use Rattle.sk_cli.specs.Values.{Word}
 use Rattle.sk_cli.specs.Outside.{Streams, Outside, over_input, over_file}
-use Rattle.sk_cli.specs.Run.{Finishes, Stops, Refuses, Ends, Over, Succeeds, Fails, told_text, IsOfCalls}
+use Rattle.sk_cli.specs.Run.{Finishes, Stops, Refuses, Ends, Over, SucceedsText, FailsText, told_text, IsOfCalls}
 use Rattle.sk_cli.specs.declared.command.Command.{Command}
-use Rattle.sk_cli.specs.declared.command.Command.TheVariants.{Count, Hash, Make, Replay, Help, Version}
+use Rattle.sk_cli.specs.declared.command.Command.TheVariants.{Count, Hash, Image, Make, Quantile, Replay, Help, Version}
 use Rattle.sk_cli.specs.declared.commands.about.TheConstants.{HELP, VERSION}
 use Rattle.sk_cli.specs.declared.fault.Fault.{Fault}
 use Rattle.sk_cli.specs.declared.fault.Fault.TheVariants as fault
+use Rattle.sk_cli.specs.commands.Image.{image_of}
+use Rattle.sk_cli.specs.commands.Quantile.{rank_line}
+use Rattle.sk_read.specs.declared.kind.Kind.TheVariants.{Raw}
 use Rattle.sk_cli.proofs.CountDeciding.{count_decides}
+use Rattle.sk_cli.proofs.ToldItems.{items_decide}
 use Rattle.sk_cli.proofs.Deciding.{hash_decides, make_decides, replay_decides, about_decides}
 
 decides : (command : Command) → IsDecided (behaviour_of command)
 decides (Count plan) = count_decides plan
 decides (Hash plan) = hash_decides plan
+decides (Image plan) = items_decide plan.what.kind plan.what.column (image_of plan)
 decides (Make plan) = make_decides plan
+decides (Quantile plan) = items_decide Raw 0 (rank_line plan)
 decides Replay = replay_decides
 decides Help = about_decides HELP.now
 decides Version = about_decides VERSION.now
@@ -70,6 +76,7 @@ module _ (command : Command) (most : ℕ) (from : Beside) (a b : Streams) (text 
   fine_ends fault.ReadFault is less ends = inr (inl refl)
   fine_ends fault.WriteFault is less ends = inr (inr (inl refl))
   fine_ends fault.OpenFault is less ends = absurd ends
+  fine_ends fault.NetFault is less ends = absurd ends
   fine_ends fault.TooMuch is less ends = absurd (within less ends)
   fine_ends f is less ends = absurd (apart f is ends)
 
@@ -83,34 +90,35 @@ module _ (command : Command) (most : ℕ) (from : Beside) (a b : Streams) (text 
   refusal_ends f fault.ReadFault is less ends = inr (inr (inl refl))
   refusal_ends f fault.WriteFault is less ends = inr (inr (inr (inl refl)))
   refusal_ends f fault.OpenFault is less ends = absurd ends
+  refusal_ends f fault.NetFault is less ends = absurd ends
   refusal_ends f fault.TooMuch is less ends = absurd (within less ends)
   refusal_ends f g is less ends = same f g is ends
 
 -- over the standard input or a file
-module _ (asked : Asked) (most : ℕ) (from : Beside) (old new : Outside) (text : List ℕ) where
+module _ (asked : OneText) (most : ℕ) (from : Beside) (old new : Outside) (text : List ℕ) where
   -- what holds of every end of a command over its streams, and of a file that could not be opened
   over : (P : Fault → Type 0) → P fault.OpenFault →
       ((a b : Streams) (g : Fault) → a.left ≡ Some text → Ends (behaviour_of asked.command) most from a b g → P g)
-      → (f : Fault) → told_text asked.file old ≡ Some text → Fails asked most from old new f → P f
+      → (f : Fault) → told_text asked.file old ≡ Some text → FailsText asked most from old new f → P f
   over P unopened by f told fails = by_fault f fails
     where
       ended : (file : Option Word) (g : Fault) → told_text file old ≡ Some text → Over file (λ a b. Ends (behaviour_of asked.command) most from a b g) old new → P g
       ended None g told ends = by (over_input old) (over_input new) g told ends
       ended (Some name) g told ends = by (over_file (told_text (Some name) old) old) (over_file new.file_left new) g told ends
 
-      by_fault : (g : Fault) → Fails asked most from old new g → P g
+      by_fault : (g : Fault) → FailsText asked most from old new g → P g
       by_fault fault.OpenFault ends = unopened
       by_fault g ends = ended asked.file g told ends
 
-  pub fine_fails : (f : Fault) → told_text asked.file old ≡ Some text → (behaviour_of asked.command).IsFine text → length text < most → Fails asked most from old new f → IsOfCalls (status_of f)
+  pub fine_fails : (f : Fault) → told_text asked.file old ≡ Some text → (behaviour_of asked.command).IsFine text → length text < most → FailsText asked most from old new f → IsOfCalls (status_of f)
   fine_fails f told is less fails =
       over (λ g. IsOfCalls (status_of g)) (inr (inr (inr refl))) (λ a b g told ends. fine_ends asked.command most from a b text told g is less ends) f told fails
 
-  pub refusal_fails : (f g : Fault) → told_text asked.file old ≡ Some text → (behaviour_of asked.command).Refuses f text → length text < most → Fails asked most from old new g → (status_of g ≡ status_of f) ⊎ IsOfCalls (status_of g)
+  pub refusal_fails : (f g : Fault) → told_text asked.file old ≡ Some text → (behaviour_of asked.command).Refuses f text → length text < most → FailsText asked most from old new g → (status_of g ≡ status_of f) ⊎ IsOfCalls (status_of g)
   refusal_fails f g told is less fails =
       over (λ g. (status_of g ≡ status_of f) ⊎ IsOfCalls (status_of g)) (inr (inr (inr (inr refl)))) (λ a b g told ends. refusal_ends asked.command most from a b text told f g is less ends) g told fails
 
-  pub refusal_succeeds : (to : Beside) (f : Fault) → (behaviour_of asked.command).reads ≡ true → told_text asked.file old ≡ Some text → (behaviour_of asked.command).Refuses f text → Succeeds asked most from to old new → ⊥
+  pub refusal_succeeds : (to : Beside) (f : Fault) → (behaviour_of asked.command).reads ≡ true → told_text asked.file old ≡ Some text → (behaviour_of asked.command).Refuses f text → SucceedsText asked most from to old new → ⊥
   refusal_succeeds to f reads told is done = over_file_or asked.file told done
     where
       both : (a b : Streams) → a.left ≡ Some text → Finishes (behaviour_of asked.command) most from to a b → ⊥

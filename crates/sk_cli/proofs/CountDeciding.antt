@@ -6,7 +6,7 @@ use Rattle.sk_model.specs.Limits.{line_limit}
 use Rattle.sk_model.specs.Lines.{lines_of, AreWithin}
 use Rattle.sk_read.specs.Items.{item_of, IsGood}
 use Rattle.sk_read.specs.Records.{Row, records_of, fields_in, field_of, width_of, AreEven}
-use Rattle.sk_read.specs.Units.{units_of, IsSound, IsSoundUpTo, IsLongBehind, IsUnevenBehind}
+use Rattle.sk_read.specs.Units.{units_by, units_of, IsSound, IsSoundUpTo, IsLongBehind, IsUnevenBehind}
 use Rattle.sk_read.specs.declared.kind.Kind.{Kind}
 use Rattle.sk_read.specs.declared.units.Units.{Units}
 use Rattle.sk_read.specs.declared.units.Units.TheVariants.{Lines, Column}
@@ -17,7 +17,8 @@ use Rattle.sk_count.specs.Moments.{Moment, AreMoments, start}
 use Rattle.sk_count.specs.Texts.{interim_text}
 use Rattle.sk_cli.specs.Fault.{bad_unit}
 use Rattle.sk_cli.specs.Lines.{lines_before}
-use Rattle.sk_cli.specs.commands.Count.{counted, counting, IsReadable, IsRefusedBy}
+use Rattle.sk_cli.specs.Readable.{IsReadable, IsRefusedBy}
+use Rattle.sk_cli.specs.commands.Count.{counted, counting}
 use Rattle.sk_count.specs.declared.plan.Plan.{Plan}
 use Rattle.sk_cli.specs.declared.fault.Fault.{Fault}
 use Rattle.sk_cli.specs.declared.fault.Fault.TheVariants as fault
@@ -216,27 +217,31 @@ field_is : (column n : ℕ) → 0 < column → fault.BadField n ≡ bad_unit col
 field_is zero n some = absurd (omega (arith, some))
 field_is (suc c) n some = refl
 
-breaks : (plan : Plan) (f : Fault) (text : List ℕ) → IsRefusedBy plan f text → Breaks plan.kind plan.column (counted plan) text f
-breaks plan (fault.LongLine n) text is = long_breaks plan.kind plan.column (counted plan) text n is.0.0 is.0.1 is.1
-breaks plan (fault.BadItem n) text is = bad_breaks plan.kind plan.column (counted plan) text n (fault.BadItem n) is.1.before.0 is.1.before.1 is.1.sound is.1.to is.1.filled is.1.bad (item_is plan.column n is.0)
-breaks plan (fault.BadField n) text is = bad_breaks plan.kind plan.column (counted plan) text n (fault.BadField n) is.1.before.0 is.1.before.1 is.1.sound is.1.to is.1.filled is.1.bad (field_is plan.column n is.0)
-breaks plan (fault.BadCsv n) text is = uneven_breaks plan.kind plan.column (counted plan) text n is.0.0 is.0.1 is.1
-breaks plan f text is = absurd is
+breaks : (kind : Kind) (column : ℕ) (f : Fault) (text : List ℕ) → IsRefusedBy kind column f text → Breaks kind column (units_by column) text f
+breaks kind column (fault.LongLine n) text is = long_breaks kind column (units_by column) text n is.0.0 is.0.1 is.1
+breaks kind column (fault.BadItem n) text is = bad_breaks kind column (units_by column) text n (fault.BadItem n) is.1.before.0 is.1.before.1 is.1.sound is.1.to is.1.filled is.1.bad (item_is column n is.0)
+breaks kind column (fault.BadField n) text is = bad_breaks kind column (units_by column) text n (fault.BadField n) is.1.before.0 is.1.before.1 is.1.sound is.1.to is.1.filled is.1.bad (field_is column n is.0)
+breaks kind column (fault.BadCsv n) text is = uneven_breaks kind column (units_by column) text n is.0.0 is.0.1 is.1
+breaks kind column f text is = absurd is
 
-readable_or_refused : (plan : Plan) (f : Fault) (text : List ℕ) → IsReadable plan text → IsRefusedBy plan f text → ⊥
-readable_or_refused plan f text readable is =
-    let first = breaks plan f text is in
-    fine_or_wrong first.why plan.kind (counted plan) text first.place
+pub readable_or_refused : (kind : Kind) (column : ℕ) (f : Fault) (text : List ℕ) → IsReadable kind column text → IsRefusedBy kind column f text → ⊥
+readable_or_refused kind column f text readable is =
+    let first = breaks kind column f text is in
+    fine_or_wrong first.why kind (units_by column) text first.place
     (record {
-      even = all_even (counted plan) text first.place readable.0 first.there;
-      within = all_within (counted plan) text first.place readable.0 first.there;
+      even = all_even (units_by column) text first.place readable.0 first.there;
+      within = all_within (units_by column) text first.place readable.0 first.there;
       good = readable.1 first.place [] first.there;
     }) first.wrong
 
+-- what a text is read into decides how it is refused
+pub refused_once : (kind : Kind) (column : ℕ) (f g : Fault) (text : List ℕ) → IsRefusedBy kind column f text → IsRefusedBy kind column g text → f ≡ g
+refused_once kind column f g text one two = breaks_once kind column (units_by column) text f g (breaks kind column f text one) (breaks kind column g text two)
+
 pub count_decides : (plan : Plan) → IsDecided (counting plan)
 count_decides plan = record {
-  refused = λ f g text one two. breaks_once plan.kind plan.column (counted plan) text f g (breaks plan f text one) (breaks plan g text two);
-  apart = λ f text one two. readable_or_refused plan f text one two;
+  refused = λ f g text one two. refused_once plan.kind plan.column f g text one two;
+  apart = λ f text one two. readable_or_refused plan.kind plan.column f text one two;
 }
 
 -- without a window nobody asks

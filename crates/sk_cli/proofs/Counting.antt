@@ -1,21 +1,13 @@
 -- How `count` goes.
-use Rattle.std.proofs.Common.{◌≡◌, ◌⊎◌, inl, inr, ℕ, zero, suc, ◌+◌, ◌-◌, ◌<◌, ◌≤◌, List, [], ◌∷◌, ◌++◌, length, take, get_or, All, IsNone, Result, Ok, Err, refl, sym, ap, ◌∙◌, subst, arith, append_assoc, length-append, length-take}
+use Rattle.std.proofs.Common.{◌≡◌, ◌⊎◌, inl, inr, ℕ, zero, suc, ◌+◌, ◌<◌, ◌≤◌, List, [], ◌∷◌, ◌++◌, length, Result, Ok, Err, refl, sym, subst, arith, length-append}
 use Rattle.std.specs.Result.{MatchResult}
 use Rattle.std.specs.Io.KnownBytes.{Consumes}
-use Rattle.std.proofs.Math.Seq.{get_or-append_seam}
-use Rattle.std.proofs.lemmas.List.{get_or_append_left, get_or-take, take-take, take-map}
-use Rattle.std.proofs.lemmas.List.Elements.{All-take}
-use Rattle.sk_model.specs.Limits.{line_limit}
-use Rattle.sk_model.specs.Lines.{lines_of, AreWithin}
 use Rattle.sk_model.specs.Missing.{Begins}
-use Rattle.sk_read.specs.Items.{IsGood, item_of}
-use Rattle.sk_read.specs.Reads.{IsSettled, IsInTime as IsReadInTime, ReadsAll, ReadsSome, BreaksOff as ReadingBreaksOff}
-use Rattle.sk_read.specs.Records.{Row, records_of, fields_in, field_of, AreEven, AreSoundRows}
+use Rattle.sk_read.specs.Items.{IsGood}
+use Rattle.sk_read.specs.Reads.{IsSettled, ReadsAll, ReadsSome, BreaksOff as ReadingBreaksOff}
 use Rattle.sk_read.specs.Units.{units_of, complete_units_of, IsSoundUpTo, IsLongBehind, IsUnevenBehind}
 use Rattle.sk_read.specs.declared.fault.Fault.{Fault as ReadingFault}
 use Rattle.sk_read.specs.declared.fault.Fault.TheVariants as reading
-use Rattle.sk_read.specs.declared.units.Units.{Units}
-use Rattle.sk_read.specs.declared.units.Units.TheVariants.{Lines, Column}
 use Rattle.sk_read.proofs.ItemLaws.{front_is}
 use Rattle.sk_read.proofs.LineEnds.{settled_so}
 use Rattle.sk_watch.specs.Places.{Place}
@@ -24,47 +16,15 @@ use Rattle.sk_count.specs.declared.remains.Remains.{Remains}
 use Rattle.sk_count.specs.Counts.{Setting, setting, interim_by, last_lines, TellsSoFar, TellsAll, TellsPart, StopsFor, EndsBefore, EndsBehind, Counts}
 use Rattle.sk_cli.specs.Beside.{Beside, beside_of}
 use Rattle.sk_cli.specs.Lines.{lines_before}
-use Rattle.sk_cli.specs.commands.Count.{counted, counting, IsReadableSoFar, IsRefusedBy, AreGoodBefore, IsBadUnit, IsInterim}
+use Rattle.sk_cli.specs.Readable.{IsRefusedBy, IsBadUnit}
+use Rattle.sk_cli.specs.commands.Count.{counted, counting, IsInterim}
 use Rattle.sk_cli.specs.Fault.{fault_by, bad_unit}
 use Rattle.sk_cli.specs.Outside.{Streams}
-use Rattle.sk_cli.specs.Run.{Finishes, Stops, IsInTime, Refuses, IsDueOnTheWay, BreaksOff, GivesUp, Ends, Executes}
+use Rattle.sk_cli.specs.Run.{Finishes, Stops, Refuses, IsDueOnTheWay, BreaksOff, GivesUp, Ends, Executes}
 use Rattle.sk_cli.specs.declared.fault.Fault.{Fault}
 use Rattle.sk_cli.specs.declared.fault.Fault.TheVariants as fault
+use Rattle.sk_cli.proofs.Units.{all_front, front_at, sound_less, in_time, good_before, bad_at}
 use Rattle.sk_cli.proofs.Fronts.{front_of_longer, front_of_all}
-
--- ---- units
-
--- the first of some units, each good
-all_front : (P : List ℕ → Type 0) (front given : List (List ℕ)) → Begins front given → All P given → All P front
-all_front P front given begins all = λ k d below.
-    subst P (get_or_append_left front begins.0 d k below) (subst (λ (l : List (List ℕ)). P (get_or l k d)) begins.1 (all k d (omega (arith, ap length begins.1, length-append front begins.0, below))))
-
--- records that are even are so without the last
-even_less : (c n : ℕ) (records : List Row) → AreEven c records → AreEven c (take n records)
-even_less c n records even = λ k d below.
-    let inside : k < n = omega (arith, below, length-take n records) in
-    let here : get_or (take n records) k d ≡ get_or records k d = get_or-take n records k d inside in
-    let first : get_or (take n records) 0 [] ≡ get_or records 0 [] = get_or-take n records 0 [] (omega (arith, inside)) in
-    let both = even k d (omega (arith, below, length-take n records)) in
-    (ap (λ (r : Row). length r) here ∙ both.0 ∙ sym (ap (λ (r : Row). length r) first), subst (λ (r : Row). c < length r) (sym here) both.1)
-
-one_less : {A : Type 0} (n : ℕ) (xs : List A) → take n (take (n + 1) xs) ≡ take n xs
-one_less n xs = take-take n (n + 1) xs (omega arith)
-
--- units that are sound are so without the last
-sound_less : (u : Units) (n : ℕ) (text : List ℕ) → IsSoundUpTo u (n + 1) text → IsSoundUpTo u n text
-sound_less Lines n text sound = subst (AreWithin line_limit) (one_less n (lines_of text)) (All-take (λ (l : List ℕ). length l ≤ line_limit) n (take (n + 1) (lines_of text)) sound)
-sound_less (Column c) n text sound =
-    let records : List Row = take (n + 1) (records_of text) in
-    let fewer : AreSoundRows c (take n records) = record {
-      even = even_less c n records sound.even;
-      within = subst (AreWithin line_limit) (take-map (field_of c) n records) (All-take (λ (l : List ℕ). length l ≤ line_limit) n (fields_in c records) sound.within);
-    } in
-    subst (AreSoundRows c) (one_less n (records_of text)) fewer
-
--- the units before number n are those that were given
-front_at : (n : ℕ) (given units : List (List ℕ)) → n ≡ length given + 1 → Begins given units → take (n - 1) units ≡ given
-front_at n given units is begins = ap (λ (m : ℕ). take m units) (omega (arith, is)) ∙ front_is given units begins
 
 -- ---- one count
 
@@ -82,49 +42,22 @@ module _ (plan : Plan) (most : ℕ) (from : Beside) (a b : Streams) (places : Li
   interim : (units : List (List ℕ)) (told : TellsSoFar plan old new units) → IsInterim plan from units (so_far units told)
   interim units told = record { course = told.course; is = refl }
 
-  in_time : (given : List (List ℕ)) (taken : List ℕ) → IsReadInTime (counted plan) given taken → All (IsGood plan.kind) given → IsInTime (IsReadableSoFar plan) taken
-  in_time given taken is good = record {
-    front = is.front;
-    piece = is.piece;
-    joined = is.joined;
-    size = is.size;
-    so_far = (is.sound, all_front (IsGood plan.kind) (complete_units_of (counted plan) is.front) given is.earlier good);
-  }
-
-  good_before : (n : ℕ) (text : List ℕ) (given : List (List ℕ)) → n ≡ length given + 1 → All (IsGood plan.kind) given → Begins given (units_of (counted plan) text) → AreGoodBefore plan n text
-  good_before n text given is good begins = (omega (arith, is), subst (All (IsGood plan.kind)) (sym (front_at n given (units_of (counted plan) text) is begins)) good)
-
   -- a text that is refused, behind the units given
   refused : (f : Fault) (Known : List (List ℕ) → Type 0) (Comes : List (List ℕ) → List ℕ → Type 0) → (off : ReadingBreaksOff (counted plan) most Known Comes a.left b.left)
       → TellsSoFar plan old new off.given
-      → ((text : List ℕ) → Begins off.given (units_of (counted plan) text) → Comes off.given text → IsRefusedBy plan f text × (lines_before f (units_of (counted plan) text) ≡ off.given)) → Refuses (counting plan) most f from a b
+      → ((text : List ℕ) → Begins off.given (units_of (counted plan) text) → Comes off.given text → IsRefusedBy plan.kind plan.column f text × (lines_before f (units_of (counted plan) text) ≡ off.given)) → Refuses (counting plan) most f from a b
   refused f Known Comes off told is = record {
     taken = off.taken;
     due = so_far off.given told;
     consumed = off.consumed;
     size = off.size;
-    in_time = in_time off.given off.taken off.in_time told.course.good;
+    in_time = in_time plan.kind plan.column off.given off.taken off.in_time told.course.good;
     refused = settled_so (λ (text : List ℕ). Begins off.given (units_of (counted plan) text) × Comes off.given text) (λ (text : List ℕ). (counting plan).Refuses f text × (counting plan).IsDueAt from f text (so_far off.given told)) b.left off.taken
         (λ text found.
         let both = is text found.0 found.1 in
         (both.0, subst (λ (l : List (List ℕ)). IsInterim plan from l (so_far off.given told)) (sym both.1) (interim off.given told))) off.comes;
     written = told.written;
   }
-
-  bad_at : (n : ℕ) (given : List (List ℕ)) (unit text : List ℕ) → n ≡ length given + 1 → All (IsGood plan.kind) given → (filled : 0 < length unit) → IsNone (item_of plan.kind unit) →
-      Begins (given ++ unit ∷ []) (units_of (counted plan) text) → IsSoundUpTo (counted plan) n text → IsBadUnit plan n text
-  bad_at n given unit text is good filled bad begins sound =
-      let units = units_of (counted plan) text in
-      let behind : units ≡ given ++ unit ∷ begins.0 = begins.1 ∙ append_assoc given (unit ∷ []) begins.0 in
-      let place : n - 1 ≡ length given = omega (arith, is) in
-      let here : get_or units (n - 1) [] ≡ unit = ap (λ (m : ℕ). get_or units m []) place ∙ ap (λ (l : List (List ℕ)). get_or l (length given) []) behind ∙ get_or-append_seam given unit begins.0 [] in
-      record {
-        before = good_before n text given is good (unit ∷ begins.0, behind);
-        sound = sound;
-        to = omega (arith, ap length behind, length-append given (unit ∷ begins.0), is);
-        filled = subst (λ (l : List ℕ). 0 < length l) (sym here) filled;
-        bad = subst (λ (l : List ℕ). IsNone (item_of plan.kind l)) (sym here) bad;
-      }
 
   stops : (IsSize : ℕ → Type 0) → ReadsSome (counted plan) IsSize (TellsSoFar plan old new) a.left b.left → Stops (counting plan) IsSize from a b
   stops IsSize some = record {
@@ -179,7 +112,7 @@ module _ (plan : Plan) (most : ℕ) (from : Beside) (a b : Streams) (places : Li
         consumed = off.consumed;
         size = off.size;
         is_due = inr (
-          in_time off.given off.taken off.in_time (all_front (IsGood plan.kind) off.given units (unit ∷ [], refl) part.course.good),
+          in_time plan.kind plan.column off.given off.taken off.in_time (all_front (IsGood plan.kind) off.given units (unit ∷ [], refl) part.course.good),
           due_before units due off.taken (record { course = part.course; is = refl })
               (settled_so (λ (text : List ℕ). Begins off.given (units_of (counted plan) text) × (Begins units (units_of (counted plan) text) × IsSoundUpTo (counted plan) (length off.given + 1) text))
               (λ (text : List ℕ). Begins units (units_of (counted plan) text) × IsSoundUpTo (counted plan) (length units) text) b.left off.taken
@@ -199,13 +132,13 @@ module _ (plan : Plan) (most : ℕ) (from : Beside) (a b : Streams) (places : Li
   ended_before (reading.LongLine n) off =
       refused (fault.LongLine n) _ _ off off.known
       (λ text begins comes. (
-        (good_before n text off.given comes.0 off.known.course.good begins, subst (λ (m : ℕ). IsLongBehind (counted plan) m text) (omega (arith, comes.0)) comes.1),
+        (good_before plan.kind plan.column n text off.given comes.0 off.known.course.good begins, subst (λ (m : ℕ). IsLongBehind (counted plan) m text) (omega (arith, comes.0)) comes.1),
         front_at n off.given (units_of (counted plan) text) comes.0 begins,
       ))
   ended_before (reading.BadCsv n) off =
       refused (fault.BadCsv n) _ _ off off.known
       (λ text begins comes. (
-        (good_before n text off.given comes.0 off.known.course.good begins, subst (λ (m : ℕ). IsUnevenBehind (counted plan) m text) (omega (arith, comes.0)) comes.1),
+        (good_before plan.kind plan.column n text off.given comes.0 off.known.course.good begins, subst (λ (m : ℕ). IsUnevenBehind (counted plan) m text) (omega (arith, comes.0)) comes.1),
         front_at n off.given (units_of (counted plan) text) comes.0 begins,
       ))
   ended_before (reading.BadItem n) stop = bad plan.column refl
@@ -217,8 +150,8 @@ module _ (plan : Plan) (most : ℕ) (from : Beside) (a b : Streams) (places : Li
           (λ given text. Begins (given ++ unit ∷ []) (units_of (counted plan) text) × IsSoundUpTo (counted plan) (length given + 1) text) a.left b.left
       off = stop.1
 
-      is_bad : (text : List ℕ) → Begins (off.given ++ unit ∷ []) (units_of (counted plan) text) × IsSoundUpTo (counted plan) (length off.given + 1) text → IsBadUnit plan n text
-      is_bad text comes = bad_at n off.given unit text off.known.0 off.known.1.0.course.good off.known.1.1 off.known.1.2 comes.0 (subst (λ (m : ℕ). IsSoundUpTo (counted plan) m text) (sym off.known.0) comes.1)
+      is_bad : (text : List ℕ) → Begins (off.given ++ unit ∷ []) (units_of (counted plan) text) × IsSoundUpTo (counted plan) (length off.given + 1) text → IsBadUnit plan.kind plan.column n text
+      is_bad text comes = bad_at plan.kind plan.column n off.given unit text off.known.0 off.known.1.0.course.good off.known.1.1 off.known.1.2 comes.0 (subst (λ (m : ℕ). IsSoundUpTo (counted plan) m text) (sym off.known.0) comes.1)
 
       bad : (c : ℕ) → plan.column ≡ c → Ends (counting plan) most from a b (bad_unit c n)
       bad zero is = refused (fault.BadItem n) _ _ off off.known.1.0 (λ text begins comes. ((is, is_bad text comes), front_at n off.given (units_of (counted plan) text) off.known.0 begins))

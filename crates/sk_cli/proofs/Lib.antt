@@ -1,3 +1,4 @@
+pub mod Asking
 pub mod Completing
 pub mod CountDeciding
 pub mod Counting
@@ -6,15 +7,21 @@ pub mod Deciding
 pub mod Endings
 pub mod Fronts
 pub mod Hashing
+pub mod JoinDeciding
+pub mod Joining
 pub mod MadeRuns
 pub mod Making
 pub mod Moves
 pub mod OptionLaws
 pub mod Performing
+pub mod Ranking
 pub mod Reading
 pub mod Replaying
 pub mod Reporting
 pub mod Schedules
+pub mod Serving
 pub mod Telling
+pub mod ToldItems
+pub mod Units
 pub mod ValueLaws
 pub mod WatcherLaws

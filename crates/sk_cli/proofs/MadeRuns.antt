@@ -1,15 +1,14 @@
 -- How a run with `make` ends.
 use Rattle.std.proofs.Common.{◌≡◌, ◌≢◌, ◌⊎◌, inl, inr, ℕ, false, true, List, [], Option, None, refl, sym, ap, ◌∙◌, subst, arith}
-use Rattle.std.specs.Option.{IfNone}
 use Rattle.std.specs.Io.KnownBytes.{Appends}
 use Rattle.sk_model.specs.Causes.{AppendsPart}
 use Rattle.sk_model.specs.Lines.{lines_of}
 use Rattle.sk_read.specs.Reads.{IsSettled}
 use Rattle.sk_cli.specs.Beside.{Beside}
-use Rattle.sk_cli.specs.Command.{Asked, behaviour_of}
+use Rattle.sk_cli.specs.Command.{OneText}
 use Rattle.sk_cli.specs.Fault.{status_of}
 use Rattle.sk_cli.specs.Outside.{Outside, over_input}
-use Rattle.sk_cli.specs.Run.{Finishes, BreaksOff, IsDueWhole, IsDueOnTheWay, Refuses, Fails, Succeeds, RunsMake}
+use Rattle.sk_cli.specs.Run.{Finishes, BreaksOff, IsDueWhole, IsDueOnTheWay, Refuses, FailsText, SucceedsText, RunsMake}
 use Rattle.sk_cli.specs.commands.Count.{LeavesHub}
 use Rattle.sk_cli.specs.commands.Make.{text_by, counted_by, made_report, making}
 use Rattle.sk_cli.specs.declared.command.Command.{Command}
@@ -21,13 +20,6 @@ use Rattle.sk_cli.specs.declared.fault.Fault.TheVariants as fault
 settled_here : (P : List ℕ → Type 0) (left : Option (List ℕ)) (taken : List ℕ) → IsSettled P left taken → (text : List ℕ) × P text
 settled_here P left taken (inl always) = (_, always [])
 settled_here P left taken (inr here) = (taken, here.1)
-
--- where nothing is named, the shelf stays
-pub of_no_file : {X : Type 0} (file : Option X) (P : Type 0) → file ≡ None → IfNone file P → P
-of_no_file {X} file P none holds = subst (λ (o : Option X). IfNone o P) none holds
-
-pub reads_nothing : (command : Command) (plan : MakePlan) → command ≡ Make plan → (behaviour_of command).reads ≡ false
-reads_nothing command plan is = ap (λ (c : Command). (behaviour_of c).reads) is
 
 module _ (plan : MakePlan) (from to : Beside) (old new : Outside) (most : ℕ) where
   report_due : (taken due : List ℕ) (left : Option (List ℕ)) (P : Type 0) → IsDueWhole (making plan) from left taken due ⊎ (P × IsDueOnTheWay (making plan) from left taken due) → due ≡ made_report plan
@@ -67,21 +59,22 @@ module _ (plan : MakePlan) (from to : Beside) (old new : Outside) (most : ℕ) w
   no_reads : {P : Type 0} → false ≡ true → P
   no_reads is = absurd (cc)
 
-  failed : (f : Fault) → Fails (record { command = Make plan; file = None }) most from old new f → (f ≢ fault.WriteFault → new.written ≡ old.written) → RunsMake plan from to old.written new.written (status_of f)
+  failed : (f : Fault) → FailsText (record { command = Make plan; file = None }) most from old new f → (f ≢ fault.WriteFault → new.written ≡ old.written) → RunsMake plan from to old.written new.written (status_of f)
   failed fault.OutOfMemory off quiet = found_no_memory (quiet (λ same. cc))
   failed fault.Usage off quiet = absurd off
   failed fault.ReadFault off quiet = no_reads off.reads
   failed fault.WriteFault off quiet = broke_off off
   failed fault.OpenFault off quiet = absurd off
+  failed fault.NetFault off quiet = absurd off
   failed fault.TooMuch off quiet = no_reads off.reads
   failed f off quiet = absurd (never_refused f off)
 
-  module _ (asked : Asked) (is : asked.command ≡ Make plan) (unfiled : asked.file ≡ None) where
+  module _ (asked : OneText) (is : asked.command ≡ Make plan) (unfiled : asked.file ≡ None) where
     asked_is : asked ≡ record { command = Make plan; file = None }
     asked_is = ap (λ (c : Command). record asked { command = c }) is ∙ ap (λ (f : Option (List ℕ)). record { command = Make plan; file = f }) unfiled
 
-    pub made_well : Succeeds asked most from to old new → RunsMake plan from to old.written new.written 0
-    made_well done = finished (subst (λ (z : Asked). Succeeds z most from to old new) asked_is done)
+    pub made_well : SucceedsText asked most from to old new → RunsMake plan from to old.written new.written 0
+    made_well done = finished (subst (λ (z : OneText). SucceedsText z most from to old new) asked_is done)
 
-    pub made_not : (f : Fault) (status : ℕ) → status ≡ status_of f → Fails asked most from old new f → (f ≢ fault.WriteFault → new.written ≡ old.written) → RunsMake plan from to old.written new.written status
-    made_not f status by fails quiet = subst (RunsMake plan from to old.written new.written) (sym by) (failed f (subst (λ (z : Asked). Fails z most from old new f) asked_is fails) quiet)
+    pub made_not : (f : Fault) (status : ℕ) → status ≡ status_of f → FailsText asked most from old new f → (f ≢ fault.WriteFault → new.written ≡ old.written) → RunsMake plan from to old.written new.written status
+    made_not f status by fails quiet = subst (RunsMake plan from to old.written new.written) (sym by) (failed f (subst (λ (z : OneText). FailsText z most from old new f) asked_is fails) quiet)

@@ -17,7 +17,8 @@ use Rattle.sk_count.specs.Texts.{interim_text, last_text}
 use Rattle.sk_cli.specs.Beside.{Beside}
 use Rattle.sk_cli.specs.Outside.{Streams}
 use Rattle.sk_cli.specs.Run.{Finishes, BreaksOff, IsDueWhole, IsDueOnTheWay, Refuses, Stops, Ends, Executes, HasCauses}
-use Rattle.sk_cli.specs.commands.Count.{counting, counted, IsReadable, IsWhole, IsInterim, LeavesHub, IsRefusedBy}
+use Rattle.sk_cli.specs.Readable.{IsReadable, IsRefusedBy}
+use Rattle.sk_cli.specs.commands.Count.{counting, counted, IsWhole, IsInterim, LeavesHub}
 use Rattle.sk_cli.specs.commands.Count as count
 use Rattle.sk_cli.specs.commands.Make.{IsWithin, text_by, counted_by, made_report, making}
 use Rattle.sk_cli.specs.declared.commands.make.MakePlan.{MakePlan}
@@ -41,7 +42,7 @@ counted_within plan within = record {
 }
 
 -- nothing of the text is refused
-text_is_readable : (plan : MakePlan) → IsReadable (counted_by plan) (text_by plan)
+text_is_readable : (plan : MakePlan) → IsReadable Raw 0 (text_by plan)
 text_is_readable plan = (
   λ k d below. let short = lines_are_short plan.n plan.key k d below in omega (arith, short),
   λ k d below some. lines_are_read plan.n plan.key k d below,
@@ -142,8 +143,8 @@ module _ (plan : MakePlan) (within : IsWithin plan) (from to : Beside) (text res
 
   refused : (f : Fault) → Refuses (counting (counted_by plan)) source_limit f from x y → ⊥
   refused f off =
-      (count_decides (counted_by plan)).apart f text (subst (IsReadable (counted_by plan)) (sym is) (text_is_readable plan))
-      (settled_told (λ (t : List ℕ). IsRefusedBy (counted_by plan) f t × (counting (counted_by plan)).IsDueAt from f t off.due) text off.taken (Some rest) off.consumed off.refused).0
+      (count_decides (counted_by plan)).apart f text (subst (IsReadable Raw 0) (sym is) (text_is_readable plan))
+      (settled_told (λ (t : List ℕ). IsRefusedBy Raw 0 f t × (counting (counted_by plan)).IsDueAt from f t off.due) text off.taken (Some rest) off.consumed off.refused).0
 
   ends : (f : Fault) → Ends (counting (counted_by plan)) source_limit from x y f → (f ≡ fault.ReadFault → ⊥) → (f ≢ fault.WriteFault → w' ≡ w) → Ends (making plan) most from a b f
   ends fault.OutOfMemory off no_read quiet = nothing_more (making plan) most from a b [] (made_report plan) (Consumes-nil left) (omega arith) (quiet (λ same. cc)) (λ later. refl)
@@ -151,6 +152,7 @@ module _ (plan : MakePlan) (within : IsWithin plan) (from to : Beside) (text res
   ends fault.ReadFault off no_read quiet = absurd (no_read refl)
   ends fault.WriteFault off no_read quiet = breaks_off off
   ends fault.OpenFault off no_read quiet = absurd off
+  ends fault.NetFault off no_read quiet = absurd off
   ends fault.TooMuch off no_read quiet = absurd (too_much off)
   ends f off no_read quiet = absurd (refused f off)
 

@@ -9,7 +9,7 @@ use Rattle.sk_model.specs.Lines.{lines_of, open_lines_of, AreWithin, IsFirstLong
 use Rattle.sk_model.specs.Missing.{Begins}
 use Rattle.sk_read.specs.Items.{complete_lines_of}
 use Rattle.sk_read.specs.Reading.{Reading, HasRead, Goes}
-use Rattle.sk_read.specs.Reads.{IsSettled, IsInTime as IsReadInTime}
+use Rattle.sk_read.specs.Reads.{IsInTime as IsReadInTime}
 use Rattle.sk_read.specs.declared.reader.LineFault.{LineFault}
 use Rattle.sk_read.specs.declared.reader.LineFault.TheVariants as stop
 use Rattle.sk_read.specs.declared.units.Units.TheVariants.{Lines}

@@ -1,10 +1,10 @@
 -- Lists of numbers, part by part.
-use Rattle.std.proofs.Common.{◌≡◌, ℕ, suc, ◌+◌, ◌<◌, ◌≤◌, Bool, option_and_then, if◌then◌else◌, nat_le, true, false, List, [], ◌∷◌, ◌++◌, length, take, drop, get_or, All, Option, Some, None, option_map, refl, sym, ap, ◌∙◌, subst, arith, eqb, append-nil, append_assoc, length-append, length-take, take-append-drop}
+use Rattle.std.proofs.Common.{◌≡◌, ℕ, suc, ◌+◌, ◌<◌, ◌≤◌, Bool, option_and_then, if◌then◌else◌, nat_le, true, false, List, [], ◌∷◌, ◌++◌, length, take, drop, get_or, All, Option, Some, None, option_map, refl, sym, ap, ◌∙◌, arith, eqb, append-nil, append_assoc, length-take, take-append-drop}
 use Rattle.std.proofs.Math.Seq.{drop-cons}
 use Rattle.std.proofs.lemmas.Bool.{ne_eqb, le-leb, lt-leb}
 use Rattle.std.proofs.lemmas.List.{get_or-take, get_or_default}
 use Rattle.std.proofs.lemmas.List.Splits.{slice_split_none, slice_split_at, length-slice_split}
-use Rattle.sk_cli.specs.Values.{Word, number_from, numbers_from, number_list, parts_of, parts_in}
+use Rattle.sk_cli.specs.Values.{Word, number_from, numbers_from, number_list, parts_of}
 
 abbrev is_comma : ℕ → Bool
 is_comma byte = eqb byte 44

@@ -26,7 +26,8 @@ cleared_more xs ys i below is =
 
 -- ---- boards without an alarm
 
-told_cleared : (reply : Reply) (places : List Place) → map (told reply) (cleared places) ≡ cleared places
+-- a board without watchers stays so
+pub told_cleared : (reply : Reply) (places : List Place) → map (told reply) (cleared places) ≡ cleared places
 told_cleared reply [] = refl
 told_cleared reply (place ∷ places) = ap (λ (l : List Place). None ∷ l) (told_cleared reply places)
 

@@ -1,10 +1,11 @@
 -- The words of a command line as a command, and what each command does.
-use Rattle.std.specs.Prelude.{ℕ, Bool, true, false, List, [], ◌∷◌, codes, if◌then◌else◌, Option, Some, None, option_and_then, option_map, bytes_eq}
+use Rattle.std.specs.Prelude.{◌≡◌, ℕ, Bool, true, false, ◌&&◌, is_none, is_some, List, [], ◌∷◌, codes, if◌then◌else◌, Option, Some, None, option_and_then, option_map, bytes_eq}
 use Rattle.std.specs.Option.{option_copied}
 use Rattle.sk_cli.specs.declared.options.Verb.TheVariants as verb
 use Rattle.sk_cli.specs.declared.command.Request.{Request}
+use Rattle.sk_cli.specs.declared.command.Request.TheVariants.{OverText, Join, Serve}
 use Rattle.sk_cli.specs.declared.command.Command.{Command}
-use Rattle.sk_cli.specs.declared.command.Command.TheVariants.{Count, Hash, Make, Replay, Help, Version}
+use Rattle.sk_cli.specs.declared.command.Command.TheVariants.{Count, Hash, Image, Make, Quantile, Replay, Help, Version}
 use Rattle.sk_cli.specs.declared.commands.about.TheConstants.{HELP, VERSION}
 use Rattle.sk_cli.specs.Behaviour.{Behaviour}
 use Rattle.sk_cli.specs.Options.{Given, spelled_by, file_by}
@@ -12,14 +13,21 @@ use Rattle.sk_cli.specs.Values.{Word}
 use Rattle.sk_cli.specs.commands.About.{about}
 use Rattle.sk_cli.specs.commands.Count as count
 use Rattle.sk_cli.specs.commands.Hash as hash
+use Rattle.sk_cli.specs.commands.Image as image
+use Rattle.sk_cli.specs.commands.Join.{TwoImages, images_of, images_by}
 use Rattle.sk_cli.specs.commands.Make as make
+use Rattle.sk_cli.specs.commands.Quantile as quantile
 use Rattle.sk_cli.specs.commands.Replay as replay
+use Rattle.sk_cli.specs.commands.Serve as serve
+use Rattle.sk_serve.specs.declared.plan.ServePlan.{ServePlan}
 
 -- what a command does
 abbrev pub behaviour_of : Command → Behaviour
 behaviour_of (Count plan) = count.counting plan
 behaviour_of (Hash plan) = hash.hashing plan
+behaviour_of (Image plan) = image.imaging plan
 behaviour_of (Make plan) = make.making plan
+behaviour_of (Quantile plan) = quantile.ranking plan
 behaviour_of Replay = replay.replaying
 behaviour_of Help = about HELP.now
 behaviour_of Version = about VERSION.now
@@ -39,31 +47,90 @@ makes_hub other = false
 abbrev pub takes_file : Command → Bool
 takes_file (Count plan) = true
 takes_file (Hash plan) = true
+takes_file (Image plan) = true
+takes_file (Quantile plan) = true
 takes_file Replay = true
 takes_file other = false
 
 -- the numbers of a command are within their limits
 abbrev pub IsWithin : Command → Type 0
 IsWithin (Count plan) = count.IsWithin plan
+IsWithin (Image plan) = image.IsWithin plan
 IsWithin (Make plan) = make.IsWithin plan
+IsWithin (Quantile plan) = quantile.IsWithin plan
 IsWithin other = Unit {0}
 
--- what words ask for: a command, and the name of the file that it reads in place of the standard input
-pub record Asked : Type 0 where
+-- a command over at most one text, and the name of the file that it reads in place of the standard input
+pub record OneText : Type 0 where
   pub command : Command
   pub file : Option Word
 
+-- what words ask for
+pub data Asked : Type 0 where
+  OfText : OneText → Asked
+  OfImages : TwoImages → Asked
+  OfLinks : ServePlan → Asked
+
 -- a request as what its words ask for
 abbrev pub asked_of : Request → Asked
-asked_of request = record { command = request.command; file = option_copied request.file }
+asked_of (OverText over) = OfText (record { command = over.command; file = option_copied over.file })
+asked_of (Join plan) = OfImages (images_of plan)
+asked_of (Serve plan) = OfLinks plan
+
+-- what a request asks for is within its limits, and a command that takes no file has none
+abbrev pub IsInOrder : Asked → Type 0
+IsInOrder (OfText one) = IsWithin one.command × (takes_file one.command ≡ false → one.file ≡ None)
+IsInOrder (OfImages two) = Unit {0}
+IsInOrder (OfLinks plan) = serve.IsWithin plan
+
+-- the command over at most one text
+abbrev pub command_of : Asked → Option Command
+command_of (OfText one) = Some one.command
+command_of (OfImages two) = None
+command_of (OfLinks plan) = None
+
+-- whether the standard input is read
+abbrev pub reads_input : Asked → Bool
+reads_input (OfText one) = is_none one.file && (behaviour_of one.command).reads
+reads_input (OfImages two) = false
+reads_input (OfLinks plan) = false
+
+-- whether files are opened
+abbrev pub opens_files : Asked → Bool
+opens_files (OfText one) = is_some one.file
+opens_files (OfImages two) = true
+opens_files (OfLinks plan) = false
+
+-- whether links are accepted
+abbrev pub accepts_links : Asked → Bool
+accepts_links (OfLinks plan) = true
+accepts_links other = false
+
+-- whether nothing is written before all is read
+abbrev pub writes_last_of : Asked → Bool
+writes_last_of (OfText one) = (behaviour_of one.command).writes_last
+writes_last_of (OfImages two) = true
+writes_last_of (OfLinks plan) = true
+
+-- the marks of the alarms that are set
+abbrev pub alarms_asked : Asked → List ℕ
+alarms_asked (OfText one) = alarms_of one.command
+alarms_asked (OfImages two) = []
+alarms_asked (OfLinks plan) = plan.alarms
+
+-- whether a hub is left behind
+abbrev pub leaves_hub : Asked → Bool
+leaves_hub (OfText one) = makes_hub one.command
+leaves_hub (OfImages two) = false
+leaves_hub (OfLinks plan) = true
 
 -- a command by its options, with its file
 abbrev pub asked_by : (List Given → Option Command) → List Given → Option Asked
-asked_by by given = option_and_then (λ command. option_map (λ file. record { command = command; file = file }) (file_by given)) (by given)
+asked_by by given = option_and_then (λ command. option_map (λ file. OfText (record { command = command; file = file })) (file_by given)) (by given)
 
 -- the command, where no word follows
 abbrev pub alone : Command → List Word → Option Asked
-alone command [] = Some (record { command = command; file = None })
+alone command [] = Some (OfText (record { command = command; file = None }))
 alone command (word ∷ words) = None
 
 -- the commands that options spell
@@ -73,11 +140,23 @@ count_by given = option_map (λ plan. Count plan) (count.plan_by given)
 abbrev pub hash_by : List Given → Option Command
 hash_by given = option_map (λ plan. Hash plan) (hash.plan_by given)
 
+abbrev pub image_by : List Given → Option Command
+image_by given = option_map (λ plan. Image plan) (image.plan_by given)
+
+abbrev pub join_by : List Given → Option Asked
+join_by given = option_map (λ two. OfImages two) (images_by given)
+
 abbrev pub make_by : List Given → Option Asked
-make_by given = option_map (λ plan. record { command = Make plan; file = None }) (make.plan_by given)
+make_by given = option_map (λ plan. OfText (record { command = Make plan; file = None })) (make.plan_by given)
+
+abbrev pub quantile_by : List Given → Option Command
+quantile_by given = option_map (λ plan. Quantile plan) (quantile.plan_by given)
 
 abbrev pub replay_by : List Given → Option Command
 replay_by given = Some Replay
+
+abbrev pub serve_by : List Given → Option Asked
+serve_by given = option_map (λ plan. OfLinks plan) (serve.plan_by given)
 
 -- what words ask for: a command with its options
 abbrev pub request_of : List Word → Option Asked
@@ -85,7 +164,11 @@ request_of [] = None
 request_of (word ∷ words) =
     if bytes_eq word (codes "count") then option_and_then (asked_by count_by) (spelled_by verb.Count words) else (
     if bytes_eq word (codes "hash") then option_and_then (asked_by hash_by) (spelled_by verb.Hash words) else (
+    if bytes_eq word (codes "image") then option_and_then (asked_by image_by) (spelled_by verb.Image words) else (
+    if bytes_eq word (codes "join") then option_and_then join_by (spelled_by verb.Join words) else (
     if bytes_eq word (codes "make") then option_and_then make_by (spelled_by verb.Make words) else (
+    if bytes_eq word (codes "quantile") then option_and_then (asked_by quantile_by) (spelled_by verb.Quantile words) else (
     if bytes_eq word (codes "replay") then option_and_then (asked_by replay_by) (spelled_by verb.Replay words) else (
+    if bytes_eq word (codes "serve") then option_and_then serve_by (spelled_by verb.Serve words) else (
     if bytes_eq word (codes "--help") then alone Help words else (
-    if bytes_eq word (codes "--version") then alone Version words else None)))))
+    if bytes_eq word (codes "--version") then alone Version words else None)))))))))

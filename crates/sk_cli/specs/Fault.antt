@@ -4,8 +4,13 @@ use Rattle.sk_read.specs.declared.fault.Fault.{Fault as ReadingFault}
 use Rattle.sk_read.specs.declared.fault.Fault.TheVariants as reading
 use Rattle.sk_read.specs.declared.reader.LineFault.{LineFault}
 use Rattle.sk_read.specs.declared.reader.LineFault.TheVariants as stop
+use Rattle.sk_image.specs.declared.stop.ReadStop.{ReadStop}
+use Rattle.sk_image.specs.declared.stop.ReadStop.TheVariants as image
+use Rattle.sk_serve.specs.declared.fault.ServeFault.{ServeFault}
+use Rattle.sk_serve.specs.declared.fault.ServeFault.TheVariants as serve
+use Rattle.sk_cli.specs.declared.fault.Stamp.{Stamp}
 use Rattle.sk_cli.specs.declared.fault.Fault.{Fault}
-use Rattle.sk_cli.specs.declared.fault.Fault.TheVariants.{OutOfMemory, Usage, ReadFault, WriteFault, LongLine, BadItem, BadField, BadEvent, OpenFault, BadCsv, TooMuch}
+use Rattle.sk_cli.specs.declared.fault.Fault.TheVariants.{OutOfMemory, Usage, ReadFault, WriteFault, LongLine, BadItem, BadField, BadEvent, OpenFault, BadImage, NetFault, Mixed, BadCsv, TooMuch}
 
 abbrev pub status_of : Fault → ℕ
 status_of OutOfMemory = 1
@@ -17,12 +22,27 @@ status_of (BadItem line) = 6
 status_of (BadField number) = 6
 status_of (BadEvent line) = 7
 status_of OpenFault = 8
+status_of (BadImage file line) = 9
+status_of NetFault = 10
+status_of (Mixed left right) = 11
 status_of (BadCsv number) = 12
 status_of TooMuch = 13
 
 -- what is wrong with a line or a record
 abbrev pub unit_message : List ℕ → ℕ → List ℕ → List ℕ
 unit_message unit number what = unit ++ (decimal number ++ what)
+
+-- which line of which file is not as its place in an image requires
+abbrev pub bad_image_message : ℕ → ℕ → List ℕ
+bad_image_message file line = unit_message (codes "file ") file (codes " ") ++ unit_message (codes "line ") line (codes ": bad image\n")
+
+-- the k and the seed of an image, and what stands behind them
+abbrev pub stamp_message : Stamp → List ℕ → List ℕ
+stamp_message stamp what = unit_message (codes "k=") stamp.k (codes " ") ++ unit_message (codes "seed=") stamp.seed what
+
+-- the numbers of two images that do not fit together
+abbrev pub mixed_message : Stamp → Stamp → List ℕ
+mixed_message left right = codes "mixed: " ++ (stamp_message left (codes " and ") ++ stamp_message right (codes "\n"))
 
 -- the line that standard error gets
 abbrev pub message_of : Fault → List ℕ
@@ -35,6 +55,9 @@ message_of (BadItem line) = unit_message (codes "line ") line (codes ": not a nu
 message_of (BadField number) = unit_message (codes "record ") number (codes ": not a number\n")
 message_of (BadEvent line) = unit_message (codes "line ") line (codes ": bad event\n")
 message_of OpenFault = codes "open fault\n"
+message_of (BadImage file line) = bad_image_message file line
+message_of NetFault = codes "net fault\n"
+message_of (Mixed left right) = mixed_message left right
 message_of (BadCsv number) = unit_message (codes "record ") number (codes ": bad csv\n")
 message_of TooMuch = codes "too much\n"
 
@@ -58,3 +81,16 @@ abbrev pub fault_by_line : LineFault → Fault
 fault_by_line stop.ReadFault = ReadFault
 fault_by_line (stop.LongLine line) = LongLine line
 fault_by_line stop.TooMuch = TooMuch
+
+-- the fault that a file of this number makes which is not read as an image
+abbrev pub fault_by_image : ℕ → ReadStop → Fault
+fault_by_image number image.OutOfMemory = OutOfMemory
+fault_by_image number image.ReadFault = ReadFault
+fault_by_image number (image.BadImage line) = BadImage number line
+fault_by_image number image.TooMuch = TooMuch
+
+-- the fault that a fault of a server makes
+abbrev pub fault_by_serve : ServeFault → Fault
+fault_by_serve serve.OutOfMemory = OutOfMemory
+fault_by_serve serve.NetFault = NetFault
+fault_by_serve serve.WriteFault = WriteFault

@@ -5,6 +5,8 @@ pub mod Fault
 pub mod Lines
 pub mod Options
 pub mod Outside
+pub mod Readable
 pub mod Run
+pub mod Told
 pub mod Values
 pub mod commands

@@ -6,9 +6,9 @@ use Rattle.sk_model.specs.Limits.{most_size, most_updaters}
 use Rattle.sk_cli.specs.Beside.{board_places}
 use Rattle.sk_cli.specs.Values.{Word, number_from, number_list, yes_or_no}
 use Rattle.sk_cli.specs.declared.options.Verb.{Verb}
-use Rattle.sk_cli.specs.declared.options.Verb.TheVariants.{Count, Hash, Make, Replay}
+use Rattle.sk_cli.specs.declared.options.Verb.TheVariants.{Count, Hash, Image, Join, Make, Quantile, Replay, Serve}
 use Rattle.sk_cli.specs.declared.options.Name.{Name}
-use Rattle.sk_cli.specs.declared.options.Name.TheVariants.{Alarm, B, Csv, Eager, File, K, Key, N, Propagator, Raw, Seed, Updaters, Window}
+use Rattle.sk_cli.specs.declared.options.Name.TheVariants.{Alarm, AsImage, At, B, Csv, Eager, File, K, Key, Left, N, Port, Propagator, Raw, Right, Seed, Sessions, Updaters, Wave, Window}
 
 abbrev pub texts_of : List (String Global) → List Word
 texts_of words = map string_bytes words
@@ -17,32 +17,59 @@ texts_of words = map string_bytes words
 abbrev pub name_of : Word → Option Name
 name_of word =
     if bytes_eq word (codes "--alarm") then Some Alarm else (
+    if bytes_eq word (codes "--at") then Some At else (
     if bytes_eq word (codes "--b") then Some B else (
     if bytes_eq word (codes "--csv") then Some Csv else (
     if bytes_eq word (codes "--eager") then Some Eager else (
     if bytes_eq word (codes "--file") then Some File else (
+    if bytes_eq word (codes "--image") then Some AsImage else (
     if bytes_eq word (codes "--k") then Some K else (
     if bytes_eq word (codes "--key") then Some Key else (
+    if bytes_eq word (codes "--left") then Some Left else (
     if bytes_eq word (codes "--n") then Some N else (
+    if bytes_eq word (codes "--port") then Some Port else (
     if bytes_eq word (codes "--propagator") then Some Propagator else (
     if bytes_eq word (codes "--raw") then Some Raw else (
+    if bytes_eq word (codes "--right") then Some Right else (
     if bytes_eq word (codes "--seed") then Some Seed else (
+    if bytes_eq word (codes "--sessions") then Some Sessions else (
     if bytes_eq word (codes "--updaters") then Some Updaters else (
-    if bytes_eq word (codes "--window") then Some Window else None))))))))))))
+    if bytes_eq word (codes "--wave") then Some Wave else (
+    if bytes_eq word (codes "--window") then Some Window else None)))))))))))))))))))
 
 -- whether a value stands behind a name
 abbrev pub takes_value : Name → Bool
+takes_value AsImage = false
 takes_value Raw = false
 takes_value name = true
 
 -- the options that a command has
 abbrev pub allows : Verb → Name → Bool
-allows Count Key = false
-allows Count N = false
-allows Count name = true
+allows Count Alarm = true
+allows Count B = true
+allows Count Csv = true
+allows Count Eager = true
+allows Count File = true
+allows Count K = true
+allows Count Propagator = true
+allows Count Raw = true
+allows Count Seed = true
+allows Count Updaters = true
+allows Count Window = true
+allows Count name = false
 allows Hash File = true
 allows Hash Seed = true
 allows Hash name = false
+allows Image Csv = true
+allows Image File = true
+allows Image K = true
+allows Image Raw = true
+allows Image Seed = true
+allows Image name = false
+allows Join AsImage = true
+allows Join Left = true
+allows Join Right = true
+allows Join name = false
 allows Make B = true
 allows Make K = true
 allows Make Key = true
@@ -50,8 +77,22 @@ allows Make N = true
 allows Make Propagator = true
 allows Make Updaters = true
 allows Make name = false
+allows Quantile At = true
+allows Quantile File = true
+allows Quantile K = true
+allows Quantile Key = true
+allows Quantile name = false
 allows Replay File = true
 allows Replay name = false
+allows Serve Alarm = true
+allows Serve B = true
+allows Serve Eager = true
+allows Serve K = true
+allows Serve Port = true
+allows Serve Seed = true
+allows Serve Sessions = true
+allows Serve Wave = true
+allows Serve name = false
 
 -- an option: its name, and the value behind it, empty for a flag
 abbrev pub Given : Type 0
@@ -60,18 +101,25 @@ Given = Name × Word
 -- a number for each name, by which names are told apart
 abbrev pub place_of : Name → ℕ
 place_of Alarm = 0
-place_of B = 1
-place_of Csv = 2
-place_of Eager = 3
-place_of File = 4
-place_of K = 5
-place_of Key = 6
-place_of N = 7
-place_of Propagator = 8
-place_of Raw = 9
-place_of Seed = 10
-place_of Updaters = 11
-place_of Window = 12
+place_of AsImage = 1
+place_of At = 2
+place_of B = 3
+place_of Csv = 4
+place_of Eager = 5
+place_of File = 6
+place_of K = 7
+place_of Key = 8
+place_of Left = 9
+place_of N = 10
+place_of Port = 11
+place_of Propagator = 12
+place_of Raw = 13
+place_of Right = 14
+place_of Seed = 15
+place_of Sessions = 16
+place_of Updaters = 17
+place_of Wave = 18
+place_of Window = 19
 
 -- the name, where the command has it
 abbrev pub allowed_by : Verb → Option Name → Option Name
@@ -177,3 +225,9 @@ name_by (Some (byte ∷ bytes)) = Some (Some (byte ∷ bytes))
 -- the name of the file that is read in place of the standard input, if there is one
 abbrev pub file_by : List Given → Option (Option Word)
 file_by given = name_by (value_behind File given)
+
+-- the name of a file that has to be given
+abbrev pub name_in : Option Word → Option Word
+name_in None = None
+name_in (Some []) = None
+name_in (Some (byte ∷ bytes)) = Some (byte ∷ bytes)

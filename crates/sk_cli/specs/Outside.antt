@@ -3,6 +3,7 @@ use Rattle.std.specs.Prelude.{ℕ, List, Option}
 use Rattle.sk_io.specs.declared.shelf.Shelf as shelf
 use Rattle.sk_io.specs.declared.stream.Sink as sink
 use Rattle.sk_io.specs.declared.stream.Source as source
+use Rattle.sk_io.specs.Traffic.{Ended}
 
 -- a source and a sink: the bytes that are left and those that were written, where they tell them, and their counts
 -- of faults
@@ -49,3 +50,11 @@ over_input o = record { left = o.input; read_faults = o.input_faults; written = 
 -- a file of which this is left, beside the output
 abbrev pub over_file : Option (List ℕ) → Outside → Streams
 over_file left o = record { left = left; read_faults = o.file_faults; written = o.written; write_faults = o.write_faults }
+
+-- the links that a door had closed before a run, and those behind it
+pub record Closed : Type 0 where
+  pub before : List Ended
+  pub after : List Ended
+
+abbrev pub closed_in : List Ended → List Ended → Closed
+closed_in before after = record { before = before; after = after }

@@ -1,23 +1,25 @@
 -- How a run goes: what it reads and writes, and why it ends.
-use Rattle.std.specs.Prelude.{◌≡◌, ◌≢◌, ◌⊎◌, ℕ, ◌<◌, ◌≤◌, List, ◌++◌, length, take, true, Option, None, Some, Result, MatchResult}
+use Rattle.std.specs.Prelude.{◌≡◌, ◌≢◌, ◌⊎◌, ℕ, ◌<◌, ◌≤◌, List, ◌++◌, length, take, true, Option, None, Some, IsSomeAnd, Result, MatchResult}
 use Rattle.std.specs.Bool.{OnTrue}
 use Rattle.std.specs.Io.KnownBytes.{Appends, Consumes, IsAtEnd}
 use Rattle.sk_model.specs.Causes.{Rose, HasCauseIn, AppendsFront, AppendsPart}
 use Rattle.sk_model.specs.Lines.{lines_of}
 use Rattle.sk_model.specs.Missing.{Begins}
-use Rattle.sk_io.specs.Files.{told_file}
+use Rattle.sk_io.specs.Files.{told_file, IsMissing}
 use Rattle.sk_io.specs.declared.stream.Sink as sink
 use Rattle.sk_read.specs.Reads.{piece_limit, IsSettled}
 use Rattle.sk_cli.specs.Behaviour.{Behaviour}
 use Rattle.sk_cli.specs.Beside.{Beside}
 use Rattle.sk_cli.specs.Values.{Word}
-use Rattle.sk_cli.specs.Outside.{Streams, Outside, over_input, over_file}
-use Rattle.sk_cli.specs.Command.{Asked, behaviour_of}
+use Rattle.sk_cli.specs.Outside.{Streams, Outside, Closed, over_input, over_file}
+use Rattle.sk_cli.specs.Command.{OneText, Asked, OfText, OfImages, OfLinks, behaviour_of}
 use Rattle.sk_cli.specs.commands.Count.{LeavesHub}
+use Rattle.sk_cli.specs.commands.Join.{ReadsBoth, WritesBoth, EndsJoin, IsToldImage, AreFineFiles, AreRefused}
+use Rattle.sk_cli.specs.commands.Serve.{ServesAll, EndsServing}
 use Rattle.sk_cli.specs.commands.Make.{text_by, counted_by, made_report}
 use Rattle.sk_cli.specs.declared.commands.make.MakePlan.{MakePlan}
 use Rattle.sk_cli.specs.declared.fault.Fault.{Fault}
-use Rattle.sk_cli.specs.declared.fault.Fault.TheVariants.{OutOfMemory, Usage, ReadFault, WriteFault, OpenFault, TooMuch}
+use Rattle.sk_cli.specs.declared.fault.Fault.TheVariants.{OutOfMemory, Usage, ReadFault, WriteFault, OpenFault, NetFault, TooMuch}
 
 -- known bytes grew by a part of these from their front, by this front at least and not by all
 pub record AppendsPartBehind (front : List ℕ) (old new : Option (List ℕ)) (bytes : List ℕ) : Type 0 where
@@ -115,6 +117,7 @@ Ends b most from old new Usage = ⊥
 Ends b most from old new ReadFault = Stops b (λ size. size < most) from old new
 Ends b most from old new WriteFault = BreaksOff b most from old new
 Ends b most from old new OpenFault = ⊥
+Ends b most from old new NetFault = ⊥
 Ends b most from old new TooMuch = Stops b (λ size. size ≡ most) from old new
 Ends b most from old new refusal = Refuses b most refusal from old new
 
@@ -139,18 +142,48 @@ abbrev pub CannotOpen : Option Word → Outside → Outside → Type 0
 CannotOpen None old new = ⊥
 CannotOpen (Some name) old new = new.written ≡ old.written
 
--- what was asked was done whole
-abbrev pub Succeeds : Asked → ℕ → Beside → Beside → Outside → Outside → Type 0
-Succeeds asked most from to old new = Over asked.file (λ a b. Finishes (behaviour_of asked.command) most from to a b) old new
+-- a command over at most one text was done whole
+abbrev pub SucceedsText : OneText → ℕ → Beside → Beside → Outside → Outside → Type 0
+SucceedsText asked most from to old new = Over asked.file (λ a b. Finishes (behaviour_of asked.command) most from to a b) old new
+
+-- where it may end by a fault
+abbrev pub FailsText : OneText → ℕ → Beside → Outside → Outside → Fault → Type 0
+FailsText asked most from old new OpenFault = CannotOpen asked.file old new
+FailsText asked most from old new fault = Over asked.file (λ a b. Ends (behaviour_of asked.command) most from a b fault) old new
+
+-- how it went
+abbrev pub PerformsText : OneText → ℕ → Beside → Beside → Outside → Outside → Result (Unit {0}) Fault → Type 0
+PerformsText asked most from to old new result = MatchResult result (λ _. SucceedsText asked most from to old new) (λ fault. FailsText asked most from old new fault)
+
+-- ---- a run
+
+-- what was asked was done whole: a command over at most one text, a join, or a server
+abbrev pub Succeeds : Asked → ℕ → Beside → Beside → Outside → Outside → Closed → Type 0
+Succeeds (OfText one) most from to old new links = SucceedsText one most from to old new
+Succeeds (OfImages two) most from to old new links = ReadsBoth two most old.files new.file_left (WritesBoth two.as_image old.written new.written)
+Succeeds (OfLinks plan) most from to old new links = ServesAll plan most from to old.written new.written links
 
 -- where a run may end by a fault, once its words are accepted
-abbrev pub Fails : Asked → ℕ → Beside → Outside → Outside → Fault → Type 0
-Fails asked most from old new OpenFault = CannotOpen asked.file old new
-Fails asked most from old new fault = Over asked.file (λ a b. Ends (behaviour_of asked.command) most from a b fault) old new
+abbrev pub Fails : Asked → ℕ → Beside → Beside → Outside → Outside → Closed → Fault → Type 0
+Fails (OfText one) most from to old new links fault = FailsText one most from old new fault
+Fails (OfImages two) most from to old new links fault = EndsJoin two most old.files new.file_left old.written new.written fault
+Fails (OfLinks plan) most from to old new links fault = EndsServing plan most from to old.written new.written links fault
 
 -- how a run went
-abbrev pub Performs : Asked → ℕ → Beside → Beside → Outside → Outside → Result (Unit {0}) Fault → Type 0
-Performs asked most from to old new result = MatchResult result (λ _. Succeeds asked most from to old new) (λ fault. Fails asked most from old new fault)
+abbrev pub Performs : Asked → ℕ → Beside → Beside → Outside → Outside → Closed → Result (Unit {0}) Fault → Type 0
+Performs asked most from to old new links result =
+    MatchResult result (λ _. Succeeds asked most from to old new links) (λ fault. Fails asked most from to old new links fault)
+
+-- how often a read has failed of what is read in place of the standard input where a file is named, else of that
+abbrev pub read_faults_over : Option Word → Outside → ℕ
+read_faults_over None o = o.input_faults
+read_faults_over (Some name) o = o.file_faults
+
+-- how often a read has failed of what is read for this
+abbrev pub read_faults_of : Asked → Outside → ℕ
+read_faults_of (OfText one) o = read_faults_over one.file o
+read_faults_of (OfImages two) o = o.file_faults
+read_faults_of (OfLinks plan) o = o.input_faults
 
 -- ---- what contracts see of a status
 
@@ -159,9 +192,9 @@ pub record RisesAt (at before now status : ℕ) : Type 0 where
   pub failed : status ≡ at → Rose before now
   pub steady : status ≢ at → now ≡ before
 
--- only a failed read or write moved the counts of the streams that a command is over
-pub record RiseAtTheirs (old new : Streams) (status : ℕ) : Type 0 where
-  pub read : RisesAt 3 old.read_faults new.read_faults status
+-- only a failed read or write moved the counts of what is read for this, and of the output
+pub record RiseAtTheirs (asked : Asked) (old new : Outside) (status : ℕ) : Type 0 where
+  pub read : RisesAt 3 (read_faults_of asked old) (read_faults_of asked new) status
   pub write : RisesAt 4 old.write_faults new.write_faults status
 
 -- a sink got all of a text and its count of faults stays, or a part of it and the count rose
@@ -184,6 +217,49 @@ pub record RunsMake (plan : MakePlan) (from to : Beside) (old new : Option (List
 abbrev pub told_text : Option Word → Outside → Option (List ℕ)
 told_text None o = o.input
 told_text (Some name) o = told_file o.files name
+
+-- the text is told, nothing of it is refused, and it has fewer than so many bytes
+pub record IsFineText (asked : OneText) (most : ℕ) (old : Outside) : Type 0 where
+  pub text : List ℕ
+  pub told : told_text asked.file old ≡ Some text
+  pub fine : (behaviour_of asked.command).IsFine text
+  pub size : length text < most
+
+-- the text is told and read, it is refused by this fault, and it has fewer than so many bytes
+pub record IsRefusedText (asked : OneText) (most : ℕ) (fault : Fault) (old : Outside) : Type 0 where
+  pub text : List ℕ
+  pub told : told_text asked.file old ≡ Some text
+  pub reads : (behaviour_of asked.command).reads ≡ true
+  pub refused : (behaviour_of asked.command).Refuses fault text
+  pub size : length text < most
+
+-- all that is read for this is told, and nothing of it is refused
+abbrev pub IsFineFor : Asked → ℕ → Outside → Type 0
+IsFineFor (OfText one) most old = IsFineText one most old
+IsFineFor (OfImages two) most old = AreFineFiles two most old.files
+IsFineFor (OfLinks plan) most old = ⊥
+
+-- what is read for this is told up to the place where it is refused by this fault
+abbrev pub IsRefusedFor : Asked → ℕ → Fault → Outside → Type 0
+IsRefusedFor (OfText one) most fault old = IsRefusedText one most fault old
+IsRefusedFor (OfImages two) most fault old = AreRefused two most old.files fault
+IsRefusedFor (OfLinks plan) most fault old = ⊥
+
+-- the first file that is opened for this is known not to be there
+abbrev pub MissesFirst : Asked → Outside → Type 0
+MissesFirst (OfText one) old = IsSomeAnd one.file (λ name. IsMissing old.files name)
+MissesFirst (OfImages two) old = IsMissing old.files two.left
+MissesFirst (OfLinks plan) old = ⊥
+
+-- the second one is, and the first is an image
+abbrev pub MissesSecond : Asked → ℕ → Outside → Type 0
+MissesSecond (OfText one) most old = ⊥
+MissesSecond (OfLinks plan) most old = ⊥
+MissesSecond (OfImages two) most old = IsToldImage most (told_file old.files two.left) × IsMissing old.files two.right
+
+-- a status that no text decides, before anything is written: want of memory, or a failed read or open
+abbrev pub IsOfReads : ℕ → Type 0
+IsOfReads status = (status ≡ 1) ⊎ (status ≡ 3) ⊎ (status ≡ 8)
 
 -- a status that no text decides: want of memory, or a failed read, write or open
 abbrev pub IsOfCalls : ℕ → Type 0

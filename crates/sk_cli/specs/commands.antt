@@ -2,5 +2,9 @@
 pub mod About
 pub mod Count
 pub mod Hash
+pub mod Image
+pub mod Join
 pub mod Make
+pub mod Quantile
 pub mod Replay
+pub mod Serve

@@ -1,50 +1,72 @@
 // The words of a command line as what is asked.
-ghost use Rattle.std.specs.Prelude.{◌≡◌, None, IfSome, false};
+ghost use Rattle.std.specs.Prelude.{◌≡◌, None, IfSome};
 ghost use Rattle.std.specs.Option.{option_map, option_copied};
 ghost use Rattle.sk_cli.specs.Options.{texts_of, file_by};
-ghost use Rattle.sk_cli.specs.Command.{request_of, asked_of, asked_by, count_by, hash_by, make_by, replay_by, alone, takes_file, IsWithin};
+ghost use Rattle.sk_cli.specs.Command.{request_of, asked_of, asked_by, count_by, hash_by, image_by, join_by, serve_by, make_by, quantile_by, replay_by, alone, OfText, IsInOrder};
 
 use crate::commands::count::plan_of;
 use crate::commands::hash::HashPlan;
+use crate::commands::image::ImagePlan;
+use crate::commands::join::JoinPlan;
 use crate::commands::make::MakePlan;
+use crate::commands::quantile::QuantilePlan;
+use crate::commands::serve;
 use crate::options::{Name, Options, Verb};
 use sk_count::Plan;
+use sk_serve::ServePlan;
 
-/// What the program is asked to do.
+/// A command over at most one text.
 #[derive(Clone, Copy)]
 pub enum Command {
     /// Estimate how many distinct items there are.
     Count(Plan),
     /// Write the hash of each line that is not empty.
     Hash(HashPlan),
+    /// Write the image of the items.
+    Image(ImagePlan),
     /// Estimate how many distinct numbers there are in lines that the program makes.
     Make(MakePlan),
+    /// Tell the rank of a number among those of a text.
+    Quantile(QuantilePlan),
     /// Play a schedule and write the answer to each event.
     Replay,
     Help,
     Version,
 }
 
-/// A command, and the name of the file that it reads in place of the standard input.
+/// A command over at most one text, and the name of the file that it reads in place of the standard input.
 #[derive(Clone, Copy)]
-pub struct Request<'a> {
+pub struct OverText<'a> {
     pub command: Command,
     pub file: Option<&'a str>,
+}
+
+/// What the program is asked to do.
+#[derive(Clone, Copy)]
+pub enum Request<'a> {
+    OverText(OverText<'a>),
+    /// Join two images.
+    Join(JoinPlan<'a>),
+    /// Answer clients' requests over links.
+    Serve(ServePlan),
 }
 
 impl<'a> Request<'a> {
     /// What the words ask for, or `None` where they are no command with its options.
     pub fn of(words: &'a [String]) -> Option<Request<'a>>
         ensures value { option_map asked_of result ≡ request_of (texts_of words.now) }
-        ensures limits { IfSome result (λ request. IsWithin request.command) }
-        ensures unfiled { IfSome result (λ request. takes_file request.command ≡ false → request.file ≡ None) }
+        ensures order { IfSome result (λ request. IsInOrder (asked_of request)) }
     {
         let (verb, behind) = words.split_first()?;
         match verb.as_str() {
             "count" => Request::count(&Options::new(Verb::Count, behind)?),
             "hash" => Request::hash(&Options::new(Verb::Hash, behind)?),
+            "image" => Request::image(&Options::new(Verb::Image, behind)?),
+            "join" => Request::join(&Options::new(Verb::Join, behind)?),
             "make" => Request::make(&Options::new(Verb::Make, behind)?),
+            "quantile" => Request::quantile(&Options::new(Verb::Quantile, behind)?),
             "replay" => Request::replay(&Options::new(Verb::Replay, behind)?),
+            "serve" => Request::serve(&Options::new(Verb::Serve, behind)?),
             "--help" => alone(Command::Help, behind),
             "--version" => alone(Command::Version, behind),
             _ => None,
@@ -53,60 +75,87 @@ impl<'a> Request<'a> {
 
     fn count(options: &Options<'a>) -> Option<Request<'a>>
         ensures value { option_map asked_of result ≡ asked_by count_by options.now }
-        ensures limits { IfSome result (λ request. IsWithin request.command) }
-        ensures unfiled { IfSome result (λ request. takes_file request.command ≡ false → request.file ≡ None) }
+        ensures order { IfSome result (λ request. IsInOrder (asked_of request)) }
     {
         let command = Command::Count(plan_of(options)?);
         let file = file_in(options)?;
-        Some(Request { command, file })
+        Some(Request::OverText(OverText { command, file }))
     }
 
     fn hash(options: &Options<'a>) -> Option<Request<'a>>
         ensures value { option_map asked_of result ≡ asked_by hash_by options.now }
-        ensures limits { IfSome result (λ request. IsWithin request.command) }
-        ensures unfiled { IfSome result (λ request. takes_file request.command ≡ false → request.file ≡ None) }
+        ensures order { IfSome result (λ request. IsInOrder (asked_of request)) }
     {
         let command = Command::Hash(HashPlan::of(options)?);
         let file = file_in(options)?;
-        Some(Request { command, file })
+        Some(Request::OverText(OverText { command, file }))
+    }
+
+    fn image(options: &Options<'a>) -> Option<Request<'a>>
+        ensures value { option_map asked_of result ≡ asked_by image_by options.now }
+        ensures order { IfSome result (λ request. IsInOrder (asked_of request)) }
+    {
+        let command = Command::Image(ImagePlan::of(options)?);
+        let file = file_in(options)?;
+        Some(Request::OverText(OverText { command, file }))
+    }
+
+    fn join(options: &Options<'a>) -> Option<Request<'a>>
+        ensures value { option_map asked_of result ≡ join_by options.now }
+        ensures order { IfSome result (λ request. IsInOrder (asked_of request)) }
+    {
+        Some(Request::Join(JoinPlan::of(options)?))
     }
 
     fn make(options: &Options<'a>) -> Option<Request<'a>>
         ensures value { option_map asked_of result ≡ make_by options.now }
-        ensures limits { IfSome result (λ request. IsWithin request.command) }
-        ensures unfiled { IfSome result (λ request. takes_file request.command ≡ false → request.file ≡ None) }
+        ensures order { IfSome result (λ request. IsInOrder (asked_of request)) }
     {
         let command = Command::Make(MakePlan::of(options)?);
-        Some(Request {
+        Some(Request::OverText(OverText {
             command,
             file: None,
-        })
+        }))
+    }
+
+    fn quantile(options: &Options<'a>) -> Option<Request<'a>>
+        ensures value { option_map asked_of result ≡ asked_by quantile_by options.now }
+        ensures order { IfSome result (λ request. IsInOrder (asked_of request)) }
+    {
+        let command = Command::Quantile(QuantilePlan::of(options)?);
+        let file = file_in(options)?;
+        Some(Request::OverText(OverText { command, file }))
     }
 
     fn replay(options: &Options<'a>) -> Option<Request<'a>>
         ensures value { option_map asked_of result ≡ asked_by replay_by options.now }
-        ensures limits { IfSome result (λ request. IsWithin request.command) }
-        ensures unfiled { IfSome result (λ request. takes_file request.command ≡ false → request.file ≡ None) }
+        ensures order { IfSome result (λ request. IsInOrder (asked_of request)) }
     {
         let file = file_in(options)?;
-        Some(Request {
+        Some(Request::OverText(OverText {
             command: Command::Replay,
             file,
-        })
+        }))
+    }
+
+    fn serve(options: &Options<'a>) -> Option<Request<'a>>
+        ensures value { option_map asked_of result ≡ serve_by options.now }
+        ensures order { IfSome result (λ request. IsInOrder (asked_of request)) }
+    {
+        Some(Request::Serve(serve::plan_of(options)?))
     }
 }
 
 // The command, where no word stands behind it.
 fn alone<'a>(command: Command, behind: &[String]) -> Option<Request<'a>>
     ensures value { option_map asked_of result ≡ alone command (texts_of behind.now) }
-    ensures same { IfSome result (λ request. request.command ≡ command) }
-    ensures unfiled { IfSome result (λ request. request.file ≡ None) }
+    ensures alone { IfSome result (λ request. asked_of request ≡ OfText (record { command = command; file = None })) }
 {
     if behind.is_empty() {
-        Some(Request {
+        Some(Request::OverText(OverText {
             command,
             file: None,
-        })
+        }))
     } else {
         None
     }

@@ -2,5 +2,9 @@
 pub mod about;
 pub mod count;
 pub mod hash;
+pub mod image;
+pub mod join;
 pub mod make;
+pub mod quantile;
 pub mod replay;
+pub mod serve;

@@ -1,33 +1,38 @@
-// A command over the standard input or over a file.
-ghost use Rattle.std.specs.Prelude.{◌≡◌, ◌≢◌, ◌≤◌, All, IsSome, [], length, Err, IfErr, None, Some, OnSome, IfNone, IfSome, true, false};
+// What is asked, over the standard input or over files.
+ghost use Rattle.std.specs.Prelude.{◌≡◌, ◌≢◌, ◌≤◌, All, IsSome, [], length, Err, IfErr, IsErrAnd, None, Some, OnSome, IfNone, IfSome, true, false};
 ghost use Rattle.std.specs.Option.{option_copied};
 ghost use Rattle.sk_model.specs.Causes.{HasCauseIn};
 ghost use Rattle.sk_model.specs.Limits.{source_limit};
 ghost use Rattle.sk_io.specs.Files.{IsMissing};
 ghost use Rattle.sk_cli.specs.Beside.{beside_of, board_places, cleared};
-ghost use Rattle.sk_cli.specs.Command.{behaviour_of, alarms_of, makes_hub, IsWithin};
-ghost use Rattle.sk_cli.specs.Outside.{streams_of, outside_of};
-ghost use Rattle.sk_cli.specs.Run.{Executes, HasCauses, Over, Performs};
+ghost use Rattle.sk_cli.specs.Command.{asked_of, behaviour_of, alarms_of, alarms_asked, makes_hub, leaves_hub, reads_input, opens_files, accepts_links, writes_last_of, IsWithin, IsInOrder};
+ghost use Rattle.sk_cli.specs.Fault.{status_of};
+ghost use Rattle.sk_cli.specs.Outside.{streams_of, outside_of, closed_in};
+ghost use Rattle.sk_cli.specs.Run.{Executes, HasCauses, Over, PerformsText, Performs, MissesFirst, MissesSecond, IsOfCalls, read_faults_of, IsOfReads};
 
-use crate::command::Command;
+use crate::command::{Command, Request};
 use crate::commands::about::{HELP, VERSION};
 use crate::commands::count::count;
 use crate::commands::hash::hash;
+use crate::commands::image::image;
+use crate::commands::join::join;
 use crate::commands::make::make;
+use crate::commands::quantile::quantile;
 use crate::commands::replay::replay;
+use crate::commands::serve::serve;
 use crate::fault::Fault;
 use crate::watchers::clear;
 use crate::write::write_text;
 use sk_count::{Remains, arm};
-use sk_io::{OpenFile, Shelf, Sink, Source};
+use sk_io::{Door, OpenFile, Shelf, Sink, Source};
 use sk_watch::Seen;
 use std::alloc::Global;
 use std::sync::Wait;
 use std::thread::Threads;
 
-/// Does what a command asks, over the standard input or the file of this name, of fewer than `most`
-/// bytes.
-pub fn perform<R: Threads + Wait + Sync, S: Source, O: Sink, F: Shelf, B: Seen>(
+// Does what a command asks, over the standard input or the file of this name, of fewer than `most`
+// bytes.
+fn perform_text<R: Threads + Wait + Sync, S: Source, O: Sink, F: Shelf, B: Seen>(
     rt: &R,
     alloc: Global,
     command: Command,
@@ -45,7 +50,7 @@ pub fn perform<R: Threads + Wait + Sync, S: Source, O: Sink, F: Shelf, B: Seen>(
     requires live { All IsSome (B.places board.old) }
     ensures done { let old = outside_of S.Source O.Sink F.Shelf input.old out.old shelf.old in
         let new = outside_of S.Source O.Sink F.Shelf input.new out.new shelf.new in
-        Performs (record { command = command; file = option_copied file.entry }) most
+        PerformsText (record { command = command; file = option_copied file.entry }) most
         (beside_of (B.places board.old) remains.old) (beside_of (B.places board.new) remains.new) old new result }
 
     // A count rises by one at its own fault, and stands else.
@@ -56,8 +61,8 @@ pub fn perform<R: Threads + Wait + Sync, S: Source, O: Sink, F: Shelf, B: Seen>(
     ensures missing { IfSome (option_copied file.entry) (λ name. IsMissing (F.files shelf.old) name → result ≡ Err Fault.OpenFault) }
 
     // Only what the command reads is touched, and the output only where there is something to write.
-    ensures with_file { OnSome file.entry (input.new ≡ input.old) }
-    ensures without_file { IfNone file.entry (shelf.new ≡ shelf.old) }
+    ensures with_file { OnSome (option_copied file.entry) (input.new ≡ input.old) }
+    ensures without_file { IfNone (option_copied file.entry) (shelf.new ≡ shelf.old) }
     ensures idle { (behaviour_of command).reads ≡ false → input.new ≡ input.old }
     ensures last { (behaviour_of command).writes_last ≡ true → IfErr result (λ fault. fault ≢ Fault.WriteFault → out.new ≡ out.old) }
     ensures closed { result ≡ Err Fault.OpenFault → out.new ≡ out.old }
@@ -78,6 +83,78 @@ pub fn perform<R: Threads + Wait + Sync, S: Source, O: Sink, F: Shelf, B: Seen>(
                 Err(Fault::OpenFault)
             }
         },
+    }
+}
+
+/// Does what is asked: a command over the standard input or a file, of fewer than `most` bytes, a join of two
+/// files, of as few each, or a server over links, of as few each.
+pub fn perform<R: Threads + Wait + Sync, S: Source, O: Sink, F: Shelf, D: Door, B: Seen>(
+    rt: &R,
+    alloc: Global,
+    request: &Request<'_>,
+    most: u64,
+    input: &mut S,
+    out: &mut O,
+    shelf: &mut F,
+    door: &mut D,
+    board: &mut B,
+    remains: &mut Remains,
+) -> Result<(), Fault>
+where
+    D::Link: Send,
+    requires order { IsInOrder (asked_of request.now) }
+    requires bound { most ≤ source_limit }
+    requires places { length (B.places board.old) ≡ board_places }
+    requires live { All IsSome (B.places board.old) }
+    ensures done { let old = outside_of S.Source O.Sink F.Shelf input.old out.old shelf.old in
+        let new = outside_of S.Source O.Sink F.Shelf input.new out.new shelf.new in
+        Performs (asked_of request.now) most (beside_of (B.places board.old) remains.old) (beside_of (B.places board.new) remains.new) old new
+        (closed_in (D.ended door.old) (D.ended door.new)) result }
+
+    // A count rises by one at its own fault, and stands else.
+    ensures reads { let old = outside_of S.Source O.Sink F.Shelf input.old out.old shelf.old in
+        let new = outside_of S.Source O.Sink F.Shelf input.new out.new shelf.new in
+        HasCauseIn Fault.ReadFault (read_faults_of (asked_of request.now) old) (read_faults_of (asked_of request.now) new) result }
+    ensures writes { HasCauseIn Fault.WriteFault (O.faults out.old) (O.faults out.new) result }
+    ensures opens { HasCauseIn Fault.OpenFault (F.open_faults shelf.old) (F.open_faults shelf.new) result }
+    ensures net { HasCauseIn Fault.NetFault (D.faults door.old) (D.faults door.new) result }
+    ensures missing { let old = outside_of S.Source O.Sink F.Shelf input.old out.old shelf.old in
+        MissesFirst (asked_of request.now) old → result ≡ Err Fault.OpenFault }
+    ensures second_missing { let old = outside_of S.Source O.Sink F.Shelf input.old out.old shelf.old in
+        MissesSecond (asked_of request.now) most old → IsErrAnd result (λ fault. IsOfReads (status_of fault)) }
+
+    // Only what is read is touched, and the output only where there is something to write.
+    ensures input { reads_input (asked_of request.now) ≡ false → input.new ≡ input.old }
+    ensures shelf { opens_files (asked_of request.now) ≡ false → shelf.new ≡ shelf.old }
+    ensures door { accepts_links (asked_of request.now) ≡ false → door.new ≡ door.old }
+    ensures last { writes_last_of (asked_of request.now) ≡ true → IfErr result (λ fault. fault ≢ Fault.WriteFault → out.new ≡ out.old) }
+    ensures closed { result ≡ Err Fault.OpenFault → out.new ≡ out.old }
+    ensures files { F.files shelf.new ≡ F.files shelf.old }
+    ensures stays { S.stands_on input.new ≡ S.stands_on input.old }
+
+    // Watchers stay for alarms alone, and a hub is left where a count ended well.
+    ensures board { alarms_asked (asked_of request.now) ≡ [] → B.places board.new ≡ cleared (B.places board.old) }
+    ensures remains { IfErr result (λ _. remains.new ≡ remains.old) }
+    ensures no_hub { leaves_hub (asked_of request.now) ≡ false → remains.new ≡ remains.old }
+{
+    match request {
+        Request::OverText(over) => perform_text(
+            rt,
+            alloc,
+            over.command,
+            over.file,
+            most,
+            input,
+            out,
+            shelf,
+            board,
+            remains,
+        ),
+        Request::Join(plan) => {
+            clear(board);
+            join(alloc, plan, most, out, shelf)
+        }
+        Request::Serve(plan) => serve(rt, alloc, plan, most, out, door, board, remains),
     }
 }
 
@@ -128,7 +205,15 @@ pub fn execute<R: Threads + Wait + Sync, S: Source, O: Sink, B: Seen>(
             clear(board);
             hash(alloc, &plan, most, source, out)
         }
+        Command::Image(plan) => {
+            clear(board);
+            image(alloc, &plan, most, source, out)
+        }
         Command::Make(plan) => make(rt, alloc, &plan, out, board, remains),
+        Command::Quantile(plan) => {
+            clear(board);
+            quantile(alloc, &plan, most, source, out)
+        }
         Command::Replay => {
             clear(board);
             replay(alloc, most, source, out)

@@ -2,13 +2,22 @@
 ghost use Rattle.std.specs.Prelude.{◌≡◌, OnOk, OnErr};
 ghost use Rattle.std.specs.Io.KnownBytes.{Appends};
 ghost use Rattle.sk_model.specs.Causes.{HasCause, AppendsPart};
-ghost use Rattle.sk_cli.specs.Fault.{status_of, message_of, unit_message, fault_by};
+ghost use Rattle.sk_cli.specs.Fault.{status_of, message_of, unit_message, bad_image_message, stamp_message, mixed_message, fault_by, fault_by_image, fault_by_serve};
 
+use sk_image::ReadStop;
 use sk_io::{Failed, Sink, write_all};
 use sk_lines::put_decimal;
 use sk_model::OutOfMemory;
 use sk_read::{Fault as ReadingFault, LineFault};
+use sk_serve::ServeFault;
 use std::alloc::AllocError;
+
+/// The numbers that an image has beside its hashes.
+#[derive(Clone, Copy, Debug, PartialEq, Eq)]
+pub struct Stamp {
+    pub k: u64,
+    pub seed: u64,
+}
 
 /// Why the program ends by a status other than 0. Lines and records are counted from 1.
 #[derive(Clone, Copy, Debug, PartialEq, Eq)]
@@ -26,6 +35,13 @@ pub enum Fault {
     /// A line of a schedule is no event that is enabled.
     BadEvent(u64),
     OpenFault,
+    /// Of the file of this number, 1 for the left and 2 for the right one, a line is not as its place in an image
+    /// requires.
+    BadImage(u64, u64),
+    /// A listen or an accept failed.
+    NetFault,
+    /// The k or the seeds of two images differ, the left one first.
+    Mixed(Stamp, Stamp),
     /// A record has not as many fields as the first, or no such column.
     BadCsv(u64),
     /// As many bytes were taken as are too much.
@@ -83,6 +99,29 @@ impl Fault {
         }
     }
 
+    /// The fault of a file of this number that is not read as an image.
+    pub fn of_image(number: u64, stop: ReadStop) -> Fault
+        ensures { result ≡ fault_by_image number stop }
+    {
+        match stop {
+            ReadStop::OutOfMemory => Fault::OutOfMemory,
+            ReadStop::ReadFault => Fault::ReadFault,
+            ReadStop::BadImage(line) => Fault::BadImage(number, line),
+            ReadStop::TooMuch => Fault::TooMuch,
+        }
+    }
+
+    /// The fault of a server.
+    pub fn of_serving(fault: ServeFault) -> Fault
+        ensures { result ≡ fault_by_serve fault }
+    {
+        match fault {
+            ServeFault::OutOfMemory => Fault::OutOfMemory,
+            ServeFault::NetFault => Fault::NetFault,
+            ServeFault::WriteFault => Fault::WriteFault,
+        }
+    }
+
     /// The exit status.
     pub fn status(self) -> u8
         ensures { result ≡ status_of self }
@@ -97,6 +136,9 @@ impl Fault {
             Fault::BadField(_) => 6,
             Fault::BadEvent(_) => 7,
             Fault::OpenFault => 8,
+            Fault::BadImage(_, _) => 9,
+            Fault::NetFault => 10,
+            Fault::Mixed(_, _) => 11,
             Fault::BadCsv(_) => 12,
             Fault::TooMuch => 13,
         }
@@ -121,6 +163,9 @@ impl Fault {
             Fault::BadField(number) => tell_unit(err, b"record ", number, b": not a number\n"),
             Fault::BadEvent(line) => tell_unit(err, b"line ", line, b": bad event\n"),
             Fault::OpenFault => write_all(err, b"open fault\n"),
+            Fault::NetFault => write_all(err, b"net fault\n"),
+            Fault::BadImage(file, line) => tell_bad_image(err, file, line),
+            Fault::Mixed(left, right) => tell_mixed(err, left, right),
             Fault::BadCsv(number) => tell_unit(err, b"record ", number, b": bad csv\n"),
             Fault::TooMuch => write_all(err, b"too much\n"),
         }
@@ -138,4 +183,35 @@ fn tell_unit<E: Sink>(err: &mut E, unit: &[u8], number: u64, what: &[u8]) -> Res
     write_all(err, unit)?;
     write_all(err, &digits[..len])?;
     write_all(err, what)
+}
+
+// Writes which line of which file is not as its place in an image requires.
+fn tell_bad_image<E: Sink>(err: &mut E, file: u64, line: u64) -> Result<(), Failed>
+    ensures ok { OnOk result (Appends (E.written err.old) (E.written err.new) (bad_image_message file line)) }
+    ensures part { OnErr result (AppendsPart (E.written err.old) (E.written err.new) (bad_image_message file line)) }
+    ensures cause { HasCause (E.faults err.old) (E.faults err.new) result }
+{
+    tell_unit(err, b"file ", file, b" ")?;
+    tell_unit(err, b"line ", line, b": bad image\n")
+}
+
+// Writes the k and the seed of an image, and what stands behind them.
+fn tell_stamp<E: Sink>(err: &mut E, stamp: Stamp, what: &[u8]) -> Result<(), Failed>
+    ensures ok { OnOk result (Appends (E.written err.old) (E.written err.new) (stamp_message stamp what.now)) }
+    ensures part { OnErr result (AppendsPart (E.written err.old) (E.written err.new) (stamp_message stamp what.now)) }
+    ensures cause { HasCause (E.faults err.old) (E.faults err.new) result }
+{
+    tell_unit(err, b"k=", stamp.k, b" ")?;
+    tell_unit(err, b"seed=", stamp.seed, what)
+}
+
+// Writes the numbers of two images that do not fit together.
+fn tell_mixed<E: Sink>(err: &mut E, left: Stamp, right: Stamp) -> Result<(), Failed>
+    ensures ok { OnOk result (Appends (E.written err.old) (E.written err.new) (mixed_message left right)) }
+    ensures part { OnErr result (AppendsPart (E.written err.old) (E.written err.new) (mixed_message left right)) }
+    ensures cause { HasCause (E.faults err.old) (E.faults err.new) result }
+{
+    write_all(err, b"mixed: ")?;
+    tell_stamp(err, left, b" and ")?;
+    tell_stamp(err, right, b"\n")
 }

@@ -4,7 +4,7 @@ ghost use Rattle.std.specs.Prelude.{◌+◌, ◌^◌, ◌≡◌, ◌↔◌, All,
 ghost use Rattle.sk_model.specs.Limits.{IsFrom, most_size, most_updaters};
 ghost use Rattle.sk_ingest.specs.Windows.{most_lines};
 ghost use Rattle.sk_cli.specs.Beside.{board_places};
-ghost use Rattle.sk_cli.specs.Options.{name_of, takes_value, allows, options_of, texts_of, is_once, value_behind, given_in, spelled_by, is_given, number_in, required_in, is_yes_in, seed_by, updaters_by, sizes_by, window_by, eager_by, propagator_by, alarms_by};
+ghost use Rattle.sk_cli.specs.Options.{name_of, takes_value, allows, options_of, texts_of, is_once, value_behind, given_in, spelled_by, is_given, number_in, required_in, is_yes_in, name_in, seed_by, updaters_by, sizes_by, window_by, eager_by, propagator_by, alarms_by};
 
 use crate::values::{number_from, number_list, yes_or_no};
 use sk_count::Numbers;
@@ -19,25 +19,36 @@ const MOST_MARK: u64 = (1 << 48) - 1;
 pub enum Verb {
     Count,
     Hash,
+    Image,
+    Join,
     Make,
+    Quantile,
     Replay,
+    Serve,
 }
 
 /// The name of an option.
 #[derive(Clone, Copy, Debug, PartialEq, Eq)]
 pub enum Name {
     Alarm,
+    AsImage,
+    At,
     B,
     Csv,
     Eager,
     File,
     K,
     Key,
+    Left,
     N,
+    Port,
     Propagator,
     Raw,
+    Right,
     Seed,
+    Sessions,
     Updaters,
+    Wave,
     Window,
 }
 
@@ -48,17 +59,24 @@ impl Name {
     {
         match word {
             "--alarm" => Some(Name::Alarm),
+            "--at" => Some(Name::At),
             "--b" => Some(Name::B),
             "--csv" => Some(Name::Csv),
             "--eager" => Some(Name::Eager),
             "--file" => Some(Name::File),
+            "--image" => Some(Name::AsImage),
             "--k" => Some(Name::K),
             "--key" => Some(Name::Key),
+            "--left" => Some(Name::Left),
             "--n" => Some(Name::N),
+            "--port" => Some(Name::Port),
             "--propagator" => Some(Name::Propagator),
             "--raw" => Some(Name::Raw),
+            "--right" => Some(Name::Right),
             "--seed" => Some(Name::Seed),
+            "--sessions" => Some(Name::Sessions),
             "--updaters" => Some(Name::Updaters),
+            "--wave" => Some(Name::Wave),
             "--window" => Some(Name::Window),
             _ => None,
         }
@@ -68,7 +86,28 @@ impl Name {
     fn takes_value(self) -> bool
         ensures { result ≡ takes_value self }
     {
-        self != Name::Raw
+        self != Name::Raw && self != Name::AsImage
+    }
+
+    // Whether it is an option of a count.
+    fn is_of_count(self) -> bool
+        ensures { result ≡ allows Verb.Count self }
+    {
+        match self {
+            Name::Alarm | Name::B | Name::Csv | Name::Eager | Name::File | Name::K => true,
+            Name::Propagator | Name::Raw | Name::Seed | Name::Updaters | Name::Window => true,
+            _ => false,
+        }
+    }
+
+    // Whether it is an option of an image that is made.
+    fn is_of_image(self) -> bool
+        ensures { result ≡ allows Verb.Image self }
+    {
+        match self {
+            Name::Csv | Name::File | Name::K | Name::Raw | Name::Seed => true,
+            _ => false,
+        }
     }
 
     // Whether it is an option of a count of made lines.
@@ -80,6 +119,27 @@ impl Name {
             _ => false,
         }
     }
+
+    // Whether it is an option of a rank.
+    fn is_of_quantile(self) -> bool
+        ensures { result ≡ allows Verb.Quantile self }
+    {
+        match self {
+            Name::At | Name::File | Name::K | Name::Key => true,
+            _ => false,
+        }
+    }
+
+    // Whether it is an option of a server.
+    fn is_of_serve(self) -> bool
+        ensures { result ≡ allows Verb.Serve self }
+    {
+        match self {
+            Name::Alarm | Name::B | Name::Eager | Name::K => true,
+            Name::Port | Name::Seed | Name::Sessions | Name::Wave => true,
+            _ => false,
+        }
+    }
 }
 
 impl Verb {
@@ -88,10 +148,14 @@ impl Verb {
         ensures { result ≡ allows self name }
     {
         match self {
-            Verb::Count => name != Name::Key && name != Name::N,
+            Verb::Count => name.is_of_count(),
             Verb::Hash => name == Name::File || name == Name::Seed,
+            Verb::Image => name.is_of_image(),
+            Verb::Join => name == Name::AsImage || name == Name::Left || name == Name::Right,
             Verb::Make => name.is_of_make(),
+            Verb::Quantile => name.is_of_quantile(),
             Verb::Replay => name == Name::File,
+            Verb::Serve => name.is_of_serve(),
         }
     }
 }
@@ -234,6 +298,14 @@ impl<'a> Options<'a> {
         ensures within { IfSome result (λ n. (low ≤ n) × (n ≤ high)) }
     {
         number_from(self.value(name)?.as_bytes(), low, high)
+    }
+
+    /// The name of a file behind a name that has to be given. `None` where it is not, or is empty.
+    pub fn name_of_file(&self, name: Name) -> Option<&'a str>
+        ensures { option_copied result ≡ name_in (value_behind name self.now) }
+    {
+        let word = self.value(name)?;
+        if word.is_empty() { None } else { Some(word) }
     }
 
     /// The seed of the hash, 0 where it is not given. `None` where the value is out of its limits.

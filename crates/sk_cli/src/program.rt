@@ -1,13 +1,12 @@
 // The top call: words in, a status out.
-ghost use Rattle.std.specs.Prelude.{◌≡◌, ◌≢◌, ◌⊎◌, ◌↔◌, ◌<◌, ℕ, List, [], length, All, None, Some, IsSome, MatchOption, OnSome, IfNone, IfSome, true, false};
+ghost use Rattle.std.specs.Prelude.{◌≡◌, ◌≢◌, ◌⊎◌, ◌↔◌, [], length, All, None, Some, IsSome, MatchOption, IfSome, true, false};
 ghost use Rattle.sk_model.specs.Limits.{source_limit};
-ghost use Rattle.sk_io.specs.Files.{IsMissing};
 ghost use Rattle.sk_cli.specs.Beside.{beside_of, board_places, cleared};
 ghost use Rattle.sk_cli.specs.Options.{texts_of};
-ghost use Rattle.sk_cli.specs.Command.{request_of, behaviour_of, alarms_of, makes_hub};
+ghost use Rattle.sk_cli.specs.Command.{request_of, command_of, reads_input, opens_files, accepts_links, writes_last_of, alarms_asked, leaves_hub};
 ghost use Rattle.sk_cli.specs.Fault.{message_of, status_of};
-ghost use Rattle.sk_cli.specs.Outside.{outside_of};
-ghost use Rattle.sk_cli.specs.Run.{Over, Succeeds, Fails, Reports, RisesAt, RiseAtTheirs, RunsMake, told_text, IsOfCalls};
+ghost use Rattle.sk_cli.specs.Outside.{outside_of, closed_in};
+ghost use Rattle.sk_cli.specs.Run.{Succeeds, Fails, Reports, RisesAt, RiseAtTheirs, RunsMake, IsFineFor, IsRefusedFor, MissesFirst, MissesSecond, IsOfCalls, IsOfReads};
 ghost use Rattle.sk_cli.specs.declared.command.Command.TheVariants as command;
 ghost use Rattle.sk_cli.specs.declared.commands.make.MakePlan.{MakePlan};
 ghost use Rattle.sk_cli.specs.declared.fault.Fault.{Fault};
@@ -17,7 +16,7 @@ use crate::command::Request;
 use crate::execute::perform;
 use crate::fault::Fault;
 use sk_count::Remains;
-use sk_io::{Shelf, Sink, Source};
+use sk_io::{Door, Shelf, Sink, Source};
 use sk_model::limits::SOURCE_LIMIT;
 use sk_watch::Seen;
 use std::alloc::Global;
@@ -26,7 +25,7 @@ use std::thread::Threads;
 
 /// Runs the program over the words that stand behind its name, and answers its exit status. What
 /// standard error is told is written as far as it goes, and a fault of that write changes nothing.
-pub fn run<R: Threads + Wait + Sync, S: Source, O: Sink, E: Sink, F: Shelf, B: Seen>(
+pub fn run<R: Threads + Wait + Sync, S: Source, O: Sink, E: Sink, F: Shelf, D: Door, B: Seen>(
     rt: &R,
     alloc: Global,
     words: &[String],
@@ -34,9 +33,12 @@ pub fn run<R: Threads + Wait + Sync, S: Source, O: Sink, E: Sink, F: Shelf, B: S
     out: &mut O,
     err: &mut E,
     shelf: &mut F,
+    door: &mut D,
     board: &mut B,
     remains: &mut Remains,
 ) -> u8
+where
+    D::Link: Send,
     requires places { length (B.places board.old) ≡ board_places }
     requires live { All IsSome (B.places board.old) }
     requires no_heart { remains.old.heart ≡ None }
@@ -44,59 +46,62 @@ pub fn run<R: Threads + Wait + Sync, S: Source, O: Sink, E: Sink, F: Shelf, B: S
 
     // Words that are no command: nothing is touched, and only the usage line is told.
     ensures usage { (result ≡ 2) ↔ (request_of (texts_of words.now) ≡ None) }
-    ensures usage_alone { result ≡ 2 → (input.new ≡ input.old) × (shelf.new ≡ shelf.old) × (out.new ≡ out.old) × (board.new ≡ board.old) }
+    ensures usage_alone { result ≡ 2 → (input.new ≡ input.old) × (shelf.new ≡ shelf.old) × (out.new ≡ out.old) × (door.new ≡ door.old) × (board.new ≡ board.old) }
 
     // What the command reads was read to its end, nothing of it is refused, and the whole text was written.
     ensures ok { result ≡ 0 → IfSome (request_of (texts_of words.now)) (λ asked. let old = outside_of S.Source O.Sink F.Shelf input.old out.old shelf.old in
         let new = outside_of S.Source O.Sink F.Shelf input.new out.new shelf.new in
-        Succeeds asked source_limit (beside_of (B.places board.old) remains.old) (beside_of (B.places board.new) remains.new) old new) }
+        Succeeds asked source_limit (beside_of (B.places board.old) remains.old) (beside_of (B.places board.new) remains.new) old new (closed_in (D.ended door.old) (D.ended door.new))) }
     ensures quiet { result ≡ 0 → err.new ≡ err.old }
 
     // Every other status is that of a fault, which has its place, and of which standard error is told.
     ensures fault { result ≢ 0 → (f : Fault) × (result ≡ status_of f) × Reports E.Sink err.old err.new (message_of f)
         × MatchOption (request_of (texts_of words.now)) (f ≡ fault.Usage) (λ asked. let old = outside_of S.Source O.Sink F.Shelf input.old out.old shelf.old in
         let new = outside_of S.Source O.Sink F.Shelf input.new out.new shelf.new in
-        Fails asked source_limit (beside_of (B.places board.old) remains.old) old new f) }
+        Fails asked source_limit (beside_of (B.places board.old) remains.old) (beside_of (B.places board.new) remains.new) old new
+        (closed_in (D.ended door.old) (D.ended door.new)) f) }
 
     // A count of faults rises by one at the status of its fault, and stands at every other.
     ensures causes { IfSome (request_of (texts_of words.now)) (λ asked. let old = outside_of S.Source O.Sink F.Shelf input.old out.old shelf.old in
         let new = outside_of S.Source O.Sink F.Shelf input.new out.new shelf.new in
-        Over asked.file (λ a b. RiseAtTheirs a b result) old new) }
+        RiseAtTheirs asked old new result) }
     ensures opens { RisesAt 8 (F.open_faults shelf.old) (F.open_faults shelf.new) result }
+    ensures net { RisesAt 10 (D.faults door.old) (D.faults door.new) result }
 
-    // Where the text that is read is told, it decides: 0 where nothing of it is refused, the status of its refusal where
-    // it is, or that of a call that failed.
+    // Where what is read is told, it decides: 0 where nothing of it is refused, the status of its refusal where it is,
+    // or that of a call that failed.
     ensures complete { IfSome (request_of (texts_of words.now)) (λ asked. let old = outside_of S.Source O.Sink F.Shelf input.old out.old shelf.old in
-        (text : List ℕ) → told_text asked.file old ≡ Some text → (behaviour_of asked.command).IsFine text → length text < source_limit
-        → (result ≡ 0) ⊎ IsOfCalls result) }
+        IsFineFor asked source_limit old → (result ≡ 0) ⊎ IsOfCalls result) }
     ensures refused { IfSome (request_of (texts_of words.now)) (λ asked. let old = outside_of S.Source O.Sink F.Shelf input.old out.old shelf.old in
-        (f : Fault) (text : List ℕ) → told_text asked.file old ≡ Some text → (behaviour_of asked.command).reads ≡ true
-        → (behaviour_of asked.command).Refuses f text → length text < source_limit → (result ≡ status_of f) ⊎ IsOfCalls result) }
+        (f : Fault) → IsRefusedFor asked source_limit f old → (result ≡ status_of f) ⊎ IsOfCalls result) }
 
-    // A file that is known not to be there can't be opened.
-    ensures missing { IfSome (request_of (texts_of words.now)) (λ asked. IfSome asked.file (λ name. IsMissing (F.files shelf.old) name → result ≡ 8)) }
+    // A file that is known not to be there can't be opened. A second one is opened only behind a first that is an image.
+    ensures missing { IfSome (request_of (texts_of words.now)) (λ asked. let old = outside_of S.Source O.Sink F.Shelf input.old out.old shelf.old in
+        MissesFirst asked old → result ≡ 8) }
+    ensures second_missing { IfSome (request_of (texts_of words.now)) (λ asked. let old = outside_of S.Source O.Sink F.Shelf input.old out.old shelf.old in
+        MissesSecond asked source_limit old → IsOfReads result) }
 
     // `make` touches no stream but the output. It ends well, for want of memory, or at a failed write.
-    ensures make { (plan : MakePlan) → IfSome (request_of (texts_of words.now)) (λ asked. asked.command ≡ command.Make plan
+    ensures make { (plan : MakePlan) → IfSome (request_of (texts_of words.now)) (λ asked. command_of asked ≡ Some (command.Make plan)
         → (input.new ≡ input.old) × (shelf.new ≡ shelf.old)
         × RunsMake plan (beside_of (B.places board.old) remains.old) (beside_of (B.places board.new) remains.new) (O.written out.old) (O.written out.new) result) }
 
     // Only what the command reads is touched, and no file changes.
-    ensures with_file { IfSome (request_of (texts_of words.now)) (λ asked. OnSome asked.file (input.new ≡ input.old)) }
-    ensures without_file { IfSome (request_of (texts_of words.now)) (λ asked. IfNone asked.file (shelf.new ≡ shelf.old)) }
-    ensures idle { IfSome (request_of (texts_of words.now)) (λ asked. (behaviour_of asked.command).reads ≡ false → input.new ≡ input.old) }
+    ensures input { IfSome (request_of (texts_of words.now)) (λ asked. reads_input asked ≡ false → input.new ≡ input.old) }
+    ensures shelf { IfSome (request_of (texts_of words.now)) (λ asked. opens_files asked ≡ false → shelf.new ≡ shelf.old) }
+    ensures door { IfSome (request_of (texts_of words.now)) (λ asked. accepts_links asked ≡ false → door.new ≡ door.old) }
     ensures stays { S.stands_on input.new ≡ S.stands_on input.old }
 
     // A file that can't be opened leaves the output untouched, and so does what ends a command that writes last.
     ensures closed { result ≡ 8 → out.new ≡ out.old }
-    ensures last { IfSome (request_of (texts_of words.now)) (λ asked. (behaviour_of asked.command).writes_last ≡ true
+    ensures last { IfSome (request_of (texts_of words.now)) (λ asked. writes_last_of asked ≡ true
         → result ≢ 0 → result ≢ 4 → out.new ≡ out.old) }
     ensures files { F.files shelf.new ≡ F.files shelf.old }
 
     // Watchers stay for alarms alone, and a hub is left where a count ended well.
-    ensures board { IfSome (request_of (texts_of words.now)) (λ asked. alarms_of asked.command ≡ [] → B.places board.new ≡ cleared (B.places board.old)) }
+    ensures board { IfSome (request_of (texts_of words.now)) (λ asked. alarms_asked asked ≡ [] → B.places board.new ≡ cleared (B.places board.old)) }
     ensures remains { result ≢ 0 → remains.new ≡ remains.old }
-    ensures no_hub { IfSome (request_of (texts_of words.now)) (λ asked. makes_hub asked.command ≡ false → remains.new ≡ remains.old) }
+    ensures no_hub { IfSome (request_of (texts_of words.now)) (λ asked. leaves_hub asked ≡ false → remains.new ≡ remains.old) }
 {
     let Some(request) = Request::of(words) else {
         return report(Fault::Usage, err);
@@ -104,12 +109,12 @@ pub fn run<R: Threads + Wait + Sync, S: Source, O: Sink, E: Sink, F: Shelf, B: S
     match perform(
         rt,
         alloc,
-        request.command,
-        request.file,
+        &request,
         SOURCE_LIMIT,
         input,
         out,
         shelf,
+        door,
         board,
         remains,
     ) {

@@ -1,12 +1,12 @@
 -- What `count` is asked, and what it does.
-use Rattle.std.specs.Prelude.{◌≡◌, ℕ, ◌<◌, ◌≤◌, ◌-◌, true, false, List, [], ◌∷◌, ◌++◌, length, take, All, if◌then◌else◌, Option, None, Some, IfSome, IsNone, is_none, option_and_then, option_map}
+use Rattle.std.specs.Prelude.{◌≡◌, ℕ, ◌≤◌, true, false, List, [], ◌∷◌, ◌++◌, length, take, All, if◌then◌else◌, Option, None, Some, IfSome, is_none, option_and_then, option_map}
 use Rattle.sk_model.specs.Limits.{least_k, most_k, most_size, most_updaters, IsFrom}
 use Rattle.sk_gate.specs.Hands.{TokenState}
 use Rattle.sk_hub.specs.Hearts.{HeartState}
 use Rattle.sk_read.specs.declared.kind.Kind.{Kind}
 use Rattle.sk_read.specs.declared.kind.Kind.TheVariants as kind
-use Rattle.sk_read.specs.Items.{items_by, item_of, IsGood}
-use Rattle.sk_read.specs.Units.{units_by, units_of, complete_units_of, IsSound, IsSoundUpTo, IsSoundSoFar, IsLongBehind, IsUnevenBehind}
+use Rattle.sk_read.specs.Items.{items_by}
+use Rattle.sk_read.specs.Units.{units_by, units_of, complete_units_of, IsSoundUpTo}
 use Rattle.sk_read.specs.declared.units.Units.{Units}
 use Rattle.sk_ingest.specs.Windows.{most_lines}
 use Rattle.sk_count.specs.declared.plan.Plan.{Plan}
@@ -16,13 +16,12 @@ use Rattle.sk_count.specs.Hubs.{ShowsAll, ShowsMoments}
 use Rattle.sk_count.specs.Texts.{interim_text, places_after}
 use Rattle.sk_cli.specs.Behaviour.{Behaviour}
 use Rattle.sk_cli.specs.Beside.{Beside, board_places}
-use Rattle.sk_cli.specs.Lines.{line_at, lines_before}
+use Rattle.sk_cli.specs.Lines.{lines_before}
+use Rattle.sk_cli.specs.Readable.{IsReadable, IsReadableSoFar, IsRefusedBy}
 use Rattle.sk_cli.specs.Options.{Given, value_behind, is_given, number_in, seed_by, updaters_by, sizes_by, window_by, eager_by, propagator_by, alarms_by}
 use Rattle.sk_cli.specs.declared.options.Name.TheVariants as name
 use Rattle.sk_cli.specs.declared.commands.count.What.{What}
 use Rattle.sk_cli.specs.declared.commands.count.How.{How}
-use Rattle.sk_cli.specs.declared.fault.Fault.{Fault}
-use Rattle.sk_cli.specs.declared.fault.Fault.TheVariants.{LongLine, BadItem, BadField, BadCsv}
 
 -- ---- its plan
 
@@ -87,34 +86,6 @@ pub record IsWithin (plan : Plan) : Type 0 where
 abbrev pub counted : Plan → Units
 counted plan = units_by plan.column
 
--- no line or field of a text is refused: none is too long, and each is an item or empty
-abbrev pub IsReadable : Plan → List ℕ → Type 0
-IsReadable plan text = IsSound (counted plan) text × All (IsGood plan.kind) (units_of (counted plan) text)
-
--- none of these bytes of a text that may go on is refused so far
-abbrev pub IsReadableSoFar : Plan → List ℕ → Type 0
-IsReadableSoFar plan taken = IsSoundSoFar (counted plan) taken × All (IsGood plan.kind) (complete_units_of (counted plan) taken)
-
--- each line or field before number n, counted from 1, is an item or empty
-abbrev pub AreGoodBefore : Plan → ℕ → List ℕ → Type 0
-AreGoodBefore plan n text = (1 ≤ n) × All (IsGood plan.kind) (take (n - 1) (units_of (counted plan) text))
-
--- number n is the first line or field of a text that is refused, as no item
-pub record IsBadUnit (plan : Plan) (n : ℕ) (text : List ℕ) : Type 0 where
-  pub before : AreGoodBefore plan n text
-  pub sound : IsSoundUpTo (counted plan) n text
-  pub to : n ≤ length (units_of (counted plan) text)
-  pub filled : 0 < length (line_at n (units_of (counted plan) text))
-  pub bad : IsNone (item_of plan.kind (line_at n (units_of (counted plan) text)))
-
--- the first line or record of a text that is refused is refused by this fault
-abbrev pub IsRefusedBy : Plan → Fault → List ℕ → Type 0
-IsRefusedBy plan (LongLine n) text = AreGoodBefore plan n text × IsLongBehind (counted plan) (n - 1) text
-IsRefusedBy plan (BadItem n) text = (plan.column ≡ 0) × IsBadUnit plan n text
-IsRefusedBy plan (BadField n) text = (0 < plan.column) × IsBadUnit plan n text
-IsRefusedBy plan (BadCsv n) text = AreGoodBefore plan n text × IsUnevenBehind (counted plan) (n - 1) text
-IsRefusedBy plan other text = ⊥
-
 -- ---- what it writes, with a course of it: its units cut into windows, and a moment behind each full one
 
 -- the interim text of these units: a line for each moment, with the alarms that its reply sets off
@@ -146,9 +117,9 @@ counting plan = record {
   reads = true;
   writes_last = is_none plan.window;
   writes_by_lines = false;
-  IsFine = IsReadable plan;
-  IsFineSoFar = IsReadableSoFar plan;
-  Refuses = IsRefusedBy plan;
+  IsFine = IsReadable plan.kind plan.column;
+  IsFineSoFar = IsReadableSoFar plan.kind plan.column;
+  Refuses = IsRefusedBy plan.kind plan.column;
   IsDue = λ from text due. IsWhole plan from (units_of (counted plan) text) due;
   Leaves = λ from text due to. LeavesHub plan from (units_of (counted plan) text) due to;
   IsDueSoFar = λ from taken due. IsInterim plan from (complete_units_of (counted plan) taken) due;

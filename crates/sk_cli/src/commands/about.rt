@@ -25,6 +25,13 @@ usage:
       writes the hash of each line that is not empty, 12 digits in base 16
       --seed S     the seed of the hash, 0 to 4294967295 (0)
       --file NAME  reads this file in place of the standard input
+  sketchd image [--k K] [--raw] [--seed S] [--csv C] [--file NAME]
+      writes the image of the items once they were all read: what the sketch keeps of them, as text
+      --k, --raw, --seed, --csv, --file as for count
+  sketchd join --left NAME --right NAME [--image]
+      reads two images of one k and one seed and writes the estimate of both as one
+      --left NAME, --right NAME the files of the two
+      --image      writes the image of both in place of the estimate
   sketchd make --n N [--key S] [--k K] [--updaters N] [--b B] [--propagator yes|no]
       makes N lines of numbers and writes how many they are and the estimate of how many distinct
       numbers there are
@@ -32,10 +39,25 @@ usage:
       --key S      which numbers, 0 to 281474976710655 (0)
       --b B        how many items an updater hands over at once, 1 to 4096 (64)
       --k, --updaters, --propagator as for count
+  sketchd quantile --at X [--k K] [--key S] [--file NAME]
+      reads numbers, one a line, and writes how many there are, how many of them are below X, and by
+      how much that may be off
+      --at X       0 to 281474976710655
+      --k K        2 to 4096 (128); a larger one takes more memory, and less may be off
+      --key S      which coins are tossed, 0 to 281474976710655 (0)
+      --file NAME  reads this file in place of the standard input
   sketchd replay [--file NAME]
       plays a schedule of the sketch's concurrent protocol and writes the answer to each event; the
       first line is `machine K B N` or `vacant K N`
       --file NAME  reads this file in place of the standard input
+  sketchd serve --port P [--sessions N] [--wave N] [--k K] [--b B,..] [--seed S] [--eager yes|no]
+                [--alarm M,..]
+      answers clients' requests (add ITEM, ask, sync, quit) over links to port P of this machine, and
+      then writes how each session ended and the estimate of all that was added
+      --port P     1 to 65535
+      --sessions N how many links are accepted in all, 1 to 64 (1)
+      --wave N     how many of them run at once at most, 1 to 64 (all)
+      --k, --b, --seed, --eager, --alarm as for count
   sketchd --help
   sketchd --version
 

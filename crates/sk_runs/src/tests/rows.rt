@@ -104,6 +104,11 @@ ids | 5;3;
 --raw | 7;
 plan | machine 2 1 1;split 0;
 table | 1,5;2,5;
+one | theta1 k=2 seed=0;000000000003;000000000005;end 2;
+two | theta1 k=2 seed=0;000000000004;end 1;
+three | theta1 k=3 seed=0;000000000004;end 1;
+seven | theta1 k=2 seed=7;000000000004;end 1;
+short | theta1 k=2 seed=0;000000000003;
 text | =
 _a__name_ | =";
 

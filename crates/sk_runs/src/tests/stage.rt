@@ -3,7 +3,7 @@ ghost use Rattle.std.specs.Prelude.{◌≡◌, All, IsSome, IfOk, length};
 ghost use Rattle.sk_cli.specs.Beside.{board_places};
 
 use sk_cli::{BOARD_PLACES, Remains, board_of, run};
-use sk_io::{MemSink, MemSource, Shelf};
+use sk_io::{Door, MemDoor, MemSink, MemSource, Shelf};
 use sk_watch::{Alarm, Board, Seen, Watcher};
 use std::alloc::Global;
 use std::process::Abort;
@@ -83,7 +83,7 @@ fn out_of(alloc: Global, streams: &Streams) -> Result<MemSink, Fail> {
     Ok(MemSink::new(alloc, streams.room as usize, taken, fails)?)
 }
 
-/// Runs the program over a text, beside a shelf and a board.
+/// Runs the program over a text, beside a shelf and a board. No link comes.
 pub fn run_beside<R: Threads + Wait + Sync, F: Shelf, B: Seen>(
     rt: &R,
     alloc: Global,
@@ -93,6 +93,26 @@ pub fn run_beside<R: Threads + Wait + Sync, F: Shelf, B: Seen>(
     shelf: &mut F,
     board: &mut B,
 ) -> Result<Ran, Fail>
+    requires places { length (B.places board.old) ≡ board_places }
+    requires live { All IsSome (B.places board.old) }
+{
+    let mut door = MemDoor::new(Vec::new(alloc), Vec::new(alloc));
+    run_at(rt, alloc, streams, line, text, shelf, &mut door, board)
+}
+
+/// Runs the program over a text, beside a shelf, a door and a board.
+pub fn run_at<R: Threads + Wait + Sync, F: Shelf, D: Door, B: Seen>(
+    rt: &R,
+    alloc: Global,
+    streams: &Streams,
+    line: &str,
+    text: Vec<u8>,
+    shelf: &mut F,
+    door: &mut D,
+    board: &mut B,
+) -> Result<Ran, Fail>
+where
+    D::Link: Send,
     requires places { length (B.places board.old) ≡ board_places }
     requires live { All IsSome (B.places board.old) }
 {
@@ -112,6 +132,7 @@ pub fn run_beside<R: Threads + Wait + Sync, F: Shelf, B: Seen>(
         &mut out,
         &mut err,
         shelf,
+        door,
         board,
         &mut remains,
     );

@@ -43,7 +43,46 @@ make --n 1 --b 4,5
 make --n 1 --raw
 count --n 1
 count --key 1
+image --k 1
+image --window 1
+image --left a
+image --image
+image --k
+join
+join --left a
+join --right a
+join --left '' --right a
+join --left a --right ''
+join --left a --left a --right b
+join --left a --right b --image --image
+join --left a --right b --k 2
+join --left a --right b x
+count --image
+count --left a
+hash --right a
 replay --alarm 1
+quantile
+quantile --at
+quantile --at 281474976710656
+quantile --at 1 --k 1
+quantile --at 1 --k 4097
+quantile --at 1 --key 281474976710656
+quantile --at 1 --raw
+quantile --at 1 --updaters 2
+count --at 1
+serve
+serve --port
+serve --port 0
+serve --port 65536
+serve --port 7000 --sessions 0
+serve --port 7000 --sessions 65
+serve --port 7000 --wave 0
+serve --port 7000 --wave 65
+serve --port 7000 --updaters 2
+serve --port 7000 --file a
+count --port 7000
+count --sessions 2
+make --n 1 --wave 1
 count --updaters 0
 count --updaters 65
 count --updaters 001
@@ -114,7 +153,7 @@ fn check_refused<R: Threads + Wait + Abort + Sync>(
 
 #[test]
 fn words_that_are_no_command(rt: HostRuntime) -> Result<(), Fail> {
-    check_refused(&rt, rt.alloc(), REFUSED, 67)
+    check_refused(&rt, rt.alloc(), REFUSED, 106)
 }
 
 #[test]

@@ -25,6 +25,24 @@ returns-in-Hash-clause-opened g c =
     let beside : Beside = beside_of (g.B.Seen.places c.args.board.now) c.args.remains.now in
     never_opens _ _ _ _ _ _ c.hash.result (c.hash.ensures.done beside beside)
 
+pub returns-in-Image-clause-done : goal.returns-in-Image-clause-done
+returns-in-Image-clause-done g c =
+    let from : Beside = beside_of (g.B.Seen.places c.args.board.now) c.args.remains.now in
+    let to : Beside = beside_of (g.B.Seen.places c.clear-in-Image.new.board) c.args.remains.now in
+    let a : Streams = streams_of g.S.Source g.O.Sink c.args.source.now c.args.out.now in
+    let b : Streams = streams_of g.S.Source g.O.Sink c.image.new.source c.image.new.out in
+    subst (λ (command : Command). Executes (behaviour_of command) c.args.most from to a b c.image.result) (sym c.in-Image.is) (c.image.ensures.done from to)
+
+pub returns-in-Quantile-clause-opened : goal.returns-in-Quantile-clause-opened
+returns-in-Quantile-clause-opened g c =
+    let beside : Beside = beside_of (g.B.Seen.places c.args.board.now) c.args.remains.now in
+    never_opens _ _ _ _ _ _ c.quantile.result (c.quantile.ensures.done beside beside)
+
+pub returns-in-Image-clause-opened : goal.returns-in-Image-clause-opened
+returns-in-Image-clause-opened g c =
+    let beside : Beside = beside_of (g.B.Seen.places c.args.board.now) c.args.remains.now in
+    never_opens _ _ _ _ _ _ c.image.result (c.image.ensures.done beside beside)
+
 pub returns-in-Replay-clause-done : goal.returns-in-Replay-clause-done
 returns-in-Replay-clause-done g c =
     let from : Beside = beside_of (g.B.Seen.places c.args.board.now) c.args.remains.now in

@@ -1,33 +1,58 @@
-use Rattle.std.proofs.Common.{rules, ◌≡◌, Option, Some, None, refl, sym, ap, ◌∙◌, subst}
-use Rattle.std.specs.Option.{option_copied}
+use Rattle.std.proofs.Common.{◌≡◌, false, Err, sym, subst}
+use Rattle.sk_model.specs.Causes.{HasCauseIn}
 use Rattle.sk_cli.specs.Beside.{Beside, beside_of}
-use Rattle.sk_cli.specs.Command.{behaviour_of}
-use Rattle.sk_cli.specs.Outside.{Streams, Outside, outside_of}
-use Rattle.sk_cli.specs.Run.{Executes, Performs}
-use Rattle.sk_cli.specs.Values.{Word}
-use Rattle.sk_cli.proofs.Performing.{performs_over_input, opened_performs}
+use Rattle.sk_cli.specs.Command.{asked_of, reads_input, opens_files}
+use Rattle.sk_cli.specs.Outside.{Outside, outside_of, closed_in}
+use Rattle.sk_cli.specs.Run.{Performs, MissesFirst, MissesSecond, read_faults_of}
+use Rattle.sk_cli.specs.declared.command.Request.{Request}
+use Rattle.sk_cli.specs.declared.fault.Fault.TheVariants as fault
+use Rattle.sk_cli.proofs.Asking.{over_causes, misses_first, untouched_input, untouched_files, text_no_net, join_no_net}
 use Rattle.sk_cli.proofs.execute.perform.Goals as goal
 
-pub returns-in-None-clause-done : goal.returns-in-None-clause-done
-returns-in-None-clause-done g c =
+pub returns-in-OverText-clause-done : goal.returns-in-OverText-clause-done
+returns-in-OverText-clause-done g c =
     let from : Beside = beside_of (g.B.Seen.places c.args.board.now) c.args.remains.now in
-    let to : Beside = beside_of (g.B.Seen.places c.execute.new.board) c.execute.new.remains in
+    let to : Beside = beside_of (g.B.Seen.places c.perform_text.new.board) c.perform_text.new.remains in
     let old : Outside = outside_of g.S.Source g.O.Sink g.F.Shelf c.args.input.now c.args.out.now c.args.shelf.now in
-    let new : Outside = outside_of g.S.Source g.O.Sink g.F.Shelf c.execute.new.source c.execute.new.out c.args.shelf.now in
-    let file : option_copied c.args.file ≡ None = ap (λ o. option_copied o) c.in-None.is in
-    subst (λ (name : Option Word). Performs (record { command = c.args.command; file = name }) c.args.most from to old new c.execute.result) (sym file)
-    (performs_over_input c.args.command c.args.most from to old new c.execute.result c.execute.ensures.done)
+    let new : Outside = outside_of g.S.Source g.O.Sink g.F.Shelf c.perform_text.new.input c.perform_text.new.out c.perform_text.new.shelf in
+    subst (λ (r : Request). Performs (asked_of r) c.args.most from to old new (closed_in (g.D.Door.ended c.args.door.now) (g.D.Door.ended c.args.door.now)) c.perform_text.result) (sym c.in-OverText.is) c.perform_text.ensures.done
 
-pub returns-in-Ok-clause-done : goal.returns-in-Ok-clause-done
-returns-in-Ok-clause-done g c =
-    let file = c.in-Ok.file in
-    let read = c.execute-in-Ok.new.source in
-    let out = c.execute-in-Ok.new.out in
-    let name : Word = c.in-Some.name.now in
-    let a : Streams = record { left = g.F.Shelf.left file.shelf.now file.file; read_faults = g.F.Shelf.read_faults file.shelf.now; written = g.O.Sink.written c.args.out.now; write_faults = g.O.Sink.faults c.args.out.now } in
-    let b : Streams = record { left = g.F.Shelf.left read.shelf.now read.file; read_faults = g.F.Shelf.read_faults read.shelf.now; written = g.O.Sink.written out; write_faults = g.O.Sink.faults out } in
-    let from : Beside = beside_of (g.B.Seen.places c.args.board.now) c.args.remains.now in
-    let to : Beside = beside_of (g.B.Seen.places c.execute-in-Ok.new.board) c.execute-in-Ok.new.remains in
-    let went : Executes (behaviour_of c.args.command) c.args.most from to a b c.execute-in-Ok.result = c.execute-in-Ok.ensures.done in
-    opened_performs c.args.command c.args.most from to _ _ (option_copied c.args.file) name a b c.execute-in-Ok.result (ap (λ o. option_copied o) c.in-Some.is) c.in-Ok.ensures.content c.in-Ok.ensures.reads refl refl
-    (search rules) (search rules) refl refl went
+pub returns-in-OverText-clause-reads : goal.returns-in-OverText-clause-reads
+returns-in-OverText-clause-reads g c =
+    let old : Outside = outside_of g.S.Source g.O.Sink g.F.Shelf c.args.input.now c.args.out.now c.args.shelf.now in
+    let new : Outside = outside_of g.S.Source g.O.Sink g.F.Shelf c.perform_text.new.input c.perform_text.new.out c.perform_text.new.shelf in
+    subst (λ (r : Request). HasCauseIn fault.ReadFault (read_faults_of (asked_of r) old) (read_faults_of (asked_of r) new) c.perform_text.result) (sym c.in-OverText.is)
+    (over_causes _ old new c.perform_text.result c.perform_text.ensures.causes).0
+
+pub returns-in-OverText-clause-writes : goal.returns-in-OverText-clause-writes
+returns-in-OverText-clause-writes g c =
+    let old : Outside = outside_of g.S.Source g.O.Sink g.F.Shelf c.args.input.now c.args.out.now c.args.shelf.now in
+    let new : Outside = outside_of g.S.Source g.O.Sink g.F.Shelf c.perform_text.new.input c.perform_text.new.out c.perform_text.new.shelf in
+    (over_causes _ old new c.perform_text.result c.perform_text.ensures.causes).1
+
+pub returns-in-OverText-clause-missing : goal.returns-in-OverText-clause-missing
+returns-in-OverText-clause-missing g c =
+    let old : Outside = outside_of g.S.Source g.O.Sink g.F.Shelf c.args.input.now c.args.out.now c.args.shelf.now in
+    subst (λ (r : Request). MissesFirst (asked_of r) old → c.perform_text.result ≡ Err fault.OpenFault) (sym c.in-OverText.is)
+    (misses_first _ old.files (c.perform_text.result ≡ Err fault.OpenFault) c.perform_text.ensures.missing)
+
+pub returns-in-OverText-clause-second_missing : goal.returns-in-OverText-clause-second_missing
+returns-in-OverText-clause-second_missing g c =
+    let old : Outside = outside_of g.S.Source g.O.Sink g.F.Shelf c.args.input.now c.args.out.now c.args.shelf.now in λ misses.
+    absurd (subst (λ (r : Request). MissesSecond (asked_of r) c.args.most old) c.in-OverText.is misses)
+
+pub returns-in-OverText-clause-input : goal.returns-in-OverText-clause-input
+returns-in-OverText-clause-input g c =
+    subst (λ (r : Request). reads_input (asked_of r) ≡ false → c.perform_text.new.input ≡ c.args.input.now) (sym c.in-OverText.is)
+    (untouched_input _ _ _ c.perform_text.ensures.with_file c.perform_text.ensures.idle)
+
+pub returns-in-OverText-clause-shelf : goal.returns-in-OverText-clause-shelf
+returns-in-OverText-clause-shelf g c =
+    subst (λ (r : Request). opens_files (asked_of r) ≡ false → c.perform_text.new.shelf ≡ c.args.shelf.now) (sym c.in-OverText.is)
+    (untouched_files _ _ c.perform_text.ensures.without_file)
+
+pub returns-in-OverText-clause-net : goal.returns-in-OverText-clause-net
+returns-in-OverText-clause-net g c = text_no_net _ _ _ _ _ _ (g.D.Door.faults c.args.door.now) c.perform_text.result c.perform_text.ensures.done
+
+pub returns-in-Join-clause-net : goal.returns-in-Join-clause-net
+returns-in-Join-clause-net g c = join_no_net _ _ _ _ _ _ (g.D.Door.faults c.args.door.now) c.join.result c.join.ensures.done

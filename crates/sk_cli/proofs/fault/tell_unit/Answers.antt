@@ -1,4 +1,4 @@
-use Rattle.std.proofs.Common.{◌++◌, decimal, ◌∙◌, subst, List, ℕ}
+use Rattle.std.proofs.Common.{◌++◌, decimal, subst, List, ℕ}
 use Rattle.std.specs.Io.KnownBytes.{Appends}
 use Rattle.sk_model.specs.Causes.{AppendsPart}
 use Rattle.sk_lines.proofs.Digits.{decimal_is_short}

@@ -1,5 +1,4 @@
-use Rattle.std.proofs.Common.{◌≡◌, ◌∙◌, ap, List, set, None, arith}
-use Rattle.sk_watch.specs.Places.{Place}
+use Rattle.std.proofs.Common.{◌∙◌, arith}
 use Rattle.sk_cli.proofs.WatcherLaws.{cleared_more}
 use Rattle.sk_cli.proofs.watchers.clear.Goals as goal
 

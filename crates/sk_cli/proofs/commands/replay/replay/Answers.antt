@@ -1,10 +1,8 @@
-use Rattle.std.proofs.Common.{◌≡◌, ◌+◌, ◌∷◌, ◌++◌, [], ℕ, List, Some, None, Ok, Err, Bool, true, false, length, refl, sym, ap, ◌∙◌, subst, arith, length-append}
+use Rattle.std.proofs.Common.{◌≡◌, ◌+◌, ◌∷◌, ◌++◌, [], ℕ, List, Some, None, Err, false, length, refl, sym, ap, ◌∙◌, subst, arith, length-append}
 use Rattle.std.specs.Option.{option_map}
 use Rattle.std.specs.Io.KnownBytes.{Appends}
 use Rattle.std.proofs.KnownBytes.{Appends-nil, Appends-trans}
 use Rattle.sk_model.specs.Causes.{Rose, AppendsPart}
-use Rattle.sk_model.specs.Limits.{line_limit}
-use Rattle.sk_model.specs.Lines.{lines_of, AreWithin}
 use Rattle.sk_core.specs.Stored.{machine_of}
 use Rattle.sk_read.specs.declared.reader.LineFault.TheVariants as stop
 use Rattle.sk_read.proofs.ItemLaws.{has_few}

@@ -1,0 +1,157 @@
+-- What told files decide of a join.
+use Rattle.std.proofs.Common.{◌≡◌, ◌≢◌, ◌⊎◌, inl, inr, ℕ, ◌<◌, List, length, Option, Some, refl, sym, ap, ◌∙◌, subst, arith}
+use Rattle.std.specs.Option.{IfSome}
+use Rattle.std.specs.Io.KnownBytes.{Consumes}
+use Rattle.sk_io.specs.Files.{told_file}
+use Rattle.sk_image.specs.Reading.{IsBadAt, IsImageText}
+use Rattle.sk_image.specs.Written.{image_text}
+use Rattle.sk_image.specs.declared.image.Image.{Image}
+use Rattle.sk_image.proofs.Texts.{same_text}
+use Rattle.sk_cli.specs.Fault.{status_of}
+use Rattle.sk_cli.specs.commands.Join.{TwoImages, Files, IsFileOf, StopsIn, EndsFile, ReadsBoth, Fit, Differ, EndsAtOne, EndsJoin, IsToldImage, IsToldBad, AreToldImages, AreFineFiles, AreMixed, IsBadOne, AreRefused}
+use Rattle.sk_cli.specs.Run.{IsOfReads, IsOfCalls}
+use Rattle.sk_cli.specs.declared.fault.Stamp.{Stamp}
+use Rattle.sk_cli.specs.declared.fault.Fault.{Fault}
+use Rattle.sk_cli.specs.declared.fault.Fault.TheVariants as fault
+use Rattle.sk_cli.proofs.Completing.{no_more_told}
+
+-- ---- one file
+
+told_so : (P : List ℕ → Type 0) (told : Option (List ℕ)) (text : List ℕ) → told ≡ Some text → IfSome told P → P text
+told_so P told text is holds = subst (λ (o : Option (List ℕ)). IfSome o P) is holds
+
+-- the text of an image that was read is one
+text_is_image : (text : List ℕ) (image : Image) → text ≡ image_text image → IsImageText text
+text_is_image text image is = record { k = image.k; seed = image.seed; hashes = image.hashes.items; whole = image.whole; is = is }
+
+module _ (most : ℕ) (told left : Option (List ℕ)) where
+  -- a file that was read as an image has no bad line
+  pub read_or_bad : (n : ℕ) (image : Image) → IsToldBad most n told → IsFileOf most image told → ⊥
+  read_or_bad n image bad read = bad.bad.none (text_is_image bad.text image (told_so (λ text. (text ≡ image_text image) × (length text < most)) told bad.text bad.is read).0)
+
+  -- the numbers of an image that was read are those of its text
+  pub same_numbers : (fine : IsToldImage most told) (image : Image) → IsFileOf most image told → (fine.image.k ≡ image.k) × (fine.image.seed ≡ image.seed)
+  same_numbers fine image read =
+      let text : fine.text ≡ image_text image = (told_so (λ text. (text ≡ image_text image) × (length text < most)) told fine.text fine.is read).0 in
+      let same = same_text fine.image.k image.k fine.image.seed image.seed fine.image.hashes image.hashes.items fine.image.whole image.whole (sym fine.image.is ∙ text) in
+      (same.0, same.1)
+
+  too_many : (text : List ℕ) → told ≡ Some text → length text < most → StopsIn (λ size. size ≡ most) told left → ⊥
+  too_many text is size stop =
+      no_more_told text stop.taken left (subst (λ (o : Option (List ℕ)). Consumes o left stop.taken) is stop.consumed) (omega (arith, size, stop.size))
+
+  -- how the reading of a told file ends
+  pub fine_file : (number : ℕ) → IsToldImage most told → (f : Fault) → EndsFile most number told left f → IsOfReads (status_of f)
+  fine_file number fine fault.OutOfMemory ends = inl refl
+  fine_file number fine fault.OpenFault ends = inr (inr refl)
+  fine_file number fine fault.ReadFault ends = inr (inl refl)
+  fine_file number fine fault.TooMuch ends = absurd (too_many fine.text fine.is fine.size ends)
+  fine_file number fine (fault.BadImage file n) ends =
+      absurd ((told_so (λ text. IsBadAt n text × _) told fine.text fine.is ends.1).0.none fine.image)
+  fine_file number fine f ends = absurd ends
+
+  pub bad_file : (number n : ℕ) → IsToldBad most n told → (f : Fault) → EndsFile most number told left f → (status_of f ≡ 9) ⊎ IsOfCalls (status_of f)
+  bad_file number n bad fault.OutOfMemory ends = inr (inl refl)
+  bad_file number n bad fault.OpenFault ends = inr (inr (inr (inr refl)))
+  bad_file number n bad fault.ReadFault ends = inr (inr (inl refl))
+  bad_file number n bad fault.TooMuch ends = absurd (too_many bad.text bad.is bad.size ends)
+  bad_file number n bad (fault.BadImage file m) ends = inl refl
+  bad_file number n bad f ends = absurd ends
+
+-- ---- both
+
+-- they are among the calls that may fail
+of_calls : (status : ℕ) → IsOfReads status → IsOfCalls status
+of_calls status (inl memory) = inl memory
+of_calls status (inr (inl read)) = inr (inl read)
+of_calls status (inr (inr opened)) = inr (inr (inr opened))
+
+module _ (two : TwoImages) (most : ℕ) (files : Files) (now old new : Option (List ℕ)) where
+  abbrev left : Option (List ℕ)
+  left = told_file files two.left
+
+  abbrev right : Option (List ℕ)
+  right = told_file files two.right
+
+  -- told images of one k and one seed do not differ
+  fit_or_differ : (a b : Stamp) → AreFineFiles two most files → (P : Type 0) → ReadsBoth two most files now (λ x y. Differ x y a b × P) → ⊥
+  fit_or_differ a b fine P read = by read.so.0.2
+    where
+      one : (fine.told.left.image.k ≡ read.left.k) × (fine.told.left.image.seed ≡ read.left.seed)
+      one = same_numbers most left now fine.told.left read.left read.left_file
+
+      other : (fine.told.right.image.k ≡ read.right.k) × (fine.told.right.image.seed ≡ read.right.seed)
+      other = same_numbers most right now fine.told.right read.right read.right_file
+
+      by : (a.k ≢ b.k) ⊎ (a.seed ≢ b.seed) → ⊥
+      by (inl k) = k (ap (λ (s : Stamp). s.k) read.so.0.0 ∙ sym one.0 ∙ fine.k ∙ other.0 ∙ sym (ap (λ (s : Stamp). s.k) read.so.0.1))
+      by (inr seed) = seed (ap (λ (s : Stamp). s.seed) read.so.0.0 ∙ sym one.1 ∙ fine.seed ∙ other.1 ∙ sym (ap (λ (s : Stamp). s.seed) read.so.0.1))
+
+  -- images that differ do not fit
+  mixed_or_fit : (a b : Stamp) (P : Type 0) → AreMixed two most files a b → ReadsBoth two most files now (λ x y. Fit x y × P) → ⊥
+  mixed_or_fit a b P mixed read = by mixed.differ
+    where
+      one : (mixed.told.left.image.k ≡ read.left.k) × (mixed.told.left.image.seed ≡ read.left.seed)
+      one = same_numbers most left now mixed.told.left read.left read.left_file
+
+      other : (mixed.told.right.image.k ≡ read.right.k) × (mixed.told.right.image.seed ≡ read.right.seed)
+      other = same_numbers most right now mixed.told.right read.right read.right_file
+
+      by : (a.k ≢ b.k) ⊎ (a.seed ≢ b.seed) → ⊥
+      by (inl k) = k (ap (λ (s : Stamp). s.k) mixed.left_stamp ∙ one.0 ∙ read.so.0.0 ∙ sym other.0 ∙ sym (ap (λ (s : Stamp). s.k) mixed.right_stamp))
+      by (inr seed) = seed (ap (λ (s : Stamp). s.seed) mixed.left_stamp ∙ one.1 ∙ read.so.0.1 ∙ sym other.1 ∙ sym (ap (λ (s : Stamp). s.seed) mixed.right_stamp))
+
+  fine_one : AreToldImages two most files → (f : Fault) → EndsAtOne two most files now f → IsOfCalls (status_of f)
+  fine_one fine f (inl ends) = of_calls (status_of f) (fine_file most left now 1 fine.left f ends)
+  fine_one fine f (inr (image, is, ends)) = of_calls (status_of f) (fine_file most right now 2 fine.right f ends)
+
+  pub fine_join : AreFineFiles two most files → (f : Fault) → EndsJoin two most files now old new f → IsOfCalls (status_of f)
+  fine_join fine fault.OutOfMemory ends = inl refl
+  fine_join fine fault.WriteFault ends = inr (inr (inl refl))
+  fine_join fine (fault.Mixed a b) ends = absurd (fit_or_differ a b fine (new ≡ old) ends)
+  fine_join fine f ends = fine_one fine.told f ends.0
+
+  bad_left_one : (n : ℕ) → IsToldBad most n left → (f : Fault) → EndsAtOne two most files now f → (status_of f ≡ 9) ⊎ IsOfCalls (status_of f)
+  bad_left_one n bad f (inl ends) = bad_file most left now 1 n bad f ends
+  bad_left_one n bad f (inr (image, is, ends)) = absurd (read_or_bad most left now n image bad is)
+
+  bad_left : (n : ℕ) → IsToldBad most n left → (f : Fault) → EndsJoin two most files now old new f → (status_of f ≡ 9) ⊎ IsOfCalls (status_of f)
+  bad_left n bad fault.OutOfMemory ends = inr (inl refl)
+  bad_left n bad fault.WriteFault ends = inr (inr (inr (inl refl)))
+  bad_left n bad (fault.Mixed a b) ends = absurd (read_or_bad most left now n ends.left bad ends.left_file)
+  bad_left n bad f ends = bad_left_one n bad f ends.0
+
+  bad_right_one : (n : ℕ) → IsToldImage most left → IsToldBad most n right → (f : Fault) → EndsAtOne two most files now f → (status_of f ≡ 9) ⊎ IsOfCalls (status_of f)
+  bad_right_one n fine bad f (inl ends) = inr (of_calls (status_of f) (fine_file most left now 1 fine f ends))
+  bad_right_one n fine bad f (inr (image, is, ends)) = bad_file most right now 2 n bad f ends
+
+  bad_right : (n : ℕ) → IsToldImage most left → IsToldBad most n right → (f : Fault) → EndsJoin two most files now old new f → (status_of f ≡ 9) ⊎ IsOfCalls (status_of f)
+  bad_right n fine bad fault.OutOfMemory ends = inr (inl refl)
+  bad_right n fine bad fault.WriteFault ends = inr (inr (inr (inl refl)))
+  bad_right n fine bad (fault.Mixed a b) ends = absurd (read_or_bad most right now n ends.right bad ends.right_file)
+  bad_right n fine bad f ends = bad_right_one n fine bad f ends.0
+
+  mixed : (a b : Stamp) → AreMixed two most files a b → (f : Fault) → EndsJoin two most files now old new f → (status_of f ≡ 11) ⊎ IsOfCalls (status_of f)
+  mixed a b told fault.OutOfMemory ends = inr (inl refl)
+  mixed a b told fault.WriteFault ends = inr (inr (inr (inl refl)))
+  mixed a b told (fault.Mixed c d) ends = inl refl
+  mixed a b told f ends = inr (fine_one told.told f ends.0)
+
+  bad_one : (file n : ℕ) → IsBadOne two most files file n → (g : Fault) → EndsJoin two most files now old new g → (status_of g ≡ 9) ⊎ IsOfCalls (status_of g)
+  bad_one file n (inl bad) g ends = bad_left n bad.1 g ends
+  bad_one file n (inr bad) g ends = bad_right n bad.1 bad.2 g ends
+
+  -- a refusal that told files decide
+  pub refused_join : (f g : Fault) → AreRefused two most files f → EndsJoin two most files now old new g → (status_of g ≡ status_of f) ⊎ IsOfCalls (status_of g)
+  refused_join (fault.BadImage file n) g is ends = bad_one file n is g ends
+  refused_join (fault.Mixed a b) g is ends = mixed a b is g ends
+  refused_join f g is ends = absurd is
+
+  bad_one_read : (file n : ℕ) (P : Image → Image → Type 0) → IsBadOne two most files file n → ReadsBoth two most files now P → ⊥
+  bad_one_read file n P (inl bad) read = read_or_bad most left now n read.left bad.1 read.left_file
+  bad_one_read file n P (inr bad) read = read_or_bad most right now n read.right bad.2 read.right_file
+
+  pub refused_or_joined : (f : Fault) (P : Image → Image → Type 0) → AreRefused two most files f → ReadsBoth two most files now (λ x y. Fit x y × P x y) → ⊥
+  refused_or_joined (fault.BadImage file n) P is read = bad_one_read file n (λ x y. Fit x y × P x y) is read
+  refused_or_joined (fault.Mixed a b) P is read = mixed_or_fit a b (P read.left read.right) is (record { left = read.left; right = read.right; left_file = read.left_file; right_file = read.right_file; end = read.end; so = read.so })
+  refused_or_joined f P is read = absurd is

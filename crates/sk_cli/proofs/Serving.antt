@@ -1,0 +1,24 @@
+-- The board behind a server.
+use Rattle.std.proofs.Common.{◌≡◌, ℕ, List, [], map, Result, Ok, Err, refl, ap, ◌∙◌}
+use Rattle.sk_model.specs.Entries.{Entry}
+use Rattle.sk_watch.specs.Places.{Place, told}
+use Rattle.sk_count.specs.declared.remains.Remains.{Remains}
+use Rattle.sk_count.specs.Texts.{armed_with, reply_of}
+use Rattle.sk_serve.specs.Serves.{Surroundings, ServesPlan}
+use Rattle.sk_serve.specs.declared.fault.ServeFault.{ServeFault}
+use Rattle.sk_serve.specs.declared.fault.ServeFault.TheVariants as serve
+use Rattle.sk_serve.specs.declared.plan.ServePlan.{ServePlan}
+use Rattle.sk_cli.specs.Beside.{cleared}
+use Rattle.sk_cli.proofs.WatcherLaws.{none_armed, told_cleared}
+
+-- a board without marks that was told a reply
+none_told : (plan : ServePlan) (places places' : List Place) (list : List Entry) → places' ≡ map (told (reply_of plan.k list)) (armed_with plan.k plan.alarms places) → plan.alarms ≡ [] → places' ≡ cleared places
+none_told plan places places' list is none =
+    is ∙ ap (map (told (reply_of plan.k list))) (none_armed plan.k plan.alarms places _ refl none) ∙ told_cleared (reply_of plan.k list) places
+
+-- without marks all watchers are gone
+pub none_served : (plan : ServePlan) (most : ℕ) (old new : Surroundings) (remains : Remains) (served : Result (Unit {0}) ServeFault) → ServesPlan plan most old new remains served → plan.alarms ≡ [] → new.places ≡ cleared old.places
+none_served plan most old new remains (Ok x) went none = none_told plan old.places new.places went.heart.view.seen went.served.places none
+none_served plan most old new remains (Err serve.NetFault) went none = none_armed plan.k plan.alarms old.places new.places went.1 none
+none_served plan most old new remains (Err serve.OutOfMemory) went none = none_armed plan.k plan.alarms old.places new.places went none
+none_served plan most old new remains (Err serve.WriteFault) went none = none_told plan old.places new.places went.heart.view.seen went.served.places none

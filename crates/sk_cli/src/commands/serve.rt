@@ -1,0 +1,84 @@
+// The command that answers clients' requests over links.
+ghost use Rattle.std.specs.Prelude.{◌≡◌, ◌≢◌, ◌≤◌, [], All, IsSome, length, IfErr, IfSome, MatchResult};
+ghost use Rattle.sk_model.specs.Causes.{HasCauseIn};
+ghost use Rattle.sk_model.specs.Limits.{source_limit};
+ghost use Rattle.sk_cli.specs.Beside.{beside_of, board_places, cleared};
+ghost use Rattle.sk_cli.specs.Fault.{fault_by_serve};
+ghost use Rattle.sk_cli.specs.Outside.{closed_in};
+ghost use Rattle.sk_cli.specs.commands.Serve.{plan_by, IsWithin, ServesSo};
+
+use crate::fault::Fault;
+use crate::options::{Name, Options};
+use sk_count::Remains;
+use sk_io::{Door, Sink};
+use sk_model::limits::{LEAST_K, MOST_K, MOST_UPDATERS};
+use sk_serve::{ServeFault, ServePlan};
+use sk_watch::Seen;
+use std::alloc::Global;
+use std::sync::Wait;
+use std::thread::Threads;
+
+// The greatest number of a port.
+const MOST_PORT: u64 = 65_535;
+
+/// The plan that the options spell. `None` where a value is out of its form or its limits, or no port is given.
+pub fn plan_of(options: &Options<'_>) -> Option<ServePlan>
+    ensures value { result ≡ plan_by options.now }
+    ensures limits { IfSome result IsWithin }
+{
+    let port = options.required(Name::Port, 1, MOST_PORT)? as u16;
+    let k = options.number(Name::K, u64::from(LEAST_K), u64::from(MOST_K), 4_096)? as u32;
+    let sizes = options.sizes()?;
+    let sessions = options.number(Name::Sessions, 1, u64::from(MOST_UPDATERS), 1)?;
+    let wave = options.number(Name::Wave, 1, u64::from(MOST_UPDATERS), sessions)? as u32;
+    let seed = options.seed()?;
+    let eager = options.eager()?;
+    let alarms = options.alarms()?;
+    Some(ServePlan {
+        k,
+        sizes,
+        sessions: sessions as u32,
+        port,
+        seed,
+        eager,
+        alarms,
+        wave,
+    })
+}
+
+// The answer of a server, with its fault as one of the program.
+fn answer_of(served: Result<(), ServeFault>) -> Result<(), Fault>
+    ensures { MatchResult served (λ done. result ≡ Ok done) (λ fault. result ≡ Err (fault_by_serve fault)) }
+{
+    served.map_err(Fault::of_serving)
+}
+
+/// Serves the sessions of the plan, each over a link of fewer than `most` bytes, and writes how each ended and the
+/// estimate of all that was added.
+pub fn serve<R: Threads + Wait + Sync, O: Sink, D: Door, B: Seen>(
+    rt: &R,
+    alloc: Global,
+    plan: &ServePlan,
+    most: u64,
+    out: &mut O,
+    door: &mut D,
+    board: &mut B,
+    remains: &mut Remains,
+) -> Result<(), Fault>
+where
+    D::Link: Send,
+    requires within { IsWithin plan.now }
+    requires bound { most ≤ source_limit }
+    requires places { length (B.places board.old) ≡ board_places }
+    requires live { All IsSome (B.places board.old) }
+    ensures done { ServesSo plan.now most (beside_of (B.places board.old) remains.old) (beside_of (B.places board.new) remains.new)
+        (O.written out.old) (O.written out.new) (closed_in (D.ended door.old) (D.ended door.new)) result }
+    ensures last { IfErr result (λ fault. fault ≢ Fault.WriteFault → out.new ≡ out.old) }
+    ensures board { plan.now.alarms ≡ [] → B.places board.new ≡ cleared (B.places board.old) }
+    ensures remains { IfErr result (λ _. remains.new ≡ remains.old) }
+    ensures writes { HasCauseIn Fault.WriteFault (O.faults out.old) (O.faults out.new) result }
+    ensures net { HasCauseIn Fault.NetFault (D.faults door.old) (D.faults door.new) result }
+{
+    let served = sk_serve::serve(rt, alloc, plan, most, out, door, board, remains);
+    answer_of(served)
+}

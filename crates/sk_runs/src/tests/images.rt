@@ -1,0 +1,68 @@
+// Images, and joins of two.
+use super::rows::check_rows;
+use std::test::Fail;
+
+// Nothing is written before the text has ended.
+const IMAGES: &str = "\
+| image --raw --k 2 | 5;3; | 0 | theta1 k=2 seed=0;000000000003;000000000005;end 2; |
+| image --k 2 --raw --seed 7 | 5;3;;5;4; | 0 | theta1 k=2 seed=7;000000000003;000000000004;end 2; |
+| image --k 2 | hello;hello, world; | 0 | theta1 k=2 seed=0;342fac623a5e;cbd8a7b341bd;end 2; |
+| image | | 0 | theta1 k=4096 seed=0;end 0; |
+| image --raw --csv 2 --k 3 | a,5;b,3;c,5; | 0 | theta1 k=3 seed=0;000000000003;000000000005;end 2; |
+read=0 | image --raw --file ids --k 2 | | 0 | theta1 k=2 seed=0;000000000003;000000000005;end 2; |
+| image --raw | 5;x; | 6 | | line 2: not a number;
+| image --raw --csv 2 | 1,5;2,x; | 6 | | record 2: not a number;
+| image --csv 3 | 1,5; | 12 | | record 1: bad csv;
+piece=100000 | image | hello;x@; | 5 | | line 2: too long;
+read=0 | image --file none | | 8 | | open fault;
+read=2 | image --raw | 5;3; | 3 | | read fault;
+room=5 | image --raw --k 2 | 5;3; | 4 | theta | write fault;";
+
+#[test]
+fn images(rt: HostRuntime) -> Result<(), Fail> {
+    check_rows(&rt, rt.alloc(), IMAGES, 13)
+}
+
+// The left file is read whole, and found to be an image, before the right one is opened.
+const JOINS: &str = "\
+read=0 | join --left one --right two | | 0 | estimate 281474976710656/4; |
+read=0 | join --right one --left two | | 0 | estimate 281474976710656/4; |
+read=0 | join --left two --right two | | 0 | estimate 1/1; |
+read=0 | join --left one --image --right two | | 0 | theta1 k=2 seed=0;000000000003;000000000004;end 2; |
+read=0 | join --left one --right three | | 11 | | mixed: k=2 seed=0 and k=3 seed=0;
+read=0 | join --left three --right one | | 11 | | mixed: k=3 seed=0 and k=2 seed=0;
+read=0 | join --left one --right seven | | 11 | | mixed: k=2 seed=0 and k=2 seed=7;
+read=0 | join --left short --right two | | 9 | | file 1 line 3: bad image;
+read=0 | join --left short --right none | | 9 | | file 1 line 3: bad image;
+read=0 | join --left short --right three | | 9 | | file 1 line 3: bad image;
+read=0 | join --left one --right short | | 9 | | file 2 line 3: bad image;
+read=0 | join --left three --right short | | 9 | | file 2 line 3: bad image;
+read=0 | join --left none --right short | | 8 | | open fault;
+read=0 | join --left one --right none | | 8 | | open fault;
+read=0 | join --left text --right none | theta1 k=2 seed=0;x@; | 9 | | file 1 line 2: bad image;
+read=0 | join --left one --right text | x@; | 9 | | file 2 line 1: bad image;
+read=0 | join --left one --right text | | 9 | | file 2 line 1: bad image;";
+
+#[test]
+fn joins(rt: HostRuntime) -> Result<(), Fail> {
+    check_rows(&rt, rt.alloc(), JOINS, 17)
+}
+
+// Each call of the shelf fails in turn, and then the output.
+const FAULTS: &str = "\
+open=0 | join --left one --right two | | 8 | | open fault;
+open=1 | join --left one --right two | | 8 | | open fault;
+open=2 | join --left one --right two | | 0 | estimate 281474976710656/4; |
+open=1 | join --left short --right two | | 9 | | file 1 line 3: bad image;
+file=0 | join --left one --right two | | 3 | | read fault;
+file=1 | join --left one --right two | | 3 | | read fault;
+file=2 | join --left one --right two | | 3 | | read fault;
+file=3 | join --left one --right two | | 3 | | read fault;
+file=4 | join --left one --right two | | 0 | estimate 281474976710656/4; |
+room=5 | join --left one --right two | | 4 | estim | write fault;
+room=5 | join --left one --right two --image | | 4 | theta | write fault;";
+
+#[test]
+fn joins_that_fail(rt: HostRuntime) -> Result<(), Fail> {
+    check_rows(&rt, rt.alloc(), FAULTS, 11)
+}
