@@ -69,6 +69,7 @@ module _ {T : Type 0} (hint_of : List ℕ → List Entry → ℕ) (k : Telling T
         hint_is = admits.hint_is;
         taken_is = few_kept;
         most = omega arith;
+        last_is = omega arith;
         told_is = λ t e. absurd (cc);
       } in
       subst (λ z. IsUpdater hint_of k z number n b (Some fill) None word 0 0) is_admitted is

@@ -43,6 +43,7 @@ updater_stays hint_of k s s' number updaters size fill told hint taken last leas
       hint_is = i.hint_is;
       taken_is = i.taken_is;
       most = i.most;
+      last_is = i.last_is;
       told_is = i.told_is;
     } in
     subst (λ z. IsUpdater hint_of k z number updaters size fill told hint taken last) (known_more s s' stays knows) as_before
@@ -70,6 +71,7 @@ updater_asks hint_of packed k s s' word number updaters size fill told hint take
       hint_is = i.hint_is;
       taken_is = i.taken_is;
       most = i.most;
+      last_is = i.last_is;
       told_is = i.told_is;
     } in
     subst (λ z. IsUpdater hint_of k z number updaters size fill told hint taken last) same is

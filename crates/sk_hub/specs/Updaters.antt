@@ -76,6 +76,7 @@ pub record IsWholeUpdater (hint_of : List ℕ → List Entry → ℕ) (u : Updat
   pub fill : length u.fill ≤ u.size
   pub items : AreItems (kept_of u)
   pub most : length (kept_of u) ≤ most_kept
+  pub last : u.last ≤ u.size
   pub hint_is : u.hint ≡ hint_of u.view.numbers (base_of u)
 
 -- it holds a told value where it did, and no hand came since; or where something was handed over before its last hand
@@ -120,6 +121,7 @@ pub record IsUpdater {T : Type 0} (hint_of : List ℕ → List Entry → ℕ) (k
   pub hint_is : hint ≡ hint_of s.view.numbers (mine_of s.view).base
   pub taken_is : taken ≡ length ((mine_of s.view).handed ++ items_in fill)
   pub most : taken ≤ most_kept
+  pub last_is : last ≤ size
   pub told_is : (t : T) → told ≡ Some t → TellsItems k s.view.name number (take (length (mine_of s.view).handed - last) (mine_of s.view).handed) t
 
 -- ---- its looks

@@ -34,4 +34,4 @@ invariant_of-self-2 g c = let k = g.C.Composable in let f = c.self.inside in
     let items : AreItems batch = search rules in
     let view : IsViewOf f.number y = view_handed f.number x y batch hands items (subst (IsViewOf f.number) (sym same) (view_renewed k.hint_of f.number v w word renews c.self.invariant.view)) in
     let count : c.len-count.result ≡ length batch = search rules in
-    record { number_is = search rules; view = view; free = search rules; own = search rules; within = search rules; few = search rules; slots = search rules; sized = search rules; size_is = search rules; fill_is = search rules; hint_is = search rules; taken_is = search rules; most = search rules; told_is = λ t is. handed_tells k.hint_of v w x y word f.number batch renews same hands (telling k.tells k.told_name k.told_of) c.len-count.result t count (c.swap-buffer.ensures.tells t is).1 }
+    record { number_is = search rules; view = view; free = search rules; own = search rules; within = search rules; few = search rules; slots = search rules; sized = search rules; size_is = search rules; fill_is = search rules; hint_is = search rules; taken_is = search rules; most = search rules; last_is = search rules; told_is = λ t is. handed_tells k.hint_of v w x y word f.number batch renews same hands (telling k.tells k.told_name k.told_of) c.len-count.result t count (c.swap-buffer.ensures.tells t is).1 }
