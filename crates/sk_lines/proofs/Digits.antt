@@ -1,5 +1,5 @@
 -- Lemmas on numbers as decimal digits.
-use Rattle.std.proofs.Common.{◌≡◌, ℕ, zero, suc, ◌+◌, ◌-◌, ◌*◌, ◌/◌, ◌%◌, ◌^◌, ◌<◌, ◌≤◌, Bool, true, false, ◌&&◌, nat_lt, nat_le, cond, ◌⊎◌, inl, inr, List, [], ◌∷◌, ◌++◌, length, take, drop, get_or, Some, None, fold, decimal, refl, sym, ap, ◌∙◌, arith, take-append-drop, length-append, pow-suc, take-add, take_at, drop_at, lt-ltb, le-ltb, le-leb, true≢false, take_all}
+use Rattle.std.proofs.Common.{◌≡◌, ℕ, zero, suc, ◌+◌, ◌-◌, ◌*◌, ◌/◌, ◌%◌, ◌^◌, ◌<◌, ◌≤◌, Bool, true, false, ◌&&◌, nat_lt, nat_le, cond, ◌⊎◌, inl, inr, List, [], ◌∷◌, ◌++◌, length, take, drop, get_or, Some, None, fold, decimal, refl, sym, ap, ◌∙◌, arith, take-append-drop, length-append, length-drop, pow-suc, take-add, take_at, drop_at, lt-ltb, le-ltb, le-leb, true≢false, take_all}
 use borrow.Author.Tests.{lt-leb}
 use Rattle.std.specs.List.{list_all}
 use Rattle.std.specs.Char.{is_ascii_digit}
@@ -163,3 +163,50 @@ few_digits end most bytes high long some few digits =
     let rises = ten_power_rises (length bytes) (most - length bytes) in
     let same : length bytes + (most - length bytes) ≡ most = omega arith in
     number_by_digits end bytes digits some (omega arith) (omega (arith, whole, less, rises, ap (λ (n : ℕ). 10 ^ n) same))
+
+-- ---- digits read many at once
+
+and_twice : (a b c : Bool) → ((a && b) && (b && c)) ≡ (a && (b && c))
+and_twice true true c = refl
+and_twice true false c = refl
+and_twice false b c = refl
+
+-- digits at the front and at the back, which meet, are all
+pub digits_of_ends : (bytes : List ℕ) (n : ℕ) → n ≤ length bytes → length bytes ≤ n + n → (list_all is_ascii_digit (take n bytes) && list_all is_ascii_digit (take (length bytes - (length bytes - n)) (drop (length bytes - n) bytes))) ≡ list_all is_ascii_digit bytes
+digits_of_ends bytes n within meet =
+    let m = length bytes - n in
+    let digits = list_all is_ascii_digit in
+    let behind = drop (length bytes - n) bytes in
+    let a = digits (take m bytes) in
+    let b = digits (take (n - m) behind) in
+    let c = digits (drop (n - m) behind) in
+    let same : (length bytes - n) + (n - (length bytes - n)) ≡ n = omega arith in
+    let front : digits (take n bytes) ≡ (a && b) =
+    ap (λ (i : ℕ). digits (take i bytes)) (sym same) ∙ ap digits (take-add m (n - m) bytes) ∙ list_all-append is_ascii_digit (take m bytes) (take (n - m) behind) in
+    let back : digits behind ≡ (b && c) =
+    ap digits (sym (take-append-drop (n - m) behind)) ∙ list_all-append is_ascii_digit (take (n - m) behind) (drop (n - m) behind) in
+    let whole : digits bytes ≡ (a && (b && c)) =
+    ap digits (sym (take-append-drop m bytes)) ∙ list_all-append is_ascii_digit (take m bytes) behind ∙ ap (λ (t : Bool). a && t) back in
+    let rest : take (length bytes - (length bytes - n)) behind ≡ behind = take_all (length bytes - (length bytes - n)) behind (omega (arith, length-drop (length bytes - n) bytes)) in
+    ap (λ (l : List ℕ). digits (take n bytes) && digits l) rest ∙ ap (λ (t : Bool). t && digits behind) front ∙ ap (λ (t : Bool). (a && b) && t) back ∙ and_twice a b c ∙ sym whole
+
+-- so few digits spell a number of 64 bits
+pub few_digits_fit : (bytes : List ℕ) (i : ℕ) → i < length bytes → i < 19 → list_all is_ascii_digit bytes ≡ true → 10 * value_of (take i bytes) + (get_or bytes i 0 - 48) < 2 ^ 64
+few_digits_fit bytes i within few digits =
+    let less = value_below bytes (i + 1) (omega arith) digits in
+    let rises = ten_power_rises (i + 1) (18 - i) in
+    let same : (i + 1) + (18 - i) ≡ 19 = omega arith in
+    omega (arith, less, rises, value_of_more bytes i within, ap (λ (n : ℕ). 10 ^ n) same)
+
+-- a byte that is a digit among others is no less than the first digit
+pub digit_is_high : (bytes : List ℕ) (i : ℕ) → i < length bytes → list_all is_ascii_digit bytes ≡ true → 48 ≤ get_or bytes i 0
+digit_is_high bytes i in_bytes digits = elim (cases_Bool (is_ascii_digit (get_or bytes i 0))) [
+  | inl digit ↦ leb-true 48 (get_or bytes i 0) (and_parts (nat_le 48 (get_or bytes i 0)) (nat_le (get_or bytes i 0) 57) digit).0
+  | inr other ↦ absurd (true≢false (sym digits ∙ list_all_at is_ascii_digit bytes i 0 in_bytes other))
+]
+
+-- what digits spell, by all but the last
+pub value_by_last : (bytes : List ℕ) → 0 < length bytes → value_of bytes ≡ 10 * value_of (take (length bytes - 1) bytes) + (get_or bytes (length bytes - 1) 0 - 48)
+value_by_last bytes some =
+    let same : (length bytes - 1) + 1 ≡ length bytes = omega arith in
+    ap value_of (sym (take_all (length bytes) bytes (omega arith))) ∙ ap (λ (n : ℕ). value_of (take n bytes)) (sym same) ∙ value_of_more bytes (length bytes - 1) (omega arith)

@@ -1,15 +1,20 @@
 // Numbers, fractions and estimates as decimal text.
-ghost use Rattle.std.specs.Prelude.{◌≡◌, ◌+◌, ◌≤◌, ◌++◌, OnOk, OnErr, decimal, codes, length, take};
+ghost use Rattle.std.specs.Prelude.{◌≡◌, ◌+◌, ◌≤◌, ◌++◌, OnOk, OnErr, decimal, codes, length, take, true};
 ghost use Rattle.std.specs.List.{list_all};
 ghost use Rattle.std.specs.Char.{is_ascii_digit};
-ghost use Rattle.sk_model.specs.Numbers.{number_of};
+ghost use Rattle.sk_model.specs.Numbers.{number_of, value_of};
 ghost use Rattle.sk_lines.specs.Fractions.{fraction_text, estimate_text, estimate_line};
 
 use sk_model::OutOfMemory;
 
+const ZERO: u64 = 48;
+
+// How many digits are read at once.
+const WIDE: usize = 8;
+
 /// The number below `below` that the bytes spell: digits only, at least one and at most as many as
 /// `below - 1` has. Leading zeros are allowed within that length.
-#[inline]
+#[inline(always)]
 pub fn read_number(bytes: &[u8], below: u64) -> Option<u64>
     requires { 1 ≤ below }
     ensures { result ≡ number_of below bytes.now }
@@ -17,19 +22,72 @@ pub fn read_number(bytes: &[u8], below: u64) -> Option<u64>
     if bytes.is_empty() || bytes.len() > decimal_len(below - 1) {
         return None;
     }
-    let mut value = 0u64;
-    'digits: for byte in bytes {
-        if !byte.is_ascii_digit() {
-            return None;
-        }
-        value = value.checked_mul(10)?.checked_add(u64::from(*byte - b'0'))?;
+    if !are_digits(bytes) {
+        return None;
     }
+    // only with the last digit it may be too large
+    let last = bytes.len() - 1;
+    let tens = value_before(bytes, last).checked_mul(10)?;
+    let value = tens.checked_add(u64::from(bytes[last]) - ZERO)?;
     if value < below { Some(value) } else { None }
 }
 
+// The number that the digits before a place spell: eight at once, as a loop of so many is unrolled.
+#[inline(always)]
+fn value_before(bytes: &[u8], place: usize) -> u64
+    requires within { place ≤ length bytes.now }
+    requires few { place ≤ 19 }
+    requires digits { list_all is_ascii_digit bytes.now ≡ true }
+    ensures { result ≡ value_of (take place bytes.now) }
+{
+    if place < WIDE {
+        return value_on(bytes, 0, 0, place);
+    }
+    let front = value_on(bytes, 0, 0, WIDE);
+    value_on(bytes, front, WIDE, place)
+}
+
+// The number that the digits before a place spell, from that of those before an earlier place.
+#[inline(always)]
+fn value_on(bytes: &[u8], front: u64, from: usize, place: usize) -> u64
+    requires order { from ≤ place }
+    requires within { place ≤ length bytes.now }
+    requires few { place ≤ 19 }
+    requires digits { list_all is_ascii_digit bytes.now ≡ true }
+    requires front { front ≡ value_of (take from bytes.now) }
+    ensures { result ≡ value_of (take place bytes.now) }
+{
+    let mut value = front;
+    'digit: for i in from..place {
+        value = value * 10 + (u64::from(bytes[i]) - ZERO);
+    }
+    value
+}
+
 /// Whether all bytes are digits.
-#[inline]
+#[inline(always)]
 pub fn are_digits(bytes: &[u8]) -> bool
+    ensures { result ≡ list_all is_ascii_digit bytes.now }
+{
+    match bytes.len() {
+        8..=16 => ends_are_digits(bytes, WIDE),
+        4..=7 => ends_are_digits(bytes, WIDE / 2),
+        _ => each_is_digit(bytes),
+    }
+}
+
+// Whether all bytes are digits: so many at the front and as many at the back, which meet.
+#[inline(always)]
+fn ends_are_digits(bytes: &[u8], n: usize) -> bool
+    requires within { n ≤ length bytes.now }
+    requires meet { length bytes.now ≤ n + n }
+    ensures { result ≡ list_all is_ascii_digit bytes.now }
+{
+    each_is_digit(&bytes[..n]) & each_is_digit(&bytes[bytes.len() - n..])
+}
+
+#[inline(always)]
+fn each_is_digit(bytes: &[u8]) -> bool
     ensures { result ≡ list_all is_ascii_digit bytes.now }
 {
     let mut digits = true;
@@ -117,7 +175,7 @@ fn put_parts(into: &mut [u8], n: u64, d: u64) -> usize
 }
 
 // How many digits a number has.
-#[inline]
+#[inline(always)]
 fn decimal_len(n: u64) -> usize
     ensures { result ≡ length (decimal n) }
 {
