@@ -1,10 +1,10 @@
 -- Words that are read in parts, and the halves of a tail that are left out.
-use Rattle.std.proofs.Common.{◌≡◌, ℕ, ◌+◌, ◌*◌, ◌<◌, ◌≤◌, ◌^◌, List, length, take, drop, ap, ◌∙◌, arith}
+use Rattle.std.proofs.Common.{◌≡◌, ℕ, ◌+◌, ◌*◌, ◌/◌, ◌<◌, ◌≤◌, ◌^◌, List, length, length-drop, take, drop, ap, ◌∙◌, arith}
 use Rattle.std.proofs.lemmas.List.{get_or-take, get_or-drop, get_or_past}
 use Rattle.std.specs.Int.{w16, w32, from_le_bytes}
 use Rattle.std.specs.Int.Bits.{xor_zero_r}
 use Rattle.std.specs.Prelude.{bit_xor}
-use Rattle.sk_model.specs.Murmur.{word_at, scrambled_first, scrambled_second, with_tail}
+use Rattle.sk_model.specs.Murmur.{word_at, scrambled_first, scrambled_second, after_block, after_blocks, with_tail, finished, murmur128_of}
 
 -- a word's first bytes, and the word that the others make
 pub word_of_pair : (xs : List ℕ) → length xs < 4 → 2 ≤ length xs → word_at xs 0 ≡ from_le_bytes w16 (take 2 xs) + word_at (drop 2 xs) 0 * 2 ^ 16
@@ -37,3 +37,10 @@ without_tail h tail none =
     without_second h tail (omega arith)
     ∙ ap (λ k. (bit_xor h.0 (scrambled_first k), h.1)) (word_past tail 0 (omega arith))
     ∙ ap (λ h1. (h1, h.1)) (xor_first_zero h.0)
+
+-- the hash of one whole block
+pub hash_of_block : (seed : ℕ) (bytes : List ℕ) → length bytes ≡ 16 → murmur128_of seed bytes ≡ finished (after_block (seed, seed) (word_at bytes 0) (word_at bytes 8)) 16
+unfolding murmur128_of after_blocks
+hash_of_block seed bytes size =
+    ap (λ (n : ℕ). finished (with_tail (after_blocks seed bytes (n / 16)) (drop (16 * (n / 16)) bytes)) n) size
+    ∙ ap (λ (h : ℕ × ℕ). finished h 16) (without_tail (after_blocks seed bytes 1) (drop 16 bytes) (omega (arith, length-drop 16 bytes, size)))

@@ -173,5 +173,20 @@ pub fn hash48(seed: u32, bytes: &[u8]) -> u64
     ensures value { result ≡ hash_of seed bytes.now }
     ensures item { IsItem result }
 {
+    if bytes.len() == BLOCK_LEN {
+        return hash_block(seed, bytes).0 >> 16;
+    }
     murmur128(seed, bytes).0 >> 16
+}
+
+// The two halves of the hash of one whole block: without a loop and a tail it takes a tenth less.
+#[inline(always)]
+#[tactic(auto, using(crate::proofs::Words::hash_of_block))]
+fn hash_block(seed: u32, bytes: &[u8]) -> (u64, u64)
+    requires { length bytes.now ≡ 16 }
+    ensures { result ≡ murmur128_of seed bytes.now }
+{
+    let seeds = (u64::from(seed), u64::from(seed));
+    let h = mix_block(seeds, read_word(bytes, 0), read_word(bytes, 8));
+    finish(h, BLOCK_LEN as u64)
 }

@@ -129,6 +129,11 @@ goes_err r left given taken s (Err fault.ReadFault) is ended less full no_long =
 goes_err r left given taken s (Err fault.TooMuch) is ended less full no_long = (ended, full (sym is))
 goes_err r left given taken s (Err (fault.LongLine n)) is ended less full no_long = absurd (no_long n (sym is))
 
+-- an error that is passed on
+pub goes_passed : (r : Reading) (left : Option (List ℕ)) (given : List (List ℕ)) (taken : List ℕ) (s : LineFault) (result : Result Bool LineFault) → IsErrAnd result (λ (x : LineFault). x ≡ s) → Goes r left given taken (Err s) → Goes r left given taken result
+goes_passed r left given taken s (Ok b) is goes = absurd is
+goes_passed r left given taken s (Err why) is goes = subst (λ (x : LineFault). Goes r left given taken (Err x)) (sym is) goes
+
 -- how the end of a source was found
 pub goes_end : (old r : Reading) (left : Option (List ℕ)) (given : List (List ℕ)) (taken : List ℕ) (result : Result Bool LineFault) → HasRead old left given taken → IsAtEnd left →
     r.cutter.limit ≡ old.cutter.limit → r.most ≡ old.most → r.taken ≡ old.taken → r.ended ≡ true → (result ≡ Ok true → GivesLine old r) →

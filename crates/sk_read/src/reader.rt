@@ -150,8 +150,25 @@ impl LineReader {
 impl LineReader {
     /// Moves on to the source's next line, and answers `false` where there is none. After an error
     /// it is not used again.
-    #[inline]
+    #[inline(always)]
     pub fn next<S: Source>(&mut self, source: &mut S) -> Result<bool, LineFault>
+        ensures goes { (given : List (List ℕ)) (taken : List ℕ) → HasRead self.old (S.left source.old) given taken
+            → (more : List ℕ) × Consumes (S.left source.old) (S.left source.new) more × Goes self.new (S.left source.new) given (taken ++ more) result }
+        ensures holds { result ≡ Ok true → self.new.cutter.last ≡ next.Line }
+        ensures progress { result ≡ Ok true → remaining_of self.new < remaining_of self.old }
+        ensures most { self.new.most ≡ self.old.most }
+        ensures cause { HasCauseIn LineFault.ReadFault (S.faults source.old) (S.faults source.new) result }
+        ensures stays { S.stands_on source.new ≡ S.stands_on source.old }
+    {
+        if self.next_held()? {
+            return Ok(true);
+        }
+        self.next_read(source)
+    }
+
+    // The same, and reads on where no line is held: seldom, so that `next` is short where it is called.
+    #[inline(never)]
+    fn next_read<S: Source>(&mut self, source: &mut S) -> Result<bool, LineFault>
         ensures goes { (given : List (List ℕ)) (taken : List ℕ) → HasRead self.old (S.left source.old) given taken
             → (more : List ℕ) × Consumes (S.left source.old) (S.left source.new) more × Goes self.new (S.left source.new) given (taken ++ more) result }
         ensures holds { result ≡ Ok true → self.new.cutter.last ≡ next.Line }
@@ -177,7 +194,7 @@ impl LineReader {
 
     /// Moves on to the next line of the bytes that were read, and answers `false` where these hold no
     /// complete one: `next` reads on. After an error it is not used again.
-    #[inline]
+    #[inline(always)]
     pub fn next_held(&mut self) -> Result<bool, LineFault>
         ensures goes { (left : Option (List ℕ)) (given : List (List ℕ)) (taken : List ℕ) → HasRead self.old left given taken → GoesHeld self.new left given taken result }
         ensures holds { result ≡ Ok true → self.new.cutter.last ≡ next.Line }

@@ -1,7 +1,7 @@
 use Rattle.std.proofs.Common.{◌≡◌, ◌≤◌, ◌-◌, ◌++◌, ℕ, List}
 use Rattle.std.specs.Io.KnownBytes.{Consumes}
 use Rattle.sk_read.specs.Reading.{HasRead, remaining_of}
-use Rattle.sk_read.proofs.reader.LineReader.next.Given as goal
+use Rattle.sk_read.proofs.reader.LineReader.next_read.Given as goal
 
 abbrev pub invariant-piece : goal.invariant-piece
 invariant-piece g l = record {
