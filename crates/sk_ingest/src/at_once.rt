@@ -108,6 +108,25 @@ fn insist_sweeping<C: Composable, R: Wait>(
     ensures taken { OnOk result (Takes C.keeps_of C.hint_of u.old (item ∷ []) u.new) }
     ensures heart { HeartGoesOn heart.old heart.new }
 {
+    match offer(u, item) {
+        Update::Busy => sweep_until_taken(rt, heart, u, item),
+        Update::Filtered | Update::Kept | Update::Handed => Ok(()),
+    }
+}
+
+// The same with a loop, which costs as much as the filter, and is seldom due.
+#[inline(never)]
+fn sweep_until_taken<C: Composable, R: Wait>(
+    rt: &R,
+    heart: &mut Heart<C>,
+    u: &mut Updater<C>,
+    item: u64,
+) -> Result<(), OutOfMemory>
+    requires item { IsItem item }
+    requires room { length (kept_of u.old) < most_kept }
+    ensures taken { OnOk result (Takes C.keeps_of C.hint_of u.old (item ∷ []) u.new) }
+    ensures heart { HeartGoesOn heart.old heart.new }
+{
     'again: for _ in rt.forever() {
         match offer(u, item) {
             Update::Busy => sweep(rt, heart)?,

@@ -57,7 +57,7 @@ pub(crate) fn feeders_for<C: Composable, R: Threads>(
     Feeders::new(alloc, MOST_UPDATERS, threads as u32)
 }
 
-// Whether updaters propagate behind each item that they keep: at once they would only wait for one another.
+// Whether each item that an updater keeps is handed over: at once they would only wait for one another.
 fn is_early<C: Composable>(updaters: &[Updater<C>]) -> bool {
     match updaters.first() {
         Some(updater) => updater.is_eager(),
@@ -82,10 +82,7 @@ where
     ensures fed { OnOk result (FeedsWindow C.keeps_of C.hint_of kind window.now.lines (hub_of opened.old) (hub_of opened.new)) }
     ensures stays { feeders.new ≡ feeders.old }
 {
-    if window.len() < LEAST_AT_ONCE
-        || feeders.threads() < 2
-        || (!propagator && is_early(&opened.updaters))
-    {
+    if window.len() < LEAST_AT_ONCE || feeders.threads() < 2 || is_early(&opened.updaters) {
         return feed_window(rt, opened, window, kind, propagator);
     }
     // It tells the proof how many updaters a hub has at most.

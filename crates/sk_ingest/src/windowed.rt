@@ -91,6 +91,7 @@ fn take_unit<C: Composable, P: Report<C>, R: Wait>(
 }
 
 // Whether a unit is empty or an item.
+#[inline(always)]
 pub(crate) fn is_good(kind: Kind, unit: &[u8]) -> bool
     ensures good { result ≡ true → IsGood kind unit.now }
     ensures bad { result ≡ false → (0 < length unit.now) × IsNone (item_of kind unit.now) }

@@ -1,25 +1,11 @@
 use Rattle.std.proofs.Common.{[], ◌∷◌, length, ap, arith}
-use Rattle.sk_ingest.proofs.Updaters.{none_refl, none_trans, none_then_takes}
-use Rattle.sk_ingest.proofs.HubLaws.{heart_waits, heart_goes}
+use Rattle.std.proofs.lemmas.Result.{on_ok_weaker}
+use Rattle.sk_ingest.proofs.Updaters.{none_then_takes}
 use Rattle.sk_ingest.proofs.at_once.insist_sweeping.Goals as goal
 
-pub again-init : goal.again-init
-again-init g c = record { none = none_refl c.args.u.now; heart = heart_waits c.args.heart.now }
+pub sweep_until_taken-requires-clause-room : goal.sweep_until_taken-requires-clause-room
+sweep_until_taken-requires-clause-room g c = let same = ap length (c.offer.ensures.none c.in-Busy.is).kept in omega (arith, same, c.requires.room)
 
-pub offer-requires-clause-room : goal.offer-requires-clause-room
-offer-requires-clause-room g c = let same = ap length c.again.invariant.none.kept in let room = c.requires.room in omega (arith, same, room)
-
-pub again-preserved : goal.again-preserved
-again-preserved g c = record {
-  none = none_trans c.args.u.now c.again.u c.offer.new.u c.again.invariant.none (c.offer.ensures.none c.in-Busy.is);
-  heart = heart_goes c.args.heart.now c.again.heart c.sweep.new.heart c.again.invariant.heart c.sweep.ensures.heart;
-}
-
-pub returns-in_err-sweep-in-Busy-clause-heart : goal.returns-in_err-sweep-in-Busy-clause-heart
-returns-in_err-sweep-in-Busy-clause-heart g c = heart_goes c.args.heart.now c.again.heart c.sweep.new.heart c.again.invariant.heart c.sweep.ensures.heart
-
-pub returns-in_default : goal.returns-in_default
-returns-in_default g c = let k = g.C.Composable in record {
-  taken = none_then_takes k.keeps_of k.hint_of c.args.u.now c.again.u c.offer.new.u (c.args.item ∷ []) c.again.invariant.none (c.offer.ensures.taken c.in_default.not-Busy);
-  heart = c.again.invariant.heart;
-}
+pub returns-in-Busy-clause-taken : goal.returns-in-Busy-clause-taken
+returns-in-Busy-clause-taken g c = let k = g.C.Composable in
+    on_ok_weaker c.sweep_until_taken.result (none_then_takes k.keeps_of k.hint_of c.args.u.now c.offer.new.u c.sweep_until_taken.new.u (c.args.item ∷ []) (c.offer.ensures.none c.in-Busy.is)) c.sweep_until_taken.ensures.taken
