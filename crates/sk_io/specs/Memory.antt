@@ -158,18 +158,19 @@ after_link_write l bytes = if refuses_on l
     then record l { calls = failed (called l.calls) }
     else record l { traffic = having_sent (take (next_sent l (length bytes)) bytes) l.traffic; calls = called l.calls }
 
--- a door: the links that it will give, those that were closed, how many more may be closed, whether it listens, and its
--- calls of `listen` and `accept`
+-- a door: the links that it will give, those that were closed, how many were accepted, how many more may be closed, whether
+-- it listens, and its calls of `listen` and `accept`
 pub record DoorState : Type 0 where
   pub waiting : List LinkState
   pub closed : List LinkState
+  pub accepted : ℕ
   pub room : ℕ
   pub listens : Bool
   pub calls : Calls
 
 -- the record of a link that was closed
 abbrev pub ended_of : LinkState → Ended
-ended_of l = record { traffic = Some l.traffic; faults = l.calls.faults }
+ended_of l = record { traffic = Some l.traffic; faults = l.calls.faults; waiting = 0 }
 
 -- whether the next accept fails, as one that is listed or for want of a link
 abbrev pub cannot_accept : DoorState → Bool
@@ -179,4 +180,4 @@ cannot_accept d = next_fails d.calls || length d.waiting == 0
 abbrev pub after_accept : DoorState → DoorState
 after_accept d = if cannot_accept d
     then record d { calls = failed (called d.calls) }
-    else record d { waiting = drop 1 d.waiting; calls = called d.calls }
+    else record d { waiting = drop 1 d.waiting; accepted = one_more d.accepted; calls = called d.calls }

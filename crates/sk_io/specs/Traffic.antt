@@ -46,7 +46,9 @@ left_of told = option_map (λ (t : Traffic). t.left) told
 abbrev pub sides_of : Option Traffic → Option (List ℕ × List ℕ)
 sides_of told = option_map (λ (t : Traffic). (t.taken ++ t.left, t.written)) told
 
--- a link that was closed: its traffic, where it told that, and its count of faults
+-- a link that was closed: its traffic, where it told that, its count of faults, and how many of the bytes that were
+-- written on it still waited to be sent
 pub record Ended : Type 0 where
   pub traffic : Option Traffic
   pub faults : ℕ
+  pub waiting : ℕ

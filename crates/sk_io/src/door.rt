@@ -1,6 +1,6 @@
 // Where connections are accepted.
 ghost use Rattle.std.specs.Prelude.{◌≡◌, ◌+◌, ◌<◌, [], ◌∷◌, ◌++◌, ℕ, Bool, true, List, OnOk, OnErr, IfOk, IfSome};
-ghost use Rattle.sk_model.specs.Causes.{HasCause, HasCauseIn};
+ghost use Rattle.sk_model.specs.Causes.{HasCause, HasCauseIn, Rose};
 ghost use Rattle.sk_io.specs.Traffic.{Ended, IsUntouched};
 
 use crate::link::Link;
@@ -44,6 +44,9 @@ pub trait Door {
     /// such a call moves it.
     ghost faults: { Self → ℕ };
 
+    /// How many links were accepted. The count stops at the largest `u64`.
+    ghost accepted: { Self → ℕ };
+
     /// The links that were closed, in order.
     ghost ended: { Self → List Ended };
 
@@ -59,6 +62,7 @@ pub trait Door {
         ensures room { OnOk result (room self.new ≡ links) }
         ensures err { OnErr result ((listens self.new ≡ listens self.old) × (room self.new ≡ room self.old)) }
         ensures cause { HasCauseIn DoorFault.Failed (faults self.old) (faults self.new) result }
+        ensures accepted { accepted self.new ≡ accepted self.old }
         ensures ended { ended self.new ≡ ended self.old };
 
     /// Waits for the next link.
@@ -66,7 +70,10 @@ pub trait Door {
         requires { listens self.old ≡ true }
         ensures untouched { IfOk result (λ link. IfSome (Self.Link.traffic link) IsUntouched) }
         ensures count { IfOk result (λ link. Self.Link.faults link ≡ 0) }
+        ensures sent { IfOk result (λ link. Self.Link.waiting link ≡ 0) }
         ensures cause { HasCause (faults self.old) (faults self.new) result }
+        ensures accepts { OnOk result (Rose (accepted self.old) (accepted self.new)) }
+        ensures none { OnErr result (accepted self.new ≡ accepted self.old) }
         ensures ended { ended self.new ≡ ended self.old }
         ensures listens { listens self.new ≡ listens self.old }
         ensures room { room self.new ≡ room self.old };
@@ -75,8 +82,9 @@ pub trait Door {
     fn close(&mut self, link: Self::Link)
         requires { 0 < room self.old }
         ensures ended { ended self.new ≡ ended self.old
-            ++ record { traffic = Self.Link.traffic link; faults = Self.Link.faults link } ∷ [] }
+            ++ record { traffic = Self.Link.traffic link; faults = Self.Link.faults link; waiting = Self.Link.waiting link } ∷ [] }
         ensures room { room self.new + 1 ≡ room self.old }
+        ensures accepted { accepted self.new ≡ accepted self.old }
         ensures faults { faults self.new ≡ faults self.old }
         ensures listens { listens self.new ≡ listens self.old };
 }

@@ -4,6 +4,7 @@ ghost use Rattle.std.specs.Io.KnownBytes.{ReadConsumes};
 ghost use Rattle.sk_model.specs.Causes.{HasCause};
 
 use crate::shelf::Shelf;
+use crate::steps::{count_fault, read_some};
 use crate::stream::Failed;
 use std::fs;
 use std::io::Read;
@@ -47,10 +48,7 @@ impl<R: Files> Shelf for FileShelf<R> {
     fn open(&mut self, name: &str) -> Result<R::File, Failed> {
         match fs::open(&self.rt, name) {
             Ok(file) => Ok(file),
-            Err(_) => {
-                self.open_faults = self.open_faults.saturating_add(1);
-                Err(Failed)
-            }
+            Err(_) => Err(count_fault(&mut self.open_faults)),
         }
     }
 
@@ -66,12 +64,9 @@ impl<R: Files> Shelf for FileShelf<R> {
         ensures opens { let faults = ⟦<FileShelf<R> as Shelf>⟧.open_faults in
             faults self.new ≡ faults self.old }
     {
-        match file.read(buf) {
+        match read_some(file, buf) {
             Ok(n) => Ok(n),
-            Err(_) => {
-                self.read_faults = self.read_faults.saturating_add(1);
-                Err(Failed)
-            }
+            Err(_) => Err(count_fault(&mut self.read_faults)),
         }
     }
 }

@@ -13,16 +13,20 @@ pub trait Link {
     /// What was read of the link, what is left to read and what was written on it, where it tells them.
     ghost traffic: { Self → Option Traffic };
 
-    /// How often a read or a write has failed. The count stops at the largest `u64`, and only such a
-    /// call moves it.
+    /// How often a call has failed. The count stops at the largest `u64`, and only such a call moves it.
     ghost faults: { Self → ℕ };
 
-    /// Reads some bytes into the front of `buf`, none only at the end. A read that fails takes none.
+    /// How many of the bytes that were written wait to be sent.
+    ghost waiting: { Self → ℕ };
+
+    /// Reads some bytes into the front of `buf`, none only at the end. What waits is sent before the peer
+    /// is waited for. A read that fails takes none.
     fn read(&mut self, buf: &mut [u8]) -> Result<usize, Failed>
         requires { 0 < length buf.old }
         ensures bound { ReadsAtMost result buf.new }
         ensures bytes { Receives (traffic self.old) (traffic self.new) result buf.new }
         ensures end { IfOk result (λ n. n ≡ 0 → IsAtEnd (left_of (traffic self.new))) }
+        ensures sent { OnOk result (waiting self.new ≡ 0) }
         ensures cause { HasCause (faults self.old) (faults self.new) result };
 
     /// Writes at least one byte from the front of `bytes`. A write that fails writes none.
@@ -31,6 +35,12 @@ pub trait Link {
         ensures bound { WritesAtMost result bytes.now }
         ensures some { IfOk result (λ n. 0 < n) }
         ensures bytes { Sends (traffic self.old) (traffic self.new) result bytes.now }
+        ensures cause { HasCause (faults self.old) (faults self.new) result };
+
+    /// Sends what waits, and tells the peer that nothing comes behind it.
+    fn finish(&mut self) -> Result<(), Failed>
+        ensures sent { OnOk result (waiting self.new ≡ 0) }
+        ensures bytes { traffic self.new ≡ traffic self.old }
         ensures cause { HasCause (faults self.old) (faults self.new) result };
 }
 

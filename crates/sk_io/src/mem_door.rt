@@ -15,6 +15,7 @@ use std::marker::Model;
 pub struct MemDoor {
     waiting: Vec<MemLink>,
     closed: Vec<MemLink>,
+    accepted: u64,
     room: u32,
     listens: bool,
     plan: Plan,
@@ -29,6 +30,7 @@ impl Model for MemDoor {
     ghost view = { λ d. record {
       waiting = d.waiting.items;
       closed = d.closed.items;
+      accepted = d.accepted;
       room = d.room;
       listens = d.listens;
       calls = d.plan;
@@ -45,6 +47,7 @@ impl MemDoor {
         ensures { result ≡ record {
           waiting = links.items;
           closed = [];
+          accepted = 0;
           room = 0;
           listens = false;
           calls = planned fails.items;
@@ -53,6 +56,7 @@ impl MemDoor {
         MemDoor {
             closed: Vec::new(*links.allocator()),
             waiting: links,
+            accepted: 0,
             room: 0,
             listens: false,
             plan: Plan::new(fails),
@@ -72,6 +76,8 @@ impl Door for MemDoor {
     type Link = MemLink;
 
     ghost faults = { λ d. d.calls.faults };
+
+    ghost accepted = { λ d. d.accepted };
 
     ghost ended = { λ d. map ended_of d.closed };
 
@@ -108,6 +114,7 @@ impl Door for MemDoor {
         if self.plan.call() || self.waiting.is_empty() {
             return Err(self.plan.fail());
         }
+        self.accepted = self.accepted.saturating_add(1);
         Ok(self.waiting.remove(0))
     }
 

@@ -1,4 +1,4 @@
-ghost use Rattle.std.specs.Prelude.{◌≡◌, ◌<◌, Some, IfOk, is_err, length};
+ghost use Rattle.std.specs.Prelude.{◌≡◌, ◌<◌, Some, Ok, IfOk, is_err, length};
 ghost use Rattle.std.specs.Io.{ReadsAtMost, WritesAtMost};
 ghost use Rattle.std.specs.Io.KnownBytes.{IsAtEnd};
 ghost use Rattle.sk_model.specs.Causes.{HasCause};
@@ -79,6 +79,8 @@ impl Link for MemLink {
 
     ghost faults = { λ l. l.calls.faults };
 
+    ghost waiting = { λ _. 0 };
+
     /// Fails exactly at the calls with the listed numbers.
     fn read(&mut self, buf: &mut [u8]) -> Result<usize, Failed>
         requires { 0 < length buf.old }
@@ -118,5 +120,13 @@ impl Link for MemLink {
         let n = bytes.len().min(self.piece).min(room);
         self.written.extend_from_slice(&bytes[..n]).unwrap();
         Ok(n)
+    }
+
+    /// Never fails, since nothing waits.
+    fn finish(&mut self) -> Result<(), Failed>
+        ensures ok { result ≡ Ok tt }
+        ensures link { self.new ≡ self.old }
+    {
+        Ok(())
     }
 }

@@ -5,6 +5,7 @@ ghost use Rattle.sk_model.specs.Causes.{HasCause};
 ghost use Rattle.sk_io.specs.Base.{nothing};
 ghost use Rattle.sk_io.specs.Standard.{writer_of};
 
+use crate::steps::{count_fault, flush_some, read_some, write_some};
 use crate::stream::{Failed, Sink, Source};
 use std::io::{Read, Write};
 
@@ -33,12 +34,9 @@ impl<R: Read> Source for StdSource<R> {
     ghost stands_on = { λ _. nothing };
 
     fn read(&mut self, buf: &mut [u8]) -> Result<usize, Failed> {
-        match self.inner.read(buf) {
+        match read_some(&mut self.inner, buf) {
             Ok(n) => Ok(n),
-            Err(_) => {
-                self.faults = self.faults.saturating_add(1);
-                Err(Failed)
-            }
+            Err(_) => Err(count_fault(&mut self.faults)),
         }
     }
 }
@@ -77,12 +75,21 @@ impl<W: Write> Sink for StdSink<W> {
         ensures writer { IfOk result (λ n.
             Appends (W.contents (writer_of self.old)) (W.contents (writer_of self.new)) (take n bytes.now)) }
     {
-        if let Ok(n) = self.inner.write(bytes) {
-            if n > 0 && self.inner.flush().is_ok() {
-                return Ok(n);
-            }
+        match write_through(&mut self.inner, bytes) {
+            Ok(n) => Ok(n),
+            Err(_) => Err(count_fault(&mut self.faults)),
         }
-        self.faults = self.faults.saturating_add(1);
-        Err(Failed)
     }
+}
+
+// Writes at least one byte from the front of `bytes`, and flushes.
+fn write_through<W: Write>(out: &mut W, bytes: &[u8]) -> Result<usize, Failed>
+    requires { 0 < length bytes.now }
+    ensures bound { WritesAtMost result bytes.now }
+    ensures some { IfOk result (λ n. 0 < n) }
+    ensures bytes { IfOk result (λ n. Appends (W.contents out.old) (W.contents out.new) (take n bytes.now)) }
+{
+    let n = write_some(out, bytes)?;
+    flush_some(out)?;
+    Ok(n)
 }

@@ -1,11 +1,12 @@
 -- What a door tells of the links that it closed.
-use Rattle.std.specs.Prelude.{ℕ, List, map, None}
+use Rattle.std.specs.Prelude.{List, map, None}
 use Rattle.sk_io.specs.Traffic.{Ended}
+use Rattle.sk_net.specs.declared.tcp_door.ClosedLink.{ClosedLink}
 
--- a link that tells no traffic, closed with this count of faults
-abbrev pub ended_with : ℕ → Ended
-ended_with faults = record { traffic = None; faults = faults }
+-- a link that tells no traffic
+abbrev pub ended_with : ClosedLink → Ended
+ended_with link = record { traffic = None; faults = link.faults; waiting = link.waiting }
 
 -- the same of each
-abbrev pub all_ended : List ℕ → List Ended
-all_ended counts = map ended_with counts
+abbrev pub all_ended : List ClosedLink → List Ended
+all_ended links = map ended_with links

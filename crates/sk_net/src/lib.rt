@@ -2,11 +2,10 @@
 #![tactic(auto)]
 
 mod replies;
-mod steps;
 mod tcp_door;
 mod tcp_link;
 
-pub use tcp_door::TcpDoor;
+pub use tcp_door::{ClosedLink, TcpDoor};
 pub use tcp_link::TcpLink;
 
 #[cfg(test)]

@@ -3,8 +3,7 @@ ghost use Rattle.std.specs.Prelude.{◌≡◌, ◌<◌, ◌≤◌, ◌↔◌, []
 ghost use Rattle.std.specs.Io.{WritesAtMost};
 ghost use Rattle.std.specs.Io.KnownBytes.{Keeps, WriteAppends, append_known};
 
-use crate::steps::write_some;
-use sk_io::Failed;
+use sk_io::{Failed, write_some};
 use std::alloc::{AllocError, Global};
 use std::io::Write;
 use std::marker::Model;
@@ -86,6 +85,13 @@ impl Replies {
         self.bytes.clear();
         self.sent = 0;
         Ok(())
+    }
+
+    /// How many bytes wait.
+    pub fn len(&self) -> usize
+        ensures { result ≡ length self.now.bytes }
+    {
+        self.bytes.len() - self.sent
     }
 
     // Whether no byte more may wait.

@@ -1,21 +1,29 @@
 // Where connections over TCP are accepted.
-ghost use Rattle.std.specs.Prelude.{◌≡◌, ◌+◌, ◌≤◌, [], All, IfOk, IfSome, None, false, true, is_some, vec_len, vec_capacity};
-ghost use Rattle.sk_model.specs.Causes.{HasCause};
+ghost use Rattle.std.specs.Prelude.{◌≡◌, ◌+◌, ◌≤◌, [], All, IfOk, IfSome, OnOk, OnErr, None, false, true, is_some, length, vec_len, vec_capacity};
+ghost use Rattle.sk_model.specs.Causes.{HasCause, Rose};
 ghost use Rattle.sk_io.specs.Traffic.{IsUntouched};
 ghost use Rattle.sk_net.specs.Doors.{all_ended};
 ghost use Rattle.sk_net.specs.Links.{waiting_of};
 ghost use Rattle.sk_net.specs.Waiting.{IsUnused};
 
 use crate::replies::Replies;
-use crate::steps::count_fault;
 use crate::tcp_link::TcpLink;
-use sk_io::{Door, DoorFault, Failed, Link};
+use sk_io::{Door, DoorFault, Failed, Link, count_fault};
 use std::alloc::{AllocError, Global};
 use std::io::ErrorKind;
 use std::net::{Ipv4Addr, Net, OpenListener, OpenStream, SocketAddr};
 
 // How many bytes may wait on a link before they are sent.
 const WAITING: usize = 16_384;
+
+/// A link that was closed.
+#[derive(Clone, Copy, Debug, PartialEq, Eq)]
+pub struct ClosedLink {
+    /// How often a call of it has failed.
+    pub faults: u64,
+    /// How many of the bytes that were written on it were not sent before its close.
+    pub waiting: usize,
+}
 
 /// A door over TCP at a port of 127.0.0.1. Where it listens it takes the memory of so many links, and
 /// links beyond them hold nothing back.
@@ -25,7 +33,8 @@ pub struct TcpDoor<R: Net> {
     alloc: Global,
     listener: Option<R::Listener>,
     spare: Vec<Replies>,
-    closed: Vec<u64>,
+    closed: Vec<ClosedLink>,
+    accepted: u64,
     room: u32,
     faults: u64,
     ghost reserved: { vec_len closed + room ≤ vec_capacity closed },
@@ -36,6 +45,7 @@ impl<R: Net> TcpDoor<R> {
     /// A door that does not listen yet.
     pub fn new(rt: R, alloc: Global) -> Self
         ensures faults { ⟦<TcpDoor<R> as Door>⟧.faults result ≡ 0 }
+        ensures accepted { ⟦<TcpDoor<R> as Door>⟧.accepted result ≡ 0 }
         ensures ended { ⟦<TcpDoor<R> as Door>⟧.ended result ≡ [] }
         ensures room { ⟦<TcpDoor<R> as Door>⟧.room result ≡ 0 }
         ensures listens { ⟦<TcpDoor<R> as Door>⟧.listens result ≡ false }
@@ -46,6 +56,7 @@ impl<R: Net> TcpDoor<R> {
             listener: None,
             spare: Vec::new(alloc),
             closed: Vec::new(alloc),
+            accepted: 0,
             room: 0,
             faults: 0,
         }
@@ -62,8 +73,8 @@ impl<R: Net> TcpDoor<R> {
         }
     }
 
-    /// The counts of faults of the links that were closed, in order.
-    pub fn closed(&self) -> &[u64]
+    /// What is known of the links that were closed, in order.
+    pub fn closed(&self) -> &[ClosedLink]
         ensures { all_ended result.now ≡ ⟦<TcpDoor<R> as Door>⟧.ended self.now }
     {
         &self.closed
@@ -74,6 +85,8 @@ impl<R: Net> Door for TcpDoor<R> {
     type Link = TcpLink<R::Stream>;
 
     ghost faults = { λ d. d.faults };
+
+    ghost accepted = { λ d. d.accepted };
 
     ghost ended = { λ d. all_ended d.closed.items };
 
@@ -99,10 +112,12 @@ impl<R: Net> Door for TcpDoor<R> {
         ensures untouched { IfOk result (λ link. IfSome None IsUntouched) }
         ensures count { IfOk result (λ link. ⟦<TcpLink<R::Stream> as Link>⟧.faults link ≡ 0) }
         ensures cause { let faults = ⟦<TcpDoor<R> as Door>⟧.faults in HasCause (faults self.old) (faults self.new) result }
+        ensures accepts { let accepted = ⟦<TcpDoor<R> as Door>⟧.accepted in OnOk result (Rose (accepted self.old) (accepted self.new)) }
+        ensures none { let accepted = ⟦<TcpDoor<R> as Door>⟧.accepted in OnErr result (accepted self.new ≡ accepted self.old) }
         ensures ended { let ended = ⟦<TcpDoor<R> as Door>⟧.ended in ended self.new ≡ ended self.old }
         ensures listens { let listens = ⟦<TcpDoor<R> as Door>⟧.listens in listens self.new ≡ listens self.old }
         ensures room { let room = ⟦<TcpDoor<R> as Door>⟧.room in room self.new ≡ room self.old }
-        ensures unused { IfOk result (λ link. waiting_of link ≡ []) }
+        ensures sent { IfOk result (λ link. length (waiting_of link) ≡ 0) }
     {
         let Some(listener) = &self.listener else {
             unreachable!()
@@ -113,13 +128,18 @@ impl<R: Net> Door for TcpDoor<R> {
         // Where the peer is gone already, the first read tells.
         let _ = stream.set_nodelay(true);
         let replies = self.spare.pop().unwrap_or(Replies::none(self.alloc));
+        self.accepted = self.accepted.saturating_add(1);
         Ok(TcpLink::new(stream, replies))
     }
 
     fn close(&mut self, mut link: TcpLink<R::Stream>) {
-        link.finish();
+        let closed = ClosedLink {
+            faults: link.faults(),
+            waiting: link.waiting(),
+        };
+        link.send_last();
         self.room -= 1;
-        self.closed.push_reserved(link.faults());
+        self.closed.push_reserved(closed);
     }
 }
 

@@ -1,23 +1,23 @@
 // A connection over TCP.
 ghost use Rattle.std.specs.Prelude.{◌≡◌, ◌<◌, [], None, IfOk, OnOk, length};
 ghost use Rattle.std.specs.Io.{ReadsAtMost, WritesAtMost};
-ghost use Rattle.std.specs.Io.KnownBytes.{IsAtEnd, WriteAppends, append_known};
+ghost use Rattle.std.specs.Io.KnownBytes.{IsAtEnd, Keeps, WriteAppends, append_known};
 ghost use Rattle.sk_model.specs.Causes.{HasCause};
 ghost use Rattle.sk_io.specs.Traffic.{Receives, Sends, left_of};
 ghost use Rattle.sk_net.specs.Links.{stream_of, waiting_of};
 
 use crate::replies::Replies;
-use crate::steps::{count_fault, read_some};
-use sk_io::{Failed, Link};
+use sk_io::{Failed, Link, count_fault, read_some};
 use std::io::{Read, Write};
-use std::net::{OpenStream, TcpStream};
+use std::net::{OpenStream, Shutdown, TcpStream};
 use std::time::Duration;
 
 // How long closing a link waits for a peer that does not read, in seconds.
 const CLOSE_WAIT: u64 = 2;
 
 /// A connection over a stream. What is written waits until the next read, or until much waits, and is
-/// sent then: a fault of sending is one of that call. Behind the end of what comes it is sent at once.
+/// sent then: a fault of sending is one of that call. Behind the end of what comes it is sent at once, and
+/// behind `finish` nothing can be sent.
 #[derive(Drop)]
 pub struct TcpLink<S = TcpStream> {
     stream: S,
@@ -25,7 +25,7 @@ pub struct TcpLink<S = TcpStream> {
     faults: u64,
 }
 
-impl<S: Read + Write> TcpLink<S> {
+impl<S: Read + Write + OpenStream> TcpLink<S> {
     // A link over this stream, with this room for what is written.
     pub(crate) fn new(stream: S, replies: Replies) -> Self
         ensures faults { ⟦<TcpLink<S> as Link>⟧.faults result ≡ 0 }
@@ -38,17 +38,37 @@ impl<S: Read + Write> TcpLink<S> {
         }
     }
 
-    // How often a read or a write has failed.
+    // Sends what waits.
+    fn send(&mut self) -> Result<(), Failed>
+        ensures sent { OnOk result (length (waiting_of self.new) ≡ 0) }
+        ensures bytes { Keeps (append_known (S.contents (stream_of self.old)) (waiting_of self.old))
+            (append_known (S.contents (stream_of self.new)) (waiting_of self.new)) }
+        ensures cause { let faults = ⟦<TcpLink<S> as Link>⟧.faults in HasCause (faults self.old) (faults self.new) result }
+    {
+        let Ok(()) = self.replies.send(&mut self.stream) else {
+            return Err(count_fault(&mut self.faults));
+        };
+        Ok(())
+    }
+
+    // How often a call has failed.
     pub(crate) fn faults(&self) -> u64
         ensures { result ≡ ⟦<TcpLink<S> as Link>⟧.faults self.now }
     {
         self.faults
     }
+
+    // How many bytes wait to be sent.
+    pub(crate) fn waiting(&self) -> usize
+        ensures { result ≡ ⟦<TcpLink<S> as Link>⟧.waiting self.now }
+    {
+        self.replies.len()
+    }
 }
 
 impl<S: Read + Write + OpenStream> TcpLink<S> {
     // Sends what waits, for the last time, but waits for no peer that does not read.
-    pub(crate) fn finish(&mut self)
+    pub(crate) fn send_last(&mut self)
         ensures { let faults = ⟦<TcpLink<S> as Link>⟧.faults in faults self.new ≡ faults self.old }
     {
         let wait = Duration::from_secs(CLOSE_WAIT);
@@ -58,10 +78,12 @@ impl<S: Read + Write + OpenStream> TcpLink<S> {
     }
 }
 
-impl<S: Read + Write> Link for TcpLink<S> {
+impl<S: Read + Write + OpenStream> Link for TcpLink<S> {
     ghost traffic = { λ _. None };
 
     ghost faults = { λ l. l.faults };
+
+    ghost waiting = { λ l. length (waiting_of l) };
 
     fn read(&mut self, buf: &mut [u8]) -> Result<usize, Failed>
         requires { 0 < length buf.old }
@@ -69,11 +91,9 @@ impl<S: Read + Write> Link for TcpLink<S> {
         ensures bytes { Receives None None result buf.new }
         ensures end { IfOk result (λ n. n ≡ 0 → IsAtEnd (left_of None)) }
         ensures cause { let faults = ⟦<TcpLink<S> as Link>⟧.faults in HasCause (faults self.old) (faults self.new) result }
-        ensures sends { OnOk result (waiting_of self.new ≡ []) }
+        ensures sent { OnOk result (length (waiting_of self.new) ≡ 0) }
     {
-        let Ok(()) = self.replies.send(&mut self.stream) else {
-            return Err(count_fault(&mut self.faults));
-        };
+        self.send()?;
         let Ok(n) = read_some(&mut self.stream, buf) else {
             return Err(count_fault(&mut self.faults));
         };
@@ -96,6 +116,18 @@ impl<S: Read + Write> Link for TcpLink<S> {
             Ok(n) => Ok(n),
             Err(_) => Err(count_fault(&mut self.faults)),
         }
+    }
+
+    fn finish(&mut self) -> Result<(), Failed>
+        ensures sent { OnOk result (length (waiting_of self.new) ≡ 0) }
+        ensures cause { let faults = ⟦<TcpLink<S> as Link>⟧.faults in HasCause (faults self.old) (faults self.new) result }
+        ensures waits { Keeps (append_known (S.contents (stream_of self.old)) (waiting_of self.old))
+            (append_known (S.contents (stream_of self.new)) (waiting_of self.new)) }
+    {
+        self.send()?;
+        // Where the peer is gone already, nobody waits for it.
+        let _ = self.stream.shutdown(Shutdown::Write);
+        Ok(())
     }
 }
 

@@ -1,6 +1,6 @@
 ghost use Rattle.std.specs.Prelude.{◌≡◌, ◌<◌, IfOk, true};
 
-use crate::{TcpDoor, TcpLink};
+use crate::{ClosedLink, TcpDoor, TcpLink};
 use sk_io::{Door, DoorFault, Failed, Link, send_all};
 use std::alloc::Global;
 use std::fmt::Debug;
@@ -9,6 +9,17 @@ use std::net::{Ipv4Addr, Net, Shutdown, SocketAddr, TcpStream};
 use std::process::Abort;
 use std::test::Fail;
 use std::{io, thread};
+
+// Links that were closed, on which nothing waited: no call had failed, or one.
+const SOUND: ClosedLink = ClosedLink {
+    faults: 0,
+    waiting: 0,
+};
+
+const BROKEN: ClosedLink = ClosedLink {
+    faults: 1,
+    waiting: 0,
+};
 
 // An `assert_eq!` that costs the proof of a test one call.
 pub(crate) fn expect<R: Abort, T: PartialEq + Debug + Copy>(rt: &R, got: T, want: T) {
@@ -73,7 +84,7 @@ fn clients_get_their_replies(rt: HostRuntime) -> Result<(), Fail> {
         let answer = answer_to(&mut client, text, step)?;
         assert_eq!(rt; answer, *text, "in steps of {step}");
         door.close(server.join(&rt));
-        expect(&rt, door.closed(), [0].as_slice());
+        expect(&rt, door.closed(), [SOUND].as_slice());
     }
     Ok(())
 }
@@ -96,7 +107,7 @@ fn a_peer_that_resets_is_a_fault_of_its_link_alone(rt: HostRuntime) -> Result<()
     expect(&rt, second.read(&mut piece), Ok(4));
     door.close(first);
     door.close(second);
-    expect(&rt, door.closed(), [1, 0].as_slice());
+    expect(&rt, door.closed(), [BROKEN, SOUND].as_slice());
     Ok(())
 }
 
@@ -117,7 +128,7 @@ fn a_peer_that_left_is_a_fault_and_no_signal(rt: HostRuntime) -> Result<(), Fail
     }
     expect(&rt, failed, true);
     door.close(link);
-    expect(&rt, door.closed(), [1].as_slice());
+    expect(&rt, door.closed(), [BROKEN].as_slice());
     Ok(())
 }
 
@@ -135,6 +146,26 @@ fn what_waits_is_sent_at_the_close(rt: HostRuntime) -> Result<(), Fail> {
     client.read_exact(&mut answer)?;
     expect(&rt, answer, *b"kept\n");
     expect(&rt, client.read(&mut answer)?, 0);
+    let waited = ClosedLink {
+        faults: 0,
+        waiting: 5,
+    };
+    expect(&rt, door.closed(), [waited].as_slice());
+    Ok(())
+}
+
+#[test]
+fn behind_the_finish_the_peer_sees_the_end(rt: HostRuntime) -> Result<(), Fail> {
+    let mut door = door_for(&rt, rt.alloc(), 1)?;
+    let mut client = client_of(&rt, door.port())?;
+    let mut link = door.accept()?;
+    expect(&rt, link.write(b"kept\n"), Ok(5));
+    expect(&rt, link.finish(), Ok(()));
+    let mut answer = [0; 8];
+    expect(&rt, client.read(&mut answer)?, 5);
+    expect(&rt, client.read(&mut answer)?, 0);
+    door.close(link);
+    expect(&rt, door.closed(), [SOUND].as_slice());
     Ok(())
 }
 

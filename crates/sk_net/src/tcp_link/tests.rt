@@ -6,7 +6,7 @@ use sk_io::{Failed, Link, send_all};
 use std::alloc::Global;
 use std::io;
 use std::io::{ErrorKind, Read, Write};
-use std::net::{Ipv4Addr, SocketAddr, TcpListener, TcpStream};
+use std::net::{Ipv4Addr, OpenStream, SocketAddr, TcpListener, TcpStream};
 use std::test::Fail;
 use std::time::Duration;
 
@@ -71,6 +71,9 @@ impl Write for Wire<'_> {
         Ok(())
     }
 }
+
+// It has no other end.
+impl OpenStream for Wire<'_> {}
 
 #[test]
 fn interrupted_calls_are_taken_up_again(rt: HostRuntime) -> Result<(), Fail> {
@@ -168,7 +171,7 @@ fn closing_does_not_wait_for_a_peer_that_stopped_reading(rt: HostRuntime) -> Res
     }
     expect(&rt, link.faults(), 10);
     link.stream.set_write_timeout(None)?;
-    link.finish();
+    link.send_last();
     expect(&rt, link.faults(), 10);
     drop(client);
     Ok(())

@@ -1,14 +1,14 @@
-// One read or write of a stream, taken up again where a signal interrupts it, and the count of faults.
+//! Calls of std's streams, taken up again where a signal interrupts them, and the count of faults.
 ghost use Rattle.std.specs.Prelude.{◌<◌, IfOk, length};
 ghost use Rattle.std.specs.Io.{ReadsAtMost, WritesAtMost};
-ghost use Rattle.std.specs.Io.KnownBytes.{ReadConsumes, WriteAppends};
+ghost use Rattle.std.specs.Io.KnownBytes.{Keeps, ReadConsumes, WriteAppends};
 ghost use Rattle.sk_model.specs.Causes.{Rose};
 
-use sk_io::Failed;
+use crate::stream::Failed;
 use std::io::{ErrorKind, Read, Write};
 
-// Reads some bytes, none only at the end.
-pub(crate) fn read_some<S: Read>(stream: &mut S, buf: &mut [u8]) -> Result<usize, Failed>
+/// Reads some bytes into the front of `buf`, none only at the end.
+pub fn read_some<S: Read>(stream: &mut S, buf: &mut [u8]) -> Result<usize, Failed>
     requires { 0 < length buf.old }
     ensures bound { ReadsAtMost result buf.new }
     ensures bytes { ReadConsumes (S.remaining stream.old) (S.remaining stream.new) result buf.new }
@@ -23,8 +23,8 @@ pub(crate) fn read_some<S: Read>(stream: &mut S, buf: &mut [u8]) -> Result<usize
     Err(Failed)
 }
 
-// Writes at least one byte from the front of `bytes`.
-pub(crate) fn write_some<S: Write>(stream: &mut S, bytes: &[u8]) -> Result<usize, Failed>
+/// Writes at least one byte from the front of `bytes`. A writer that takes none has failed.
+pub fn write_some<S: Write>(stream: &mut S, bytes: &[u8]) -> Result<usize, Failed>
     requires { 0 < length bytes.now }
     ensures bound { WritesAtMost result bytes.now }
     ensures some { IfOk result (λ n. 0 < n) }
@@ -41,8 +41,22 @@ pub(crate) fn write_some<S: Write>(stream: &mut S, bytes: &[u8]) -> Result<usize
     Err(Failed)
 }
 
-// Counts a fault.
-pub(crate) fn count_fault(faults: &mut u64) -> Failed
+// Hands on what a writer holds back.
+pub(crate) fn flush_some<W: Write>(stream: &mut W) -> Result<(), Failed>
+    ensures bytes { Keeps (W.contents stream.old) (W.contents stream.new) }
+{
+    'again: for _ in 0..u64::MAX {
+        match stream.flush() {
+            Ok(()) => return Ok(()),
+            Err(e) if e.kind() == ErrorKind::Interrupted => {}
+            Err(_) => return Err(Failed),
+        }
+    }
+    Err(Failed)
+}
+
+/// Counts a fault. The count stops at the largest `u64`.
+pub fn count_fault(faults: &mut u64) -> Failed
     ensures { Rose faults.old faults.new }
 {
     *faults = faults.saturating_add(1);
