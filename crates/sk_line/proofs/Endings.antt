@@ -20,7 +20,7 @@ use Rattle.sk_line.specs.Pumps.{IsPumped, HasRisen, after_one}
 use Rattle.sk_line.specs.Replies.{reply_line}
 use Rattle.sk_line.specs.Requests.{client_request}
 use Rattle.sk_line.specs.Serving.{Answered, AnswersEach, AnswersRequest, lines_in, replies_to}
-use Rattle.sk_line.specs.Sessions.{SessionState, session_state, Went, Closes, Quits, IsCutOff, SessionEnds}
+use Rattle.sk_line.specs.Sessions.{SessionState, session_state, Went, Closes, Quits, IsCutOff, ComesTo}
 use Rattle.sk_line.specs.declared.answers.Answer.{Answer}
 use Rattle.sk_line.specs.declared.requests.Request.TheVariants.{Quit}
 use Rattle.sk_line.proofs.Answering.{answers_more, lines_more, replies_more, lines_count}
@@ -57,7 +57,7 @@ module _ (shape : Sizes) (a b : SessionState) (answered : List Answered) (taken 
       }
 
   -- no line came
-  pub faults : (s : LineFault) → Goes r (left_of link) (lines_in answered) (taken ++ more) (Err s) → SessionEnds shape r.most a (session_state link u count) (end_by s)
+  pub faults : (s : LineFault) → Goes r (left_of link) (lines_in answered) (taken ++ more) (Err s) → ComesTo shape r.most a (session_state link u count) (end_by s)
   faults fault.ReadFault goes = inl (record { answered = answered; taken = taken ++ more; went = went count stays; lines = goes.0; size = goes.1 })
   faults fault.TooMuch goes = record { answered = answered; taken = taken ++ more; went = went count stays; lines = goes.0; size = goes.1 }
   faults (fault.LongLine n) goes = record {

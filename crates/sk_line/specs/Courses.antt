@@ -6,7 +6,7 @@ use Rattle.sk_read.specs.Reading.{Reading, HasRead, Goes}
 use Rattle.sk_read.specs.declared.reader.LineFault.{LineFault}
 use Rattle.sk_line.specs.Pumps.{HasRisen}
 use Rattle.sk_line.specs.Serving.{Answered, AnswersEach, lines_in, replies_to}
-use Rattle.sk_line.specs.Sessions.{SessionState, SessionEnds}
+use Rattle.sk_line.specs.Sessions.{SessionState, ComesTo}
 use Rattle.sk_line.specs.declared.sessions.End.{End}
 
 -- since the start these bytes were read, and these lines of them answered
@@ -19,7 +19,7 @@ pub record IsUnderWay (shape : Sizes) (a : SessionState) (answered : List Answer
 -- so it is after one line more, or it ended
 abbrev pub Proceeds : {T : Type 0} → Sizes → SessionState → Reading → SessionState → Result T End → Type 0
 Proceeds shape a r b (Ok _) = (answered : List Answered) × (taken : List ℕ) × IsUnderWay shape a answered taken r b
-Proceeds shape a r b (Err end) = SessionEnds shape r.most a b end
+Proceeds shape a r b (Err end) = ComesTo shape r.most a b end
 
 -- the next line was read of a link, or none came
 pub record Comes (old new : Reading) (a b : Option Traffic) (result : Result Bool LineFault) : Type 0 where

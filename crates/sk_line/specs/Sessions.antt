@@ -1,5 +1,5 @@
 -- How a session ends.
-use Rattle.std.specs.Prelude.{◌≡◌, ◌⊎◌, ℕ, ◌+◌, ◌<◌, ◌≤◌, List, [], ◌∷◌, ◌++◌, length, Option}
+use Rattle.std.specs.Prelude.{◌≡◌, ◌≢◌, ◌⊎◌, ℕ, ◌+◌, ◌<◌, ◌≤◌, List, [], ◌∷◌, ◌++◌, length, Option}
 use Rattle.std.specs.Io.KnownBytes.{IsAtEnd}
 use Rattle.sk_model.specs.Limits.{line_limit}
 use Rattle.sk_model.specs.Lines.{lines_of, AreWithin, IsFirstLong}
@@ -92,11 +92,17 @@ pub record IsCutOff (shape : Sizes) (most : ℕ) (a b : SessionState) : Type 0 w
   pub in_time : IsInTime Lines (lines_in answered) taken
   pub size : length taken ≤ most
 
--- how a session went that takes at most so many bytes
-abbrev pub SessionEnds : Sizes → ℕ → SessionState → SessionState → End → Type 0
-SessionEnds shape most a b Quit = Quits shape most a b
-SessionEnds shape most a b Closed = Closes shape most a b
-SessionEnds shape most a b LinkFault = StopsReading shape (λ size. size < most) a b ⊎ IsCutOff shape most a b
-SessionEnds shape most a b (Long n) = IsTooLong shape most n a b
-SessionEnds shape most a b TooMuch = StopsReading shape (λ size. size ≡ most) a b
-SessionEnds shape most a b OutOfMemory = b ≡ a
+-- to which end a session came that takes at most so many bytes
+abbrev pub ComesTo : Sizes → ℕ → SessionState → SessionState → End → Type 0
+ComesTo shape most a b Quit = Quits shape most a b
+ComesTo shape most a b Closed = Closes shape most a b
+ComesTo shape most a b LinkFault = StopsReading shape (λ size. size < most) a b ⊎ IsCutOff shape most a b
+ComesTo shape most a b (Long n) = IsTooLong shape most n a b
+ComesTo shape most a b TooMuch = StopsReading shape (λ size. size ≡ most) a b
+ComesTo shape most a b OutOfMemory = b ≡ a
+
+-- it came to an end and ended so; or what waited on the link could not be sent there, which is a fault of the link
+pub record SessionEnds (shape : Sizes) (most : ℕ) (a b : SessionState) (end : End) : Type 0 where
+  pub due : End
+  pub comes : ComesTo shape most a b due
+  pub told : (end ≡ due) ⊎ ((due ≢ OutOfMemory) × (end ≡ LinkFault))

@@ -33,7 +33,7 @@ impl<C: ThetaKind, L: Link + Drop, P: Pump<C> + Drop> Job<C, L, P> {
         requires k { k_of self.old.updater.view.numbers ≡ shape.now.k }
         requires room { length (kept_of self.old.updater) + most ≤ most_kept }
         ensures served { IsJobDone shape.now most (session_state (L.traffic self.old.link) self.old.updater (P.pumps self.old.pump))
-            (session_state (L.traffic self.new.link) self.new.updater (P.pumps self.new.pump)) (L.faults self.old.link) (L.faults self.new.link) self.new.end }
+            (session_state (L.traffic self.new.link) self.new.updater (P.pumps self.new.pump)) (L.faults self.old.link) (L.faults self.new.link) (L.waiting self.new.link) self.new.end }
         ensures stays { P.stands_on self.new.pump ≡ P.stands_on self.old.pump }
     {
         let end = session(
@@ -61,7 +61,7 @@ pub fn serve_links<
     ensures served { (i : ℕ) (d : _) → i < length jobs.old
         → IsJobDone shape.now most (session_state (L.traffic (slice_index_or jobs.old i d).link) (slice_index_or jobs.old i d).updater (P.pumps (slice_index_or jobs.old i d).pump))
         (session_state (L.traffic (slice_index_or jobs.new i d).link) (slice_index_or jobs.new i d).updater (P.pumps (slice_index_or jobs.new i d).pump))
-        (L.faults (slice_index_or jobs.old i d).link) (L.faults (slice_index_or jobs.new i d).link) (slice_index_or jobs.new i d).end }
+        (L.faults (slice_index_or jobs.old i d).link) (L.faults (slice_index_or jobs.new i d).link) (L.waiting (slice_index_or jobs.new i d).link) (slice_index_or jobs.new i d).end }
     ensures stays { (i : ℕ) (d : _) → i < length jobs.old
         → P.stands_on (slice_index_or jobs.new i d).pump ≡ P.stands_on (slice_index_or jobs.old i d).pump }
 {

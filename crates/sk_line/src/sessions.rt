@@ -1,5 +1,5 @@
 //! A session: one client's requests, one after another.
-ghost use Rattle.std.specs.Prelude.{◌≡◌, ◌≢◌, ℕ, List, ◌+◌, ◌<◌, ◌≤◌, ◌++◌, [], length, true, Ok, Err, IfOk};
+ghost use Rattle.std.specs.Prelude.{◌≡◌, ◌≢◌, ◌⊎◌, ℕ, List, Option, ◌+◌, ◌<◌, ◌≤◌, ◌++◌, [], length, true, Ok, Err, IfOk};
 ghost use Rattle.sk_compose.specs.Numbers.{k_of};
 ghost use Rattle.sk_hub.specs.Updaters.{kept_of};
 ghost use Rattle.sk_io.specs.Traffic.{Exchanges, left_of};
@@ -10,7 +10,7 @@ ghost use Rattle.sk_read.specs.Reading.{HasRead, Goes, remaining_of};
 ghost use Rattle.sk_line.specs.Courses.{IsUnderWay, Proceeds, Comes};
 ghost use Rattle.sk_line.specs.Faults.{end_by};
 ghost use Rattle.sk_line.specs.Serving.{Answered};
-ghost use Rattle.sk_line.specs.Sessions.{SessionState, session_state, SessionEnds};
+ghost use Rattle.sk_line.specs.Sessions.{SessionState, session_state, ComesTo, SessionEnds};
 
 use crate::answers::send_reply;
 use crate::pumps::Pump;
@@ -41,9 +41,9 @@ pub enum End {
 }
 
 /// Answers the requests that come over a link by an updater of a hub, each before the next is
-/// examined, until one asks to quit, the link ends or fails, or a request is too long. It takes fewer
-/// than `most` bytes of the link, and all its memory before the first. The sketch of the hub keeps as
-/// many hashes as the shape says.
+/// examined, until one asks to quit, the link ends or fails, or a request is too long; then it sends what
+/// waits, and the peer sees the end. It takes fewer than `most` bytes of the link, and all its memory
+/// before the first. The sketch of the hub keeps as many hashes as the shape says.
 pub fn session<L: Link, P: Pump<C>, C: ThetaKind, R: Wait>(
     rt: &R,
     alloc: Global,
@@ -58,17 +58,56 @@ pub fn session<L: Link, P: Pump<C>, C: ThetaKind, R: Wait>(
     ensures ends { SessionEnds shape.now most (session_state (L.traffic link.old) u.old (P.pumps pump.old)) (session_state (L.traffic link.new) u.new (P.pumps pump.new)) result }
     ensures fault { result ≡ End.LinkFault → Rose (L.faults link.old) (L.faults link.new) }
     ensures steady { result ≢ End.LinkFault → L.faults link.new ≡ L.faults link.old }
+    ensures sent { result ≢ End.LinkFault → result ≢ End.OutOfMemory → L.waiting link.new ≡ 0 }
     ensures untouched { result ≡ End.OutOfMemory → (link.new ≡ link.old) × (u.new ≡ u.old) × (pump.new ≡ pump.old) }
     ensures stays { P.stands_on pump.new ≡ P.stands_on pump.old }
 {
     let Ok(mut reader) = LineReader::new(alloc, most) else {
         return End::OutOfMemory;
     };
+    let due = serve_each(rt, link, u, pump, &mut reader, shape);
+    finish(link, due)
+}
+
+// Serves requests until the session comes to an end, and answers that.
+fn serve_each<L: Link, P: Pump<C>, C: ThetaKind, R: Wait>(
+    rt: &R,
+    link: &mut L,
+    u: &mut Updater<C>,
+    pump: &mut P,
+    reader: &mut LineReader,
+    shape: &Shape,
+) -> End
+    requires k { k_of u.old.view.numbers ≡ shape.now.k }
+    requires room { length (kept_of u.old) + reader.old.most ≤ most_kept }
+    requires fresh { (left : Option (List ℕ)) → HasRead reader.old left [] [] }
+    ensures comes { ComesTo shape.now reader.old.most (session_state (L.traffic link.old) u.old (P.pumps pump.old)) (session_state (L.traffic link.new) u.new (P.pumps pump.new)) result }
+    ensures fault { result ≡ End.LinkFault → Rose (L.faults link.old) (L.faults link.new) }
+    ensures steady { result ≢ End.LinkFault → L.faults link.new ≡ L.faults link.old }
+    ensures memory { result ≢ End.OutOfMemory }
+    ensures stays { P.stands_on pump.new ≡ P.stands_on pump.old }
+{
     'request: loop {
-        match serve_next(rt, link, u, pump, &mut reader, shape) {
+        match serve_next(rt, link, u, pump, reader, shape) {
             Ok(()) => {}
             Err(end) => return end,
         }
+    }
+}
+
+// Ends a link at the end that a session came to, unless that was a fault of the link.
+fn finish<L: Link>(link: &mut L, due: End) -> End
+    ensures told { (result ≡ due) ⊎ (result ≡ End.LinkFault) }
+    ensures traffic { L.traffic link.new ≡ L.traffic link.old }
+    ensures failed { due ≡ End.LinkFault → link.new ≡ link.old }
+    ensures cause { due ≢ End.LinkFault → result ≡ End.LinkFault → Rose (L.faults link.old) (L.faults link.new) }
+    ensures steady { result ≢ End.LinkFault → L.faults link.new ≡ L.faults link.old }
+    ensures sent { result ≢ End.LinkFault → L.waiting link.new ≡ 0 }
+{
+    if due == End::LinkFault || link.finish().is_ok() {
+        due
+    } else {
+        End::LinkFault
     }
 }
 

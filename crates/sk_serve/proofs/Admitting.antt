@@ -1,5 +1,5 @@
 -- Links that are accepted, one after another.
-use Rattle.std.proofs.Common.{◌≡◌, ℕ, ◌+◌, List, [], ◌∷◌, ◌++◌, length, Result, sym, ap, subst, ◌∙◌, arith}
+use Rattle.std.proofs.Common.{◌≡◌, ℕ, ◌+◌, List, [], ◌∷◌, ◌++◌, ◌-◌, ◌^◌, min, length, Result, Err, IsErrOf, sym, ap, subst, ◌∙◌, arith}
 use Rattle.atomic_table.specs.Seated.{TableId}
 use Rattle.sk_model.specs.Causes.{HasCauseIn}
 use Rattle.sk_model.specs.Entries.{Entry}
@@ -47,3 +47,13 @@ ready_more plan h h1 n visit_of jobs jobs' job h1_is count more ready this =
 
 pub cause_so : {T E : Type 0} (f : E) (before before' now now' : ℕ) (r : Result T E) → before' ≡ before → now' ≡ now → HasCauseIn f before' now r → HasCauseIn f before now' r
 cause_so f before before' now now' r same_before same_now cause = subst (λ n. HasCauseIn f n now' r) same_before (subst (λ n. HasCauseIn f before' n r) (sym same_now) cause)
+
+-- an error that is handed on, between which other calls moved no count
+pub cause_of_err : {T U E : Type 0} (f e : E) (before before' now now' : ℕ) → before' ≡ before → now' ≡ now → HasCauseIn {T = T} f before' now (Err e) → HasCauseIn {T = U} f before now' (Err e)
+cause_of_err {T} {U} {E} f e before before' now now' same_before same_now cause = record {
+  steady = λ other. same_now ∙ cause.steady (λ is. other (err_of e f is)) ∙ same_before;
+  failed = λ is. same_now ∙ cause.failed (err_of e f is) ∙ ap (λ n. min (n + 1) (2 ^ 64 - 1)) same_before;
+}
+  where
+    err_of : {A B : Type 0} (x y : E) → IsErrOf {T = A} (Err x) y → IsErrOf {T = B} (Err x) y
+    err_of x y is = let same : x ≡ y = cc in ap (λ (z : E). Err z) same

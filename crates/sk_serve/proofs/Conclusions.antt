@@ -1,5 +1,5 @@
 -- What follows for the layer above.
-use Rattle.std.proofs.Common.{◌≡◌, inl, inr, ℕ, zero, suc, ◌+◌, ◌<◌, nat_lt, List, [], ◌∷◌, ◌++◌, length, get_or, flat_map, take, drop, slice_index, if◌then◌else◌, ◌-◌, Option, Some, None, IfSome, refl, sym, ap, subst, ◌∙◌, arith, append-nil, append_assoc, length-append}
+use Rattle.std.proofs.Common.{◌≡◌, ◌⊎◌, inl, inr, ℕ, zero, suc, ◌+◌, ◌<◌, nat_lt, List, [], ◌∷◌, ◌++◌, length, get_or, flat_map, take, drop, slice_index, if◌then◌else◌, ◌-◌, Option, Some, None, IfSome, refl, sym, ap, subst, ◌∙◌, arith, append-nil, append_assoc, length-append}
 use Rattle.std.specs.List.{range_with_len}
 use Rattle.std.proofs.lemmas.List.Elements.{All-nil, All-append}
 use Rattle.std.proofs.lemmas.List.{get_or_at, take-append-drop}
@@ -22,7 +22,7 @@ use Rattle.sk_theta.specs.Sizes.{Sizes}
 use Rattle.sk_line.specs.Requests.{client_request, added_item}
 use Rattle.sk_line.specs.Replies.{reply_line}
 use Rattle.sk_line.specs.Serving.{Answered, AnswersEach, AnswersRequest, items_kept, items_offered, item_kept, item_offered, theta_keeps, theta_hint, TakesOffered, replies_to}
-use Rattle.sk_line.specs.Sessions.{session_state, SessionEnds}
+use Rattle.sk_line.specs.Sessions.{session_state, ComesTo}
 use Rattle.sk_line.specs.declared.answers.Answer.{Answer}
 use Rattle.sk_line.specs.declared.answers.Answer.TheVariants as answer
 use Rattle.sk_line.specs.declared.requests.Request.{Request}
@@ -44,7 +44,7 @@ use Rattle.sk_serve.proofs.Going.{Answers, answers_of}
 
 module _ (plan : ServePlan) (most i : ℕ) (s : Served) (d : IsServed plan most i s) where
   pub answers : Answers (shape_of plan) d.before s.answered s.updater
-  answers = subst (λ l. Answers (shape_of plan) d.before l s.updater) (sym d.answers) (answers_of (shape_of plan) most (session_state d.link d.before 0) (session_state s.ended.traffic s.updater d.pumps) s.end d.ends)
+  answers = subst (λ l. Answers (shape_of plan) d.before l s.updater) (sym d.answers) (answers_of (shape_of plan) most (session_state d.link d.before 0) (session_state s.ended.traffic s.updater d.pumps) d.ends.due d.ends.comes)
 
   pub kept_is : kept_of s.updater ≡ items_kept plan.seed s.answered
   kept_is = let a = answers in
@@ -188,13 +188,16 @@ some_so : (o : Option Traffic) (P Q : Traffic → Type 0) → ((t : Traffic) →
 some_so None P Q so p = tt
 some_so (Some t) P Q so p = so t p
 
+abbrev HasWritten : Option Traffic → ℕ → List Answered → Type 0
+HasWritten traffic faults answered = IfSome traffic (λ t. Begins t.written (replies_to answered) × (faults ≡ 0 → t.written ≡ replies_to answered))
+
 -- all replies were sent
-all_sent : (link traffic : Option Traffic) (faults : ℕ) (taken : List ℕ) (answered : List Answered) → IfSome link IsUntouched → Exchanges link traffic taken (replies_to answered) → HoldsReplies (record { traffic = traffic; faults = faults }) answered
+all_sent : (link traffic : Option Traffic) (faults : ℕ) (taken : List ℕ) (answered : List Answered) → IfSome link IsUntouched → Exchanges link traffic taken (replies_to answered) → HasWritten traffic faults answered
 all_sent link traffic faults taken answered fresh moves =
     some_so traffic (λ t. t.written ≡ replies_to answered) _ (λ t is. (begins_same t.written (replies_to answered) (sym is), λ _. is)) (fresh_writes link traffic taken (replies_to answered) fresh moves)
 
 -- the last one was not
-cut_off : (link before traffic : Option Traffic) (faults : ℕ) (taken : List ℕ) (answered : List Answered) (last : Answered) → faults ≡ 1 → IfSome link IsUntouched → Exchanges link before taken (replies_to answered) → SendsPart before traffic (reply_line last.answer) → HoldsReplies (record { traffic = traffic; faults = faults }) (answered ++ last ∷ [])
+cut_off : (link before traffic : Option Traffic) (faults : ℕ) (taken : List ℕ) (answered : List Answered) (last : Answered) → faults ≡ 1 → IfSome link IsUntouched → Exchanges link before taken (replies_to answered) → SendsPart before traffic (reply_line last.answer) → HasWritten traffic faults (answered ++ last ∷ [])
 cut_off link before traffic faults taken answered last failed fresh moves part =
     some_so traffic (λ t. t.written ≡ replies_to answered ++ take part.0 (reply_line last.answer)) _
     (λ t is. (
@@ -206,8 +209,8 @@ cut_off link before traffic faults taken answered last failed fresh moves part =
     ))
     (then_writes before traffic [] (replies_to answered) (take part.0 (reply_line last.answer)) (fresh_writes link before taken (replies_to answered) fresh moves) part.2)
 
-holds : (shape : Sizes) (most : ℕ) (link traffic : Option Traffic) (u v : UpdaterState) (pumps faults : ℕ) (e : End) (ends : SessionEnds shape most (session_state link u 0) (session_state traffic v pumps) e) → (e ≡ end.LinkFault → faults ≡ 1) → IfSome link IsUntouched
-    → HoldsReplies (record { traffic = traffic; faults = faults }) (answered_in shape most (session_state link u 0) (session_state traffic v pumps) e ends)
+holds : (shape : Sizes) (most : ℕ) (link traffic : Option Traffic) (u v : UpdaterState) (pumps faults : ℕ) (e : End) (comes : ComesTo shape most (session_state link u 0) (session_state traffic v pumps) e) → (e ≡ end.LinkFault → faults ≡ 1) → IfSome link IsUntouched
+    → HasWritten traffic faults (answered_in shape most (session_state link u 0) (session_state traffic v pumps) e comes)
 holds shape most link traffic u v pumps faults end.Quit went failed fresh = all_sent link traffic faults went.taken went.answered fresh went.went.exchanges
 holds shape most link traffic u v pumps faults end.Closed went failed fresh = all_sent link traffic faults went.taken went.answered fresh went.went.exchanges
 holds shape most link traffic u v pumps faults end.LinkFault (inl went) failed fresh = all_sent link traffic faults went.taken went.answered fresh went.went.exchanges
@@ -218,6 +221,14 @@ holds shape most link traffic u v pumps faults end.OutOfMemory same failed fresh
     let untouched : IfSome traffic IsUntouched = subst (λ (o : Option Traffic). IfSome o IsUntouched) (sym (ap (λ s. s.traffic) same)) fresh in
     some_so traffic IsUntouched _ (λ t is. (begins_same t.written [] (sym is.written), λ _. is.written)) untouched
 
-pub holds_replies : (plan : ServePlan) (most i : ℕ) (s : Served) → IsServed plan most i s → HoldsReplies s.ended s.answered
-holds_replies plan most i s d =
-    subst (HoldsReplies s.ended) (sym d.answers) (holds (shape_of plan) most d.link s.ended.traffic d.before s.updater d.pumps s.ended.faults s.end d.ends d.fault d.untouched)
+-- a session came to a fault of its link only where it ended so
+came_by_fault : (due e : End) → (e ≡ due) ⊎ (¬ (due ≡ end.OutOfMemory) × (e ≡ end.LinkFault)) → due ≡ end.LinkFault → e ≡ end.LinkFault
+came_by_fault due e (inl is) fault = is ∙ fault
+came_by_fault due e (inr by) fault = by.1
+
+pub holds_replies : (plan : ServePlan) (most i : ℕ) (s : Served) → IsServed plan most i s → ¬ (s.end ≡ end.OutOfMemory) → HoldsReplies s.ended s.answered
+holds_replies plan most i s d memory = (
+  subst (HasWritten s.ended.traffic s.ended.faults) (sym d.answers)
+      (holds (shape_of plan) most d.link s.ended.traffic d.before s.updater d.pumps s.ended.faults d.ends.due d.ends.comes (λ is. d.fault (came_by_fault d.ends.due s.end d.ends.told is)) d.untouched),
+  λ none. d.sent (λ fault. let no : 0 ≡ 1 = sym none ∙ d.fault fault in absurd (cc)) memory,
+)

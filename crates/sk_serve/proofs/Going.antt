@@ -5,7 +5,7 @@ use Rattle.sk_hub.specs.Updaters.{UpdaterState}
 use Rattle.sk_ingest.specs.Feeds.{KeepsNone}
 use Rattle.sk_ingest.proofs.Updaters.{none_refl}
 use Rattle.sk_line.specs.Serving.{Answered, AnswersEach}
-use Rattle.sk_line.specs.Sessions.{SessionState, SessionEnds, Went}
+use Rattle.sk_line.specs.Sessions.{SessionState, ComesTo, Went}
 use Rattle.sk_line.specs.declared.sessions.End.{End}
 use Rattle.sk_line.specs.declared.sessions.End.TheVariants as end
 use Rattle.sk_line.proofs.Updaters.{none_pumped}
@@ -23,7 +23,7 @@ by_went shape a answered taken b went = record { last = went.last; takes = went.
 none_same : (u v : UpdaterState) → v ≡ u → KeepsNone u v
 none_same u v same = subst (KeepsNone u) (sym same) (none_refl u)
 
-pub answers_of : (shape : Sizes) (most : ℕ) (a b : SessionState) (e : End) (ends : SessionEnds shape most a b e) → Answers shape a.updater (answered_in shape most a b e ends) b.updater
+pub answers_of : (shape : Sizes) (most : ℕ) (a b : SessionState) (e : End) (comes : ComesTo shape most a b e) → Answers shape a.updater (answered_in shape most a b e comes) b.updater
 unfolding AnswersEach
 answers_of shape most a b end.Quit went = by_went shape a went.answered went.taken b went.went
 answers_of shape most a b end.Closed went = by_went shape a went.answered went.taken b went.went

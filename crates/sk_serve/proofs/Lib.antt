@@ -2,6 +2,7 @@ pub mod Each
 pub mod Going
 pub mod Draining
 pub mod Admitting
+pub mod Closed
 pub mod Sessions
 pub mod Waving
 pub mod Lines

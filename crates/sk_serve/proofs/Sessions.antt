@@ -21,20 +21,20 @@ use Rattle.sk_serve.proofs.Going.{answers_of}
 
 pub session_goes : (shape : Sizes) (most pumps pumps' : ℕ) (link link' : Option Traffic) (u v : UpdaterState) (e : End) → SessionEnds shape most (session_state link u pumps) (session_state link' v pumps') e → GoesOn u v
 session_goes shape most pumps pumps' link link' u v e ends =
-    let a = answers_of shape most (session_state link u pumps) (session_state link' v pumps') e ends in
+    let a = answers_of shape most (session_state link u pumps) (session_state link' v pumps') ends.due ends.comes in
     goes_trans u a.last v (answers_keep shape u _ a.last a.takes).0 a.then.goes
 
 -- ---- a session that was run
 
 pub ready_run : (plan : ServePlan) (shape : Sizes) (most : ℕ) (table : TableId) (i : ℕ) (v v' : Visit) → shape ≡ shape_of plan → IsReady plan table i v
-    → IsJobDone shape most (session_state v.link.traffic v.updater v.pumps) (session_state v'.link.traffic v'.updater v'.pumps) v.link.faults v'.link.faults v'.told → WasRun plan most table i v'
+    → IsJobDone shape most (session_state v.link.traffic v.updater v.pumps) (session_state v'.link.traffic v'.updater v'.pumps) v.link.faults v'.link.faults v'.link.waiting v'.told → WasRun plan most table i v'
 ready_run plan shape most table i v v' shape_is ready done =
     let ends : SessionEnds (shape_of plan) most (session_state v.link.traffic v.updater 0) (session_state v'.link.traffic v'.updater v'.pumps) done.end =
     subst (λ n. SessionEnds (shape_of plan) most (session_state v.link.traffic v.updater n) (session_state v'.link.traffic v'.updater v'.pumps) done.end) ready.pumps_none
     (subst (λ s. SessionEnds s most (session_state v.link.traffic v.updater v.pumps) (session_state v'.link.traffic v'.updater v'.pumps) done.end) shape_is done.ends) in
     let goes = session_goes (shape_of plan) most 0 v'.pumps v.link.traffic v'.link.traffic v.updater v'.updater done.end ends in
     record {
-      session = record { end = done.end; ended = v'.link; updater = v'.updater; answered = answered_in (shape_of plan) most (session_state v.link.traffic v.updater 0) (session_state v'.link.traffic v'.updater v'.pumps) done.end ends };
+      session = record { end = done.end; ended = v'.link; updater = v'.updater; answered = answered_in (shape_of plan) most (session_state v.link.traffic v.updater 0) (session_state v'.link.traffic v'.updater v'.pumps) ends.due ends.comes };
       served = record {
         link = v.link.traffic;
         untouched = ready.unread.untouched;
@@ -45,6 +45,7 @@ ready_run plan shape most table i v v' shape_is ready done =
         answers = refl;
         fault = λ is. rose_once v.link.faults v'.link.faults ready.unread.faults (done.fault is);
         steady = λ isnt. done.steady isnt ∙ ready.unread.faults;
+        sent = done.sent;
       };
       link_is = refl;
       updater_is = refl;

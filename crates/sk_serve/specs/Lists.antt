@@ -29,7 +29,8 @@ SayOfOneList k seed i size from kept [] list = Begins from list
 SayOfOneList k seed i size from kept (t ∷ answered) list = (front : List Entry) × Begins from front × SaysOf k seed i size kept t.line t.answer front
     × SayOfOneList k seed i size front (kept ++ item_kept seed t.line t.answer) answered list
 
--- the bytes written on a link that was closed are a front of the replies to these lines, and all of them where no call
--- of it failed
+-- the bytes written on a link that was closed are a front of the replies to these lines; where no call of it failed they
+-- are all of them, and all were sent
 abbrev pub HoldsReplies : Ended → List Answered → Type 0
 HoldsReplies ended answered = IfSome ended.traffic (λ t. Begins t.written (replies_to answered) × (ended.faults ≡ 0 → t.written ≡ replies_to answered))
+    × (ended.faults ≡ 0 → ended.waiting ≡ 0)

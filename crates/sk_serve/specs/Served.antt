@@ -1,5 +1,5 @@
 -- The sessions of a server: each from its link's accept to its close, and what becomes of what its updater kept.
-use Rattle.std.specs.Prelude.{◌≡◌, ◌≢◌, ℕ, ◌+◌, ◌*◌, ◌<◌, List, [], ◌∷◌, ◌++◌, length, All, Option, IfSome, slice_index_or, map, flat_map}
+use Rattle.std.specs.Prelude.{◌≡◌, ◌≢◌, ℕ, ◌+◌, ◌*◌, ◌<◌, List, [], ◌∷◌, ◌++◌, length, All, Option, IfSome, slice_index_or, map, flat_map, ◌-◌, ◌^◌, min}
 use Rattle.std.specs.List.{range_with_len}
 use Rattle.std.proofs.Common.{inl, inr}
 use Rattle.sk_model.specs.Entries.{Entry, entries_by, items_of_entries}
@@ -15,7 +15,7 @@ use Rattle.sk_gate.specs.Views.{known_of}
 use Rattle.sk_hub.specs.Hearts.{HeartState}
 use Rattle.sk_hub.specs.Updaters.{UpdaterState, base_of, kept_of}
 use Rattle.sk_line.specs.Serving.{Answered, items_offered}
-use Rattle.sk_line.specs.Sessions.{SessionState, session_state, SessionEnds}
+use Rattle.sk_line.specs.Sessions.{SessionState, session_state, ComesTo, SessionEnds}
 use Rattle.sk_line.specs.declared.sessions.End.{End}
 use Rattle.sk_line.specs.declared.sessions.End.TheVariants.{Quit, Closed, LinkFault, Long, TooMuch, OutOfMemory}
 use Rattle.sk_count.specs.Plans.{size_at}
@@ -34,8 +34,8 @@ pub record IsFresh (plan : ServePlan) (i : ℕ) (u : UpdaterState) : Type 0 wher
   pub base : base_of u ≡ []
   pub seen : u.view.seen ≡ []
 
--- the lines that an updater answered in a session that ended so; the last reply may not have been sent whole
-abbrev pub answered_in : (shape : Sizes) (most : ℕ) (a b : SessionState) (end : End) → SessionEnds shape most a b end → List Answered
+-- the lines that an updater answered until a session came to its end; the last reply may not have been sent whole
+abbrev pub answered_in : (shape : Sizes) (most : ℕ) (a b : SessionState) (due : End) → ComesTo shape most a b due → List Answered
 answered_in shape most a b Quit went = went.answered
 answered_in shape most a b Closed went = went.answered
 answered_in shape most a b LinkFault (inl went) = went.answered
@@ -55,7 +55,7 @@ pub record Served : Type 0 where
   pub answered : List Answered
 
 -- it was number i of the plan: run over a link of which nothing was read, by a fresh updater; the link's count of faults
--- tells exactly the fault that ended it
+-- tells exactly the fault that ended it, and without one all that was written was sent before the link was closed
 pub record IsServed (plan : ServePlan) (most i : ℕ) (s : Served) : Type 0 where
   pub link : Option Traffic
   pub untouched : IfSome link IsUntouched
@@ -63,9 +63,10 @@ pub record IsServed (plan : ServePlan) (most i : ℕ) (s : Served) : Type 0 wher
   pub fresh : IsFresh plan i before
   pub pumps : ℕ
   pub ends : SessionEnds (shape_of plan) most (session_state link before 0) (session_state s.ended.traffic s.updater pumps) s.end
-  pub answers : s.answered ≡ answered_in (shape_of plan) most (session_state link before 0) (session_state s.ended.traffic s.updater pumps) s.end ends
+  pub answers : s.answered ≡ answered_in (shape_of plan) most (session_state link before 0) (session_state s.ended.traffic s.updater pumps) ends.due ends.comes
   pub fault : s.end ≡ LinkFault → s.ended.faults ≡ 1
   pub steady : s.end ≢ LinkFault → s.ended.faults ≡ 0
+  pub sent : s.end ≢ LinkFault → s.end ≢ OutOfMemory → s.ended.waiting ≡ 0
 
 -- they were those from this number on, in order
 abbrev pub AreServed : ServePlan → ℕ → ℕ → List Served → Type 0
@@ -110,12 +111,21 @@ pub record ServesSessions (plan : ServePlan) (most : ℕ) (before now : List End
   pub closed : now ≡ before ++ links_of sessions
   pub shows : ShowsSessions plan sessions h
 
+-- ---- links that were accepted
+
+-- each link that a door accepted between was closed, by all that its count of them can tell
+pub record AreClosed (accepted accepted' : ℕ) (before now : List Ended) : Type 0 where
+  pub closed : List Ended
+  pub records : now ≡ before ++ closed
+  pub as_many : min accepted' (2 ^ 64 - 1) ≡ min (accepted + length closed) (2 ^ 64 - 1)
+
 -- ---- where an accept fails
 
 -- nothing was read of the link or written on it
 pub record IsUnread (ended : Ended) : Type 0 where
   pub untouched : IfSome ended.traffic IsUntouched
   pub faults : ended.faults ≡ 0
+  pub waiting : ended.waiting ≡ 0
 
 -- so many whole waves of sessions were served, and of the next one some links were accepted and closed unread
 pub record StopsAccepting (plan : ServePlan) (most : ℕ) (before now : List Ended) : Type 0 where

@@ -27,8 +27,8 @@ pub record Visit : Type 0 where
   pub pumps : ℕ
   pub told : Option End
 
-abbrev pub visit : Option Traffic → ℕ → UpdaterState → ℕ → Option End → Visit
-visit traffic faults updater pumps told = record { link = record { traffic = traffic; faults = faults }; updater = updater; pumps = pumps; told = told }
+abbrev pub visit : Option Traffic → ℕ → ℕ → UpdaterState → ℕ → Option End → Visit
+visit traffic faults waiting updater pumps told = record { link = record { traffic = traffic; faults = faults; waiting = waiting }; updater = updater; pumps = pumps; told = told }
 
 -- session i of the plan is to be run
 pub record IsReady (plan : ServePlan) (table : TableId) (i : ℕ) (v : Visit) : Type 0 where

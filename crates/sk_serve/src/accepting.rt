@@ -1,8 +1,8 @@
 //! Links that are accepted, each with an updater of its own.
-ghost use Rattle.std.specs.Prelude.{◌≡◌, ◌≢◌, ℕ, ◌+◌, ◌<◌, ◌≤◌, true, length, IfOk, OnOk, IfErr, slice_index_or};
-ghost use Rattle.sk_model.specs.Causes.{HasCauseIn};
+ghost use Rattle.std.specs.Prelude.{◌≡◌, ◌≢◌, ℕ, ◌+◌, ◌-◌, ◌^◌, ◌<◌, ◌≤◌, min, true, length, IfOk, OnOk, IfErr, OnErr, slice_index_or};
+ghost use Rattle.sk_model.specs.Causes.{HasCauseIn, Rose};
 ghost use Rattle.sk_serve.specs.Plans.{IsServable};
-ghost use Rattle.sk_serve.specs.Served.{IsUnread};
+ghost use Rattle.sk_serve.specs.Served.{AreClosed, IsUnread};
 ghost use Rattle.sk_serve.specs.Waves.{IsHeartOf, visit, IsReady, AreReady, ClosesUnread};
 
 use crate::fault::ServeFault;
@@ -28,11 +28,13 @@ pub(crate) fn accept_wave<D: Door>(
     requires room { count ≤ D.room door.old }
     ensures count { IfOk result (λ jobs. length jobs.items ≡ count) }
     ensures ready { IfOk result (λ jobs. AreReady plan.now heart.old.table heart.old.admitted
-        (λ job. visit (D.Link.traffic job.link) (D.Link.faults job.link) job.updater job.pump.count job.end) jobs.items) }
+        (λ job. visit (D.Link.traffic job.link) (D.Link.faults job.link) (D.Link.waiting job.link) job.updater job.pump.count job.end) jobs.items) }
     ensures heart { IfOk result (λ _. heart.new ≡ record heart.old { admitted = heart.old.admitted + count }) }
     ensures ended { OnOk result (D.ended door.new ≡ D.ended door.old) }
+    ensures accepts { OnOk result (min (D.accepted door.new) (2 ^ 64 - 1) ≡ min (D.accepted door.old + count) (2 ^ 64 - 1)) }
+    ensures closed { OnErr result (AreClosed (D.accepted door.old) (D.accepted door.new) (D.ended door.old) (D.ended door.new)) }
     ensures room { OnOk result (D.room door.new ≡ D.room door.old) }
-    ensures unread { IfErr result (λ _. (n : ℕ) × (n < count) × ClosesUnread n (D.ended door.old) (D.ended door.new)) }
+    ensures unread { IfErr result (λ fault. fault ≡ ServeFault.NetFault → (n : ℕ) × (n < count) × ClosesUnread n (D.ended door.old) (D.ended door.new)) }
     ensures listens { D.listens door.new ≡ true }
     ensures write { IfErr result (λ fault. fault ≢ ServeFault.WriteFault) }
     ensures cause { HasCauseIn ServeFault.NetFault (D.faults door.old) (D.faults door.new) result }
@@ -63,10 +65,14 @@ fn accept_one<D: Door>(
     requires listens { D.listens door.old ≡ true }
     requires room { 0 < D.room door.old }
     ensures ready { IfOk result (λ job. IsReady plan.now heart.old.table heart.old.admitted
-        (visit (D.Link.traffic job.link) (D.Link.faults job.link) job.updater job.pump.count job.end)) }
+        (visit (D.Link.traffic job.link) (D.Link.faults job.link) (D.Link.waiting job.link) job.updater job.pump.count job.end)) }
     ensures heart { IfOk result (λ _. heart.new ≡ record heart.old { admitted = heart.old.admitted + 1 }) }
-    ensures ended { D.ended door.new ≡ D.ended door.old }
-    ensures room { D.room door.new ≡ D.room door.old }
+    ensures ended { OnOk result (D.ended door.new ≡ D.ended door.old) }
+    ensures unread { IfErr result (λ fault. fault ≡ ServeFault.NetFault → D.ended door.new ≡ D.ended door.old) }
+    ensures accepts { OnOk result (Rose (D.accepted door.old) (D.accepted door.new)) }
+    ensures closed { OnErr result (AreClosed (D.accepted door.old) (D.accepted door.new) (D.ended door.old) (D.ended door.new)) }
+    ensures room { OnOk result (D.room door.new ≡ D.room door.old) }
+    ensures left { D.room door.old ≤ D.room door.new + 1 }
     ensures listens { D.listens door.new ≡ true }
     ensures write { IfErr result (λ fault. fault ≢ ServeFault.WriteFault) }
     ensures cause { HasCauseIn ServeFault.NetFault (D.faults door.old) (D.faults door.new) result }
@@ -81,7 +87,10 @@ fn accept_one<D: Door>(
             end: None,
         }),
         Admit::Full => unreachable!(),
-        Admit::OutOfMemory => Err(ServeFault::OutOfMemory),
+        Admit::OutOfMemory => {
+            door.close(link);
+            Err(ServeFault::OutOfMemory)
+        }
     }
 }
 
@@ -91,8 +100,10 @@ fn close_unread<D: Door>(door: &mut D, jobs: Vec<Job<HeapTheta, D::Link, HelpPum
     requires unread { (i : ℕ) (d : _) → i < length jobs.items → IsUnread (record {
       traffic = D.Link.traffic (slice_index_or jobs.items i d).link;
       faults = D.Link.faults (slice_index_or jobs.items i d).link;
+      waiting = D.Link.waiting (slice_index_or jobs.items i d).link;
     }) }
     ensures ended { ClosesUnread (length jobs.items) (D.ended door.old) (D.ended door.new) }
+    ensures accepted { D.accepted door.new ≡ D.accepted door.old }
     ensures faults { D.faults door.new ≡ D.faults door.old }
     ensures listens { D.listens door.new ≡ D.listens door.old }
 {

@@ -9,7 +9,7 @@ ghost use Rattle.sk_lines.specs.Fractions.{estimate_line};
 ghost use Rattle.sk_watch.specs.Places.{IsLive};
 ghost use Rattle.sk_count.specs.Texts.{alarm_lines};
 ghost use Rattle.sk_serve.specs.Plans.{IsServable};
-ghost use Rattle.sk_serve.specs.Served.{Served, ServesSessions, StopsAccepting, ends_of};
+ghost use Rattle.sk_serve.specs.Served.{AreClosed, Served, ServesSessions, StopsAccepting, ends_of};
 ghost use Rattle.sk_serve.specs.Serves.{surroundings, ServesPlan};
 ghost use Rattle.sk_serve.specs.Texts.{session_lines};
 ghost use Rattle.sk_serve.specs.Waves.{IsHeartOf};
@@ -50,6 +50,7 @@ where
     requires live { (i : ℕ) → i < length plan.now.alarms → IsLive i (B.places board.old) }
     ensures serves { ServesPlan plan.now most (surroundings (O.written out.old) (B.places board.old) (D.ended door.old))
         (surroundings (O.written out.new) (B.places board.new) (D.ended door.new)) remains.new result }
+    ensures closed { AreClosed (D.accepted door.old) (D.accepted door.new) (D.ended door.old) (D.ended door.new) }
     ensures nothing { IfErr result (λ _. remains.new ≡ remains.old) }
     ensures quiet { IfErr result (λ fault. fault ≢ ServeFault.WriteFault → out.new ≡ out.old) }
     ensures net { HasCauseIn ServeFault.NetFault (D.faults door.old) (D.faults door.new) result }
@@ -109,6 +110,7 @@ where
     ensures word { IfOk result (λ told. told.1 ≡ packed_of plan.now.k (items_of_entries heart.new.view.seen)) }
     ensures table { IfOk result (λ _. heart.new.table ≡ heart.old.table) }
     ensures stops { IfErr result (λ fault. fault ≡ ServeFault.NetFault → StopsAccepting plan.now most (D.ended door.old) (D.ended door.new)) }
+    ensures closed { AreClosed (D.accepted door.old) (D.accepted door.new) (D.ended door.old) (D.ended door.new) }
     ensures write { IfErr result (λ fault. fault ≢ ServeFault.WriteFault) }
     ensures cause { HasCauseIn ServeFault.NetFault (D.faults door.old) (D.faults door.new) result }
 {

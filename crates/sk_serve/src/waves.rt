@@ -6,7 +6,7 @@ ghost use Rattle.sk_hub.specs.Updaters.{kept_of};
 ghost use Rattle.sk_model.specs.Causes.{HasCauseIn};
 ghost use Rattle.sk_model.specs.Limits.{most_kept};
 ghost use Rattle.sk_serve.specs.Plans.{IsServable};
-ghost use Rattle.sk_serve.specs.Served.{Served, StopsAccepting};
+ghost use Rattle.sk_serve.specs.Served.{AreClosed, Served, StopsAccepting};
 ghost use Rattle.sk_serve.specs.Waves.{IsHeartOf, visit, AreReady, WereRun, ClosesUnread, AreOfHub, ClosesLinks, DrainsFrom, ServesWave, ServesSome};
 
 use crate::accepting::accept_wave;
@@ -40,7 +40,8 @@ where
     requires room { D.room door.old ≡ plan.now.sessions }
     ensures serves { IfOk result (λ ends. (sessions : List Served) × (length sessions ≡ plan.now.sessions)
         × ServesSome plan.now most (D.ended door.old) (D.ended door.new) ends.items sessions heart.new) }
-    ensures stops { IfErr result (λ _. StopsAccepting plan.now most (D.ended door.old) (D.ended door.new)) }
+    ensures stops { IfErr result (λ fault. fault ≡ ServeFault.NetFault → StopsAccepting plan.now most (D.ended door.old) (D.ended door.new)) }
+    ensures closed { AreClosed (D.accepted door.old) (D.accepted door.new) (D.ended door.old) (D.ended door.new) }
     ensures hub { IfOk result (λ _. IsHeartOf plan.now heart.new) }
     ensures table { IfOk result (λ _. heart.new.table ≡ heart.old.table) }
     ensures write { IfErr result (λ fault. fault ≢ ServeFault.WriteFault) }
@@ -78,7 +79,8 @@ where
     requires room { count ≤ D.room door.old }
     requires reserved { length ends.old.items + count ≤ vec_capacity ends.old }
     ensures serves { IfOk result (λ _. ServesWave plan.now most count heart.old heart.new (D.ended door.old) (D.ended door.new) ends.old.items ends.new.items) }
-    ensures unread { IfErr result (λ _. (n : ℕ) × (n < count) × ClosesUnread n (D.ended door.old) (D.ended door.new)) }
+    ensures unread { IfErr result (λ fault. fault ≡ ServeFault.NetFault → (n : ℕ) × (n < count) × ClosesUnread n (D.ended door.old) (D.ended door.new)) }
+    ensures closed { AreClosed (D.accepted door.old) (D.accepted door.new) (D.ended door.old) (D.ended door.new) }
     ensures room { OnOk result (D.room door.new + count ≡ D.room door.old) }
     ensures reserved { OnOk result (vec_capacity ends.new ≡ vec_capacity ends.old) }
     ensures listens { D.listens door.new ≡ true }
@@ -106,8 +108,8 @@ fn run_wave<L: Link + Drop + Send, R: Threads + Wait + Sync>(
     requires fresh { All (λ job. (k_of job.updater.view.numbers ≡ plan.now.k) × (kept_of job.updater ≡ [])) jobs.items }
     ensures count { length result.items ≡ length jobs.items }
     ensures run { (table : TableId) (from : ℕ)
-        → AreReady plan.now table from (λ job. visit (L.traffic job.link) (L.faults job.link) job.updater job.pump.count job.end) jobs.items
-        → WereRun plan.now most table from (λ job. visit (L.traffic job.link) (L.faults job.link) job.updater job.pump.count job.end) result.items }
+        → AreReady plan.now table from (λ job. visit (L.traffic job.link) (L.faults job.link) (L.waiting job.link) job.updater job.pump.count job.end) jobs.items
+        → WereRun plan.now most table from (λ job. visit (L.traffic job.link) (L.faults job.link) (L.waiting job.link) job.updater job.pump.count job.end) result.items }
 {
     let mut jobs = jobs;
     run_all(rt, alloc, plan, most, jobs.as_mut_slice());
@@ -127,8 +129,8 @@ fn run_all<L: Link + Drop + Send, R: Threads + Wait + Sync>(
     requires fresh { All (λ job. (k_of job.updater.view.numbers ≡ plan.now.k) × (kept_of job.updater ≡ [])) jobs.old }
     ensures count { length jobs.new ≡ length jobs.old }
     ensures run { (table : TableId) (from : ℕ)
-        → AreReady plan.now table from (λ job. visit (L.traffic job.link) (L.faults job.link) job.updater job.pump.count job.end) jobs.old
-        → WereRun plan.now most table from (λ job. visit (L.traffic job.link) (L.faults job.link) job.updater job.pump.count job.end) jobs.new }
+        → AreReady plan.now table from (λ job. visit (L.traffic job.link) (L.faults job.link) (L.waiting job.link) job.updater job.pump.count job.end) jobs.old
+        → WereRun plan.now most table from (λ job. visit (L.traffic job.link) (L.faults job.link) (L.waiting job.link) job.updater job.pump.count job.end) jobs.new }
 {
     let shape = shape_of(plan);
     serve_links(rt, alloc, &shape, jobs, most);
@@ -147,10 +149,11 @@ fn close_links<D: Door>(
     requires place { length jobs.items ≤ vec_capacity updaters.old }
     requires none { updaters.old.items ≡ [] }
     ensures closes { (plan : ServePlan) (most : ℕ) (table : TableId) (from : ℕ)
-        → WereRun plan most table from (λ job. visit (D.Link.traffic job.link) (D.Link.faults job.link) job.updater job.pump.count job.end) jobs.items
+        → WereRun plan most table from (λ job. visit (D.Link.traffic job.link) (D.Link.faults job.link) (D.Link.waiting job.link) job.updater job.pump.count job.end) jobs.items
         → ClosesLinks plan most table from (length jobs.items) (D.ended door.old) (D.ended door.new) ends.old.items ends.new.items updaters.new.items }
     ensures room { D.room door.new + length jobs.items ≡ D.room door.old }
     ensures reserved { vec_capacity ends.new ≡ vec_capacity ends.old }
+    ensures accepted { D.accepted door.new ≡ D.accepted door.old }
     ensures faults { D.faults door.new ≡ D.faults door.old }
     ensures listens { D.listens door.new ≡ D.listens door.old }
 {

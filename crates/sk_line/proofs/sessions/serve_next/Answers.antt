@@ -3,7 +3,7 @@ use Rattle.sk_io.specs.Traffic.{left_of}
 use Rattle.sk_read.specs.Reading.{HasRead, Goes}
 use Rattle.sk_read.specs.Reads.{IsInTime}
 use Rattle.sk_read.specs.declared.units.Units.TheVariants.{Lines}
-use Rattle.sk_line.specs.Sessions.{session_state, SessionEnds}
+use Rattle.sk_line.specs.Sessions.{session_state, ComesTo}
 use Rattle.sk_line.specs.Serving.{Answered, lines_in}
 use Rattle.sk_line.proofs.Endings.{closes, faults, quits, cut_off, goes_on}
 use Rattle.sk_line.proofs.sessions.serve_next.Given.{Over}
@@ -25,7 +25,7 @@ returns-in-Err-clause-goes g c = λ a answered taken stands.
     let link = g.L.Link.traffic c.next_line.new.link in
     let next = c.next_line.ensures.comes.goes (lines_in answered) taken stands.read in
     let now = session_state link c.pump.new.u (g.P.Pump.pumps c.pump.new.self) in
-    subst (SessionEnds c.args.shape.now c.next_line.new.reader.most a now) (sym c.end_by.ensures.value)
+    subst (ComesTo c.args.shape.now c.next_line.new.reader.most a now) (sym c.end_by.ensures.value)
     (faults c.args.shape.now a b answered taken next.0 c.args.reader.now c.next_line.new.reader link c.pump.new.u (g.P.Pump.pumps c.pump.new.self) stands next.1 c.pump.ensures.updater c.pump.ensures.count c.in-Err.fault
     (subst (Goes c.next_line.new.reader (left_of link) (lines_in answered) (taken ++ next.0)) c.in-Err.is next.2))
 

@@ -1,59 +1,20 @@
-use Rattle.std.proofs.Common.{◌≡◌, ◌≤◌, ℕ, [], ◌∷◌, length, Bool, true, false, Result, Ok, Err, Some, refl, ap, ◌∙◌, subst, arith, length-append}
-use Rattle.sk_io.proofs.Links.{exchanges_none}
-use Rattle.sk_read.specs.Reading.{Reading, HasRead, remaining_of}
-use Rattle.sk_line.specs.Courses.{Proceeds}
-use Rattle.sk_line.specs.Sessions.{session_state, SessionEnds}
+use Rattle.std.proofs.Common.{◌≡◌, ◌⊎◌, inl, inr, Option, sym, subst}
+use Rattle.sk_io.specs.Traffic.{Traffic}
+use Rattle.sk_line.specs.Sessions.{session_state, ComesTo}
 use Rattle.sk_line.specs.declared.sessions.End.{End}
-use Rattle.sk_line.proofs.Answering.{takes_none}
+use Rattle.sk_line.specs.declared.sessions.End.TheVariants as end
 use Rattle.sk_line.proofs.sessions.session.Goals as goal
 
--- a reader that has read nothing may give as many bytes as it may take
-fresh : (r : Reading) → HasRead r (Some (1 ∷ [])) [] [] → remaining_of r ≤ r.most
-fresh r read = go r.ended refl
-  where
-    go : (b : Bool) → r.ended ≡ b → remaining_of r ≤ r.most
-    go true ended = absurd (let none : 1 ∷ [] ≡ [] = read.end ended in cc)
-    go false going = let f = read.has.follows going in omega (arith, ap length f.joined, length-append f.front r.cutter.rest)
+told_so : (due e : End) → ¬ (due ≡ end.OutOfMemory) → (e ≡ due) ⊎ (e ≡ end.LinkFault) → (e ≡ due) ⊎ (¬ (due ≡ end.OutOfMemory) × (e ≡ end.LinkFault))
+told_so due e memory (inl is) = inl is
+told_so due e memory (inr is) = inr (memory, is)
 
-pub request-init : goal.request-init
-request-init g c = record {
-  answered = [];
-  taken = [];
-  stands = record { exchanges = exchanges_none (g.L.Link.traffic c.args.link.now); takes = takes_none c.args.shape.now c.args.u.now; pumped = omega arith; read = c.in-Ok.ensures.read _ };
-  k = c.requires.k;
-  room = omega (arith, fresh c.in-Ok.reader (c.in-Ok.ensures.read (Some (1 ∷ []))), c.in-Ok.ensures.most, c.requires.room);
-  most = c.in-Ok.ensures.most;
-  steady = refl;
-  stays = refl;
-}
-
-no_fault : {T : Type 0} (r : Result T End) (v : T) (e : End) → r ≡ Ok v → r ≡ Err e → ⊥
-no_fault r v e ok err = cc
-
-pub request-preserved : goal.request-preserved
-request-preserved g c =
-    let inv = c.request.invariant in
+pub returns-clause-ends : goal.returns-clause-ends
+returns-clause-ends g c =
     let a = session_state (g.L.Link.traffic c.args.link.now) c.args.u.now (g.P.Pump.pumps c.args.pump.now) in
-    let b = session_state (g.L.Link.traffic c.serve_next.new.link) c.serve_next.new.u (g.P.Pump.pumps c.serve_next.new.pump) in
-    let next : Proceeds c.args.shape.now a c.serve_next.new.reader b (Ok c.in-Ok-serve_next.field-0) = subst (Proceeds c.args.shape.now a c.serve_next.new.reader b) c.in-Ok-serve_next.is (c.serve_next.ensures.goes a inv.answered inv.taken inv.stands) in
-    record {
-      answered = next.0;
-      taken = next.1;
-      stands = next.2;
-      k = c.in-Ok-serve_next.ensures.k;
-      room = omega (arith, inv.room, c.in-Ok-serve_next.ensures.room);
-      most = c.serve_next.ensures.most ∙ inv.most;
-      steady = c.serve_next.ensures.cause.steady (no_fault c.serve_next.result c.in-Ok-serve_next.field-0 _ c.in-Ok-serve_next.is) ∙ inv.steady;
-      stays = c.serve_next.ensures.stays ∙ inv.stays;
+    let due = c.serve_each-due.result in record {
+      due = due;
+      comes = subst (λ (t : Option Traffic). ComesTo c.args.shape.now c.args.most a (session_state t c.serve_each-due.new.u (g.P.Pump.pumps c.serve_each-due.new.pump)) due) (sym c.finish.ensures.traffic)
+          (subst (λ m. ComesTo c.args.shape.now m a (session_state (g.L.Link.traffic c.serve_each-due.new.link) c.serve_each-due.new.u (g.P.Pump.pumps c.serve_each-due.new.pump)) due) c.in-Ok.ensures.most c.serve_each-due.ensures.comes);
+      told = told_so due c.finish.result c.serve_each-due.ensures.memory c.finish.ensures.told;
     }
-
-pub returns-in-Err-clause-ends : goal.returns-in-Err-clause-ends
-returns-in-Err-clause-ends g c =
-    let inv = c.request.invariant in
-    let a = session_state (g.L.Link.traffic c.args.link.now) c.args.u.now (g.P.Pump.pumps c.args.pump.now) in
-    let b = session_state (g.L.Link.traffic c.serve_next.new.link) c.serve_next.new.u (g.P.Pump.pumps c.serve_next.new.pump) in
-    let ended : SessionEnds c.args.shape.now c.serve_next.new.reader.most a b c.in-Err.end = subst (Proceeds c.args.shape.now a c.serve_next.new.reader b) c.in-Err.is (c.serve_next.ensures.goes a inv.answered inv.taken inv.stands) in
-    subst (λ (m : ℕ). SessionEnds c.args.shape.now m a b c.in-Err.end) (c.serve_next.ensures.most ∙ inv.most) ended
-
-pub returns-in-Err-clause-untouched : goal.returns-in-Err-clause-untouched
-returns-in-Err-clause-untouched g c = λ is. absurd (c.serve_next.ensures.memory (c.in-Err.is ∙ ap (λ (e : End). Err e) is))

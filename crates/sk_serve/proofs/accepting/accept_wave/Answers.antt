@@ -1,6 +1,8 @@
-use Rattle.std.proofs.Common.{◌≤◌, ◌+◌, ◌∷◌, [], length, sym, ap, subst, ◌∙◌, length-append}
+use Rattle.std.proofs.Common.{◌≤◌, ◌+◌, ◌∷◌, [], length, refl, sym, ap, subst, ◌∙◌, length-append}
 use Rattle.sk_serve.specs.Waves.{visit}
-use Rattle.sk_serve.proofs.Admitting.{admitted_more, ready_more}
+use Rattle.sk_serve.specs.declared.fault.ServeFault.TheVariants as fault
+use Rattle.sk_serve.proofs.Admitting.{admitted_more, ready_more, cause_of_err}
+use Rattle.sk_serve.proofs.Closed.{counted_one, closed_none, closed_late, where_err}
 use Rattle.sk_serve.proofs.accepting.accept_wave.Goals as goal
 
 pub link-preserved : goal.link-preserved
@@ -9,10 +11,22 @@ link-preserved g c =
     let more = c.push_reserved.ensures.items in record {
       count = ap length more ∙ length-append c.link.jobs.items (job ∷ []) ∙ ap (λ n. n + 1) i.count;
       place = subst (λ n. c.args.count ≤ n) (sym c.push_reserved.ensures.capacity) i.place;
-      ready = ready_more c.args.plan.now h c.link.heart c.link.counter (λ job. visit (link.traffic job.link) (link.faults job.link) job.updater job.pump.count job.end) c.link.jobs.items c.push_reserved.new.self.items job i.heart i.count more i.ready c.in-Ok.ensures.ready;
+      ready = ready_more c.args.plan.now h c.link.heart c.link.counter (λ job. visit (link.traffic job.link) (link.faults job.link) (link.waiting job.link) job.updater job.pump.count job.end) c.link.jobs.items c.push_reserved.new.self.items job i.heart i.count more i.ready c.in-Ok.ensures.ready;
       heart = admitted_more h c.link.heart c.accept_one.new.heart c.link.counter i.heart c.in-Ok.ensures.heart;
-      ended = c.accept_one.ensures.ended ∙ i.ended;
-      room = c.accept_one.ensures.room ∙ i.room;
+      accepted = counted_one (g.D.Door.accepted c.args.door.now) c.link.counter (g.D.Door.accepted c.link.door) (g.D.Door.accepted c.accept_one.new.door) i.accepted c.in-Ok.ensures.accepts;
+      ended = c.in-Ok.ensures.ended ∙ i.ended;
+      room = c.in-Ok.ensures.room ∙ i.room;
       listens = c.accept_one.ensures.listens;
       faults = c.in-Ok.ensures.cause.steady (λ no. cc) ∙ i.faults;
     }
+
+pub returns-in_err-jobs-clause-closed : goal.returns-in_err-jobs-clause-closed
+returns-in_err-jobs-clause-closed g c = where_err c.from_residual.result _ (closed_none _ _ _ _ refl refl)
+
+pub returns-in-Err-clause-closed : goal.returns-in-Err-clause-closed
+returns-in-Err-clause-closed g c =
+    let i = c.link.invariant in let u = c.close_unread.ensures.ended in
+    closed_late _ _ _ _ c.link.counter _ _ _ _ u.unread i.ended i.accepted c.in-Err.ensures.closed c.close_unread.ensures.accepted (u.as_many ∙ i.count) u.closed
+
+pub returns-in-Err-clause-cause : goal.returns-in-Err-clause-cause
+returns-in-Err-clause-cause g c = cause_of_err fault.NetFault c.in-Err.fault _ _ _ _ c.link.invariant.faults c.close_unread.ensures.faults c.in-Err.ensures.cause

@@ -10,12 +10,13 @@ job-preserved-in-Some g c =
     let i = c.job.invariant in let door = g.D.Door in let link = g.D.Link.Link in let job = c.in-Some.job in
     let all = ap (λ l. c.job.yielded ++ l) (sym c.in-Some.ensures.steps.0) ∙ i.all in
     let count : length c.job.yielded + 1 ≡ length (c.job.yielded ++ job ∷ []) = omega (arith, length-append c.job.yielded (job ∷ [])) in
-    let unread = each_next (λ _ job. IsUnread (record { traffic = link.traffic job.link; faults = link.faults job.link })) 0 c.args.jobs.items c.job.yielded c.next.new.self.rest.items job all c.requires.unread in
+    let unread = each_next (λ _ job. IsUnread (record { traffic = link.traffic job.link; faults = link.faults job.link; waiting = link.waiting job.link })) 0 c.args.jobs.items c.job.yielded c.next.new.self.rest.items job all c.requires.unread in
     record {
       all = append_assoc c.job.yielded (job ∷ []) c.next.new.self.rest.items ∙ all;
       closed = subst (λ n. ClosesUnread n (door.ended c.args.door.now) (door.ended c.close.new.self)) count
-          (unread_more (length c.job.yielded) (door.ended c.args.door.now) (door.ended c.job.door) (door.ended c.close.new.self) (record { traffic = link.traffic job.link; faults = link.faults job.link }) i.closed unread c.close.ensures.ended);
+          (unread_more (length c.job.yielded) (door.ended c.args.door.now) (door.ended c.job.door) (door.ended c.close.new.self) (record { traffic = link.traffic job.link; faults = link.faults job.link; waiting = link.waiting job.link }) i.closed unread c.close.ensures.ended);
       room = let r = c.close.ensures.room in omega (arith, r, i.room, count);
+      accepted = c.close.ensures.accepted ∙ i.accepted;
       faults = c.close.ensures.faults ∙ i.faults;
       listens = c.close.ensures.listens ∙ i.listens;
     }

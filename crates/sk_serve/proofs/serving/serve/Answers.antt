@@ -1,7 +1,8 @@
-use Rattle.std.proofs.Common.{◌≡◌, sym, ap, subst, ◌∙◌}
+use Rattle.std.proofs.Common.{◌≡◌, refl, sym, ap, subst, ◌∙◌}
 use Rattle.sk_count.specs.Texts.{armed_with}
 use Rattle.sk_serve.specs.declared.fault.ServeFault.TheVariants as fault
 use Rattle.sk_serve.specs.Serves.{surroundings, ServeEnds}
+use Rattle.sk_serve.proofs.Closed.{closed_none}
 use Rattle.sk_serve.proofs.Showing.{ends_by, told_all, told_part}
 use Rattle.sk_serve.proofs.serving.serve.Goals as goal
 
@@ -24,3 +25,6 @@ returns-clause-serves g c =
     told_all plan c.args.most c.requires.within (w c.args.out.now) (w c.write_last.new.out) places (g.B.Seen.places c.arm.new.board) (g.B.Seen.places c.show-gone.new.self) (door.ended c.args.door.now) (door.ended c.serve_all.new.door) c.as_slice-2.result.now s.0 c.serve_all.new.heart c.in_ok-ends.word c.unpack-reply.result c.show-gone.result c.estimate_by.result
     armed s.1 (c.as_slice-2.ensures.value ∙ s.2) c.in_ok-ends.ensures.word c.unpack-reply.ensures c.show-gone.ensures.mask c.show-gone.ensures.places c.estimate_by.ensures
     c.in_ok-heart.token (c.in_ok-heart.ensures.table ∙ sym c.in_ok-ends.ensures.table) c.in_ok-write_last.ensures.ok
+
+pub returns-in_err-heart-clause-closed : goal.returns-in_err-heart-clause-closed
+returns-in_err-heart-clause-closed g c = closed_none _ _ _ _ refl refl

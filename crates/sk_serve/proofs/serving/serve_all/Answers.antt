@@ -4,6 +4,7 @@ use Rattle.sk_line.specs.declared.sessions.End.TheVariants.{OutOfMemory}
 use Rattle.sk_serve.specs.declared.fault.ServeFault.TheVariants as fault
 use Rattle.sk_serve.specs.Served.{StopsAccepting, ServesSessions}
 use Rattle.sk_serve.proofs.Showing.{all_served}
+use Rattle.sk_serve.proofs.Closed.{closed_none, closed_from}
 use Rattle.sk_serve.proofs.Waving.{none_accepted}
 use Rattle.sk_serve.proofs.serving.serve_all.Goals as goal
 
@@ -26,3 +27,15 @@ returns-clause-serves g c =
           (all_served c.args.plan.now c.args.most (door.ended c.listen.new.self) (door.ended c.serve_waves.new.door) c.in_ok-ends.ends.items s.0 c.serve_waves.new.heart c.ask-word.new.self c.ask-word.result s.1 s.2 memory c.admitted-admitted.ensures.whole c.in_ok-ends.ensures.hub c.ask-word.ensures.reply c.ask-word.ensures.drained),
       s.2.ended,
     )
+
+pub returns-in_err-listen-clause-closed : goal.returns-in_err-listen-clause-closed
+returns-in_err-listen-clause-closed g c = closed_none _ _ _ _ c.listen.ensures.accepted c.listen.ensures.ended
+
+pub returns-in_err-ends-clause-closed : goal.returns-in_err-ends-clause-closed
+returns-in_err-ends-clause-closed g c = closed_from _ _ _ _ _ _ c.listen.ensures.accepted c.listen.ensures.ended c.serve_waves.ensures.closed
+
+pub returns-in_err-had_memory-clause-closed : goal.returns-in_err-had_memory-clause-closed
+returns-in_err-had_memory-clause-closed g c = closed_from _ _ _ _ _ _ c.listen.ensures.accepted c.listen.ensures.ended c.serve_waves.ensures.closed
+
+pub returns-clause-closed : goal.returns-clause-closed
+returns-clause-closed g c = closed_from _ _ _ _ _ _ c.listen.ensures.accepted c.listen.ensures.ended c.serve_waves.ensures.closed

@@ -13,6 +13,7 @@ job-init g c = let door = g.D.Door in record {
   updaters = ap length c.requires.none;
   reserved = refl;
   place = refl;
+  accepted = refl;
   faults = refl;
   listens = refl;
 }
@@ -37,14 +38,15 @@ job-preserved g c =
       closes = λ plan most table from run.
           subst (λ n. ClosesLinks plan most table from n (door.ended c.args.door.now) (door.ended c.close.new.self) c.args.ends.now.items c.push_reserved.new.self.items c.push_reserved-in-job.new.self.items) count
           (one_closed plan most table from (length before) (door.ended c.args.door.now) (door.ended c.job.door) (door.ended c.close.new.self) c.args.ends.now.items c.job.ends.items c.push_reserved.new.self.items c.job.updaters.items c.push_reserved-in-job.new.self.items
-          (visit (link.traffic job.link) (link.faults job.link) job.updater job.pump.count job.end) e (i.closes plan most table from run)
-          (each_next (λ n job. WasRun plan most table n (visit (link.traffic job.link) (link.faults job.link) job.updater job.pump.count job.end)) from c.args.jobs.items before rest job all run)
+          (visit (link.traffic job.link) (link.faults job.link) (link.waiting job.link) job.updater job.pump.count job.end) e (i.closes plan most table from run)
+          (each_next (λ n job. WasRun plan most table n (visit (link.traffic job.link) (link.faults job.link) (link.waiting job.link) job.updater job.pump.count job.end)) from c.args.jobs.items before rest job all run)
           c.in-Some-end.is c.close.ensures.ended c.push_reserved.ensures.items c.push_reserved-in-job.ensures.items);
       room = let r = c.close.ensures.room in omega (arith, r, i.room, count);
       ends = omega (arith, ended, length-append c.job.ends.items (e ∷ []), i.ends, count);
       updaters = omega (arith, kept, length-append c.job.updaters.items (job.updater ∷ []), i.updaters, count);
       reserved = c.push_reserved.ensures.capacity ∙ i.reserved;
       place = c.push_reserved-in-job.ensures.capacity ∙ i.place;
+      accepted = c.close.ensures.accepted ∙ i.accepted;
       faults = c.close.ensures.faults ∙ i.faults;
       listens = c.close.ensures.listens ∙ i.listens;
     }

@@ -9,5 +9,5 @@ returns-clause-run g c = λ table from ready i d within.
     let inside = c.serve_links.auto.jobs in
     let old = get_or c.args.jobs.now i d in let new = get_or c.serve_links.new.jobs i d in
     ready_run c.args.plan.now c.shape_of-shape.result c.args.most table (from + i)
-    (visit (link.traffic old.link) (link.faults old.link) old.updater old.pump.count old.end) (visit (link.traffic new.link) (link.faults new.link) new.updater new.pump.count new.end)
+    (visit (link.traffic old.link) (link.faults old.link) (link.waiting old.link) old.updater old.pump.count old.end) (visit (link.traffic new.link) (link.faults new.link) (link.waiting new.link) new.updater new.pump.count new.end)
     c.shape_of-shape.ensures (ready i d (omega (arith, within, inside))) (c.serve_links.ensures.served i d (omega (arith, within, inside)))

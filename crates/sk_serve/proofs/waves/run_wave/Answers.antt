@@ -7,5 +7,5 @@ pub returns-clause-run : goal.returns-clause-run
 returns-clause-run g c = λ table from ready.
     let plan = c.args.plan.now in let link = g.L.Link in let jobs = c.args.jobs.items in let jobs' = c.run_all.new.jobs in
     let len : length jobs' ≡ c.args.jobs.len = omega (arith, c.run_all.auto.jobs, c.as_mut_slice.ensures.len) in
-    subst (WereRun plan c.args.most table from (λ job. visit (link.traffic job.link) (link.faults job.link) job.updater job.pump.count job.end)) (sym (take_at jobs' (drop (length jobs') jobs) c.args.jobs.len len))
-    (c.run_all.ensures.run table from (subst (AreReady plan table from (λ job. visit (link.traffic job.link) (link.faults job.link) job.updater job.pump.count job.end)) (sym c.as_mut_slice.ensures.value) ready))
+    subst (WereRun plan c.args.most table from (λ job. visit (link.traffic job.link) (link.faults job.link) (link.waiting job.link) job.updater job.pump.count job.end)) (sym (take_at jobs' (drop (length jobs') jobs) c.args.jobs.len len))
+    (c.run_all.ensures.run table from (subst (AreReady plan table from (λ job. visit (link.traffic job.link) (link.faults job.link) (link.waiting job.link) job.updater job.pump.count job.end)) (sym c.as_mut_slice.ensures.value) ready))

@@ -2,13 +2,14 @@ use Rattle.std.proofs.Common.{◌≡◌, ◌+◌, ◌-◌, ◌≤◌, ◌++◌, 
 use Rattle.sk_count.proofs.Results.{if_err_is}
 use Rattle.sk_serve.specs.declared.fault.ServeFault.TheVariants as fault
 use Rattle.sk_serve.specs.Served.{StopsAccepting}
+use Rattle.sk_serve.proofs.Closed.{closed_none, closed_trans}
 use Rattle.sk_serve.proofs.Waving.{none_served, none_accepted, drained_hub, wave_more, stops, next_wave}
 use Rattle.sk_serve.proofs.waves.serve_waves.Goals as goal
 
 pub returns-in_err-ends-clause-stops : goal.returns-in_err-ends-clause-stops
 returns-in_err-ends-clause-stops g c =
     let ended = g.D.Door.ended c.args.door.now in
-    if_err_is c.from_residual.result fault.OutOfMemory (λ _. StopsAccepting c.args.plan.now c.args.most ended ended) c.from_residual.ensures.1 (none_accepted c.args.plan.now c.args.most ended ended c.requires.within refl)
+    if_err_is c.from_residual.result fault.OutOfMemory (λ f. f ≡ fault.NetFault → StopsAccepting c.args.plan.now c.args.most ended ended) c.from_residual.ensures.1 (λ _. none_accepted c.args.plan.now c.args.most ended ended c.requires.within refl)
 
 pub wave-init : goal.wave-init
 wave-init g c = record {
@@ -23,6 +24,7 @@ wave-init g c = record {
   listens = c.requires.listens;
   room = omega (arith, c.requires.room);
   reserved = c.in_ok-ends.ensures.capacity;
+  closed = closed_none _ _ _ _ refl refl;
   faults = refl;
 }
 
@@ -43,15 +45,21 @@ wave-preserved g c =
       listens = c.serve_wave.ensures.listens;
       room = let r = c.in_ok-serve_wave.ensures.room in omega (arith, r, i.room);
       reserved = subst (λ n. plan.sessions ≤ n) (sym c.in_ok-serve_wave.ensures.reserved) i.reserved;
+      closed = closed_trans _ _ _ _ _ _ i.closed c.serve_wave.ensures.closed;
       faults = c.in_ok-serve_wave.ensures.cause.steady (λ no. cc) ∙ i.faults;
     }
 
 pub returns-in_err-serve_wave-clause-stops : goal.returns-in_err-serve_wave-clause-stops
 returns-in_err-serve_wave-clause-stops g c =
     let i = c.wave.invariant in let plan = c.args.plan.now in let door = g.D.Door in let count = c.min-count.result in
-    let u = c.in_err-serve_wave.ensures.unread in
     let small : count ≤ plan.wave = omega (arith, c.min-count.ensures) in
     let few : length i.sessions + count ≤ plan.sessions = omega (arith, c.min-count.ensures, i.as_many, c.wave-test.true) in
     let whole : length i.sessions ≡ i.waves * plan.wave = omega (arith, i.as_many, i.in_waves, c.wave-test.true) in
-    if_err_is c.from_residual-in_err-serve_wave.result c.in_err-serve_wave.field-0.0 (λ _. StopsAccepting plan c.args.most (door.ended c.args.door.now) (door.ended c.serve_wave.new.door)) c.from_residual-in_err-serve_wave.ensures.1
-    (stops plan c.args.most count (door.ended c.args.door.now) (door.ended c.wave.door) (door.ended c.serve_wave.new.door) c.wave.ends.items i.sessions c.wave.heart i.some small few u.0 u.1 u.2 i.waves whole)
+    if_err_is c.from_residual-in_err-serve_wave.result c.in_err-serve_wave.field-0.0 (λ f. f ≡ fault.NetFault → StopsAccepting plan c.args.most (door.ended c.args.door.now) (door.ended c.serve_wave.new.door)) c.from_residual-in_err-serve_wave.ensures.1
+    (λ is. let u = c.in_err-serve_wave.ensures.unread is in stops plan c.args.most count (door.ended c.args.door.now) (door.ended c.wave.door) (door.ended c.serve_wave.new.door) c.wave.ends.items i.sessions c.wave.heart i.some small few u.0 u.1 u.2 i.waves whole)
+
+pub returns-in_err-ends-clause-closed : goal.returns-in_err-ends-clause-closed
+returns-in_err-ends-clause-closed g c = closed_none _ _ _ _ refl refl
+
+pub returns-in_err-serve_wave-clause-closed : goal.returns-in_err-serve_wave-clause-closed
+returns-in_err-serve_wave-clause-closed g c = closed_trans _ _ _ _ _ _ c.wave.invariant.closed c.serve_wave.ensures.closed

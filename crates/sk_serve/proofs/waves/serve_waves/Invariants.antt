@@ -1,5 +1,5 @@
 use Rattle.std.proofs.Common.{◌≡◌, ℕ, ◌+◌, ◌*◌, ◌-◌, ◌≤◌, min, List, true, length, vec_capacity}
-use Rattle.sk_serve.specs.Served.{Served}
+use Rattle.sk_serve.specs.Served.{AreClosed, Served}
 use Rattle.sk_serve.specs.Waves.{IsHeartOf, ServesSome}
 use Rattle.sk_serve.proofs.waves.serve_waves.Given as goal
 
@@ -16,6 +16,7 @@ invariant-wave g l = let door = g.D.Door in record {
   listens : door.listens l.door ≡ true;
   room : door.room l.door + l.served ≡ l.plan.sessions;
   reserved : l.plan.sessions ≤ vec_capacity l.ends;
+  closed : AreClosed (door.accepted l.fn.door) (door.accepted l.door) (door.ended l.fn.door) (door.ended l.door);
   faults : door.faults l.door ≡ door.faults l.fn.door;
 }
 
