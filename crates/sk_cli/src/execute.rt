@@ -9,6 +9,7 @@ ghost use Rattle.sk_cli.specs.Command.{asked_of, behaviour_of, alarms_of, alarms
 ghost use Rattle.sk_cli.specs.Fault.{status_of};
 ghost use Rattle.sk_cli.specs.Outside.{streams_of, outside_of, closed_in};
 ghost use Rattle.sk_cli.specs.Run.{Executes, HasCauses, Over, PerformsText, Performs, MissesFirst, MissesSecond, IsOfCalls, read_faults_of, IsOfReads};
+ghost use Rattle.sk_serve.specs.Served.{AreClosed};
 
 use crate::command::{Command, Request};
 use crate::commands::about::{HELP, VERSION};
@@ -127,6 +128,7 @@ where
     ensures input { reads_input (asked_of request.now) ≡ false → input.new ≡ input.old }
     ensures shelf { opens_files (asked_of request.now) ≡ false → shelf.new ≡ shelf.old }
     ensures door { accepts_links (asked_of request.now) ≡ false → door.new ≡ door.old }
+    ensures links { AreClosed (D.accepted door.old) (D.accepted door.new) (D.ended door.old) (D.ended door.new) }
     ensures last { writes_last_of (asked_of request.now) ≡ true → IfErr result (λ fault. fault ≢ Fault.WriteFault → out.new ≡ out.old) }
     ensures closed { result ≡ Err Fault.OpenFault → out.new ≡ out.old }
     ensures files { F.files shelf.new ≡ F.files shelf.old }

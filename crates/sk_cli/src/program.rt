@@ -11,6 +11,7 @@ ghost use Rattle.sk_cli.specs.declared.command.Command.TheVariants as command;
 ghost use Rattle.sk_cli.specs.declared.commands.make.MakePlan.{MakePlan};
 ghost use Rattle.sk_cli.specs.declared.fault.Fault.{Fault};
 ghost use Rattle.sk_cli.specs.declared.fault.Fault.TheVariants as fault;
+ghost use Rattle.sk_serve.specs.Served.{AreClosed};
 
 use crate::command::Request;
 use crate::execute::perform;
@@ -86,10 +87,11 @@ where
         → (input.new ≡ input.old) × (shelf.new ≡ shelf.old)
         × RunsMake plan (beside_of (B.places board.old) remains.old) (beside_of (B.places board.new) remains.new) (O.written out.old) (O.written out.new) result) }
 
-    // Only what the command reads is touched, and no file changes.
+    // Only what the command reads is touched, no file changes, and each link that was accepted is closed.
     ensures input { IfSome (request_of (texts_of words.now)) (λ asked. reads_input asked ≡ false → input.new ≡ input.old) }
     ensures shelf { IfSome (request_of (texts_of words.now)) (λ asked. opens_files asked ≡ false → shelf.new ≡ shelf.old) }
     ensures door { IfSome (request_of (texts_of words.now)) (λ asked. accepts_links asked ≡ false → door.new ≡ door.old) }
+    ensures links { AreClosed (D.accepted door.old) (D.accepted door.new) (D.ended door.old) (D.ended door.new) }
     ensures stays { S.stands_on input.new ≡ S.stands_on input.old }
 
     // A file that can't be opened leaves the output untouched, and so does what ends a command that writes last.

@@ -6,6 +6,7 @@ ghost use Rattle.sk_cli.specs.Beside.{beside_of, board_places, cleared};
 ghost use Rattle.sk_cli.specs.Fault.{fault_by_serve};
 ghost use Rattle.sk_cli.specs.Outside.{closed_in};
 ghost use Rattle.sk_cli.specs.commands.Serve.{plan_by, IsWithin, ServesSo};
+ghost use Rattle.sk_serve.specs.Served.{AreClosed};
 
 use crate::fault::Fault;
 use crate::options::{Name, Options};
@@ -78,6 +79,7 @@ where
     ensures remains { IfErr result (λ _. remains.new ≡ remains.old) }
     ensures writes { HasCauseIn Fault.WriteFault (O.faults out.old) (O.faults out.new) result }
     ensures net { HasCauseIn Fault.NetFault (D.faults door.old) (D.faults door.new) result }
+    ensures links { AreClosed (D.accepted door.old) (D.accepted door.new) (D.ended door.old) (D.ended door.new) }
 {
     let served = sk_serve::serve(rt, alloc, plan, most, out, door, board, remains);
     answer_of(served)

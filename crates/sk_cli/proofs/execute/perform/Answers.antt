@@ -1,4 +1,4 @@
-use Rattle.std.proofs.Common.{◌≡◌, false, Err, sym, subst}
+use Rattle.std.proofs.Common.{◌≡◌, false, Err, refl, sym, subst}
 use Rattle.sk_model.specs.Causes.{HasCauseIn}
 use Rattle.sk_cli.specs.Beside.{Beside, beside_of}
 use Rattle.sk_cli.specs.Command.{asked_of, reads_input, opens_files}
@@ -7,6 +7,7 @@ use Rattle.sk_cli.specs.Run.{Performs, MissesFirst, MissesSecond, read_faults_of
 use Rattle.sk_cli.specs.declared.command.Request.{Request}
 use Rattle.sk_cli.specs.declared.fault.Fault.TheVariants as fault
 use Rattle.sk_cli.proofs.Asking.{over_causes, misses_first, untouched_input, untouched_files, text_no_net, join_no_net}
+use Rattle.sk_serve.proofs.Closed.{closed_none}
 use Rattle.sk_cli.proofs.execute.perform.Goals as goal
 
 pub returns-in-OverText-clause-done : goal.returns-in-OverText-clause-done
@@ -56,3 +57,9 @@ returns-in-OverText-clause-net g c = text_no_net _ _ _ _ _ _ (g.D.Door.faults c.
 
 pub returns-in-Join-clause-net : goal.returns-in-Join-clause-net
 returns-in-Join-clause-net g c = join_no_net _ _ _ _ _ _ (g.D.Door.faults c.args.door.now) c.join.result c.join.ensures.done
+
+pub returns-in-OverText-clause-links : goal.returns-in-OverText-clause-links
+returns-in-OverText-clause-links g c = closed_none _ _ _ _ refl refl
+
+pub returns-in-Join-clause-links : goal.returns-in-Join-clause-links
+returns-in-Join-clause-links g c = closed_none _ _ _ _ refl refl

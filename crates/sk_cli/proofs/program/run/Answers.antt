@@ -1,4 +1,4 @@
-use Rattle.std.proofs.Common.{◌≢◌, ◌≡◌, ◌⊎◌, inr, ℕ, Some, true, sym, ap, ◌∙◌, subst}
+use Rattle.std.proofs.Common.{◌≢◌, ◌≡◌, ◌⊎◌, inr, ℕ, Some, true, refl, sym, ap, ◌∙◌, subst}
 use Rattle.sk_model.specs.Limits.{source_limit}
 use Rattle.sk_cli.specs.Beside.{Beside, beside_of}
 use Rattle.sk_cli.specs.Command.{Asked, asked_of, command_of, writes_last_of}
@@ -10,6 +10,7 @@ use Rattle.sk_cli.specs.declared.fault.Fault.{Fault}
 use Rattle.sk_cli.specs.declared.fault.Fault.TheVariants as fault
 use Rattle.sk_cli.proofs.Asking.{not_usage, fine_run, refused_run, refused_or_done, make_reads_nothing, well_made, not_well_made}
 use Rattle.sk_cli.proofs.Reporting.{no_request, of_request, of_this_request, some_request}
+use Rattle.sk_serve.proofs.Closed.{closed_none}
 use Rattle.sk_cli.proofs.program.run.Goals as goal
 
 pub returns-in_default-clause-fault : goal.returns-in_default-clause-fault
@@ -100,3 +101,6 @@ returns-in-Err-clause-make g c = λ plan.
       not_well_made source_limit from to old new _ plan a c.in-Err.fault c.report-in-Err.result is c.in-Some.ensures.order c.report-in-Err.ensures.status c.in-Err.ensures.done
           (λ other. ap (λ o. g.O.Sink.written o) (c.in-Err.ensures.last nothing.2 other)),
     ))
+
+pub returns-in_default-clause-links : goal.returns-in_default-clause-links
+returns-in_default-clause-links g c = closed_none _ _ _ _ refl refl
