@@ -4,4 +4,5 @@ pub mod Maximum
 pub mod One
 pub mod Runs
 pub mod Parts
+pub mod Told
 pub mod Words

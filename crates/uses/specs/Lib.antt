@@ -1,4 +1,5 @@
 pub mod Fed
 pub mod Greatest
 pub mod Lengths
+pub mod Told
 pub mod Words

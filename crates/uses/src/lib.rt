@@ -4,12 +4,14 @@
 mod feeding;
 mod greatest;
 mod lines;
+mod ranks;
 mod schedule;
 mod streams;
 
 pub use feeding::{feed_all, feed_item};
 pub use greatest::{Greatest, greatest_item};
 pub use lines::{Measured, Threes, measure_lines, measure_text};
+pub use ranks::rank_source;
 pub use schedule::replay;
 pub use sk_model::OutOfMemory;
 pub use streams::{Counted, count_streams};

@@ -7,6 +7,7 @@ ghost use Rattle.sk_theta.specs.Kept.{StandsFor};
 use super::*;
 use sk_core::{Answer, Event, State};
 use sk_heap::HeapTheta;
+use sk_io::{MemSink, MemSource};
 use sk_theta::{Reply, Shape, unpack};
 use std::alloc::Global;
 use std::fmt::Debug;
@@ -117,5 +118,16 @@ fn a_text_comes_three_bytes_at_a_time(rt: HostRuntime) -> Result<(), Fail> {
         longest: 9,
     };
     expect(&rt, measure_text(rt.alloc(), text), Ok(want));
+    Ok(())
+}
+
+#[test]
+fn numbers_are_ranked_by_four_updaters(rt: HostRuntime) -> Result<(), Fail> {
+    let alloc = rt.alloc();
+    let text = b"5\n1\n4\n\n1\n3\n".to_vec(alloc)?;
+    let mut input = MemSource::new(text, 3, Vec::new(alloc));
+    let mut out = MemSink::new(alloc, 100, 7, Vec::new(alloc))?;
+    assert_eq!(rt; rank_source(&rt, alloc, 3, 4, &mut input, &mut out), Ok(()));
+    assert_eq!(rt; out.written(), b"n 5 below 2 within 0\n".as_slice());
     Ok(())
 }

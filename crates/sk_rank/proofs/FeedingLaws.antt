@@ -1,0 +1,162 @@
+-- What a ranking concludes of the lines that were fed.
+use Rattle.std.proofs.Common.{◌≡◌, inl, inr, ℕ, ◌-◌, Bool, true, false, List, [], ◌∷◌, ◌++◌, length, take, get_or, All, MatchBool, Option, is_some, refl, sym, ap, subst, ◌∙◌, arith, append-nil}
+use Rattle.std.specs.Io.KnownBytes.{Appends}
+use Rattle.std.proofs.KnownBytes.{Appends-nil}
+use Rattle.std.proofs.lemmas.List.{take_all}
+use Rattle.std.proofs.lemmas.List.Elements.{All-nil}
+use Rattle.sk_model.specs.Entries.{entries_by}
+use Rattle.sk_model.specs.Missing.{Begins}
+use Rattle.sk_model.proofs.Missing.{begins_nil}
+use Rattle.sk_hub.specs.Updaters.{UpdaterState, handed_of, kept_of, earlier_of}
+use Rattle.sk_read.specs.Items.{IsGood}
+use Rattle.sk_read.specs.Reads.{ReadsAll}
+use Rattle.sk_read.specs.Units.{units_by}
+use Rattle.sk_read.specs.declared.fault.Fault.{Fault}
+use Rattle.sk_read.specs.declared.fault.Fault.TheVariants as fault
+use Rattle.sk_read.specs.declared.items.Intake.{Intake}
+use Rattle.sk_read.specs.declared.kind.Kind.TheVariants.{Raw}
+use Rattle.sk_ingest.specs.Windows.{all_lines}
+use Rattle.sk_ingest.specs.Hubs.{Hub}
+use Rattle.sk_ingest.specs.Ingests.{GoesThrough, Ingests, StopsAtReport, GoesSoFar, StopsAtUnit, EndsEarly}
+use Rattle.sk_ingest.specs.declared.report.Stop.TheVariants as stop
+use Rattle.sk_ingest.proofs.Cutting.{no_units}
+use Rattle.sk_ingest.proofs.Ingestion.{heart_by_ingest, nothing_came}
+use Rattle.sk_count.proofs.Course.{share_none}
+use Rattle.sk_count.proofs.Endings.{ends_so, all_so}
+use Rattle.sk_count.proofs.QuietLaws.{quiet_early}
+use Rattle.sk_snap.specs.History.{entries_in, name_of}
+use Rattle.sk_rank.specs.declared.plan.Plan.{Plan}
+use Rattle.sk_rank.specs.Plans.{IsWithin, lines_of_window, intake_by, share_of}
+use Rattle.sk_rank.specs.Moments.{Moment, AreMoments}
+use Rattle.sk_rank.specs.Reports.{Showing, Breaks}
+use Rattle.sk_rank.specs.Steps.{Stands, Passes}
+use Rattle.sk_rank.specs.Texts.{interim_text}
+use Rattle.sk_rank.specs.Feeding.{IsOpened, IsNewReader, Course, Fed}
+use Rattle.sk_rank.specs.Ranks.{setting, ReadsLines, TellsSoFar, TellsPart, StopsFor, EndsBefore, EndsBehind, EndsAt}
+use Rattle.sk_rank.proofs.Course.{terms_at, terms_with, reported, waited, broke, stands_fed}
+
+nothing_before : (u : UpdaterState) → kept_of u ≡ [] → earlier_of u ≡ []
+nothing_before u none = go (handed_of u) none
+  where
+    go : (l : List ℕ) → l ++ u.fill ≡ [] → take (length l - u.last) l ≡ []
+    go [] is = take_all (0 - u.last) [] (omega arith)
+    go (x ∷ l) is = let no : length (x ∷ (l ++ u.fill)) ≡ 0 = ap length is in absurd (omega arith)
+
+-- before the first window
+pub stands_start : (plan : Plan) (a : Hub) (r : Showing) → IsOpened plan a → IsNewReader plan a.heart.view.name r.reader → r.at ≡ plan.at → Stands plan [] [] a r
+stands_start plan a r opened new at = record {
+  count = opened.count;
+  took = λ i d within. let idle = opened.idle i d within in record {
+    number = (opened.whole.updaters i d within).number;
+    kept = idle.kept ∙ sym (share_none Raw plan.updaters i);
+    size = idle.size_is;
+    knows = λ _. subst (λ l. Begins l (entries_by i (entries_in r.reader.known))) (sym (nothing_before (get_or a.updaters i d) idle.kept)) (begins_nil (entries_by i (entries_in r.reader.known)));
+  };
+  at = at;
+  k = new.k;
+  key = new.key;
+  began = begins_nil (entries_in r.reader.known);
+}
+
+-- ---- a source that was read
+
+module _ {R : Type 0} (r s : R) (shown : R → Showing) (plan : Plan) (most : ℕ) (a : Hub) (opened : IsOpened plan a) (new : IsNewReader plan a.heart.view.name (shown r).reader) (at : (shown r).at ≡ plan.at) (left left' : Option (List ℕ)) where
+  stands : Stands plan [] [] a (shown r)
+  stands = stands_start plan a (shown r) opened new at
+
+  passed : (interim : Bool) → is_some plan.window ≡ interim → (units rest : List (List ℕ)) (b : Hub) → GoesThrough (terms_with shown plan most interim) units a r rest b s
+      → (windows : List (List (List ℕ))) × (p : Passes plan windows (shown r) b (shown s)) × (c : Course plan units) × (c.windows ≡ windows) × (c.rest ≡ rest) × (c.moments ≡ p.moments)
+  passed true is units rest b goes =
+      let went = reported shown plan most goes.windows [] goes.windows 0 [] a r b s refl refl stands goes.reported in
+      (goes.windows, went.0, record { windows = goes.windows; rest = rest; moments = went.0.moments; good = goes.good; cut = goes.cut; asks = subst (λ c. MatchBool c (AreMoments plan [] [] goes.windows went.0.moments) (went.0.moments ≡ [])) (sym is) went.1 }, refl, refl, refl)
+  passed false is units rest b goes =
+      let went = waited shown plan most goes.windows [] goes.windows 0 [] a r b s refl stands goes.reported in
+      (goes.windows, went.0, record { windows = goes.windows; rest = rest; moments = went.0.moments; good = goes.good; cut = goes.cut; asks = subst (λ c. MatchBool c (AreMoments plan [] [] goes.windows went.0.moments) (went.0.moments ≡ [])) (sym is) went.1 }, refl, refl, refl)
+
+  so_far : (units : List (List ℕ)) → GoesSoFar (terms_at shown (intake_by plan most)) a r s units → TellsSoFar plan (setting left (shown r).written) (setting left' (shown s).written) units
+  so_far units (rest, b, goes) =
+      let (windows, p, course, is, same, told) = passed (is_some plan.window) refl units rest b goes in
+      record { course = course; written = subst (λ m. Appends (shown r).written (shown s).written (interim_text plan m)) (sym told) p.written }
+
+  part : (interim : Bool) → is_some plan.window ≡ interim → (units : List (List ℕ)) → StopsAtReport (terms_with shown plan most interim) stop.Failed units a r s → TellsPart plan (setting left (shown r).written) (setting left' (shown s).written) units
+  part false is units stops = let never : false ≡ true = stops.interim in absurd (cc)
+  part true is units stops =
+      let whole : length units ≡ length (all_lines ([] ++ (stops.windows ++ stops.lines ∷ []))) = ap length (stops.cut.joined ∙ append-nil (all_lines (stops.windows ++ stops.lines ∷ []))) in
+      let went = broke shown plan most stops.windows [] 0 [] stops.lines a r stops.before stops.report stops.fed stops.left s refl stands stops.reported stops.feeds (subst (λ n. Breaks (shown stops.report) n stops.fed stops.left (shown s)) whole stops.stops) in
+      record {
+        course = record { windows = stops.windows ++ stops.lines ∷ []; rest = []; moments = went.0; good = stops.good; cut = stops.cut; asks = subst (λ c. MatchBool c (AreMoments plan [] [] (stops.windows ++ stops.lines ∷ []) went.0) (went.0 ≡ [])) (sym is) went.1 };
+        full = refl;
+        written = went.2;
+      }
+
+  stopped : (f : Fault) (units : List (List ℕ)) (unit : List ℕ) → StopsAtUnit (terms_at shown (intake_by plan most)) a r s f units unit → StopsFor plan (setting left (shown r).written) (setting left' (shown s).written) f units unit
+  stopped (fault.BadItem n) units unit t = (so_far units t.0, t.1, t.2)
+  stopped fault.WriteFault units unit t = part (is_some plan.window) refl (units ++ unit ∷ []) t
+  stopped fault.OutOfMemory units unit (inl t) = so_far units t
+  stopped fault.OutOfMemory units unit (inr t) = absurd t.stops
+  stopped fault.ReadFault units unit t = absurd t
+  stopped fault.TooMuch units unit t = absurd t
+  stopped (fault.LongLine n) units unit t = absurd t
+  stopped (fault.BadCsv n) units unit t = absurd t
+
+  module _ (intake : Intake) (is : intake ≡ intake_by plan most) where
+    pub ended_early : (f : Fault) → EndsEarly (terms_at shown intake) (units_by intake.column) left left' a r s f → EndsAt plan most (setting left (shown r).written) (setting left' (shown s).written) f
+    ended_early f early = by_cases (subst (λ i. EndsEarly (terms_at shown i) (units_by i.column) left left' a r s f) is early)
+      where
+        by_cases : EndsEarly (terms_at shown (intake_by plan most)) (units_by 0) left left' a r s f → EndsAt plan most (setting left (shown r).written) (setting left' (shown s).written) f
+        by_cases (inl ends) = inl (ends_so (units_by 0) most _ _ _ _ so_far stopped left left' f ends)
+        by_cases (inr (none, (n, reads))) = inr (subst (EndsBehind plan most (setting left (shown r).written) (setting left' (shown s).written)) (sym none) (n, all_so (units_by 0) most _ _ _ _ so_far stopped n left left' reads))
+
+    all_fed : (b : Hub) (units : List (List ℕ)) → Ingests (terms_at shown (intake_by plan most)) units a r b s → Fed plan (shown r).written (shown s).written b (shown s).reader units
+    all_fed b units i =
+        let (windows, p, course, w, rest, told) = passed (is_some plan.window) refl units i.rest i.between i.goes in
+        let at_end = stands_fed plan windows p.last i.rest i.between b (shown s) p.stands i.last in
+        let heart = heart_by_ingest (terms_at shown (intake_by plan most)) units a b r s i in
+        record {
+          course = course;
+          written = subst (λ m. Appends (shown r).written (shown s).written (interim_text plan m)) (sym told) p.written;
+          seen = subst (λ m. All (λ z. Begins z.list (entries_in (shown s).reader.known)) m) (sym told) p.seen;
+          count = at_end.count;
+          kept = λ j d within. subst (λ ws. kept_of (get_or b.updaters j d) ≡ share_of plan ws j) (λ e. sym w e ++ sym rest e ∷ []) (at_end.took j d within).kept;
+          drained = ap (λ v. v.drained) heart.knows.view ∙ opened.drained;
+          whole = i.hub;
+          name = ap (λ v. v.name) heart.knows.view ∙ new.name_is ∙ ap name_of (sym p.goes.book);
+          k = at_end.k;
+          key = at_end.key;
+        }
+
+    pub fed_whole : (n : ℕ) (b : Hub) → ReadsAll (units_by intake.column) intake.most n (λ units. Ingests (terms_at shown intake) units a r b s) left left'
+        → ReadsLines most (Fed plan (shown r).written (shown s).written b (shown s).reader) left left'
+    fed_whole n b reads = (
+      n,
+      all_so (units_by 0) most (λ units. Ingests (terms_at shown (intake_by plan most)) units a r b s) _ (λ f units unit. ⊥) (λ f units unit. ⊥) (all_fed b) (λ f units unit no. no) n left left'
+          (subst (λ i. ReadsAll (units_by i.column) i.most n (λ units. Ingests (terms_at shown i) units a r b s) left left') is reads),
+    )
+
+-- where no window is asked for the report stays as it was
+pub quiet_whole : {R : Type 0} (r s : R) (shown : R → Showing) (a : Hub) (left left' : Option (List ℕ)) (intake : Intake) → intake.interim ≡ false → (n : ℕ) (b : Hub)
+    → ReadsAll (units_by intake.column) intake.most n (λ units. Ingests (terms_at shown intake) units a r b s) left left' → s ≡ r
+quiet_whole r s shown a left left' intake silent n b reads =
+    quiet_early (terms_at shown intake) silent r s (units_by intake.column) left left' a fault.OutOfMemory
+    (inr (refl, (n, all_so (units_by intake.column) intake.most (λ units. Ingests (terms_at shown intake) units a r b s) (GoesSoFar (terms_at shown intake) a r s) (λ f units unit. ⊥) (λ f units unit. ⊥) (λ units i. (i.rest, i.between, i.goes)) (λ f units unit no. no) n left left' reads)))
+
+-- ---- before the first line
+
+none : List Moment
+none = []
+
+no_moments : (plan : Plan) (b : Bool) → MatchBool b (AreMoments plan [] [] [] none) (none ≡ none)
+unfolding AreMoments none
+no_moments plan true = tt
+no_moments plan false = refl
+
+nothing_told : (plan : Plan) (left w : Option (List ℕ)) → IsWithin plan → TellsSoFar plan (setting left w) (setting left w) []
+unfolding interim_text none
+nothing_told plan left w within = record {
+  course = record { windows = []; rest = []; moments = []; good = All-nil (IsGood Raw); cut = no_units (lines_of_window plan) within.window.0; asks = no_moments plan (is_some plan.window) };
+  written = Appends-nil w;
+}
+
+pub nothing_read : (plan : Plan) (most : ℕ) (left w : Option (List ℕ)) → IsWithin plan → EndsBefore plan most (setting left w) (setting left w) fault.OutOfMemory
+nothing_read plan most left w within =
+    nothing_came (TellsSoFar plan (setting left w) (setting left w)) (StopsFor plan (setting left w) (setting left w)) (units_by 0) most left (nothing_told plan left w within)

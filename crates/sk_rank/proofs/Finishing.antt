@@ -1,0 +1,93 @@
+-- Where a ranking ends, put together.
+use Rattle.std.proofs.Common.{◌≡◌, ℕ, ◌<◌, List, [], ◌∷◌, ◌++◌, length, All, Option, Result, Ok, Err, IsErrAnd, sym, ap, subst, ◌∙◌, arith}
+use Rattle.std.specs.List.{range_with_len}
+use Rattle.std.specs.Io.KnownBytes.{Appends}
+use Rattle.std.proofs.KnownBytes.{Appends-trans}
+use Rattle.sk_model.specs.Causes.{AppendsPart}
+use Rattle.sk_model.proofs.Missing.{begins_trans}
+use Rattle.sk_hub.specs.Hearts.{HeartState}
+use Rattle.sk_quant.specs.Held.{ranked}
+use Rattle.sk_quant.specs.Ranks.{rank_error}
+use Rattle.sk_read.specs.declared.fault.Fault.{Fault}
+use Rattle.sk_ingest.specs.Hubs.{Hub}
+use Rattle.sk_read.specs.Units.{units_by}
+use Rattle.sk_count.proofs.Endings.{all_so}
+use Rattle.sk_count.proofs.Fronts.{part_behind}
+use Rattle.sk_snap.specs.History.{entries_in, name_of}
+use Rattle.sk_snap.specs.Versions.{Learnt, items_in}
+use Rattle.sk_snap.specs.declared.version.Rank.{Rank}
+use Rattle.sk_rank.specs.declared.plan.Plan.{Plan}
+use Rattle.sk_rank.specs.Nearness.{IsNear}
+use Rattle.sk_rank.specs.Ending.{Finishes}
+use Rattle.sk_rank.specs.Feeding.{Fed}
+use Rattle.sk_rank.specs.Ranks.{Setting, setting, ReadsLines, IsListOf, Goes, Shows, TellsSoFar, TellsAll, TellsPartOfAll, EndsAt, Ranks}
+use Rattle.sk_rank.specs.Texts.{told_line, rank_line, interim_text}
+use Rattle.sk_rank.proofs.ReportLaws.{near_so}
+
+pub ended_by : (plan : Plan) (most : ℕ) (old new : Setting) (r : Result (HeartState × Learnt) Fault) (f : Fault) → IsErrAnd r (λ e. e ≡ f) → EndsAt plan most old new f → Ranks plan most old new r
+ended_by plan most old new (Ok x) f is ends = absurd is
+ended_by plan most old new (Err e) f is ends = subst (EndsAt plan most old new) (sym is) ends
+
+pub reads_so : (most : ℕ) (G G' : List (List ℕ) → Type 0) (old new : Option (List ℕ)) → ((units : List (List ℕ)) → G units → G' units) → ReadsLines most G old new → ReadsLines most G' old new
+reads_so most G G' old new so (n, reads) = (n, all_so (units_by 0) most G G' (λ f units unit. ⊥) (λ f units unit. ⊥) so (λ f units unit no. no) n old new reads)
+
+-- all was fed, and nothing more was told
+pub fed_so_far : (plan : Plan) (left left' w w' : Option (List ℕ)) (b : Hub) (reader : Learnt) (units : List (List ℕ)) → Fed plan w w' b reader units → TellsSoFar plan (setting left w) (setting left' w') units
+fed_so_far plan left left' w w' b reader units fed = record { course = fed.course; written = fed.written }
+
+at_some : {A P : Type 0} (xs : List A) (i : ℕ) → i < length xs → (A → P) → P
+at_some [] i within f = let none : ⊥ = omega arith in absurd none
+at_some (x ∷ xs) i within f = f x
+
+module _ (plan : Plan) (left left' w w' w'' : Option (List ℕ)) (b : Hub) (reader s : Learnt) (rank : Rank) (h : HeartState) (units : List (List ℕ)) (fed : Fed plan w w' b reader units) (end : Finishes b.heart b.updaters reader plan.at rank h s) where
+  list : IsListOf plan (fed.course.windows ++ fed.course.rest ∷ []) (entries_in s.known)
+  list = record {
+    only = subst (λ n. All (λ entry. entry.0 < n) (entries_in s.known)) fed.count end.only;
+    each = λ i within. let within' : i < length b.updaters = omega (arith, fed.count) in at_some b.updaters i within' (λ d. end.each i d within' ∙ fed.kept i d within');
+  }
+
+  goes : Goes fed.course.moments (entries_in s.known)
+  goes = λ i m inside. begins_trans _ _ _ (fed.seen i m inside) end.goes.grows
+
+  k : s.k ≡ plan.k
+  k = end.goes.k ∙ fed.k
+
+  key : s.key ≡ plan.key
+  key = end.goes.key ∙ fed.key
+
+  line_is : told_line rank.n rank.below rank.within ≡ rank_line plan (items_in s.known)
+  line_is =
+      (λ e. told_line (end.rank_is.count e) (end.rank_is.value e) (end.rank_is.error e))
+      ∙ (λ e. told_line (length (items_in s.known)) (ranked plan.at (k e) (key e) (items_in s.known)) (rank_error (length (items_in s.known)) (k e)))
+
+  near : IsNear plan.at plan.k plan.key (items_in s.known)
+  near = near_so plan.at s.k s.key plan.k plan.key (items_in s.known) rank.n rank.below rank.within (sym k) (sym key) end.rank_is
+
+  shows : Shows plan h s
+  shows = record {
+    drained = end.drains.drained ∙ ap (λ l. l ++ range_with_len 0 (length b.updaters)) fed.drained ∙ ap (range_with_len 0) fed.count;
+    known = λ i within. let within' : i < length b.updaters = omega (arith, fed.count) in at_some b.updaters i within' (λ d. end.drains.known i d within' ∙ sym (end.each i d within'));
+    name = end.name ∙ fed.name ∙ ap name_of (sym end.goes.book);
+    k = k;
+    key = key;
+  }
+
+  pub all_told : Appends w' w'' (told_line rank.n rank.below rank.within) → TellsAll plan (setting left w) (setting left' w'') h s units
+  all_told last = record {
+    course = fed.course;
+    written = Appends-trans w w' w'' (interim_text plan fed.course.moments) (rank_line plan (items_in s.known)) fed.written (subst (Appends w' w'') line_is last);
+    list = list;
+    goes = goes;
+    near = near;
+    shows = shows;
+  }
+
+  pub part_told : AppendsPart w' w'' (told_line rank.n rank.below rank.within) → TellsPartOfAll plan (setting left w) (setting left' w'') units
+  part_told last = record {
+    course = fed.course;
+    whole = entries_in s.known;
+    list = list;
+    goes = goes;
+    near = near;
+    written = part_behind w w' w'' (interim_text plan fed.course.moments) (rank_line plan (items_in s.known)) fed.written (subst (AppendsPart w' w'') line_is last);
+  }

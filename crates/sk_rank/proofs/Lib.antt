@@ -1,0 +1,10 @@
+pub mod Lists
+pub mod Orders
+pub mod LearningLaws
+pub mod EndingLaws
+pub mod Course
+pub mod FeedingLaws
+pub mod Finishing
+pub mod OneUpdater
+pub mod OpeningLaws
+pub mod ReportLaws

@@ -1,0 +1,58 @@
+-- A report, by what its calls did.
+use Rattle.std.proofs.Common.{◌≡◌, ℕ, ◌<◌, ◌≤◌, List, length, get_or, Option, refl, sym, subst, ◌∙◌, arith}
+use Rattle.std.specs.Int.{abs_diff}
+use Rattle.std.specs.Io.KnownBytes.{Appends}
+use Rattle.sk_model.specs.Causes.{AppendsPart}
+use Rattle.sk_quant.specs.Held.{ranked}
+use Rattle.sk_quant.specs.Ranks.{rank_of, rank_error}
+use Rattle.sk_hub.specs.Updaters.{UpdaterState}
+use Rattle.sk_ingest.specs.Hubs.{Hub, IsHub, IsUpdaterAt}
+use Rattle.sk_snap.specs.Versions.{Learnt, IsRank, items_in}
+use Rattle.sk_snap.specs.declared.version.Rank.{Rank}
+use Rattle.sk_rank.specs.Learning.{ReaderGoesOn, LearnsFirst, AreAsked}
+use Rattle.sk_rank.specs.Nearness.{IsNear}
+use Rattle.sk_rank.specs.Reports.{showing, LearnsHub, Reports, Breaks, due_line}
+use Rattle.sk_rank.specs.Texts.{told_line, interim_line}
+use Rattle.sk_rank.proofs.LearningLaws.{goes_trans, knows_more}
+
+-- by another name for k and key
+pub near_so : (x k key k' key' : ℕ) (items : List ℕ) (n below within : ℕ) → k' ≡ k → key' ≡ key → IsRank x k key items n below within → IsNear x k' key' items
+near_so x k key k' key' items n below within same_k same_key is =
+    let told : (below, within) ≡ (ranked x k' key' items, rank_error (length items) k') =
+    (λ e. (is.value e, is.error e)) ∙ (λ e. (ranked x (sym same_k e) (sym same_key e) items, rank_error (length items) (sym same_k e))) in
+    subst (λ (z : ℕ × ℕ). abs_diff z.0 (rank_of x items) ≤ z.1) told is.near
+
+module _ (at line : ℕ) (rank : Rank) (r m s : Learnt) (w w' : Option (List ℕ)) (a b : Hub) (learns : LearnsFirst r a.updaters (length a.updaters) m) (goes : ReaderGoesOn m s) (is : IsRank at m.k m.key (items_in s.known) rank.n rank.below rank.within) where
+  learns_hub : LearnsHub r a.updaters s
+  learns_hub = record { goes = goes_trans r m s learns.goes goes; knows = λ i d within. knows_more m s (get_or a.updaters i d) goes (learns.knows i d within) }
+
+  line_is : interim_line line (told_line rank.n rank.below rank.within) ≡ due_line line at s
+  line_is =
+      let items = items_in s.known in
+      (λ e. interim_line line (told_line (is.count e) (is.value e) (is.error e)))
+      ∙ (λ e. interim_line line (told_line (length items) (ranked at (sym goes.k e) (sym goes.key e) items) (rank_error (length items) (sym goes.k e))))
+
+  near : IsNear at s.k s.key (items_in s.known)
+  near = near_so at m.k m.key s.k s.key (items_in s.known) rank.n rank.below rank.within goes.k goes.key is
+
+  pub report_made : Appends w w' (interim_line line (told_line rank.n rank.below rank.within)) → Reports (showing at r w) line a b (showing at s w')
+  report_made written = record { at = refl; learns = learns_hub; near = near; written = subst (Appends w w') line_is written }
+
+  pub report_broke : AppendsPart w w' (interim_line line (told_line rank.n rank.below rank.within)) → Breaks (showing at r w) line a b (showing at s w')
+  report_broke written = record { learns = learns_hub; near = near; written = subst (AppendsPart w w') line_is written }
+
+-- the hub, of whose updaters the told values were taken
+pub still_hub : (a : Hub) (us : List UpdaterState) → IsHub a → AreAsked a.updaters (length a.updaters) us → IsHub (record { heart = a.heart; updaters = us; token = a.token })
+still_hub a us is asked = record {
+  count = asked.count ∙ is.count;
+  updaters = λ i d within. at i d (omega (arith, asked.count));
+  table = is.table;
+  sized = is.sized;
+  numbers = is.numbers;
+  name = is.name;
+}
+  where
+    at : (i : ℕ) (d : UpdaterState) → i < length a.updaters → IsUpdaterAt (record { heart = a.heart; updaters = us; token = a.token }) i (get_or us i d)
+    at i d within =
+        let was = is.updaters i d within in
+        subst (IsUpdaterAt (record { heart = a.heart; updaters = us; token = a.token }) i) (sym (asked.first i d within)) (record { number = was.number; table = was.table; numbers = was.numbers; name = was.name; known = was.known; size = was.size })

@@ -1,0 +1,36 @@
+-- The rank that was told of a source.
+use Rattle.std.proofs.Common.{◌≡◌, ℕ, ◌≤◌, List, [], ◌++◌, length, Option, None, is_some, MatchBool, ap, subst, ◌∙◌}
+use Rattle.std.specs.Int.{abs_diff}
+use Rattle.std.specs.Io.KnownBytes.{Appends, Consumes, IsAtEnd}
+use Rattle.sk_hub.specs.Hearts.{HeartState}
+use Rattle.sk_quant.specs.Held.{ranked}
+use Rattle.sk_quant.specs.Ranks.{rank_of, rank_error}
+use Rattle.sk_read.specs.Units.{units_by, units_of}
+use Rattle.sk_snap.specs.Versions.{Learnt, items_in}
+use Rattle.sk_rank.specs.declared.plan.Plan.{Plan}
+use Rattle.sk_rank.specs.Moments.{Moment, AreMoments}
+use Rattle.sk_rank.specs.Ranks.{Setting, TellsAll}
+use Rattle.sk_rank.specs.Texts.{told_line, rank_line, interim_text}
+use Rattle.uses.specs.Told.{numbers_in, TellsRank}
+
+no_text : (plan : Plan) (moments : List Moment) → moments ≡ [] → interim_text plan moments ≡ []
+unfolding interim_text
+no_text plan moments none = ap (interim_text plan) none
+
+pub tells_rank : (plan : Plan) (old new : Setting) (h : HeartState) (reader : Learnt) (left left' : Option (List ℕ)) (text : List ℕ) → Consumes left left' text → IsAtEnd left' → plan.window ≡ None
+    → TellsAll plan old new h reader (units_of (units_by 0) text) → length (items_in reader.known) ≡ length (numbers_in text) → rank_of plan.at (items_in reader.known) ≡ rank_of plan.at (numbers_in text)
+    → TellsRank plan.at plan.k left left' old.written new.written
+tells_rank plan old new h reader left left' text consumed end none all count rank =
+    let c = all.course in
+    let below : ℕ = ranked plan.at plan.k plan.key (items_in reader.known) in
+    let no_moments : c.moments ≡ [] = subst (λ (w : Option ℕ). MatchBool (is_some w) (AreMoments plan [] [] c.windows c.moments) (c.moments ≡ [])) none c.asks in
+    let line : interim_text plan c.moments ++ rank_line plan (items_in reader.known) ≡ told_line (length (numbers_in text)) below (rank_error (length (numbers_in text)) plan.k) =
+    ap (λ l. l ++ rank_line plan (items_in reader.known)) (no_text plan c.moments no_moments) ∙ (λ e. told_line (count e) below (rank_error (count e) plan.k)) in
+    record {
+      text = text;
+      consumed = consumed;
+      end = end;
+      below = below;
+      near = subst (λ n. abs_diff below (rank_of plan.at (numbers_in text)) ≤ rank_error n plan.k) count (subst (λ m. abs_diff below m ≤ rank_error (length (items_in reader.known)) plan.k) rank all.near);
+      written = subst (Appends old.written new.written) line all.written;
+    }
