@@ -1,9 +1,11 @@
 //! Takes so many steps of a table with one updater, or updates of a sketch and of a hub, for `bench/steps` to
 //! time. The words are a kind (`asks`, `turns` or `exchanges`, `sketch` or `hub`) and a number; without words
-//! nothing is done. `lines 0` and `numbers 0` count the lines of the standard input by the sketch alone.
+//! nothing is done. `lines 0` and `numbers 0` count the lines of the standard input by the sketch alone, and `reads`
+//! reads so many ranks while four updaters run, and prints how many items these took.
 #![tactic(auto)]
 
 mod direct;
+mod ranks;
 mod updates;
 
 ghost use Rattle.std.specs.Prelude.{◌≡◌, true, false, IfOk};
@@ -76,6 +78,28 @@ fn kind_of(word: &str) -> Option<Kind> {
     }
 }
 
+// Counts the lines of the standard input by the sketch alone.
+fn count_lines(rt: &HostRuntime, kind: Kind) -> ExitCode {
+    let Ok((n, d)) = direct::count(rt.alloc(), kind, &mut StdSource::new(rt.stdin())) else {
+        return ExitCode::FAILURE;
+    };
+    match println!(rt; "estimate {n}/{d}") {
+        Ok(()) => ExitCode::SUCCESS,
+        Err(_) => ExitCode::FAILURE,
+    }
+}
+
+// Prints how many items were taken.
+fn print_taken(rt: &HostRuntime, taken: Result<u64, OutOfMemory>) -> ExitCode {
+    let Ok(taken) = taken else {
+        return ExitCode::FAILURE;
+    };
+    match println!(rt; "items {taken}") {
+        Ok(()) => ExitCode::SUCCESS,
+        Err(_) => ExitCode::FAILURE,
+    }
+}
+
 fn main(rt: HostRuntime) -> ExitCode {
     let alloc = rt.alloc();
     let Ok(mut words) = env::args(&rt) else {
@@ -86,13 +110,7 @@ fn main(rt: HostRuntime) -> ExitCode {
         return ExitCode::SUCCESS;
     };
     if let Some(kind) = kind_of(kind.as_str()) {
-        let Ok((n, d)) = direct::count(alloc, kind, &mut StdSource::new(rt.stdin())) else {
-            return ExitCode::FAILURE;
-        };
-        return match println!(rt; "estimate {n}/{d}") {
-            Ok(()) => ExitCode::SUCCESS,
-            Err(_) => ExitCode::FAILURE,
-        };
+        return count_lines(&rt, kind);
     }
     let (Ok(count), Ok(mut made)) = (count.parse::<u64>(), table(alloc)) else {
         return ExitCode::FAILURE;
@@ -107,6 +125,7 @@ fn main(rt: HostRuntime) -> ExitCode {
         "exchanges" => exchange(&mut made.heart, count),
         "sketch" => return outcome(updates::sketch(alloc, distinct, count)),
         "hub" => return outcome(updates::hub(&rt, alloc, distinct, count)),
+        "reads" => return print_taken(&rt, ranks::reads(&rt, alloc, count)),
         _ => return ExitCode::FAILURE,
     }
     ExitCode::SUCCESS
