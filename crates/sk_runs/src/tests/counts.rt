@@ -27,6 +27,10 @@ piece=65536 | count --raw --updaters 4 --propagator no | # | 0 \
 | estimate 1152640029630136320/4096; |
 piece=65536 | count --raw --updaters 4 --eager no --b 1 | # | 0 \
 | estimate 1152640029630136320/4096; |
+piece=65536 | count --raw --updaters 4 --eager no --propagator no | # | 0 \
+| estimate 1152640029630136320/4096; |
+piece=65536 | count --raw --updaters 64 --eager no | # | 0 \
+| estimate 1152640029630136320/4096; |
 read=0 | count --raw --updaters 1 --file text | # | 0 | estimate 1152640029630136320/4096; |
 read=0 | count --raw --updaters 4 --file text | # | 0 | estimate 1152640029630136320/4096; |
 read=0 | count --raw --updaters 64 --file text | # | 0 | estimate 1152640029630136320/4096; |";
@@ -43,7 +47,7 @@ piece=65536 | count --raw | x;@x; | 6 | | line 1: not a number;";
 
 #[test]
 fn counts_that_are_fine(rt: HostRuntime) -> Result<(), Fail> {
-    check_rows(&rt, rt.alloc(), FINE, 22)
+    check_rows(&rt, rt.alloc(), FINE, 24)
 }
 
 #[test]
