@@ -11,6 +11,7 @@ usage:
       --k K        how many hashes are kept, 2 to 32768 (4096)
       --csv C      counts column C, 1 to 4096, of comma-separated values in place of lines
       --raw        each line spells its item, a number from 0 to 281474976710655
+                   that is a hash already; of plain ids it makes an estimate that is far off
       --seed S     the seed of the hash, 0 to 4294967295 (0)
       --file NAME  reads this file in place of the standard input
       --updaters N how many updaters share the lines, 1 to 64 (1)
