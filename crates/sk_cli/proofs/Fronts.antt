@@ -20,14 +20,6 @@ take_behind (x ∷ xs) ys n =
     let more : suc (length xs) + n ≡ suc (length xs + n) = omega arith in
     ap (λ (m : ℕ). take m (x ∷ (xs ++ ys))) more ∙ ap (λ (l : List ℕ). x ∷ l) (take_behind xs ys n)
 
--- a text, and then a front of another
-pub front_behind : (a b c : Option (List ℕ)) (xs ys : List ℕ) → Appends a b xs → AppendsFront b c ys → AppendsFront a c (xs ++ ys)
-front_behind a b c xs ys whole front = (
-  length xs + front.0,
-  omega (arith, front.1, length-append xs ys),
-  subst (Appends a c) (sym (take_behind xs ys front.0)) (Appends-trans a b c xs (take front.0 ys) whole front.2),
-)
-
 -- a text, and then a part of another
 pub part_behind : (a b c : Option (List ℕ)) (xs ys : List ℕ) → Appends a b xs → AppendsPart b c ys → AppendsPart a c (xs ++ ys)
 part_behind a b c xs ys whole part = (

@@ -1,16 +1,17 @@
 -- Hashes as text.
-use Rattle.std.proofs.Common.{◌≡◌, ℕ, ◌<◌, List, [], ◌∷◌, ◌++◌, length, flat_map, refl, ap, ◌∙◌, arith, append-nil}
+use Rattle.std.proofs.Common.{◌≡◌, ℕ, ◌<◌, List, [], ◌∷◌, ◌++◌, length, flat_map, refl, sym, ap, ◌∙◌, subst, arith, append-nil}
 use Rattle.std.proofs.lemmas.Grind.{flat_map-append}
 use Rattle.sk_model.specs.Murmur.{hash_of}
-use Rattle.sk_model.specs.Lines.{filled}
+use Rattle.sk_model.specs.Limits.{line_limit}
+use Rattle.sk_model.specs.Lines.{AreWithin, filled}
 use Rattle.sk_model.proofs.Lines.{filled_append, filled_of_one, filled_of_empty}
 use Rattle.sk_model.specs.Missing.{Begins}
+use Rattle.sk_cli.specs.Answering.{ByLines, GoesByAnswers, Answers}
 use Rattle.sk_cli.specs.Beside.{Beside}
 use Rattle.sk_cli.specs.declared.commands.hash.HashPlan.{HashPlan}
 use Rattle.sk_lines.specs.Hashes.{hash_line}
 use Rattle.sk_cli.specs.commands.Hash.{hash_text, hashing}
 use Rattle.sk_cli.proofs.Endings.{none_within}
-use Rattle.sk_cli.proofs.Reading.{ByLines}
 
 pub hash_text_append : (seed : ℕ) (xs ys : List (List ℕ)) → hash_text seed (xs ++ ys) ≡ hash_text seed xs ++ hash_text seed ys
 unfolding hash_text
@@ -49,3 +50,19 @@ hash_by_lines plan from = record {
 
 pub no_hash_yet : (plan : HashPlan) (from : Beside) (text : List ℕ) → (hashing plan).IsDueBefore from text (hash_text plan.seed [])
 no_hash_yet plan from text = (0, none_within, refl)
+
+-- it goes on from any lines by the hashes of further ones
+pub hashes_go : (plan : HashPlan) (from to : Beside) (given : List (List ℕ)) → GoesByAnswers (hashing plan) from to (λ lines text. text ≡ hash_text plan.seed lines) (λ lines line. ⊥) given
+hashes_go plan from to given = record {
+  by_lines = hash_by_lines plan from;
+  whole = λ more due is text same within. (subst (AreWithin line_limit) (sym same) within, is ∙ ap (λ (l : List (List ℕ)). hash_text plan.seed l) (sym same), tt);
+  refused = λ lines line due is bad. absurd bad;
+}
+
+-- a line was answered by its hash, or by nothing
+pub hash_answers : (seed : ℕ) (line said old new : List ℕ) → said ≡ hash_text seed (line ∷ []) → new ≡ old ++ said → Answers (λ lines text. text ≡ hash_text seed lines) (λ lines text. text ≡ hash_text seed lines) line old new
+hash_answers seed line said old new is text = record {
+  said = said;
+  text = text;
+  on = λ lines due due_is. ap (λ (t : List ℕ). t ++ said) due_is ∙ ap (λ (t : List ℕ). hash_text seed lines ++ t) is ∙ sym (hash_text_append seed lines (line ∷ []));
+}

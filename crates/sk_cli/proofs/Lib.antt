@@ -1,4 +1,5 @@
 pub mod Asking
+pub mod ByAnswers
 pub mod Completing
 pub mod CountDeciding
 pub mod Counting

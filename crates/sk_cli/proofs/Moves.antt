@@ -1,14 +1,12 @@
 -- Which count a fault moves.
-use Rattle.std.proofs.Common.{◌≡◌, ℕ, zero, suc, Result, Ok, Err, IfErr, IsErrAnd, refl, sym, ap, ◌∙◌, subst}
+use Rattle.std.proofs.Common.{◌≡◌, ℕ, zero, suc, Result, Ok, Err, IsErrAnd, refl, sym, ap, ◌∙◌, subst}
 use Rattle.std.specs.Result.{MatchResult}
-use Rattle.sk_model.specs.Causes.{Rose, HasCause, HasCauseIn}
+use Rattle.sk_model.specs.Causes.{Rose, HasCauseIn}
 use Rattle.sk_read.specs.declared.fault.Fault.{Fault as ReadingFault}
 use Rattle.sk_read.specs.declared.fault.Fault.TheVariants as reading
-use Rattle.sk_read.specs.declared.reader.LineFault.{LineFault}
-use Rattle.sk_read.specs.declared.reader.LineFault.TheVariants as stop
 use Rattle.sk_cli.specs.declared.fault.Fault.{Fault}
 use Rattle.sk_cli.specs.declared.fault.Fault.TheVariants as fault
-use Rattle.sk_cli.specs.Fault.{fault_by, fault_by_line, bad_unit}
+use Rattle.sk_cli.specs.Fault.{fault_by, bad_unit}
 use Rattle.sk_cli.specs.Outside.{Streams}
 use Rattle.sk_cli.specs.Run.{HasCauses}
 
@@ -54,10 +52,10 @@ causes_of a b fault.WriteFault moves = record {
 }
 causes_of a b f stay = elsewhere a b f (λ is. cc) (λ is. cc) stay
 
--- a command that was given a fault
-pub caused_by : (a b : Streams) (r : Result (Unit {0}) Fault) (f : Fault) → IsErrAnd r (λ (e : Fault). e ≡ f) → Moves a b f → HasCauses a b r
-caused_by a b (Ok x) f gives moves = absurd gives
-caused_by a b (Err e) f gives moves = subst (λ (x : Fault). HasCauses a b (Err x)) (sym gives) (causes_of a b f moves)
+-- a command that was given a fault of neither
+pub caused_elsewhere : (a b : Streams) (r : Result (Unit {0}) Fault) (f : Fault) → IsErrAnd r (λ (e : Fault). e ≡ f) → (f ≡ fault.ReadFault → ⊥) → (f ≡ fault.WriteFault → ⊥) → (b.read_faults ≡ a.read_faults) × (b.write_faults ≡ a.write_faults) → HasCauses a b r
+caused_elsewhere a b (Ok x) f gives no_read no_write stay = absurd gives
+caused_elsewhere a b (Err e) f gives no_read no_write stay = subst (λ (x : Fault). HasCauses a b (Err x)) (sym gives) (elsewhere a b f no_read no_write stay)
 
 -- a command that met no fault
 pub no_cause : (a b : Streams) → b.read_faults ≡ a.read_faults → b.write_faults ≡ a.write_faults → HasCauses a b (Ok tt)
@@ -66,30 +64,12 @@ no_cause a b read write = record {
   write = record { steady = λ no. write; failed = λ is. absurd (no_fault fault.WriteFault is) };
 }
 
--- a command whose last step is a write
-pub writing_causes : (a b : Streams) (r : Result (Unit {0}) Fault) → b.read_faults ≡ a.read_faults → HasCause a.write_faults b.write_faults r → IfErr r (λ (f : Fault). f ≡ fault.WriteFault) → HasCauses a b r
-writing_causes a b (Ok x) read cause is = no_cause a b read cause.steady
-writing_causes a b (Err e) read cause is = subst (λ (x : Fault). HasCauses a b (Err x)) (sym is) (causes_of a b fault.WriteFault (read, cause.failed))
-
 ok_is_no_error : {T E : Type 0} (v : T) (fault : E) → Ok v ≡ Err fault → ⊥
 ok_is_no_error v fault is = cc
 
 -- a call that did not fail leaves the count
 pub steady_ok : {T E : Type 0} (fault : E) (before now : ℕ) (r : Result T E) (v : T) → HasCauseIn fault before now r → r ≡ Ok v → now ≡ before
 steady_ok fault before now r v cause ok = cause.steady (λ failed. ok_is_no_error v fault (sym ok ∙ failed))
-
--- a fault of lines
-pub line_moves : (T : Type 0) (a b : Streams) (before : ℕ) (r : Result T LineFault) (s : LineFault) → r ≡ Err s → HasCauseIn stop.ReadFault before b.read_faults r → before ≡ a.read_faults → b.write_faults ≡ a.write_faults →
-    Moves a b (fault_by_line s)
-line_moves T a b before r stop.ReadFault is cause same write = (subst (λ (n : ℕ). Rose n b.read_faults) same (cause.failed is), write)
-line_moves T a b before r (stop.LongLine n) is cause same write = (cause.steady (λ failed. other n (sym is ∙ failed)) ∙ same, write)
-  where
-    other : (n : ℕ) → error_of T (stop.LongLine n) ≡ Err stop.ReadFault → ⊥
-    other n is = cc
-line_moves T a b before r stop.TooMuch is cause same write = (cause.steady (λ failed. other (sym is ∙ failed)) ∙ same, write)
-  where
-    other : error_of T stop.TooMuch ≡ Err stop.ReadFault → ⊥
-    other is = cc
 
 another : (T : Type 0) (f g : ReadingFault) → (f ≡ g → ⊥) → error_of T f ≡ Err g → ⊥
 another T f g differs is = differs (one f g is)

@@ -3,23 +3,25 @@ use Rattle.std.proofs.Common.{◌≡◌, inr, ℕ, ◌-◌, ◌<◌, ◌≤◌, 
 use Rattle.std.specs.Bool.{OnTrue}
 use Rattle.std.specs.Io.KnownBytes.{Appends, Consumes, IsAtEnd}
 use Rattle.std.proofs.KnownBytes.{Consumes-nil, Consumes-trans}
+use Rattle.std.proofs.lemmas.List.Elements.{All-take}
 use Rattle.sk_model.specs.Causes.{AppendsFront, AppendsPart}
 use Rattle.sk_model.specs.Limits.{line_limit}
 use Rattle.sk_model.specs.Lines.{lines_of, open_lines_of, AreWithin, IsFirstLong}
 use Rattle.sk_model.specs.Missing.{Begins}
+use Rattle.sk_model.proofs.Missing.{begins_append, begins_trans}
 use Rattle.sk_read.specs.Items.{complete_lines_of}
 use Rattle.sk_read.specs.Reading.{Reading, HasRead, Goes}
-use Rattle.sk_read.specs.Reads.{IsInTime as IsReadInTime}
+use Rattle.sk_read.specs.Reads.{IsSettled, IsInTime as IsReadInTime}
 use Rattle.sk_read.specs.declared.reader.LineFault.{LineFault}
 use Rattle.sk_read.specs.declared.reader.LineFault.TheVariants as stop
 use Rattle.sk_read.specs.declared.units.Units.TheVariants.{Lines}
 use Rattle.sk_read.proofs.ItemLaws.{front_is}
 use Rattle.sk_read.proofs.LineEnds.{settled_so}
 use Rattle.sk_read.proofs.Readings.{given_settled}
+use Rattle.sk_cli.specs.Answering.{ByLines}
 use Rattle.sk_cli.specs.Behaviour.{Behaviour}
 use Rattle.sk_cli.specs.Beside.{Beside}
 use Rattle.sk_cli.specs.Fault.{fault_by_line}
-use Rattle.sk_cli.specs.Lines.{IsLongLine}
 use Rattle.sk_cli.specs.Outside.{Streams}
 use Rattle.sk_cli.specs.Run.{Finishes, Stops, IsInTime, WritesOn, IsDueOnTheWay, BreaksOff, GivesUp, Ends}
 use Rattle.sk_cli.specs.declared.fault.Fault.TheVariants as fault
@@ -84,14 +86,27 @@ first_are given lines n is begins = ap (λ (m : ℕ). take m lines) is ∙ front
 pub within_given : (r : Reading) (left now : Option (List ℕ)) (most : ℕ) (given : List (List ℕ)) (taken : List ℕ) → Reads r left now most given taken → AreWithin line_limit given
 within_given r left now most given taken reads = subst (λ (m : ℕ). AreWithin m given) reads.read.limit reads.read.has.within
 
--- a command that examines line by line, with the text that is due for lines of which none is refused
-pub record ByLines (how : Behaviour) (from : Beside) (Due : List (List ℕ) → List ℕ → Type 0) : Type 0 where
-  pub reads_it : how.reads ≡ true
-  pub fine : (taken due : List ℕ) → AreWithin line_limit (open_lines_of taken) → Due (complete_lines_of taken) due → how.IsFineSoFar taken
-  pub so_far : (taken due : List ℕ) → Due (complete_lines_of taken) due → how.IsDueSoFar from taken due
-  pub before : (n : ℕ) (text due : List ℕ) → AreWithin line_limit (take n (lines_of text)) → Due (take n (lines_of text)) due → how.IsDueBefore from text due
-  pub long : (n : ℕ) (text due : List ℕ) → IsLongLine n (lines_of text) → Due (take (n - 1) (lines_of text)) due → how.Refuses (fault.LongLine n) text × how.IsDueAt from (fault.LongLine n) text due
-  pub front : (lines rest : List (List ℕ)) (due : List ℕ) → Due (lines ++ rest) due → (part : List ℕ) × Due lines part × Begins part due
+-- of these bytes, behind which this is left, these lines were given
+pub record WereGiven (left : Option (List ℕ)) (most : ℕ) (given : List (List ℕ)) (taken : List ℕ) : Type 0 where
+  pub settled : IsSettled (λ text. Begins given (lines_of text)) left taken
+  pub within : AreWithin line_limit given
+  pub size : length taken ≤ most
+
+pub were_given : (r : Reading) (left : Option (List ℕ)) (most : ℕ) (given : List (List ℕ)) (taken : List ℕ) → r.most ≡ most → HasRead r left given taken → WereGiven left most given taken
+were_given r left most given taken is read = record {
+  settled = given_settled r left given taken read;
+  within = subst (λ (m : ℕ). AreWithin m given) read.limit read.has.within;
+  size = omega (arith, read.has.count, read.bound, is);
+}
+
+-- the first of them too
+pub first_were_given : (left : Option (List ℕ)) (most : ℕ) (given more : List (List ℕ)) (taken : List ℕ) → WereGiven left most (given ++ more) taken → WereGiven left most given taken
+first_were_given left most given more taken were = record {
+  settled = settled_so (λ (text : List ℕ). Begins (given ++ more) (lines_of text)) (λ (text : List ℕ). Begins given (lines_of text)) left taken
+      (λ text begins. begins_trans given (given ++ more) (lines_of text) (begins_append given more) begins) were.settled;
+  within = subst (AreWithin line_limit) (front_is given (given ++ more) (begins_append given more)) (All-take (λ (l : List ℕ). length l ≤ line_limit) (length given) (given ++ more) were.within);
+  size = were.size;
+}
 
 pub on_true : (t : Bool) (P : Type 0) → P → OnTrue t P
 on_true true P holds = holds
@@ -160,42 +175,39 @@ module _ (how : Behaviour) (from : Beside) (Due : List (List ℕ) → List ℕ �
   }
 
   -- what is due for the lines given is due for the first lines of each text that goes on so
-  due_before : (r : Reading) (given : List (List ℕ)) (due taken : List ℕ) → Reads r a.left b.left most given taken → Due given due → IsDueOnTheWay how from b.left taken due
-  due_before r given due taken reads is_due =
+  due_before : (given : List (List ℕ)) (due taken : List ℕ) → WereGiven b.left most given taken → Due given due → IsDueOnTheWay how from b.left taken due
+  due_before given due taken were is_due =
       settled_so (λ (text : List ℕ). Begins given (lines_of text)) (λ (text : List ℕ). how.IsDueBefore from text due) b.left taken
       (λ text begins.
       let first : take (length given) (lines_of text) ≡ given = first_are given (lines_of text) (length given) refl begins in
-      by.before (length given) text due (subst (AreWithin line_limit) (sym first) (within_given r a.left b.left most given taken reads)) (subst (λ (l : List (List ℕ)). Due l due) (sym first) is_due))
-      (given_settled r b.left given taken reads.read)
+      by.before (length given) text due (subst (AreWithin line_limit) (sym first) were.within) (subst (λ (l : List (List ℕ)). Due l due) (sym first) is_due))
+      were.settled
 
-  few_bytes : (r : Reading) (given : List (List ℕ)) (taken : List ℕ) → Reads r a.left b.left most given taken → length taken ≤ most
-  few_bytes r given taken reads = omega (arith, reads.read.has.count, reads.read.bound, reads.most_is)
-
-  -- a write that ends early, of what is due for one line more
-  pub cut_short : (r : Reading) (given : List (List ℕ)) (line due more taken : List ℕ) (mid : Option (List ℕ)) → Reads r a.left b.left most (given ++ line ∷ []) taken → IsReadInTime Lines given taken → Due given due →
-      Due (given ++ line ∷ []) (due ++ more) → Appends a.written mid due → AppendsPart mid b.written more → BreaksOff how most from a b
-  cut_short r given line due more taken mid reads time was_due is_due whole part =
+  -- a write that ends early, of what is due for some lines more
+  pub cut_short : (given more : List (List ℕ)) (due text taken : List ℕ) (mid : Option (List ℕ)) → WereGiven b.left most (given ++ more) taken → Consumes a.left b.left taken → IsReadInTime Lines given taken → Due given due →
+      Due (given ++ more) (due ++ text) → Appends a.written mid due → AppendsPart mid b.written text → BreaksOff how most from a b
+  cut_short given more due text taken mid were consumed time was_due is_due whole part =
       let before = earlier given due taken time was_due in
-      let on = part_on a.written mid b.written before.text due more before.begins whole part in
-      let by_lines : WritesOn how from taken (due ++ more) a.written b.written = record { earlier = before.text; was_due = before.was_due; written = on } in
+      let on = part_on a.written mid b.written before.text due text before.begins whole part in
+      let by_lines : WritesOn how from taken (due ++ text) a.written b.written = record { earlier = before.text; was_due = before.was_due; written = on } in
       record {
         taken = taken;
-        due = due ++ more;
-        consumed = reads.consumed;
-        size = few_bytes r (given ++ line ∷ []) taken reads;
-        is_due = inr (on_true how.reads (IsInTime how.IsFineSoFar taken) (in_time given due taken time was_due), due_before r (given ++ line ∷ []) (due ++ more) taken reads is_due);
+        due = due ++ text;
+        consumed = consumed;
+        size = were.size;
+        is_due = inr (on_true how.reads (IsInTime how.IsFineSoFar taken) (in_time given due taken time was_due), due_before (given ++ more) (due ++ text) taken were is_due);
         written = (on.size, on.most, on.written);
-        by_lines = on_true how.writes_by_lines (WritesOn how from taken (due ++ more) a.written b.written) by_lines;
+        by_lines = on_true how.writes_by_lines (WritesOn how from taken (due ++ text) a.written b.written) by_lines;
       }
 
   -- no memory for what is due next
-  pub gives_up : (r : Reading) (given : List (List ℕ)) (due taken : List ℕ) → Reads r a.left b.left most given taken → Due given due → AppendsFront a.written b.written due → GivesUp how most from a b
-  gives_up r given due taken reads is_due front = record {
+  pub gives_up : (given : List (List ℕ)) (due taken : List ℕ) → WereGiven b.left most given taken → Consumes a.left b.left taken → Due given due → AppendsFront a.written b.written due → GivesUp how most from a b
+  gives_up given due taken were consumed is_due front = record {
     taken = taken;
     due = due;
-    consumed = reads.consumed;
-    size = few_bytes r given taken reads;
-    is_due = inr (due_before r given due taken reads is_due);
+    consumed = consumed;
+    size = were.size;
+    is_due = inr (due_before given due taken were is_due);
     written = front;
   }
 

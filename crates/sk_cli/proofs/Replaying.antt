@@ -4,11 +4,11 @@ use Rattle.std.proofs.lemmas.Grind.{flat_map-append}
 use Rattle.std.proofs.lemmas.List.{map-append}
 use Rattle.std.specs.Io.KnownBytes.{Appends}
 use Rattle.std.proofs.KnownBytes.{Appends-nil}
-use Rattle.sk_model.specs.Causes.{AppendsFront, AppendsPart}
 use Rattle.sk_model.specs.Limits.{line_limit}
 use Rattle.sk_model.specs.Lines.{lines_of, AreWithin}
 use Rattle.sk_model.specs.Missing.{Begins}
 use Rattle.sk_machine.specs.Fine.{Fine}
+use Rattle.sk_core.specs.Stored.{Stored, machine_of}
 use Rattle.sk_core.specs.Runs.{MeetsAll, IsRun}
 use Rattle.sk_core.specs.Texts.{event_of, fields_of}
 use Rattle.sk_core.specs.declared.event.Event.{Event}
@@ -19,13 +19,14 @@ use Rattle.sk_read.specs.Reads.{IsInTime as IsReadInTime}
 use Rattle.sk_read.specs.declared.units.Units.TheVariants.{Lines}
 use Rattle.sk_read.proofs.LineEnds.{settled_so}
 use Rattle.sk_read.proofs.Readings.{given_settled}
+use Rattle.sk_cli.specs.Answering.{ByLines, GoesByAnswers, Answers}
 use Rattle.sk_cli.specs.Beside.{Beside}
-use Rattle.sk_cli.specs.commands.Replay.{start_of, IsPlay, Played, answer_line, answers_text, IsAnswered, IsNoMore, IsBadLine, replaying}
+use Rattle.sk_cli.specs.commands.Replay.{start_of, started, MeetsThere, IsPlay, Played, answer_line, answers_text, IsAnswered, LedTo, IsNoMore, IsBadLine, replaying}
 use Rattle.sk_cli.specs.Outside.{Streams}
-use Rattle.sk_cli.specs.Run.{Refuses, BreaksOff, GivesUp}
+use Rattle.sk_cli.specs.Run.{Refuses}
 use Rattle.sk_cli.specs.declared.fault.Fault.TheVariants as fault
 use Rattle.sk_cli.proofs.Endings.{none_within}
-use Rattle.sk_cli.proofs.Reading.{ByLines, Reads, Went, within_given, first_are, in_time, cut_short, gives_up}
+use Rattle.sk_cli.proofs.Reading.{Reads, Went, within_given, first_are, in_time}
 use Rattle.sk_cli.proofs.Schedules.{answered_front}
 
 pub answers_more : (answers : List Answer) (a : Answer) → answers_text (answers ++ a ∷ []) ≡ answers_text answers ++ answer_line a
@@ -61,10 +62,6 @@ played_more k first lines answers from line a to played play = record {
   run = subst (λ (f : Fine). IsRun k (played.events ++ play.event ∷ []) (answers ++ a ∷ []) played.start f) (sym play.machine) (run_more k played.events answers played.start from play.event a played.run play.step);
   invariant = play.invariant;
 }
-
--- what is due for the lines of a schedule that were played
-pub answered : (k : ℕ) (first : List ℕ) (lines : List (List ℕ)) (answers : List Answer) (reached : Fine) → Played k first lines answers reached → IsAnswered (first ∷ lines) (answers_text answers)
-answered k first lines answers reached played = (k, answers, reached, played, refl)
 
 -- `replay` examines line by line
 pub replay_by_lines : (from : Beside) → ByLines replaying from IsAnswered
@@ -145,17 +142,30 @@ refuses_nothing from a b most r on same =
       written = subst (λ (w : Option (List ℕ)). Appends a.written w []) (sym same) (Appends-nil a.written);
     }
 
--- a line that was played, and whose answer was written in part or not at all
-module _ (from : Beside) (a b : Streams) (most k : ℕ) (r : Reading) (first : List ℕ) (lines : List (List ℕ)) (answers : List Answer) (here to : Fine) (line taken : List ℕ) (said : Answer) (played : Played k first lines answers here)
-    (play : IsPlay line k here said to) (reads : Reads r a.left b.left most (first ∷ (lines ++ line ∷ [])) taken) where
-  due_is : IsAnswered (first ∷ (lines ++ line ∷ [])) (answers_text answers ++ answer_line said)
-  due_is =
-      subst (λ (l : List ℕ). IsAnswered (first ∷ (lines ++ line ∷ [])) l) (answers_more answers said)
-      (answered k first (lines ++ line ∷ []) (answers ++ said ∷ []) to (played_more k first lines answers here line said to played play))
+-- ---- answers
 
-  pub answer_cut_short : (mid : Option (List ℕ)) → IsReadInTime Lines (first ∷ lines) taken → Appends a.written mid (answers_text answers) → AppendsPart mid b.written (answer_line said) → BreaksOff replaying most from a b
-  answer_cut_short mid time whole part =
-      cut_short replaying from IsAnswered (replay_by_lines from) most a b r (first ∷ lines) line (answers_text answers) (answer_line said) taken mid reads time (answered k first lines answers here played) due_is whole part
+-- it goes on from its first line by the answers to events
+pub replay_goes : (from to : Beside) (first : List ℕ) → GoesByAnswers replaying from to IsAnswered IsNoMore (first ∷ [])
+replay_goes from to first = record {
+  by_lines = replay_by_lines from;
+  whole = λ more due is text same within. whole_schedule from to (first ∷ more) due text same within is (omega arith);
+  refused = λ lines line due is bad text begins within.
+      let found = bad_line (length lines + 1) lines line (lines_of text) refl within bad begins in
+      (found.0, subst (λ (l : List (List ℕ)). IsAnswered l due) (sym found.1) is);
+}
 
-  pub answer_given_up : AppendsFront a.written b.written (answers_text answers ++ answer_line said) → GivesUp replaying most from a b
-  answer_given_up front = gives_up replaying from IsAnswered (replay_by_lines from) most a b r (first ∷ (lines ++ line ∷ [])) (answers_text answers ++ answer_line said) taken reads due_is front
+-- the start led to its first line
+pub led_to_start : (state : Stored) (first : List ℕ) → start_of first ≡ Some (started state) → MeetsThere (Some state) → LedTo state (first ∷ []) []
+led_to_start state first named meets = ([], played_none state.k first (machine_of state) named meets, sym no_answers)
+
+-- a line was played, and the answer to its event put behind a text
+pub play_answers : (old new : Stored) (line : List ℕ) (said : Answer) (before after : List ℕ) → IsPlay line old.k (machine_of old) said (machine_of new) → new.k ≡ old.k → after ≡ before ++ answer_line said → Answers (LedTo old) (LedTo new) line before after
+play_answers old new line said before after play same text = record { said = answer_line said; text = text; on = on }
+  where
+    on : (lines : List (List ℕ)) (due : List ℕ) → LedTo old lines due → LedTo new (lines ++ line ∷ []) (due ++ answer_line said)
+    on [] due led = absurd led
+    on (first ∷ lines) due led = (
+      led.0 ++ said ∷ [],
+      subst (λ (k : ℕ). Played k first (lines ++ line ∷ []) (led.0 ++ said ∷ []) (machine_of new)) (sym same) (played_more old.k first lines led.0 (machine_of old) line said (machine_of new) led.1 play),
+      ap (λ (t : List ℕ). t ++ answer_line said) led.2 ∙ sym (answers_more led.0 said),
+    )

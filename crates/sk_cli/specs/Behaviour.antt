@@ -8,7 +8,7 @@ pub record Behaviour : Type 1 where
   pub reads : Bool
   -- whether it writes only once its text has ended
   pub writes_last : Bool
-  -- whether it writes what is due for a line before it examines the next one
+  -- whether it writes what is due for the lines of a read before it reads on
   pub writes_by_lines : Bool
   -- what decides how it ends: nothing of a text is refused
   pub IsFine : List ℕ → Type 0

@@ -1,3 +1,4 @@
+pub mod Answering
 pub mod Behaviour
 pub mod Beside
 pub mod Command

@@ -1,6 +1,7 @@
 //! The program without its edge: what it does over any source and any sinks.
 #![tactic(auto)]
 
+mod answering;
 mod command;
 mod commands;
 mod execute;

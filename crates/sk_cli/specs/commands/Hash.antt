@@ -25,7 +25,7 @@ abbrev pub IsRefusedBy : Fault → List (List ℕ) → Type 0
 IsRefusedBy (LongLine n) lines = IsLongLine n lines
 IsRefusedBy other lines = ⊥
 
--- it writes the hash of each line before the next one is examined
+-- it writes the hashes of the lines of a read before it reads on
 abbrev pub hashing : HashPlan → Behaviour
 hashing plan = record {
   reads = true;

@@ -76,6 +76,15 @@ abbrev pub IsAnswered : List (List ℕ) → List ℕ → Type 0
 IsAnswered [] due = due ≡ []
 IsAnswered (first ∷ lines) due = (k : ℕ) × (answers : List Answer) × (reached : Fine) × Played k first lines answers reached × (due ≡ answers_text answers)
 
+-- these are lines of a schedule that led to this state, and their events were answered by this text
+abbrev pub LedTo : Stored → List (List ℕ) → List ℕ → Type 0
+LedTo state [] due = ⊥
+LedTo state (first ∷ lines) due = (answers : List Answer) × Played state.k first lines answers (machine_of state) × (due ≡ answers_text answers)
+
+pub led_is_due : (state : Stored) (lines : List (List ℕ)) (due : List ℕ) → LedTo state lines due → IsAnswered lines due
+led_is_due state [] due led = absurd led
+led_is_due state (first ∷ lines) due led = (state.k, led.0, machine_of state, led.1, led.2)
+
 -- these are lines of a schedule: the first names a start, and each further one goes on with those before it
 abbrev pub IsSchedule : List (List ℕ) → Type 0
 IsSchedule lines = (due : List ℕ) × IsAnswered lines due
@@ -101,7 +110,7 @@ IsRefusedBy (LongLine n) lines = IsLongLine n lines × IsSchedule (take (n - 1) 
 IsRefusedBy (BadEvent n) lines = IsBadLine n lines
 IsRefusedBy other lines = ⊥
 
--- it writes the answer to each line before the next one is examined
+-- it writes the answers to the lines of a read before it reads on
 abbrev pub replaying : Behaviour
 replaying = record {
   reads = true;

@@ -1,19 +1,18 @@
 // The command that writes the hash of each line.
-ghost use Rattle.std.specs.Prelude.{◌≡◌, ◌≤◌, ◌∷◌, [], OnOk, OnErr, IfErr};
-ghost use Rattle.std.specs.Io.KnownBytes.{Appends};
-ghost use Rattle.sk_model.specs.Causes.{HasCause, AppendsPart};
+ghost use Rattle.std.specs.Prelude.{◌≡◌, ◌≤◌};
 ghost use Rattle.sk_model.specs.Limits.{source_limit};
 ghost use Rattle.sk_cli.specs.Beside.{Beside};
 ghost use Rattle.sk_cli.specs.Outside.{streams_of};
 ghost use Rattle.sk_cli.specs.Run.{Executes, HasCauses};
 ghost use Rattle.sk_cli.specs.commands.Hash.{plan_by, hash_text, hashing};
 
+use crate::answering::{Answerer, answer_lines};
 use crate::fault::Fault;
 use crate::options::Options;
-use crate::write::write_text;
 use sk_hash::hash48;
 use sk_io::{Sink, Source};
 use sk_lines::hash_line;
+use sk_model::OutOfMemory;
 use sk_read::LineReader;
 use std::alloc::Global;
 
@@ -34,20 +33,27 @@ impl HashPlan {
     }
 }
 
-// Writes the hash of a line, if it is not empty.
-fn put_hash<O: Sink>(seed: u32, line: &[u8], out: &mut O) -> Result<(), Fault>
-    ensures ok { OnOk result (Appends (O.written out.old) (O.written out.new) (hash_text seed (line.now ∷ []))) }
-    ensures part { OnErr result (AppendsPart (O.written out.old) (O.written out.new) (hash_text seed (line.now ∷ []))) }
-    ensures cause { HasCause (O.faults out.old) (O.faults out.new) result }
-    ensures err { IfErr result (λ fault. fault ≡ Fault.WriteFault) }
-{
-    if line.is_empty() {
-        return Ok(());
+impl Answerer for HashPlan {
+    ghost how = { λ plan. hashing plan };
+
+    ghost due = { λ plan lines text. text ≡ hash_text plan.seed lines };
+
+    ghost led = { λ plan lines text. text ≡ hash_text plan.seed lines };
+
+    ghost refuses = { λ lines line. ⊥ };
+
+    ghost is_due = { λ plan lines text is. is };
+
+    fn answer(&mut self, line: &[u8], text: &mut Vec<u8>) -> Result<bool, OutOfMemory> {
+        if line.is_empty() {
+            return Ok(true);
+        }
+        text.extend_from_slice(&hash_line(hash48(self.seed, line)))?;
+        Ok(true)
     }
-    write_text(out, &hash_line(hash48(seed, line)))
 }
 
-/// Writes the hash of each line that is not empty, before the next line is examined.
+/// Writes the hash of each line that is not empty, before more is read.
 pub fn hash<S: Source, O: Sink>(
     alloc: Global,
     plan: &HashPlan,
@@ -63,8 +69,6 @@ pub fn hash<S: Source, O: Sink>(
     ensures stays { S.stands_on source.new ≡ S.stands_on source.old }
 {
     let mut reader = LineReader::new(alloc, most)?;
-    'line: while reader.next(source)? {
-        put_hash(plan.seed, reader.line(), out)?;
-    }
-    Ok(())
+    let mut hasher = *plan;
+    answer_lines(alloc, &mut reader, &mut hasher, source, out)
 }

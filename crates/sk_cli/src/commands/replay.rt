@@ -6,10 +6,10 @@ ghost use Rattle.sk_core.specs.Stored.{machine_of};
 ghost use Rattle.sk_cli.specs.Beside.{Beside};
 ghost use Rattle.sk_cli.specs.Outside.{streams_of};
 ghost use Rattle.sk_cli.specs.Run.{Executes, HasCauses};
-ghost use Rattle.sk_cli.specs.commands.Replay.{start_of, started, MeetsThere, answer_line, IsPlay, IsNoPlay, replaying};
+ghost use Rattle.sk_cli.specs.commands.Replay.{start_of, started, MeetsThere, answer_line, IsPlay, IsNoPlay, IsNoMore, IsAnswered, LedTo, led_is_due, replaying};
 
+use crate::answering::{Answerer, answer_lines};
 use crate::fault::Fault;
-use crate::write::write_text;
 use sk_core::{Answer, State, push_answer, read_event, read_machine, read_vacant};
 use sk_io::{Sink, Source};
 use sk_model::OutOfMemory;
@@ -50,7 +50,35 @@ fn set_line(text: &mut Vec<u8>, answer: &Answer) -> Result<(), OutOfMemory>
     Ok(())
 }
 
-/// Plays a schedule, and writes the answer to each event before the next line is examined.
+// Who plays the events of a schedule.
+#[derive(Drop)]
+struct Player {
+    state: State,
+    line: Vec<u8>,
+}
+
+impl Answerer for Player {
+    ghost how = { λ _. replaying };
+
+    ghost due = { λ _. IsAnswered };
+
+    ghost led = { λ player. LedTo player.state };
+
+    ghost refuses = { IsNoMore };
+
+    ghost is_due = { λ player. led_is_due player.state };
+
+    fn answer(&mut self, line: &[u8], text: &mut Vec<u8>) -> Result<bool, OutOfMemory> {
+        let Some(answer) = play(line, &mut self.state) else {
+            return Ok(false);
+        };
+        set_line(&mut self.line, &answer)?;
+        text.extend_from_slice(&self.line)?;
+        Ok(true)
+    }
+}
+
+/// Plays a schedule, and writes the answer to each event before more is read.
 pub fn replay<S: Source, O: Sink>(
     alloc: Global,
     most: u64,
@@ -68,16 +96,12 @@ pub fn replay<S: Source, O: Sink>(
     if !reader.next(source)? {
         return Err(Fault::BadEvent(1));
     }
-    let Some(mut state) = start(alloc, reader.line())? else {
+    let Some(state) = start(alloc, reader.line())? else {
         return Err(Fault::BadEvent(1));
     };
-    let mut text = Vec::new(alloc);
-    'line: while reader.next(source)? {
-        let Some(answer) = play(reader.line(), &mut state) else {
-            return Err(Fault::BadEvent(reader.number()));
-        };
-        set_line(&mut text, &answer)?;
-        write_text(out, &text)?;
-    }
-    Ok(())
+    let mut player = Player {
+        state,
+        line: Vec::new(alloc),
+    };
+    answer_lines(alloc, &mut reader, &mut player, source, out)
 }

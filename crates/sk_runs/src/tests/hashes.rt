@@ -1,4 +1,4 @@
-// Hashes of lines, which are written before the next line is examined.
+// Hashes of lines, which are written before more is read.
 use super::rows::check_rows;
 use std::test::Fail;
 

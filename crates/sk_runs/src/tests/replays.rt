@@ -71,6 +71,8 @@ piece=65536 | replay | machine 2 1 1;ask 1;@x | 7 | | line 2: bad event;
 piece=22 read=1 | replay | machine 2 1 1;ask 0;ask 0;ask 0; | 3 | estimate 0/1; | read fault;
 piece=65536 room=20 | replay | machine 2 1 1;ask 0;ask 0;ask 0; | 4 \
 | estimate 0/1;estimat | write fault;
+piece=65536 room=20 | replay | machine 2 1 1;ask 0;ask 0;ask 1; | 4 \
+| estimate 0/1;estimat | write fault;
 piece=65536 room=0 | replay | machine 2 1 1; | 0 | |";
 
 #[test]
@@ -85,7 +87,7 @@ fn every_event(rt: HostRuntime) -> Result<(), Fail> {
 
 #[test]
 fn schedules_that_break_off(rt: HostRuntime) -> Result<(), Fail> {
-    check_rows(&rt, rt.alloc(), BROKEN_OFF, 5)
+    check_rows(&rt, rt.alloc(), BROKEN_OFF, 6)
 }
 
 // There are 256 tokens, one from the start on.
