@@ -9,8 +9,8 @@ ghost use Rattle.sk_ingest.specs.Hubs.{Hub, hub_of, HeartGoesOn};
 ghost use Rattle.sk_ingest.specs.Ingests.{StopsAtUnit};
 ghost use Rattle.sk_ingest.specs.Takers.{UnitsWent, IsAlone, untold};
 
-use crate::feed::{insist, offer};
-use crate::turns::sweep;
+use crate::feed::offer;
+use crate::propagation::{Propagation, propagate};
 use sk_compose::Composable;
 use sk_hub::{Heart, Opened, Update, Updater};
 use sk_model::OutOfMemory;
@@ -68,40 +68,21 @@ fn take_unit<C: Composable, R: Wait>(
     match plan.kind.item(unit) {
         Some(item) => {
             let updater = &mut opened.updaters[0];
-            feed_one(rt, &mut opened.heart, updater, item, plan.propagator)?;
+            feed_one(rt, &mut opened.heart, updater, item, plan)?;
             Ok(())
         }
         None => Err(Fault::BadItem(number)),
     }
 }
 
-// Feeds an item until it is taken. The heart propagates where the updater is busy, or the updater itself.
+// Feeds an item until it is taken. Where the updater is busy one propagates.
 #[inline(always)]
 fn feed_one<C: Composable, R: Wait>(
     rt: &R,
     heart: &mut Heart<C>,
     u: &mut Updater<C>,
     item: u64,
-    propagator: bool,
-) -> Result<(), OutOfMemory>
-    requires item { IsItem item }
-    requires room { length (kept_of u.old) < most_kept }
-    ensures taken { OnOk result (Takes C.keeps_of C.hint_of u.old (item ∷ []) u.new) }
-    ensures heart { HeartGoesOn heart.old heart.new }
-{
-    if propagator {
-        return insist_sweeping(rt, heart, u, item);
-    }
-    insist(rt, u, item)
-}
-
-// Offers an item until it is taken. The heart propagates in between.
-#[inline(always)]
-fn insist_sweeping<C: Composable, R: Wait>(
-    rt: &R,
-    heart: &mut Heart<C>,
-    u: &mut Updater<C>,
-    item: u64,
+    plan: &Intake,
 ) -> Result<(), OutOfMemory>
     requires item { IsItem item }
     requires room { length (kept_of u.old) < most_kept }
@@ -109,18 +90,19 @@ fn insist_sweeping<C: Composable, R: Wait>(
     ensures heart { HeartGoesOn heart.old heart.new }
 {
     match offer(u, item) {
-        Update::Busy => sweep_until_taken(rt, heart, u, item),
+        Update::Busy => propagate_until_taken(rt, heart, u, item, Propagation::of(plan)),
         Update::Filtered | Update::Kept | Update::Handed => Ok(()),
     }
 }
 
 // The same with a loop, which costs as much as the filter, and is seldom due.
 #[inline(never)]
-fn sweep_until_taken<C: Composable, R: Wait>(
+fn propagate_until_taken<C: Composable, R: Wait>(
     rt: &R,
     heart: &mut Heart<C>,
     u: &mut Updater<C>,
     item: u64,
+    by: Propagation,
 ) -> Result<(), OutOfMemory>
     requires item { IsItem item }
     requires room { length (kept_of u.old) < most_kept }
@@ -129,7 +111,7 @@ fn sweep_until_taken<C: Composable, R: Wait>(
 {
     'again: for _ in rt.forever() {
         match offer(u, item) {
-            Update::Busy => sweep(rt, heart)?,
+            Update::Busy => propagate(rt, heart, u, by)?,
             _ => return Ok(()),
         }
     }

@@ -124,12 +124,7 @@ where
         opened,
         report,
     )?;
-    let Intake {
-        kind,
-        propagator,
-        ..
-    } = *plan;
-    feed_at_once(rt, opened, &mut feeders, &window, kind, propagator)?;
+    feed_at_once(rt, opened, &mut feeders, &window, plan)?;
     Ok(count)
 }
 

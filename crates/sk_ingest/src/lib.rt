@@ -14,6 +14,7 @@ mod ingesting;
 pub mod laws;
 mod line_windows;
 mod marks;
+mod propagation;
 mod report;
 mod turns;
 mod ways;

@@ -92,7 +92,7 @@ where
     ensures named { P.sketch report.new ≡ P.sketch report.old }
     ensures feeders { feeders.new ≡ feeders.old }
 {
-    feed_at_once(rt, opened, feeders, window, plan.kind, plan.propagator)?;
+    feed_at_once(rt, opened, feeders, window, plan)?;
     window.clear();
     report_at(plan.interim, line, opened, report)?;
     Ok(())

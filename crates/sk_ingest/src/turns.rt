@@ -10,22 +10,22 @@ ghost use Rattle.sk_model.specs.Limits.{most_updaters, most_kept};
 
 use crate::block::Block;
 use crate::feed::feed_block;
+use crate::propagation::{Propagation, propagate};
 use crate::window::Window;
 use sk_compose::Composable;
-use sk_hub::{Heart, Sweep, Updater};
+use sk_hub::{Heart, Updater};
 use sk_model::OutOfMemory;
 use sk_read::Kind;
 use std::sync::Wait;
 
-// Feeds a window to the updaters, one after another. Where one is busy it propagates itself, with `help`, or the
-// heart does.
+// Feeds a window to the updaters, one after another.
 pub(crate) fn feed_in_turn<C: Composable, R: Wait>(
     rt: &R,
     heart: &mut Heart<C>,
     updaters: &mut Vec<Updater<C>>,
     window: &Window,
     kind: Kind,
-    help: bool,
+    by: Propagation,
 ) -> Result<(), OutOfMemory>
     requires most { length updaters.old.items ≤ most_updaters }
     requires room { HaveRoom window.now.lines updaters.old.items }
@@ -37,12 +37,12 @@ pub(crate) fn feed_in_turn<C: Composable, R: Wait>(
     'updater: for i in 0..n {
         let block = Block::of(window.len(), i as u32, n as u32);
         let updater = &mut updaters[i];
-        feed_through(rt, heart, updater, window, kind, block, help)?;
+        feed_through(rt, heart, updater, window, kind, block, by)?;
     }
     Ok(())
 }
 
-// Feeds a block. Without `help` the heart propagates each time the updater is busy.
+// Feeds a block. Each time the updater is busy one propagates.
 fn feed_through<C: Composable, R: Wait>(
     rt: &R,
     heart: &mut Heart<C>,
@@ -50,7 +50,7 @@ fn feed_through<C: Composable, R: Wait>(
     window: &Window,
     kind: Kind,
     block: Block,
-    help: bool,
+    by: Propagation,
 ) -> Result<(), OutOfMemory>
     requires order { block.from ≤ block.to }
     requires within { block.to ≤ length window.now.lines }
@@ -61,22 +61,11 @@ fn feed_through<C: Composable, R: Wait>(
 {
     let mut place = block.from;
     'again: for _ in rt.forever() {
-        place = feed_block(rt, u, window, place, block.to, kind, help)?;
+        place = feed_block(rt, u, window, place, block.to, kind, by.helps())?;
         if place == block.to {
             return Ok(());
         }
-        sweep(rt, heart)?;
+        propagate(rt, heart, u, by)?;
     }
     unreachable!()
-}
-
-// Propagates once for all.
-pub(crate) fn sweep<C: Composable, R: Wait>(rt: &R, heart: &mut Heart<C>) -> Result<(), OutOfMemory>
-    ensures heart { HeartGoesOn heart.old heart.new }
-    ensures cause { OnErr result (IsTrue C.TAKES_MEMORY) }
-{
-    match heart.sweep(rt) {
-        Sweep::Swept(_) | Sweep::Elsewhere(_) => Ok(()),
-        Sweep::OutOfMemory => Err(OutOfMemory),
-    }
 }

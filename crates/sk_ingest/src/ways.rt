@@ -5,13 +5,14 @@ ghost use Rattle.sk_ingest.specs.Rounds.{HaveRoom};
 ghost use Rattle.sk_ingest.specs.Hubs.{hub_of, IsHub, FeedsWindow};
 
 use crate::feeders::Feeders;
+use crate::propagation::Propagation;
 use crate::turns::feed_in_turn;
 use crate::window::Window;
 use sk_compose::Composable;
 use sk_hub::{Opened, Updater};
 use sk_model::OutOfMemory;
 use sk_model::limits::MOST_UPDATERS;
-use sk_read::Kind;
+use sk_read::Intake;
 use std::alloc::Global;
 use std::num::NonZeroUsize;
 use std::sync::Wait;
@@ -20,17 +21,16 @@ use std::thread::{Threads, available_parallelism};
 // A window of fewer lines is fed sooner than threads are started.
 const LEAST_AT_ONCE: u32 = 4_096;
 
-// Feeds a window to all updaters: to each its block. They propagate themselves, or the heart does.
+// Feeds a window to all updaters, one after another: to each its block.
 pub(crate) fn feed_window<C: Composable, R: Wait>(
     rt: &R,
     opened: &mut Opened<C>,
     window: &Window,
-    kind: Kind,
-    propagator: bool,
+    plan: &Intake,
 ) -> Result<(), OutOfMemory>
     requires hub { IsHub (hub_of opened.old) }
     requires room { HaveRoom window.now.lines opened.old.updaters.items }
-    ensures fed { OnOk result (FeedsWindow C.keeps_of C.hint_of kind window.now.lines (hub_of opened.old) (hub_of opened.new)) }
+    ensures fed { OnOk result (FeedsWindow C.keeps_of C.hint_of plan.now.kind window.now.lines (hub_of opened.old) (hub_of opened.new)) }
 {
     // It tells the proof how many updaters a hub has at most.
     let _admitted = opened.heart.admitted();
@@ -39,8 +39,8 @@ pub(crate) fn feed_window<C: Composable, R: Wait>(
         &mut opened.heart,
         &mut opened.updaters,
         window,
-        kind,
-        !propagator,
+        plan.kind,
+        Propagation::of(plan),
     )
 }
 
@@ -71,23 +71,23 @@ pub(crate) fn feed_at_once<C: Composable + Send, R: Threads + Wait + Sync>(
     opened: &mut Opened<C>,
     feeders: &mut Feeders<C>,
     window: &Window,
-    kind: Kind,
-    propagator: bool,
+    plan: &Intake,
 ) -> Result<(), OutOfMemory>
 where
     C::Told: Send,
     requires hub { IsHub (hub_of opened.old) }
     requires places { most_updaters ≤ feeders.old.most }
     requires room { HaveRoom window.now.lines opened.old.updaters.items }
-    ensures fed { OnOk result (FeedsWindow C.keeps_of C.hint_of kind window.now.lines (hub_of opened.old) (hub_of opened.new)) }
+    ensures fed { OnOk result (FeedsWindow C.keeps_of C.hint_of plan.now.kind window.now.lines (hub_of opened.old) (hub_of opened.new)) }
     ensures stays { feeders.new ≡ feeders.old }
 {
     if window.len() < LEAST_AT_ONCE || feeders.threads() < 2 || is_early(&opened.updaters) {
-        return feed_window(rt, opened, window, kind, propagator);
+        return feed_window(rt, opened, window, plan);
     }
     // It tells the proof how many updaters a hub has at most.
     let _admitted = opened.heart.admitted();
-    if propagator {
+    let kind = plan.kind;
+    if plan.propagator {
         return feeders.feed_beside(rt, &mut opened.heart, &mut opened.updaters, window, kind);
     }
     feeders.feed_window(rt, &mut opened.updaters, window, kind, true)

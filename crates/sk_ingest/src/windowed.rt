@@ -123,7 +123,7 @@ fn pass_on<C: Composable, P: Report<C>, R: Wait>(
     ensures stays { P.stands_on report.new ≡ P.stands_on report.old }
     ensures named { P.sketch report.new ≡ P.sketch report.old }
 {
-    feed_window(rt, opened, window, plan.kind, plan.propagator)?;
+    feed_window(rt, opened, window, plan)?;
     window.clear();
     report_at(plan.interim, line, opened, report)?;
     Ok(())

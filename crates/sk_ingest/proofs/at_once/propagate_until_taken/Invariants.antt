@@ -1,6 +1,6 @@
 use Rattle.sk_ingest.specs.Feeds.{KeepsNone}
 use Rattle.sk_ingest.specs.Hubs.{HeartGoesOn}
-use Rattle.sk_ingest.proofs.at_once.sweep_until_taken.Given as goal
+use Rattle.sk_ingest.proofs.at_once.propagate_until_taken.Given as goal
 
 abbrev pub invariant-again : goal.invariant-again
 invariant-again g l = record {

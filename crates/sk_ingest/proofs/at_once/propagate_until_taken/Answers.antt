@@ -1,7 +1,7 @@
 use Rattle.std.proofs.Common.{[], ◌∷◌, length, ap, arith}
 use Rattle.sk_ingest.proofs.Updaters.{none_refl, none_trans, none_then_takes}
 use Rattle.sk_ingest.proofs.HubLaws.{heart_waits, heart_goes}
-use Rattle.sk_ingest.proofs.at_once.sweep_until_taken.Goals as goal
+use Rattle.sk_ingest.proofs.at_once.propagate_until_taken.Goals as goal
 
 pub again-init : goal.again-init
 again-init g c = record { none = none_refl c.args.u.now; heart = heart_waits c.args.heart.now }
@@ -11,12 +11,12 @@ offer-requires-clause-room g c = let same = ap length c.again.invariant.none.kep
 
 pub again-preserved : goal.again-preserved
 again-preserved g c = record {
-  none = none_trans c.args.u.now c.again.u c.offer.new.u c.again.invariant.none (c.offer.ensures.none c.in-Busy.is);
-  heart = heart_goes c.args.heart.now c.again.heart c.sweep.new.heart c.again.invariant.heart c.sweep.ensures.heart;
+  none = none_trans c.args.u.now c.offer.new.u c.propagate.new.u (none_trans c.args.u.now c.again.u c.offer.new.u c.again.invariant.none (c.offer.ensures.none c.in-Busy.is)) c.propagate.ensures.none;
+  heart = heart_goes c.args.heart.now c.again.heart c.propagate.new.heart c.again.invariant.heart c.propagate.ensures.heart;
 }
 
-pub returns-in_err-sweep-in-Busy-clause-heart : goal.returns-in_err-sweep-in-Busy-clause-heart
-returns-in_err-sweep-in-Busy-clause-heart g c = heart_goes c.args.heart.now c.again.heart c.sweep.new.heart c.again.invariant.heart c.sweep.ensures.heart
+pub returns-in_err-propagate-in-Busy-clause-heart : goal.returns-in_err-propagate-in-Busy-clause-heart
+returns-in_err-propagate-in-Busy-clause-heart g c = heart_goes c.args.heart.now c.again.heart c.propagate.new.heart c.again.invariant.heart c.propagate.ensures.heart
 
 pub returns-in_default : goal.returns-in_default
 returns-in_default g c = let k = g.C.Composable in record {
