@@ -17,7 +17,7 @@ use Rattle.sk_ingest.specs.Feeds.{Takes}
 use Rattle.sk_ingest.specs.Rounds.{block_of, HaveFew}
 use Rattle.sk_ingest.specs.Shares.{share, TakeShares}
 use Rattle.sk_ingest.specs.Hubs.{Hub, IsHub, FeedsWindow, HeartGoesOn}
-use Rattle.sk_ingest.specs.Ingests.{Terms, Feeds, IsReported, Reported, GoesThrough, Ingests, GoesSoFar, StopsAtUnit}
+use Rattle.sk_ingest.specs.Ingests.{Terms, Feeds, IsReported, Reported, GoesThrough, Ingests, GoesSoFar, StopsAtUnit, EndsEarly}
 use Rattle.sk_ingest.specs.Takers.{UnitsWent, IsAlone, untold}
 use Rattle.sk_ingest.proofs.Joined.{blocks_joined}
 use Rattle.sk_ingest.proofs.Items.{items_append, one_item, no_item}
@@ -25,7 +25,7 @@ use Rattle.sk_ingest.proofs.Shares.{share_one}
 use Rattle.sk_ingest.proofs.Updaters.{none_refl, takes_none, takes_trans}
 use Rattle.sk_ingest.proofs.Cutting.{no_units, unit_left, unit_fills}
 use Rattle.sk_ingest.proofs.HubLaws.{heart_goes, hub_fed, few_left, few_fed, no_window}
-use Rattle.sk_ingest.proofs.Ingestion.{reads_by, one_unit_more, no_windows, reported_next}
+use Rattle.sk_ingest.proofs.Ingestion.{reads_by, ends_by, all_by, one_unit_more, no_windows, reported_next}
 
 -- ---- one updater
 
@@ -189,6 +189,14 @@ stops_untold t units unit a x y r fault.ReadFault off stops = absurd stops
 stops_untold t units unit a x y r fault.TooMuch off stops = absurd stops
 stops_untold t units unit a x y r (fault.LongLine n) off stops = absurd stops
 stops_untold t units unit a x y r (fault.BadCsv n) off stops = absurd stops
+
+pub early_untold : {R : Type 0} (t : Terms R) (units : Units) (old new : Option (List ℕ)) (a : Hub) (x y : Unit {0}) (r : R) (why : Fault) → t.plan.interim ≡ false → EndsEarly (untold t.keeps t.hint_of t.plan) units old new a x y why → EndsEarly t units old new a r r why
+early_untold t units old new a x y r why off (inl ends) =
+    let u = untold t.keeps t.hint_of t.plan in
+    inl (ends_by units t.plan.most (GoesSoFar u a x y) (GoesSoFar t a r r) (StopsAtUnit u a x y) (StopsAtUnit t a r r) old new why
+    (λ given goes. so_far_untold t given a x y r off goes) (λ q given unit stops. stops_untold t given unit a x y r q off stops) ends)
+early_untold t units old new a x y r why off (inr out) =
+    inr (out.0, (out.1.0, all_by units t.plan.most out.1.0 (GoesSoFar (untold t.keeps t.hint_of t.plan) a x y) (GoesSoFar t a r r) old new (λ given goes. so_far_untold t given a x y r off goes) out.1.1))
 
 -- ---- its reading
 

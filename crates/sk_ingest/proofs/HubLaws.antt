@@ -14,6 +14,7 @@ use Rattle.sk_ingest.specs.Feeds.{Takes}
 use Rattle.sk_ingest.specs.Rounds.{HaveRoom, HaveFew, block_of}
 use Rattle.sk_ingest.specs.Shares.{TakeShares, share, HaveKeptNone}
 use Rattle.sk_ingest.specs.Hubs.{Hub, IsHub, IsUpdaterAt, HeartGoesOn, FeedsWindow, LeavesHub, IsLeft}
+use Rattle.sk_ingest.specs.Stretches.{FeedsWindows}
 use Rattle.sk_ingest.proofs.Rounds.{block_within}
 use Rattle.sk_ingest.proofs.Shares.{share_one}
 use Rattle.sk_ingest.specs.Windows.{items_in}
@@ -31,8 +32,9 @@ heart_goes h h1 h2 a b = record {
 
 -- ---- still one hub
 
-pub hub_fed : (keeps : ℕ → ℕ → Bool) (hint_of : List ℕ → List Entry → ℕ) (kind : Kind) (lines : List (List ℕ)) (a b : Hub) → IsHub a → FeedsWindow keeps hint_of kind lines a b → IsHub b
-hub_fed keeps hint_of kind lines a b hub fed = record {
+-- where its updaters took shares of any windows
+pub hub_took : (keeps : ℕ → ℕ → Bool) (hint_of : List ℕ → List Entry → ℕ) (kind : Kind) (windows : List (List (List ℕ))) (a b : Hub) → IsHub a → FeedsWindows keeps hint_of kind windows a b → IsHub b
+hub_took keeps hint_of kind windows a b hub fed = record {
   count = fed.updaters.count ∙ hub.count ∙ sym (ap (λ h. h.updaters) fed.heart.stays);
   updaters = λ i d within.
       let within' : i < length a.updaters = omega (arith, fed.updaters.count) in
@@ -58,6 +60,9 @@ hub_fed keeps hint_of kind lines a b hub fed = record {
 
     name : b.heart.view.name ≡ a.heart.view.name
     name = ap (λ v. v.name) fed.heart.knows.view
+
+pub hub_fed : (keeps : ℕ → ℕ → Bool) (hint_of : List ℕ → List Entry → ℕ) (kind : Kind) (lines : List (List ℕ)) (a b : Hub) → IsHub a → FeedsWindow keeps hint_of kind lines a b → IsHub b
+hub_fed keeps hint_of kind lines a b hub fed = hub_took keeps hint_of kind (lines ∷ []) a b hub (record { heart = fed.heart; updaters = fed.updaters; token = fed.token })
 
 -- ---- how much its updaters have kept
 

@@ -142,6 +142,10 @@ pass_stops t units unit a b r s p rest (fault.LongLine n) went good least full s
 pass_stops t units unit a b r s p rest (fault.BadItem n) went good least full stops = absurd stops
 pass_stops t units unit a b r s p rest (fault.BadCsv n) went good least full stops = absurd stops
 
+pub if_ok_then : {T E : Type 0} (r : Result T E) (P Q : T → Type 0) → IfOk r P → ((x : T) → P x → Q x) → IfOk r Q
+if_ok_then (Ok x) P Q p f = f x p
+if_ok_then (Err e) P Q p f = tt
+
 pub if_err_then : {T E : Type 0} (r : Result T E) (P Q : E → Type 0) → IfErr r P → ((e : E) → P e → Q e) → IfErr r Q
 if_err_then (Ok x) P Q p f = tt
 if_err_then (Err e) P Q p f = f e p

@@ -12,6 +12,9 @@ pub mod Moved
 pub mod New
 pub mod Cutting
 pub mod HubLaws
+pub mod Rooms
+pub mod Between
+pub mod StretchLaws
 pub mod Ingestion
 pub mod Filled
 pub mod HeldLines

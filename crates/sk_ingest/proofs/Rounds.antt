@@ -54,7 +54,7 @@ pub err_then : {T E P Q : Type 0} (r : Result T E) → OnErr r P → (P → Q) �
 err_then (Ok x) p f = tt
 err_then (Err e) p f = f p
 
-ok_gives : {T E P : Type 0} (r : Result T E) → IsOk r → OnOk r P → P
+pub ok_gives : {T E P : Type 0} (r : Result T E) → IsOk r → OnOk r P → P
 ok_gives (Ok x) is p = p
 ok_gives (Err e) is p = absurd (false≢true is)
 

@@ -32,7 +32,7 @@ pub share_one : (kind : Kind) (lines : List (List ℕ)) (n i : ℕ) → share ki
 unfolding share
 share_one kind lines n i = append-nil (items_in kind (block_of lines i n))
 
-share_append : (kind : Kind) (windows more : List (List (List ℕ))) (n i : ℕ) → share kind (windows ++ more) n i ≡ share kind windows n i ++ share kind more n i
+pub share_append : (kind : Kind) (windows more : List (List (List ℕ))) (n i : ℕ) → share kind (windows ++ more) n i ≡ share kind windows n i ++ share kind more n i
 unfolding share
 share_append kind windows more n i = flat_map-append (λ lines. items_in kind (block_of lines i n)) windows more
 

@@ -10,3 +10,4 @@ pub mod Hubs
 pub mod Ingests
 pub mod Takers
 pub mod Fills
+pub mod Stretches

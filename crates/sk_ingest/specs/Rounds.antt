@@ -1,5 +1,5 @@
 -- What it means that the blocks of a window were fed, one to each updater.
-use Rattle.std.specs.Prelude.{ℕ, Bool, ◌+◌, ◌<◌, ◌≤◌, List, length, take, slice_range, slice_index_or}
+use Rattle.std.specs.Prelude.{ℕ, Bool, ◌+◌, ◌<◌, ◌≤◌, List, length, take, slice_range, slice_index_or, flat_map}
 use Rattle.sk_model.specs.Entries.{Entry}
 use Rattle.sk_hub.specs.Updaters.{UpdaterState, kept_of}
 use Rattle.sk_read.specs.declared.kind.Kind.{Kind}
@@ -19,6 +19,14 @@ block_of lines i n = slice_range lines (place_of (length lines) i n) (place_of (
 -- each updater has room for its block
 abbrev pub HaveRoom : List (List ℕ) → List UpdaterState → Type 0
 HaveRoom lines us = (i : ℕ) (d : UpdaterState) → i < length us → length (kept_of (slice_index_or us i d)) + length (block_of lines i (length us)) ≤ most_kept
+
+-- the lines of block i of n of each of these windows, in order
+abbrev pub blocks_of : List (List (List ℕ)) → ℕ → ℕ → List (List ℕ)
+blocks_of windows i n = flat_map (λ lines. block_of lines i n) windows
+
+-- each updater has room for its blocks of windows
+abbrev pub HaveRoomFor : List (List (List ℕ)) → List UpdaterState → Type 0
+HaveRoomFor windows us = (i : ℕ) (d : UpdaterState) → i < length us → length (kept_of (slice_index_or us i d)) + length (blocks_of windows i (length us)) ≤ most_kept
 
 -- no updater has kept more than one item each of so many units, the rest not counted
 abbrev pub HaveFew : ℕ → List (List ℕ) → List UpdaterState → Type 0

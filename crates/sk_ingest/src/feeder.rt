@@ -3,11 +3,13 @@ ghost use Rattle.std.specs.Prelude.{◌≡◌, ℕ, ◌+◌, ◌-◌, ◌<◌, �
 ghost use Rattle.sk_hub.specs.Updaters.{kept_of};
 ghost use Rattle.sk_ingest.specs.Windows.{items_in};
 ghost use Rattle.sk_ingest.specs.Feeds.{KeepsNone, Takes};
-ghost use Rattle.sk_ingest.specs.Rounds.{block_of, HaveRoom, TakesFront, TakeBlocks, TakeFronts};
+ghost use Rattle.sk_ingest.specs.Rounds.{block_of, blocks_of, HaveRoom, HaveRoomFor, TakesFront, TakeBlocks, TakeFronts};
+ghost use Rattle.sk_ingest.specs.Shares.{share, TakeShares};
 ghost use Rattle.sk_model.specs.Limits.{most_updaters, most_kept};
 
 use crate::block::Block;
 use crate::feed::{feed_block, help_until_served};
+use crate::propagation::Propagation;
 use crate::window::Window;
 use crossbeam_utils::Backoff;
 use sk_compose::Composable;
@@ -48,6 +50,50 @@ impl<C: Composable> Feeder<C> {
         let block = Block::of(window.len(), i as u32, n as u32);
         self.place = feed_whole(rt, &mut self.updater, window, kind, block, help);
     }
+
+    // Feeds block i of n of each window, in order.
+    fn feed_windows<R: Wait>(
+        &mut self,
+        rt: &R,
+        windows: &[Window],
+        kind: Kind,
+        i: usize,
+        n: usize,
+        by: Propagation,
+    )
+        requires few { n ≤ most_updaters }
+        requires within { i < n }
+        requires room { length (kept_of self.old.updater) + length (blocks_of (map (λ w. w.lines) windows.now) i n) ≤ most_kept }
+        ensures taken { OnOk self.new.place (Takes C.keeps_of C.hint_of self.old.updater (share kind (map (λ w. w.lines) windows.now) n i) self.new.updater) }
+        ensures cause { OnErr self.new.place (IsTrue C.TAKES_MEMORY) }
+    {
+        self.place = feed_blocks(rt, &mut self.updater, windows, kind, i, n, by);
+    }
+}
+
+// Feeds block i of n of each window, in order, and answers the place behind the last.
+fn feed_blocks<C: Composable, R: Wait>(
+    rt: &R,
+    u: &mut Updater<C>,
+    windows: &[Window],
+    kind: Kind,
+    i: usize,
+    n: usize,
+    by: Propagation,
+) -> Result<u32, OutOfMemory>
+    requires few { n ≤ most_updaters }
+    requires within { i < n }
+    requires room { length (kept_of u.old) + length (blocks_of (map (λ w. w.lines) windows.now) i n) ≤ most_kept }
+    ensures taken { OnOk result (Takes C.keeps_of C.hint_of u.old (share kind (map (λ w. w.lines) windows.now) n i) u.new) }
+    ensures cause { OnErr result (IsTrue C.TAKES_MEMORY) }
+{
+    let mut place = 0;
+    'window: for at in 0..windows.len() {
+        let window = &windows[at];
+        let block = Block::of(window.len(), i as u32, n as u32);
+        place = feed_patiently(rt, u, window, kind, block, by)?;
+    }
+    Ok(place)
 }
 
 // Feeds a block, and propagates as `Feeder::feed` says.
@@ -72,16 +118,17 @@ fn feed_whole<C: Composable, R: Wait>(
     if help {
         return feed_block(rt, u, window, block.from, block.to, kind, true);
     }
-    feed_patiently(rt, u, window, kind, block)
+    feed_patiently(rt, u, window, kind, block, Propagation::ByHeart)
 }
 
-// Feeds a block. Where the updater is busy it waits, and propagates where it waited long.
+// Feeds a block. Where the updater is busy it propagates: if the heart does, only where it waited long.
 fn feed_patiently<C: Composable, R: Wait>(
     rt: &R,
     u: &mut Updater<C>,
     window: &Window,
     kind: Kind,
     block: Block,
+    by: Propagation,
 ) -> Result<u32, OutOfMemory>
     requires order { block.from ≤ block.to }
     requires within { block.to ≤ length window.now.lines }
@@ -100,21 +147,22 @@ fn feed_patiently<C: Composable, R: Wait>(
         if place == block.to {
             return Ok(place);
         }
-        wait_or_help(rt, u, &backoff)?;
+        wait_or_help(rt, u, &backoff, by)?;
     }
     unreachable!()
 }
 
-// Waits for the propagator. Behind some such calls the updater propagates itself.
+// Waits for the heart, if that propagates. Behind some such calls the updater propagates itself.
 fn wait_or_help<C: Composable, R: Wait>(
     rt: &R,
     u: &mut Updater<C>,
     backoff: &Backoff,
+    by: Propagation,
 ) -> Result<(), OutOfMemory>
     ensures none { KeepsNone u.old u.new }
     ensures cause { OnErr result (IsTrue C.TAKES_MEMORY) }
 {
-    if !backoff.is_completed() {
+    if by.is_by_heart() && !backoff.is_completed() {
         backoff.snooze();
         return Ok(());
     }
@@ -146,6 +194,33 @@ where
         feeders,
         threads as usize,
         &|i, feeder| feeder.feed(rt, window, kind, i, n, help),
+    );
+    outcome(feeders)
+}
+
+// Feeds windows to their feeders at once, one after another to each, in at most so many threads.
+pub(crate) fn feed_windows_each<C: Composable + Send, R: Threads + Wait + Sync>(
+    rt: &R,
+    feeders: &mut [Feeder<C>],
+    windows: &[Window],
+    kind: Kind,
+    by: Propagation,
+    threads: u32,
+) -> Result<(), OutOfMemory>
+where
+    C::Told: Send,
+    requires threads { 0 < threads }
+    requires most { length feeders.old ≤ most_updaters }
+    requires room { HaveRoomFor (map (λ w. w.lines) windows.now) (map (λ f. f.updater) feeders.old) }
+    ensures taken { OnOk result (TakeShares C.keeps_of C.hint_of kind (map (λ w. w.lines) windows.now) (map (λ f. f.updater) feeders.old) (map (λ f. f.updater) feeders.new)) }
+    ensures cause { OnErr result (IsTrue C.TAKES_MEMORY) }
+{
+    let n = feeders.len();
+    thread::for_each_mut(
+        rt,
+        feeders,
+        threads as usize,
+        &|i, feeder| feeder.feed_windows(rt, windows, kind, i, n, by),
     );
     outcome(feeders)
 }

@@ -1,12 +1,13 @@
 //! How a window is fed to the updaters of a hub, at once.
 ghost use Rattle.std.specs.Prelude.{◌≡◌, ◌∷◌, ◌<◌, ◌≤◌, [], length, map, reverse, vec_capacity, OnOk, OnErr, IfOk, IsTrue};
 ghost use Rattle.sk_ingest.specs.Hubs.{HeartGoesOn};
-ghost use Rattle.sk_ingest.specs.Rounds.{HaveRoom, TakeBlocks, TakeFronts};
+ghost use Rattle.sk_ingest.specs.Rounds.{HaveRoom, HaveRoomFor, TakeBlocks, TakeFronts};
 ghost use Rattle.sk_ingest.specs.Shares.{TakeShares};
 ghost use Rattle.sk_model.specs.Limits.{most_updaters};
 
 use crate::beside::run_beside;
-use crate::feeder::{Feeder, feed_each};
+use crate::feeder::{Feeder, feed_each, feed_windows_each};
+use crate::propagation::Propagation;
 use crate::window::Window;
 use sk_compose::Composable;
 use sk_hub::{Heart, Updater};
@@ -84,29 +85,39 @@ impl<C: Composable> Feeders<C> {
         fed
     }
 
-    // Feeds a window to from 1 to 64 updaters at once, without help, while the heart propagates.
-    pub(crate) fn feed_beside<R: Threads + Wait + Sync>(
+    // Feeds windows to from 1 to 64 updaters at once: to each its block of one after another. The heart propagates
+    // beside them, or each where it is busy.
+    pub(crate) fn feed_windows<R: Threads + Wait + Sync>(
         &mut self,
         rt: &R,
         heart: &mut Heart<C>,
         updaters: &mut Vec<Updater<C>>,
-        window: &Window,
+        windows: &[Window],
         kind: Kind,
+        by: Propagation,
     ) -> Result<(), OutOfMemory>
     where
         C: Send,
         C::Told: Send,
         requires most { length updaters.old.items ≤ most_updaters }
         requires places { length updaters.old.items ≤ self.old.most }
-        requires room { HaveRoom window.now.lines updaters.old.items }
-        ensures taken { OnOk result (TakeShares C.keeps_of C.hint_of kind (window.now.lines ∷ []) updaters.old.items updaters.new.items) }
+        requires room { HaveRoomFor (map (λ w. w.lines) windows.now) updaters.old.items }
+        ensures taken { OnOk result (TakeShares C.keeps_of C.hint_of kind (map (λ w. w.lines) windows.now) updaters.old.items updaters.new.items) }
         ensures heart { HeartGoesOn heart.old heart.new }
         ensures cause { OnErr result (IsTrue C.TAKES_MEMORY) }
         ensures count { length updaters.new.items ≡ length updaters.old.items }
         ensures stays { self.new ≡ self.old }
     {
         lend(updaters, &mut self.feeders);
-        let fed = feed_all_beside(rt, heart, &mut self.feeders, window, kind, self.threads);
+        let fed = feed_all_windows(
+            rt,
+            heart,
+            &mut self.feeders,
+            windows,
+            kind,
+            by,
+            self.threads,
+        );
         give_back(&mut self.feeders, updaters);
         fed
     }
@@ -135,12 +146,61 @@ where
     feed_each(rt, feeders.as_mut_slice(), window, kind, help, threads)
 }
 
-// The same, without help, while the heart propagates.
-fn feed_all_beside<C: Composable + Send, R: Threads + Wait + Sync>(
+// Feeds windows to their feeders at once, while the heart propagates or each does where it is busy.
+fn feed_all_windows<C: Composable + Send, R: Threads + Wait + Sync>(
     rt: &R,
     heart: &mut Heart<C>,
     feeders: &mut Vec<Feeder<C>>,
-    window: &Window,
+    windows: &[Window],
+    kind: Kind,
+    by: Propagation,
+    threads: u32,
+) -> Result<(), OutOfMemory>
+where
+    C::Told: Send,
+    requires threads { 0 < threads }
+    requires most { length feeders.old.items ≤ most_updaters }
+    requires room { HaveRoomFor (map (λ w. w.lines) windows.now) (map (λ f. f.updater) feeders.old.items) }
+    ensures taken { OnOk result (TakeShares C.keeps_of C.hint_of kind (map (λ w. w.lines) windows.now) (map (λ f. f.updater) feeders.old.items) (map (λ f. f.updater) feeders.new.items)) }
+    ensures heart { HeartGoesOn heart.old heart.new }
+    ensures cause { OnErr result (IsTrue C.TAKES_MEMORY) }
+    ensures count { length feeders.new.items ≡ length feeders.old.items }
+    ensures places { vec_capacity feeders.new ≡ vec_capacity feeders.old }
+{
+    if by.is_by_heart() {
+        return feed_windows_beside(rt, heart, feeders, windows, kind, threads);
+    }
+    feed_windows_alone(rt, feeders, windows, kind, by, threads)
+}
+
+// Feeds windows to their feeders at once, in at most so many threads.
+fn feed_windows_alone<C: Composable + Send, R: Threads + Wait + Sync>(
+    rt: &R,
+    feeders: &mut Vec<Feeder<C>>,
+    windows: &[Window],
+    kind: Kind,
+    by: Propagation,
+    threads: u32,
+) -> Result<(), OutOfMemory>
+where
+    C::Told: Send,
+    requires threads { 0 < threads }
+    requires most { length feeders.old.items ≤ most_updaters }
+    requires room { HaveRoomFor (map (λ w. w.lines) windows.now) (map (λ f. f.updater) feeders.old.items) }
+    ensures taken { OnOk result (TakeShares C.keeps_of C.hint_of kind (map (λ w. w.lines) windows.now) (map (λ f. f.updater) feeders.old.items) (map (λ f. f.updater) feeders.new.items)) }
+    ensures cause { OnErr result (IsTrue C.TAKES_MEMORY) }
+    ensures count { length feeders.new.items ≡ length feeders.old.items }
+    ensures places { vec_capacity feeders.new ≡ vec_capacity feeders.old }
+{
+    feed_windows_each(rt, feeders.as_mut_slice(), windows, kind, by, threads)
+}
+
+// The same while the heart propagates.
+fn feed_windows_beside<C: Composable + Send, R: Threads + Wait + Sync>(
+    rt: &R,
+    heart: &mut Heart<C>,
+    feeders: &mut Vec<Feeder<C>>,
+    windows: &[Window],
     kind: Kind,
     threads: u32,
 ) -> Result<(), OutOfMemory>
@@ -148,8 +208,8 @@ where
     C::Told: Send,
     requires threads { 0 < threads }
     requires most { length feeders.old.items ≤ most_updaters }
-    requires room { HaveRoom window.now.lines (map (λ f. f.updater) feeders.old.items) }
-    ensures taken { OnOk result (TakeBlocks C.keeps_of C.hint_of kind window.now.lines (map (λ f. f.updater) feeders.old.items) (map (λ f. f.updater) feeders.new.items)) }
+    requires room { HaveRoomFor (map (λ w. w.lines) windows.now) (map (λ f. f.updater) feeders.old.items) }
+    ensures taken { OnOk result (TakeShares C.keeps_of C.hint_of kind (map (λ w. w.lines) windows.now) (map (λ f. f.updater) feeders.old.items) (map (λ f. f.updater) feeders.new.items)) }
     ensures heart { HeartGoesOn heart.old heart.new }
     ensures cause { OnErr result (IsTrue C.TAKES_MEMORY) }
     ensures count { length feeders.new.items ≡ length feeders.old.items }
@@ -161,12 +221,12 @@ where
         &mut ||
             requires threads { 0 < threads }
             requires most { length feeders.now.items ≤ most_updaters }
-            requires room { HaveRoom window.now.lines (map (λ f. f.updater) feeders.now.items) }
-            ensures taken { OnOk result (TakeBlocks C.keeps_of C.hint_of kind window.entry.now.lines (map (λ f. f.updater) feeders.entry.now.items) (map (λ f. f.updater) feeders.exit.now.items)) }
+            requires room { HaveRoomFor (map (λ w. w.lines) windows.now) (map (λ f. f.updater) feeders.now.items) }
+            ensures taken { OnOk result (TakeShares C.keeps_of C.hint_of kind (map (λ w. w.lines) windows.entry.now) (map (λ f. f.updater) feeders.entry.now.items) (map (λ f. f.updater) feeders.exit.now.items)) }
             ensures cause { OnErr result (IsTrue C.TAKES_MEMORY) }
             ensures count { length feeders.exit.now.items ≡ length feeders.entry.now.items }
             ensures places { vec_capacity feeders.exit.now ≡ vec_capacity feeders.entry.now }
-        { feed_all(rt, feeders, window, kind, false, threads) },
+        { feed_windows_alone(rt, feeders, windows, kind, Propagation::ByHeart, threads) },
     );
     propagated?;
     fed

@@ -1,5 +1,5 @@
 //! A source that is read to its end and fed to a hub.
-ghost use Rattle.std.specs.Prelude.{◌≡◌, ◌≤◌, [], OnOk, IfOk, IfErr, IfSome};
+ghost use Rattle.std.specs.Prelude.{◌≡◌, ◌≤◌, [], true, false, OnOk, IfOk, IfErr, IfSome};
 ghost use Rattle.sk_model.specs.Causes.{HasCauseIn};
 ghost use Rattle.sk_model.specs.Limits.{source_limit, most_updaters, IsFrom};
 ghost use Rattle.sk_read.specs.Reads.{Reads, ReadsAll};
@@ -15,7 +15,8 @@ use crate::at_once::AtOnce;
 use crate::feeders::Feeders;
 use crate::line_windows::read_line_windows;
 use crate::report::Report;
-use crate::ways::{feed_at_once, feeders_for};
+use crate::stretches::ingest_stretches;
+use crate::ways::{feed_at_once, feeders_for, threads_for};
 use crate::window::Window;
 use crate::windowed::Windowed;
 use sk_compose::Composable;
@@ -56,9 +57,19 @@ where
 {
     if opened.updaters.len() == 1 && !plan.interim {
         ingest_at_once(rt, alloc, plan, source, opened)
+    } else if is_read_ahead(rt, plan, opened.updaters.len()) {
+        ingest_stretches(rt, alloc, plan, source, opened)
     } else {
         ingest_windows(rt, alloc, plan, source, opened, report)
     }
+}
+
+// Whether lines are read while others are fed: where nobody is told of them before the end, and threads are enough.
+fn is_read_ahead<R: Threads>(rt: &R, plan: &Intake, updaters: usize) -> bool
+    ensures lines { result ≡ true → plan.now.column ≡ 0 }
+    ensures untold { result ≡ true → plan.now.interim ≡ false }
+{
+    !plan.interim && plan.column == 0 && threads_for(rt, updaters) > 1
 }
 
 // Feeds each unit at once to the one updater of a hub.

@@ -16,6 +16,8 @@ mod line_windows;
 mod marks;
 mod propagation;
 mod report;
+mod stretch;
+mod stretches;
 mod turns;
 mod ways;
 mod window;

@@ -33,6 +33,13 @@ impl Propagation {
         }
     }
 
+    pub(crate) fn is_by_heart(self) -> bool {
+        match self {
+            Propagation::ByHeart => true,
+            Propagation::WhereBusy | Propagation::AtOnce => false,
+        }
+    }
+
     // Whether an updater helps with each item that it is fed.
     pub(crate) fn helps(self) -> bool {
         match self {

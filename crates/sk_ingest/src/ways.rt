@@ -1,20 +1,23 @@
 //! A window that is fed to the updaters of a hub, in the way that a plan wants.
-ghost use Rattle.std.specs.Prelude.{◌≡◌, ◌≤◌, OnOk, IfOk};
+ghost use Rattle.std.specs.Prelude.{◌≡◌, ◌<◌, ◌≤◌, length, map, take, OnOk, IfOk};
 ghost use Rattle.sk_model.specs.Limits.{most_updaters};
-ghost use Rattle.sk_ingest.specs.Rounds.{HaveRoom};
+ghost use Rattle.sk_ingest.specs.Rounds.{HaveRoom, HaveRoomFor};
 ghost use Rattle.sk_ingest.specs.Hubs.{hub_of, IsHub, FeedsWindow};
+ghost use Rattle.sk_ingest.specs.Stretches.{FeedsWindows};
 
 use crate::feeders::Feeders;
 use crate::propagation::Propagation;
+use crate::stretch::Stretch;
 use crate::turns::feed_in_turn;
 use crate::window::Window;
 use sk_compose::Composable;
 use sk_hub::{Opened, Updater};
 use sk_model::OutOfMemory;
 use sk_model::limits::MOST_UPDATERS;
-use sk_read::Intake;
+use sk_read::{Intake, Kind};
 use std::alloc::Global;
 use std::num::NonZeroUsize;
+use std::slice::from_ref;
 use std::sync::Wait;
 use std::thread::{Threads, available_parallelism};
 
@@ -52,9 +55,16 @@ pub(crate) fn feeders_for<C: Composable, R: Threads>(
 ) -> Result<Feeders<C>, OutOfMemory>
     ensures places { IfOk result (λ feeders. most_updaters ≤ feeders.most) }
 {
+    Feeders::new(alloc, MOST_UPDATERS, threads_for(rt, updaters))
+}
+
+// As many threads as there are processors, and no more than updaters.
+pub(crate) fn threads_for<R: Threads>(rt: &R, updaters: usize) -> u32
+    ensures { 0 < result }
+{
     let processors = available_parallelism(rt).map_or(1, NonZeroUsize::get);
     let threads = processors.min(updaters).clamp(1, MOST_UPDATERS as usize);
-    Feeders::new(alloc, MOST_UPDATERS, threads as u32)
+    threads as u32
 }
 
 // Whether each item that an updater keeps is handed over: at once they would only wait for one another.
@@ -84,11 +94,108 @@ where
     if window.len() < LEAST_AT_ONCE || feeders.threads() < 2 || is_early(&opened.updaters) {
         return feed_window(rt, opened, window, plan);
     }
+    if !plan.propagator {
+        return feed_helping(rt, opened, feeders, window, plan.kind);
+    }
+    feed_windows_at_once(rt, opened, feeders, from_ref(window), plan)
+}
+
+// Feeds a window to all updaters at once. Each propagates where it is busy or eager.
+fn feed_helping<C: Composable + Send, R: Threads + Wait + Sync>(
+    rt: &R,
+    opened: &mut Opened<C>,
+    feeders: &mut Feeders<C>,
+    window: &Window,
+    kind: Kind,
+) -> Result<(), OutOfMemory>
+where
+    C::Told: Send,
+    requires hub { IsHub (hub_of opened.old) }
+    requires places { most_updaters ≤ feeders.old.most }
+    requires room { HaveRoom window.now.lines opened.old.updaters.items }
+    ensures fed { OnOk result (FeedsWindow C.keeps_of C.hint_of kind window.now.lines (hub_of opened.old) (hub_of opened.new)) }
+    ensures stays { feeders.new ≡ feeders.old }
+{
     // It tells the proof how many updaters a hub has at most.
     let _admitted = opened.heart.admitted();
-    let kind = plan.kind;
-    if plan.propagator {
-        return feeders.feed_beside(rt, &mut opened.heart, &mut opened.updaters, window, kind);
-    }
     feeders.feed_window(rt, &mut opened.updaters, window, kind, true)
+}
+
+// Feeds windows to all updaters at once: to each its block of one after another.
+fn feed_windows_at_once<C: Composable + Send, R: Threads + Wait + Sync>(
+    rt: &R,
+    opened: &mut Opened<C>,
+    feeders: &mut Feeders<C>,
+    windows: &[Window],
+    plan: &Intake,
+) -> Result<(), OutOfMemory>
+where
+    C::Told: Send,
+    requires hub { IsHub (hub_of opened.old) }
+    requires places { most_updaters ≤ feeders.old.most }
+    requires room { HaveRoomFor (map (λ w. w.lines) windows.now) opened.old.updaters.items }
+    ensures fed { OnOk result (FeedsWindows C.keeps_of C.hint_of plan.now.kind (map (λ w. w.lines) windows.now) (hub_of opened.old) (hub_of opened.new)) }
+    ensures stays { feeders.new ≡ feeders.old }
+{
+    // It tells the proof how many updaters a hub has at most.
+    let _admitted = opened.heart.admitted();
+    feeders.feed_windows(
+        rt,
+        &mut opened.heart,
+        &mut opened.updaters,
+        windows,
+        plan.kind,
+        Propagation::of(plan),
+    )
+}
+
+// Feeds the windows of a stretch to all updaters: at once, but one window after another where that is faster. A thread
+// to which the handles of a hub are lent finds room for feeders itself: both have no proof of their borrows.
+pub(crate) fn feed_stretch<C: Composable + Send, R: Threads + Wait + Sync>(
+    rt: &R,
+    alloc: Global,
+    opened: &mut Opened<C>,
+    stretch: &Stretch,
+    plan: &Intake,
+) -> Result<(), OutOfMemory>
+where
+    C::Told: Send,
+    requires hub { IsHub (hub_of opened.old) }
+    requires room { HaveRoomFor stretch.now.windows opened.old.updaters.items }
+    ensures fed { OnOk result (FeedsWindows C.keeps_of C.hint_of plan.now.kind stretch.now.windows (hub_of opened.old) (hub_of opened.new)) }
+{
+    let windows = stretch.windows();
+    let next = feed_first(rt, opened, windows, plan, is_short(stretch))?;
+    if next == windows.len() {
+        return Ok(());
+    }
+    let mut feeders = feeders_for(rt, alloc, opened.updaters.len())?;
+    feed_windows_at_once(rt, opened, &mut feeders, &windows[next..], plan)
+}
+
+// Whether a stretch is fed sooner than threads are started.
+pub(crate) fn is_short(stretch: &Stretch) -> bool {
+    stretch.lines() < LEAST_AT_ONCE as usize
+}
+
+// Feeds the first windows in this thread, as long as updaters are early, or all, and answers how many it fed.
+fn feed_first<C: Composable, R: Wait>(
+    rt: &R,
+    opened: &mut Opened<C>,
+    windows: &[Window],
+    plan: &Intake,
+    all: bool,
+) -> Result<usize, OutOfMemory>
+    requires hub { IsHub (hub_of opened.old) }
+    requires room { HaveRoomFor (map (λ w. w.lines) windows.now) opened.old.updaters.items }
+    ensures within { IfOk result (λ next. next ≤ length windows.now) }
+    ensures fed { IfOk result (λ next. FeedsWindows C.keeps_of C.hint_of plan.now.kind (take next (map (λ w. w.lines) windows.now)) (hub_of opened.old) (hub_of opened.new)) }
+{
+    'window: for next in 0..windows.len() {
+        if !all && !is_early(&opened.updaters) {
+            return Ok(next);
+        }
+        feed_window(rt, opened, &windows[next], plan)?;
+    }
+    Ok(windows.len())
 }

@@ -89,6 +89,11 @@ impl Window {
         self.marks.spans.len() as u32
     }
 
+    // How many bytes its lines have.
+    pub(crate) fn size(&self) -> usize {
+        self.marks.size
+    }
+
     pub fn is_empty(&self) -> bool
         ensures { result ≡ (length self.now.lines == 0) }
     {
