@@ -14,6 +14,7 @@ use sk_model::OutOfMemory;
 use sk_read::Intake;
 use std::alloc::Global;
 use std::sync::Wait;
+use std::sync::atomic::{AtomicBool, Ordering};
 use std::thread::{Threads, join_mut};
 
 // As many sweeps in a row that find nothing end the heart's part: updaters that stay busy then propagate themselves.
@@ -28,8 +29,8 @@ pub(crate) trait Propagates {
     // Whether it takes memory.
     ghost takes_memory: { Self → Type 0 };
 
-    // Propagates again and again until it finds nothing for long.
-    fn propagate_on<R: Wait>(&mut self, rt: &R) -> Result<(), OutOfMemory>
+    // Propagates again and again until the others are done, or it finds nothing for long.
+    fn propagate_on<R: Wait>(&mut self, rt: &R, done: &AtomicBool) -> Result<(), OutOfMemory>
         ensures goes { goes_on self.old self.new }
         ensures cause { OnErr result (takes_memory self.old) };
 }
@@ -42,11 +43,11 @@ impl<C: Composable> Propagates for Heart<C> {
 
     ghost takes_memory = { λ h. IsTrue C.TAKES_MEMORY };
 
-    fn propagate_on<R: Wait>(&mut self, rt: &R) -> Result<(), OutOfMemory> {
+    fn propagate_on<R: Wait>(&mut self, rt: &R, done: &AtomicBool) -> Result<(), OutOfMemory> {
         let backoff = Backoff::new();
         let mut idle = 0;
         'sweep: for _ in rt.forever() {
-            if idle == MOST_IDLE {
+            if idle == MOST_IDLE || done.load(Ordering::SeqCst) {
                 return Ok(());
             }
             idle = sweep_counting(rt, self, idle, &backoff)?;
@@ -83,10 +84,11 @@ fn sweep_counting<C: Composable, R: Wait>(
     }
 }
 
-// Propagates in a thread of its own while the work is done here.
+// Propagates in a thread of its own while the work is done here, which tells when it is done.
 pub(crate) fn run_beside<R: Threads + Wait + Sync, T: Propagates + Send, F: FnMut() -> A, A>(
     rt: &R,
     heart: &mut T,
+    done: &AtomicBool,
     work: &mut F,
 ) -> (Result<(), OutOfMemory>, A)
     requires { F.pre work.old }
@@ -94,7 +96,7 @@ pub(crate) fn run_beside<R: Threads + Wait + Sync, T: Propagates + Send, F: FnMu
     ensures cause { OnErr result.0 (T.takes_memory heart.old) }
     ensures work { F.step work.old result.1 work.new }
 {
-    join_mut(rt, &mut || heart.propagate_on(rt), work)
+    join_mut(rt, &mut || heart.propagate_on(rt, done), work)
 }
 
 // Feeds a stretch in a thread of its own while the work is done here. A short one is fed before.

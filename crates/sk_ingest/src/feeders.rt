@@ -16,6 +16,7 @@ use sk_read::Kind;
 use std::alloc::Global;
 use std::marker::Model;
 use std::sync::Wait;
+use std::sync::atomic::{AtomicBool, Ordering};
 use std::thread::Threads;
 
 /// Room in which updaters are fed at once. Between two windows it holds none.
@@ -215,9 +216,11 @@ where
     ensures count { length feeders.new.items ≡ length feeders.old.items }
     ensures places { vec_capacity feeders.new ≡ vec_capacity feeders.old }
 {
+    let done = AtomicBool::new(false);
     let (propagated, fed) = run_beside(
         rt,
         heart,
+        &done,
         &mut ||
             requires threads { 0 < threads }
             requires most { length feeders.now.items ≤ most_updaters }
@@ -226,7 +229,11 @@ where
             ensures cause { OnErr result (IsTrue C.TAKES_MEMORY) }
             ensures count { length feeders.exit.now.items ≡ length feeders.entry.now.items }
             ensures places { vec_capacity feeders.exit.now ≡ vec_capacity feeders.entry.now }
-        { feed_windows_alone(rt, feeders, windows, kind, Propagation::ByHeart, threads) },
+        {
+            let fed = feed_windows_alone(rt, feeders, windows, kind, Propagation::ByHeart, threads);
+            done.store(true, Ordering::SeqCst);
+            fed
+        },
     );
     propagated?;
     fed
