@@ -1,21 +1,24 @@
 //! Takes so many steps of a table with one updater, or updates of a sketch and of a hub, for `bench/steps` to
 //! time. The words are a kind (`asks`, `turns` or `exchanges`, `sketch` or `hub`) and a number; without words
 //! nothing is done. `lines 0` and `numbers 0` count the lines of the standard input by the sketch alone, and `reads`
-//! reads so many ranks while four updaters run, and prints how many items these took.
+//! reads so many ranks while four updaters run, and prints how many items these took. `scale THREADS DISTINCT N` takes
+//! N updates of a hub by so many threads, and prints what is published in the end.
 #![tactic(auto)]
 
 mod direct;
 mod ranks;
+mod scale;
 mod updates;
 
 ghost use Rattle.std.specs.Prelude.{◌≡◌, true, false, IfOk};
 ghost use Rattle.sk_gate.specs.Views.{leads};
 
+use crate::scale::Load;
 use sk_compose::{Buffer, OutOfMemory, Parcel};
 use sk_gate::{HeartSeat, Made, TokenSeat, make};
 use sk_io::StdSource;
 use sk_read::Kind;
-use sk_theta::Theta;
+use sk_theta::{Reply, Theta};
 use std::alloc::Global;
 use std::env;
 use std::process::ExitCode;
@@ -100,25 +103,56 @@ fn print_taken(rt: &HostRuntime, taken: Result<u64, OutOfMemory>) -> ExitCode {
     }
 }
 
+// The load of `scale`, of these three numbers.
+fn load_of(threads: u64, distinct: Option<u64>, count: Option<u64>) -> Option<Load> {
+    let threads = u32::try_from(threads).ok()?;
+    let each = count?.checked_div(u64::from(threads))?;
+    Some(Load {
+        threads,
+        distinct: distinct?,
+        each,
+    })
+}
+
+// Prints what is published.
+fn print_reply(rt: &HostRuntime, reply: Result<Reply, OutOfMemory>) -> ExitCode {
+    let Ok(reply) = reply else {
+        return ExitCode::FAILURE;
+    };
+    match println!(rt; "count {} theta {}", reply.count, reply.theta) {
+        Ok(()) => ExitCode::SUCCESS,
+        Err(_) => ExitCode::FAILURE,
+    }
+}
+
+// The number that a word spells, if there is one.
+fn number_of(word: Option<String>) -> Option<u64> {
+    word?.parse().ok()
+}
+
 fn main(rt: HostRuntime) -> ExitCode {
     let alloc = rt.alloc();
     let Ok(mut words) = env::args(&rt) else {
         return ExitCode::FAILURE;
     };
     let _program = words.next();
-    let (Some(kind), Some(count)) = (words.next(), words.next()) else {
+    let Some(kind) = words.next() else {
         return ExitCode::SUCCESS;
     };
     if let Some(kind) = kind_of(kind.as_str()) {
         return count_lines(&rt, kind);
     }
-    let (Ok(count), Ok(mut made)) = (count.parse::<u64>(), table(alloc)) else {
+    let (Some(count), Ok(mut made)) = (number_of(words.next()), table(alloc)) else {
         return ExitCode::FAILURE;
     };
-    let distinct = match words.next().map(|word| word.parse::<u64>()) {
-        Some(Ok(distinct)) => distinct,
-        _ => count,
-    };
+    let distinct = number_of(words.next());
+    if kind.as_str() == "scale" {
+        let Some(load) = load_of(count, distinct, number_of(words.next())) else {
+            return ExitCode::FAILURE;
+        };
+        return print_reply(&rt, scale::updates(&rt, alloc, load));
+    }
+    let distinct = distinct.unwrap_or(count);
     match kind.as_str() {
         "asks" => ask(&mut made.token, count),
         "turns" => turn(&mut made.heart, count),

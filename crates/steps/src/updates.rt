@@ -10,12 +10,15 @@ use std::alloc::Global;
 use std::sync::Wait;
 
 // As many hashes as `count` keeps by default, and as many items in a buffer.
-const K: u32 = 4_096;
+pub const K: u32 = 4_096;
 
-const BUFFER: u32 = 64;
+pub const BUFFER: u32 = 64;
 
-// The item at a place, of so many distinct ones.
-fn item_at(place: u64, distinct: u64) -> u64
+/// By which items are mixed: 2^64 over the golden ratio.
+pub const FACTOR: u64 = 0x9E37_79B9_7F4A_7C15;
+
+/// The item at a place, of so many distinct ones, or of 0 where all are.
+pub fn item_at(place: u64, distinct: u64) -> u64
     ensures { IsItem result }
 {
     let number = if distinct == 0 {
@@ -23,7 +26,7 @@ fn item_at(place: u64, distinct: u64) -> u64
     } else {
         place % distinct
     };
-    number.wrapping_mul(0x9E37_79B9_7F4A_7C15) % ITEM_END
+    number.wrapping_mul(FACTOR) % ITEM_END
 }
 
 /// So many updates of a sketch.
