@@ -1,10 +1,13 @@
 // Updates of a sketch alone, and of a hub with one updater that helps itself.
-ghost use Rattle.std.specs.Prelude.{◌<◌};
+ghost use Rattle.std.specs.Prelude.{◌≡◌, ◌+◌, ◌<◌, ◌≤◌, length};
+ghost use Rattle.sk_hub.specs.Updaters.{kept_of};
+ghost use Rattle.sk_model.specs.Limits.{most_kept};
 ghost use Rattle.sk_model.specs.Width.{IsItem};
 
 use sk_compose::OutOfMemory;
 use sk_heap::HeapTheta;
 use sk_hub::{Help, Update, Updater, open};
+use sk_model::limits::MOST_KEPT;
 use sk_theta::{ITEM_END, Shape};
 use std::alloc::Global;
 use std::sync::Wait;
@@ -46,30 +49,49 @@ pub fn hub<R: Wait>(rt: &R, alloc: Global, distinct: u64, count: u64) -> Result<
     };
     let mut opened = open(alloc, &shape, HeapTheta::new(alloc, K)?)?;
     let mut updater = opened.updaters.remove(0);
-    'update: for place in 0..count {
-        update(rt, &mut updater, item_at(place, distinct));
+    if count <= MOST_KEPT - updater.taken() {
+        update_each(rt, &mut updater, distinct, count);
     }
     Ok(())
 }
 
+// So many updates.
+fn update_each<R: Wait>(rt: &R, updater: &mut Updater<HeapTheta>, distinct: u64, count: u64)
+    requires room { length (kept_of updater.old) + count ≤ most_kept }
+{
+    'update: for place in 0..count {
+        update(rt, updater, item_at(place, distinct));
+    }
+}
+
 // Updates with an item, and helps where there is no room or each item is handed over.
+#[inline(always)]
 fn update<R: Wait>(rt: &R, updater: &mut Updater<HeapTheta>, item: u64)
     requires item { IsItem item }
+    requires room { length (kept_of updater.old) < most_kept }
+    ensures { length (kept_of updater.new) ≤ length (kept_of updater.old) + 1 }
 {
-    if updater.taken() == 1 << 40 {
-        return;
-    }
     match updater.update(item) {
         Update::Filtered | Update::Kept => {}
         Update::Handed => {
             if updater.is_eager() {
-                let _ = updater.help(rt);
+                help(rt, updater);
             }
         }
         Update::Busy => {
-            if let Help::Served(_) = updater.help(rt) {
+            if help(rt, updater) {
                 let _ = updater.update(item);
             }
         }
+    }
+}
+
+// Propagates, and answers whether no other seat did.
+fn help<R: Wait>(rt: &R, updater: &mut Updater<HeapTheta>) -> bool
+    ensures none { kept_of updater.new ≡ kept_of updater.old }
+{
+    match updater.help(rt) {
+        Help::Served(_) => true,
+        Help::Elsewhere(_) | Help::OutOfMemory => false,
     }
 }
