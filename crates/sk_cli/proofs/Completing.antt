@@ -16,9 +16,8 @@ use Rattle.sk_cli.specs.declared.commands.about.TheConstants.{HELP, VERSION}
 use Rattle.sk_cli.specs.declared.fault.Fault.{Fault}
 use Rattle.sk_cli.specs.declared.fault.Fault.TheVariants as fault
 use Rattle.sk_cli.specs.commands.Image.{image_of}
-use Rattle.sk_cli.specs.commands.Quantile.{rank_line}
-use Rattle.sk_read.specs.declared.kind.Kind.TheVariants.{Raw}
 use Rattle.sk_cli.proofs.CountDeciding.{count_decides}
+use Rattle.sk_cli.proofs.RankDeciding.{rank_decides}
 use Rattle.sk_cli.proofs.ToldItems.{items_decide}
 use Rattle.sk_cli.proofs.Deciding.{hash_decides, make_decides, replay_decides, about_decides}
 
@@ -27,7 +26,7 @@ decides (Count plan) = count_decides plan
 decides (Hash plan) = hash_decides plan
 decides (Image plan) = items_decide plan.what.kind plan.what.column (image_of plan)
 decides (Make plan) = make_decides plan
-decides (Quantile plan) = items_decide Raw 0 (rank_line plan)
+decides (Quantile plan) = rank_decides plan
 decides Replay = replay_decides
 decides Help = about_decides HELP.now
 decides Version = about_decides VERSION.now

@@ -13,8 +13,10 @@ pub mod Joining
 pub mod MadeRuns
 pub mod Making
 pub mod Moves
+pub mod OnTheWay
 pub mod OptionLaws
 pub mod Performing
+pub mod RankDeciding
 pub mod Ranking
 pub mod Reading
 pub mod Replaying

@@ -1,51 +1,87 @@
--- How `quantile` tells a rank.
-use Rattle.std.proofs.Common.{◌≡◌, inl, ℕ, List, [], ◌∷◌, length, Result, Ok, Err, OnOk, OnErr, IfErr, ap, ◌∙◌, subst}
-use Rattle.std.specs.Io.KnownBytes.{Appends}
-use Rattle.sk_model.specs.Causes.{AppendsPart}
-use Rattle.sk_quant.specs.Held.{ranked}
-use Rattle.sk_quant.specs.Ranks.{rank_error}
-use Rattle.sk_read.specs.Items.{Gave}
+-- How `quantile` goes.
+use Rattle.std.proofs.Common.{◌≡◌, ◌⊎◌, inl, inr, ℕ, List, ◌++◌, Some, is_none, refl}
+use Rattle.sk_model.specs.Entries.{items_of_entries}
+use Rattle.sk_hub.specs.Hearts.{HeartState}
 use Rattle.sk_read.specs.Reads.{ReadsAll}
 use Rattle.sk_read.specs.Units.{units_by}
+use Rattle.sk_read.specs.declared.fault.Fault.{Fault as ReadingFault}
+use Rattle.sk_read.specs.declared.fault.Fault.TheVariants as reading
 use Rattle.sk_read.specs.declared.kind.Kind.TheVariants.{Raw}
+use Rattle.sk_snap.specs.History.{entries_in}
+use Rattle.sk_snap.specs.Versions.{Learnt, items_in}
+use Rattle.sk_rank.specs.declared.plan.Plan.{Plan}
+use Rattle.sk_rank.specs.Ranks.{Setting, setting, TellsSoFar, TellsAll, TellsPartOfAll, StopsFor, EndsBefore, EndsBehind}
+use Rattle.sk_rank.specs.Texts.{interim_text, rank_line}
+use Rattle.sk_count.proofs.Endings.{ends_so, all_so}
 use Rattle.sk_cli.specs.Beside.{Beside}
+use Rattle.sk_cli.specs.commands.Quantile.{ranking, IsInterim, IsWhole, LeavesRanks}
+use Rattle.sk_cli.specs.Fault.{fault_by}
 use Rattle.sk_cli.specs.Outside.{Streams}
-use Rattle.sk_cli.specs.Run.{Executes}
-use Rattle.sk_cli.specs.Told.{items_of_text}
-use Rattle.sk_cli.specs.commands.Quantile.{ranking, rank_line, told_line}
-use Rattle.sk_cli.specs.declared.commands.quantile.QuantilePlan.{QuantilePlan}
-use Rattle.sk_cli.specs.declared.fault.Fault.{Fault}
-use Rattle.sk_cli.specs.declared.fault.Fault.TheVariants as fault
-use Rattle.sk_cli.proofs.ToldItems.{telling_wrote}
+use Rattle.sk_cli.specs.Run.{Finishes, Ends}
+use Rattle.sk_cli.proofs.OnTheWay.{ToldSoFar, ToldPart, Stopped, ended_before, gave_up_behind, broke_off_behind}
 
--- lists of two numbers are equal in both
-pub two_numbers : (k key k' key' : ℕ) → k ∷ key ∷ [] ≡ k' ∷ key' ∷ [] → (k ≡ k') × (key ≡ key')
-two_numbers k key k' key' is = (cc, cc)
+module _ (plan : Plan) (most : ℕ) (from : Beside) (a b : Streams) where
+  abbrev old : Setting
+  old = setting a.left a.written
 
--- the line of a sketch's numbers is that of its items
-pub line_is : (plan : QuantilePlan) (k key : ℕ) (items : List ℕ) (n below within : ℕ) → k ≡ plan.k → key ≡ plan.key → n ≡ length items → below ≡ ranked plan.at k key items → within ≡ rank_error (length items) k
-    → told_line n below within ≡ rank_line plan items
-line_is plan k key items n below within same_k same_key n_is below_is within_is =
-    ap (λ m. told_line m below within) n_is
-    ∙ ap (λ m. told_line (length items) m within) (below_is ∙ ap (λ j. ranked plan.at j key items) same_k ∙ ap (λ j. ranked plan.at plan.k j items) same_key)
-    ∙ ap (λ m. told_line (length items) (ranked plan.at plan.k plan.key items) m) (within_is ∙ ap (λ j. rank_error (length items) j) same_k)
+  abbrev new : Setting
+  new = setting b.left b.written
 
-write_is_no_want : (f : Fault) → f ≡ fault.WriteFault → f ≡ fault.OutOfMemory → ⊥
-write_is_no_want f is other = cc
+  so_far : (units : List (List ℕ)) → TellsSoFar plan old new units → ToldSoFar Raw (IsInterim plan from) a b units
+  so_far units told = record { due = interim_text plan told.course.moments; is = record { course = told.course; is = refl }; good = told.course.good; written = told.written }
 
-abbrev failed_by : Fault → Result (Unit {0}) Fault
-failed_by f = Err f
+  stopped : (f : ReadingFault) (units : List (List ℕ)) (unit : List ℕ) → StopsFor plan old new f units unit → Stopped Raw (IsInterim plan from) a b f units unit
+  stopped (reading.BadItem n) units unit stop = (so_far units stop.0, stop.1, stop.2)
+  stopped reading.WriteFault units unit part = record { due = interim_text plan part.course.moments; is = record { course = part.course; is = refl }; good = part.course.good; written = part.written }
+  stopped reading.OutOfMemory units unit told = so_far units told
+  stopped f units unit stop = absurd stop
 
-err_is : (f g : Fault) → failed_by f ≡ failed_by g → f ≡ g
-err_is f g is = cc
+  part_of_all : (units : List (List ℕ)) → TellsPartOfAll plan old new units → ToldPart Raw (IsWhole plan from) a b units
+  part_of_all units part = record {
+    due = interim_text plan part.course.moments ++ rank_line plan (items_of_entries part.whole);
+    is = record { course = part.course; list = part.whole; has_all = part.list; goes = part.goes; near = part.near; is = refl };
+    good = part.course.good;
+    written = part.written;
+  }
 
-module _ (plan : QuantilePlan) (most : ℕ) (from to : Beside) (a b : Streams) (Stands : List ℕ → Type 0) (n : ℕ) (all : ReadsAll (units_by 0) most n (Gave Raw Stands) a.left b.left) where
-  -- the line was written, or a part of it
-  pub wrote_line : (line : List ℕ) → line ≡ rank_line plan (items_of_text Raw 0 all.taken) → (r : Result (Unit {0}) Fault) → OnOk r (Appends a.written b.written line) → OnErr r (AppendsPart a.written b.written line)
-      → IfErr r (λ (f : Fault). f ≡ fault.WriteFault) → Executes (ranking plan) most from to a b r
-  wrote_line line is (Ok x) ok part err = telling_wrote Raw 0 (rank_line plan) most from to a b Stands n all (Ok x) (subst (Appends a.written b.written) is ok) (λ same. absurd (ok_no_err same)) (λ same. absurd (ok_no_err same)) tt
-    where
-      ok_no_err : {f : Fault} → Ok x ≡ Err f → ⊥
-      ok_no_err {f} same = cc
-  wrote_line line is (Err f) ok part err =
-      telling_wrote Raw 0 (rank_line plan) most from to a b Stands n all (Err f) tt (λ _. subst (AppendsPart a.written b.written) is part) (λ same. absurd (write_is_no_want f err (err_is f fault.OutOfMemory same))) (inl err)
+  all_told : (P Q : List (List ℕ) → Type 0) → ((units : List (List ℕ)) → P units → Q units) → (n : ℕ) → ReadsAll (units_by 0) most n P a.left b.left → ReadsAll (units_by 0) most n Q a.left b.left
+  all_told P Q so n all = all_so (units_by 0) most P Q (λ f units unit. ⊥) (λ f units unit. ⊥) so (λ f units unit no. no) n a.left b.left all
+
+  -- a ranking that had read all
+  ended_behind : (f : ReadingFault) → EndsBehind plan most old new f → Ends (ranking plan) most from a b (fault_by 0 f)
+  ended_behind reading.WriteFault (n, all) = broke_off_behind Raw 0 (is_none plan.window) (IsInterim plan) (IsWhole plan) (LeavesRanks plan) most from a b n (all_told _ _ part_of_all n all)
+  ended_behind reading.OutOfMemory (n, all) = gave_up_behind Raw 0 (is_none plan.window) (IsInterim plan) (IsWhole plan) (LeavesRanks plan) most from a b n (all_told _ _ so_far n all)
+  ended_behind f ends = absurd ends
+
+  pub rank_ended : (f : ReadingFault) → EndsBefore plan most old new f ⊎ EndsBehind plan most old new f → Ends (ranking plan) most from a b (fault_by 0 f)
+  rank_ended f (inl ends) =
+      ended_before Raw 0 (is_none plan.window) (IsInterim plan) (IsWhole plan) (LeavesRanks plan) most from a b f
+      (ends_so (units_by 0) most _ _ _ _ so_far stopped a.left b.left f ends)
+  rank_ended f (inr ends) = ended_behind f ends
+
+  -- a ranking that ended well
+  pub rank_finished : (heart : HeartState) (reader : Learnt) (to : Beside) → to.remains.ranks ≡ Some heart → to.remains.reader ≡ Some reader → (n : ℕ) → ReadsAll (units_by 0) most n (TellsAll plan old new heart reader) a.left b.left → Finishes (ranking plan) most from to a b
+  rank_finished heart reader to heart_left reader_left n all =
+      let gave = all.gave in
+      record {
+        text = all.taken;
+        due = interim_text plan gave.course.moments ++ rank_line plan (items_in reader.known);
+        consumed = all.consumed;
+        end = all.end;
+        size = all.size;
+        fine = (all.sound, gave.course.good);
+        is_due = record { course = gave.course; list = entries_in reader.known; has_all = gave.list; goes = gave.goes; near = gave.near; is = refl };
+        leaves = record {
+          course = gave.course;
+          heart = heart;
+          reader = reader;
+          is = refl;
+          heart_left = heart_left;
+          reader_left = reader_left;
+          has_all = gave.list;
+          goes = gave.goes;
+          near = gave.near;
+          shows = gave.shows;
+        };
+        written = gave.written;
+      }

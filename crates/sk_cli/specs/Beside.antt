@@ -1,19 +1,40 @@
 -- What stands beside the streams of a run: a board of watchers, and what is left of a hub.
-use Rattle.std.specs.Prelude.{ℕ, List, None, map}
+use Rattle.std.specs.Prelude.{◌≡◌, ℕ, List, Option, None, map}
+use Rattle.sk_gate.specs.Hands.{TokenState}
+use Rattle.sk_hub.specs.Hearts.{HeartState}
+use Rattle.sk_snap.specs.Versions.{Learnt}
 use Rattle.sk_watch.specs.Places.{Place}
-use Rattle.sk_count.specs.declared.remains.Remains.{Remains}
+use Rattle.sk_cli.specs.declared.remains.Remains.{Remains}
 
 -- a board is handed in with so many places
 abbrev pub board_places : ℕ
 board_places = 8
 
+-- what is left of a hub: of one that counted, or of one that ranked
+pub record Left : Type 0 where
+  pub heart : Option HeartState
+  pub token : Option TokenState
+  pub ranks : Option HeartState
+  pub reader : Option Learnt
+
+abbrev pub left_of : {W : Type 0} → Remains W → Left
+left_of remains = record { heart = remains.heart; token = remains.token; ranks = remains.ranks; reader = remains.reader }
+
 -- the places of the board, and what is left of a hub
 pub record Beside : Type 0 where
   pub board : List Place
-  pub remains : Remains
+  pub remains : Left
 
-abbrev pub beside_of : List Place → Remains → Beside
-beside_of board remains = record { board = board; remains = remains }
+abbrev pub beside_of : {W : Type 0} → List Place → Remains W → Beside
+beside_of board remains = record { board = board; remains = left_of remains }
+
+-- what is left of a hub that counted is as it was
+abbrev pub SameHub : {W : Type 0} → Remains W → Remains W → Type 0
+SameHub old new = (new.heart ≡ old.heart) × (new.token ≡ old.token)
+
+-- what is left of a hub that ranked is as it was
+abbrev pub SameRanks : {W : Type 0} → Remains W → Remains W → Type 0
+SameRanks old new = (new.ranks ≡ old.ranks) × (new.reader ≡ old.reader)
 
 -- the places with no watcher left
 abbrev pub cleared : List Place → List Place

@@ -19,6 +19,7 @@ use Rattle.sk_cli.specs.commands.Make as make
 use Rattle.sk_cli.specs.commands.Quantile as quantile
 use Rattle.sk_cli.specs.commands.Replay as replay
 use Rattle.sk_cli.specs.commands.Serve as serve
+use Rattle.sk_rank.specs.Plans as ranks
 use Rattle.sk_serve.specs.declared.plan.ServePlan.{ServePlan}
 
 -- what a command does
@@ -37,11 +38,16 @@ abbrev pub alarms_of : Command → List ℕ
 alarms_of (Count plan) = plan.alarms
 alarms_of other = []
 
--- whether it makes a hub, which it leaves behind
+-- whether it makes a hub that counts, which it leaves behind
 abbrev pub makes_hub : Command → Bool
 makes_hub (Count plan) = true
 makes_hub (Make plan) = true
 makes_hub other = false
+
+-- whether it makes a hub that ranks, which it leaves behind
+abbrev pub makes_ranks : Command → Bool
+makes_ranks (Quantile plan) = true
+makes_ranks other = false
 
 -- whether it reads a file in place of the standard input, where one is named
 abbrev pub takes_file : Command → Bool
@@ -57,7 +63,7 @@ abbrev pub IsWithin : Command → Type 0
 IsWithin (Count plan) = count.IsWithin plan
 IsWithin (Image plan) = image.IsWithin plan
 IsWithin (Make plan) = make.IsWithin plan
-IsWithin (Quantile plan) = quantile.IsWithin plan
+IsWithin (Quantile plan) = ranks.IsWithin plan
 IsWithin other = Unit {0}
 
 -- a command over at most one text, and the name of the file that it reads in place of the standard input
@@ -118,11 +124,17 @@ alarms_asked (OfText one) = alarms_of one.command
 alarms_asked (OfImages two) = []
 alarms_asked (OfLinks plan) = plan.alarms
 
--- whether a hub is left behind
+-- whether a hub that counted is left behind
 abbrev pub leaves_hub : Asked → Bool
 leaves_hub (OfText one) = makes_hub one.command
 leaves_hub (OfImages two) = false
 leaves_hub (OfLinks plan) = true
+
+-- whether one that ranked is
+abbrev pub leaves_ranks : Asked → Bool
+leaves_ranks (OfText one) = makes_ranks one.command
+leaves_ranks (OfImages two) = false
+leaves_ranks (OfLinks plan) = false
 
 -- a command by its options, with its file
 abbrev pub asked_by : (List Given → Option Command) → List Given → Option Asked

@@ -1,9 +1,11 @@
--- A command that reads all items of a text, and once that has ended writes one text of them.
-use Rattle.std.specs.Prelude.{◌≡◌, ℕ, true, false, List, []}
+-- A command that reads all items of a text: one that writes once that has ended, and one that writes on the way too.
+use Rattle.std.specs.Prelude.{◌≡◌, ℕ, Bool, true, false, List, [], take}
 use Rattle.sk_read.specs.declared.kind.Kind.{Kind}
 use Rattle.sk_read.specs.Items.{items_by}
-use Rattle.sk_read.specs.Units.{units_by, units_of}
+use Rattle.sk_read.specs.Units.{units_by, units_of, complete_units_of, IsSoundUpTo}
 use Rattle.sk_cli.specs.Behaviour.{Behaviour}
+use Rattle.sk_cli.specs.Beside.{Beside}
+use Rattle.sk_cli.specs.Lines.{lines_before}
 use Rattle.sk_cli.specs.Readable.{IsReadable, IsReadableSoFar, IsRefusedBy}
 
 -- the items of a text, by a kind and a column
@@ -24,4 +26,20 @@ telling kind column tell = record {
   IsDueSoFar = λ from taken due. due ≡ [];
   IsDueAt = λ from fault text due. due ≡ [];
   IsDueBefore = λ from text due. due ≡ [];
+}
+
+-- what is due on the way, for the units so far, and in all, and what is left once that is written, are given
+abbrev pub telling_on : Kind → ℕ → Bool → (Beside → List (List ℕ) → List ℕ → Type 0) → (Beside → List (List ℕ) → List ℕ → Type 0) → (Beside → List (List ℕ) → List ℕ → Beside → Type 0) → Behaviour
+telling_on kind column last Interim Whole Left = record {
+  reads = true;
+  writes_last = last;
+  writes_by_lines = false;
+  IsFine = IsReadable kind column;
+  IsFineSoFar = IsReadableSoFar kind column;
+  Refuses = IsRefusedBy kind column;
+  IsDue = λ from text due. Whole from (units_of (units_by column) text) due;
+  Leaves = λ from text due to. Left from (units_of (units_by column) text) due to;
+  IsDueSoFar = λ from taken due. Interim from (complete_units_of (units_by column) taken) due;
+  IsDueAt = λ from fault text due. Interim from (lines_before fault (units_of (units_by column) text)) due;
+  IsDueBefore = λ from text due. (n : ℕ) × IsSoundUpTo (units_by column) n text × Interim from (take n (units_of (units_by column) text)) due;
 }

@@ -9,8 +9,7 @@ use crate::commands::hash::HashPlan;
 use crate::commands::image::ImagePlan;
 use crate::commands::join::JoinPlan;
 use crate::commands::make::MakePlan;
-use crate::commands::quantile::QuantilePlan;
-use crate::commands::serve;
+use crate::commands::{quantile, serve};
 use crate::options::{Name, Options, Verb};
 use sk_count::Plan;
 use sk_serve::ServePlan;
@@ -27,7 +26,7 @@ pub enum Command {
     /// Estimate how many distinct numbers there are in lines that the program makes.
     Make(MakePlan),
     /// Tell the rank of a number among those of a text.
-    Quantile(QuantilePlan),
+    Quantile(sk_rank::Plan),
     /// Play a schedule and write the answer to each event.
     Replay,
     Help,
@@ -122,7 +121,7 @@ impl<'a> Request<'a> {
         ensures value { option_map asked_of result ≡ asked_by quantile_by options.now }
         ensures order { IfSome result (λ request. IsInOrder (asked_of request)) }
     {
-        let command = Command::Quantile(QuantilePlan::of(options)?);
+        let command = Command::Quantile(quantile::plan_of(options)?);
         let file = file_in(options)?;
         Some(Request::OverText(OverText { command, file }))
     }

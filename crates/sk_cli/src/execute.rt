@@ -4,8 +4,8 @@ ghost use Rattle.std.specs.Option.{option_copied};
 ghost use Rattle.sk_model.specs.Causes.{HasCauseIn};
 ghost use Rattle.sk_model.specs.Limits.{source_limit};
 ghost use Rattle.sk_io.specs.Files.{IsMissing};
-ghost use Rattle.sk_cli.specs.Beside.{beside_of, board_places, cleared};
-ghost use Rattle.sk_cli.specs.Command.{asked_of, behaviour_of, alarms_of, alarms_asked, makes_hub, leaves_hub, reads_input, opens_files, accepts_links, writes_last_of, IsWithin, IsInOrder};
+ghost use Rattle.sk_cli.specs.Beside.{beside_of, board_places, cleared, SameHub, SameRanks};
+ghost use Rattle.sk_cli.specs.Command.{asked_of, behaviour_of, alarms_of, alarms_asked, makes_hub, makes_ranks, leaves_hub, leaves_ranks, reads_input, opens_files, accepts_links, writes_last_of, IsWithin, IsInOrder};
 ghost use Rattle.sk_cli.specs.Fault.{status_of};
 ghost use Rattle.sk_cli.specs.Outside.{streams_of, outside_of, closed_in};
 ghost use Rattle.sk_cli.specs.Run.{Executes, HasCauses, Over, PerformsText, Performs, MissesFirst, MissesSecond, IsOfCalls, read_faults_of, IsOfReads};
@@ -22,9 +22,10 @@ use crate::commands::quantile::quantile;
 use crate::commands::replay::replay;
 use crate::commands::serve::serve;
 use crate::fault::Fault;
+use crate::remains::Remains;
 use crate::watchers::clear;
 use crate::write::write_text;
-use sk_count::{Remains, arm};
+use sk_count::arm;
 use sk_io::{Door, OpenFile, Shelf, Sink, Source};
 use sk_watch::Seen;
 use std::alloc::Global;
@@ -33,8 +34,8 @@ use std::thread::Threads;
 
 // Does what a command asks, over the standard input or the file of this name, of fewer than `most`
 // bytes.
-fn perform_text<R: Threads + Wait + Sync, S: Source, O: Sink, F: Shelf, B: Seen>(
-    rt: &R,
+fn perform_text<'r, R: Threads + Wait + Sync, S: Source, O: Sink, F: Shelf, B: Seen>(
+    rt: &'r R,
     alloc: Global,
     command: Command,
     file: Option<&str>,
@@ -43,7 +44,7 @@ fn perform_text<R: Threads + Wait + Sync, S: Source, O: Sink, F: Shelf, B: Seen>
     out: &mut O,
     shelf: &mut F,
     board: &mut B,
-    remains: &mut Remains,
+    remains: &mut Remains<&'r R>,
 ) -> Result<(), Fault>
     requires within { IsWithin command }
     requires bound { most ≤ source_limit }
@@ -70,10 +71,11 @@ fn perform_text<R: Threads + Wait + Sync, S: Source, O: Sink, F: Shelf, B: Seen>
     ensures files { F.files shelf.new ≡ F.files shelf.old }
     ensures stays { S.stands_on input.new ≡ S.stands_on input.old }
 
-    // Watchers stay for alarms alone, and a hub is left where a count ended well.
+    // Watchers stay for alarms alone, and a hub is left where a count or a ranking ended well.
     ensures board { alarms_of command ≡ [] → B.places board.new ≡ cleared (B.places board.old) }
     ensures remains { IfErr result (λ _. remains.new ≡ remains.old) }
-    ensures no_hub { makes_hub command ≡ false → remains.new ≡ remains.old }
+    ensures no_hub { makes_hub command ≡ false → SameHub remains.old remains.new }
+    ensures no_ranks { makes_ranks command ≡ false → SameRanks remains.old remains.new }
 {
     match file {
         None => execute(rt, alloc, command, most, input, out, board, remains),
@@ -89,8 +91,8 @@ fn perform_text<R: Threads + Wait + Sync, S: Source, O: Sink, F: Shelf, B: Seen>
 
 /// Does what is asked: a command over the standard input or a file, of fewer than `most` bytes, a join of two
 /// files, of as few each, or a server over links, of as few each.
-pub fn perform<R: Threads + Wait + Sync, S: Source, O: Sink, F: Shelf, D: Door, B: Seen>(
-    rt: &R,
+pub fn perform<'r, R: Threads + Wait + Sync, S: Source, O: Sink, F: Shelf, D: Door, B: Seen>(
+    rt: &'r R,
     alloc: Global,
     request: &Request<'_>,
     most: u64,
@@ -99,7 +101,7 @@ pub fn perform<R: Threads + Wait + Sync, S: Source, O: Sink, F: Shelf, D: Door, 
     shelf: &mut F,
     door: &mut D,
     board: &mut B,
-    remains: &mut Remains,
+    remains: &mut Remains<&'r R>,
 ) -> Result<(), Fault>
 where
     D::Link: Send,
@@ -134,10 +136,11 @@ where
     ensures files { F.files shelf.new ≡ F.files shelf.old }
     ensures stays { S.stands_on input.new ≡ S.stands_on input.old }
 
-    // Watchers stay for alarms alone, and a hub is left where a count ended well.
+    // Watchers stay for alarms alone, and a hub is left where a count or a ranking ended well.
     ensures board { alarms_asked (asked_of request.now) ≡ [] → B.places board.new ≡ cleared (B.places board.old) }
     ensures remains { IfErr result (λ _. remains.new ≡ remains.old) }
-    ensures no_hub { leaves_hub (asked_of request.now) ≡ false → remains.new ≡ remains.old }
+    ensures no_hub { leaves_hub (asked_of request.now) ≡ false → SameHub remains.old remains.new }
+    ensures no_ranks { leaves_ranks (asked_of request.now) ≡ false → SameRanks remains.old remains.new }
 {
     match request {
         Request::OverText(over) => perform_text(
@@ -174,15 +177,15 @@ fn set_alarms<B: Seen>(command: &Command, board: &mut B)
 }
 
 /// Does what a command asks, over a source of fewer than `most` bytes.
-pub fn execute<R: Threads + Wait + Sync, S: Source, O: Sink, B: Seen>(
-    rt: &R,
+pub fn execute<'r, R: Threads + Wait + Sync, S: Source, O: Sink, B: Seen>(
+    rt: &'r R,
     alloc: Global,
     command: Command,
     most: u64,
     source: &mut S,
     out: &mut O,
     board: &mut B,
-    remains: &mut Remains,
+    remains: &mut Remains<&'r R>,
 ) -> Result<(), Fault>
     requires within { IsWithin command }
     requires bound { most ≤ source_limit }
@@ -198,7 +201,8 @@ pub fn execute<R: Threads + Wait + Sync, S: Source, O: Sink, B: Seen>(
     ensures opened { result ≢ Err Fault.OpenFault }
     ensures board { alarms_of command ≡ [] → B.places board.new ≡ cleared (B.places board.old) }
     ensures remains { IfErr result (λ _. remains.new ≡ remains.old) }
-    ensures no_hub { makes_hub command ≡ false → remains.new ≡ remains.old }
+    ensures no_hub { makes_hub command ≡ false → SameHub remains.old remains.new }
+    ensures no_ranks { makes_ranks command ≡ false → SameRanks remains.old remains.new }
     ensures stays { S.stands_on source.new ≡ S.stands_on source.old }
 {
     match command {
@@ -214,7 +218,7 @@ pub fn execute<R: Threads + Wait + Sync, S: Source, O: Sink, B: Seen>(
         Command::Make(plan) => make(rt, alloc, &plan, out, board, remains),
         Command::Quantile(plan) => {
             clear(board);
-            quantile(alloc, &plan, most, source, out)
+            quantile(rt, alloc, &plan, most, source, out, remains)
         }
         Command::Replay => {
             clear(board);

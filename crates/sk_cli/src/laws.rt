@@ -1,17 +1,22 @@
 //! Laws of what is due and what is refused.
-ghost use Rattle.std.specs.Prelude.{◌≡◌, ℕ, None, List, ◌∷◌, ◌++◌};
+ghost use Rattle.std.specs.Prelude.{◌≡◌, ℕ, ◌<◌, None, List, ◌∷◌, ◌++◌};
 ghost use Rattle.sk_cli.specs.Behaviour.{IsDecided, WritesOneText};
 ghost use Rattle.sk_cli.specs.commands.Count.{counting};
 ghost use Rattle.sk_cli.specs.commands.Hash.{hashing};
 ghost use Rattle.sk_cli.specs.commands.Image.{imaging};
 ghost use Rattle.sk_cli.specs.commands.Make.{making};
-ghost use Rattle.sk_cli.specs.commands.Quantile.{ranking};
+ghost use Rattle.sk_cli.specs.commands.Quantile.{ranking, TellsNear};
 ghost use Rattle.sk_cli.specs.commands.Replay.{IsAnswered, IsNoMore, replaying};
 ghost use Rattle.sk_count.specs.declared.plan.Plan.{Plan};
 ghost use Rattle.sk_cli.specs.declared.commands.hash.HashPlan.{HashPlan};
 ghost use Rattle.sk_cli.specs.declared.commands.image.ImagePlan.{ImagePlan};
 ghost use Rattle.sk_cli.specs.declared.commands.make.MakePlan.{MakePlan};
-ghost use Rattle.sk_cli.specs.declared.commands.quantile.QuantilePlan.{QuantilePlan};
+ghost use Rattle.sk_rank.specs.declared.plan.Plan.{Plan as RankPlan};
+ghost use Rattle.sk_rank.specs.Texts.{rank_line};
+ghost use Rattle.sk_model.specs.Lines.{lines_of};
+ghost use Rattle.sk_read.specs.Items.{items_by};
+ghost use Rattle.sk_read.specs.declared.kind.Kind.TheVariants.{Raw};
+ghost use Rattle.sk_cli.specs.Beside.{Beside};
 
 /// A line that does not go on with a schedule stands in none that was answered.
 pub fn no_more_is_last()
@@ -42,10 +47,20 @@ pub fn image_decides()
     ensures one_text { (plan : ImagePlan) → WritesOneText (imaging plan) }
 {}
 
-/// A text is fine or refused in one way, and one line of a rank is due.
+/// A text is fine or refused in one way. With one updater and no window one text is due: the line of the numbers in the
+/// order of the lines, as one thread tells it.
 pub fn quantile_decides()
-    ensures decided { (plan : QuantilePlan) → IsDecided (ranking plan) }
-    ensures one_text { (plan : QuantilePlan) → WritesOneText (ranking plan) }
+    ensures decided { (plan : RankPlan) → IsDecided (ranking plan) }
+    ensures one_text { (plan : RankPlan) → plan.updaters ≡ 1 → plan.window ≡ None → WritesOneText (ranking plan) }
+    ensures one_line { (plan : RankPlan) → plan.updaters ≡ 1 → plan.window ≡ None
+        → (from : Beside) (text due : List ℕ) → (ranking plan).IsDue from text due → due ≡ rank_line plan (items_by Raw (lines_of text)) }
+{}
+
+/// However many updaters there are, the last line tells the number of all items, and how many of them lie below the
+/// plan's number, up to the error that it tells.
+pub fn quantile_is_near()
+    ensures { (plan : RankPlan) → 0 < plan.updaters → (from : Beside) (text due : List ℕ) → (ranking plan).IsDue from text due
+        → TellsNear plan (items_by Raw (lines_of text)) due }
 {}
 
 /// No text is refused by a count of made lines, and one report is due.

@@ -9,11 +9,12 @@ mod fault;
 pub mod laws;
 mod options;
 mod program;
+mod remains;
 mod values;
 mod watchers;
 mod write;
 
 pub use program::run;
-pub use sk_count::Remains;
+pub use remains::Remains;
 pub use sk_make::MakeSource;
 pub use watchers::{BOARD_PLACES, board_of};

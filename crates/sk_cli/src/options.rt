@@ -125,7 +125,8 @@ impl Name {
         ensures { result ≡ allows Verb.Quantile self }
     {
         match self {
-            Name::At | Name::File | Name::K | Name::Key => true,
+            Name::At | Name::B | Name::File | Name::K | Name::Key => true,
+            Name::Propagator | Name::Updaters | Name::Window => true,
             _ => false,
         }
     }

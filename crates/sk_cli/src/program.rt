@@ -1,9 +1,9 @@
 // The top call: words in, a status out.
 ghost use Rattle.std.specs.Prelude.{◌≡◌, ◌≢◌, ◌⊎◌, ◌↔◌, [], length, All, None, Some, IsSome, MatchOption, IfSome, true, false};
 ghost use Rattle.sk_model.specs.Limits.{source_limit};
-ghost use Rattle.sk_cli.specs.Beside.{beside_of, board_places, cleared};
+ghost use Rattle.sk_cli.specs.Beside.{beside_of, board_places, cleared, SameHub, SameRanks};
 ghost use Rattle.sk_cli.specs.Options.{texts_of};
-ghost use Rattle.sk_cli.specs.Command.{request_of, command_of, reads_input, opens_files, accepts_links, writes_last_of, alarms_asked, leaves_hub};
+ghost use Rattle.sk_cli.specs.Command.{request_of, command_of, reads_input, opens_files, accepts_links, writes_last_of, alarms_asked, leaves_hub, leaves_ranks};
 ghost use Rattle.sk_cli.specs.Fault.{message_of, status_of};
 ghost use Rattle.sk_cli.specs.Outside.{outside_of, closed_in};
 ghost use Rattle.sk_cli.specs.Run.{Succeeds, Fails, Reports, RisesAt, RiseAtTheirs, RunsMake, IsFineFor, IsRefusedFor, MissesFirst, MissesSecond, IsOfCalls, IsOfReads};
@@ -16,7 +16,7 @@ ghost use Rattle.sk_serve.specs.Served.{AreClosed};
 use crate::command::Request;
 use crate::execute::perform;
 use crate::fault::Fault;
-use sk_count::Remains;
+use crate::remains::Remains;
 use sk_io::{Door, Shelf, Sink, Source};
 use sk_model::limits::SOURCE_LIMIT;
 use sk_watch::Seen;
@@ -26,8 +26,8 @@ use std::thread::Threads;
 
 /// Runs the program over the words that stand behind its name, and answers its exit status. What
 /// standard error is told is written as far as it goes, and a fault of that write changes nothing.
-pub fn run<R: Threads + Wait + Sync, S: Source, O: Sink, E: Sink, F: Shelf, D: Door, B: Seen>(
-    rt: &R,
+pub fn run<'r, R: Threads + Wait + Sync, S: Source, O: Sink, E: Sink, F: Shelf, D: Door, B: Seen>(
+    rt: &'r R,
     alloc: Global,
     words: &[String],
     input: &mut S,
@@ -36,7 +36,7 @@ pub fn run<R: Threads + Wait + Sync, S: Source, O: Sink, E: Sink, F: Shelf, D: D
     shelf: &mut F,
     door: &mut D,
     board: &mut B,
-    remains: &mut Remains,
+    remains: &mut Remains<&'r R>,
 ) -> u8
 where
     D::Link: Send,
@@ -44,6 +44,8 @@ where
     requires live { All IsSome (B.places board.old) }
     requires no_heart { remains.old.heart ≡ None }
     requires no_token { remains.old.token ≡ None }
+    requires no_ranks { remains.old.ranks ≡ None }
+    requires no_reader { remains.old.reader ≡ None }
 
     // Words that are no command: nothing is touched, and only the usage line is told.
     ensures usage { (result ≡ 2) ↔ (request_of (texts_of words.now) ≡ None) }
@@ -100,10 +102,11 @@ where
         → result ≢ 0 → result ≢ 4 → out.new ≡ out.old) }
     ensures files { F.files shelf.new ≡ F.files shelf.old }
 
-    // Watchers stay for alarms alone, and a hub is left where a count ended well.
+    // Watchers stay for alarms alone, and a hub is left where a count or a ranking ended well.
     ensures board { IfSome (request_of (texts_of words.now)) (λ asked. alarms_asked asked ≡ [] → B.places board.new ≡ cleared (B.places board.old)) }
     ensures remains { result ≢ 0 → remains.new ≡ remains.old }
-    ensures no_hub { IfSome (request_of (texts_of words.now)) (λ asked. leaves_hub asked ≡ false → remains.new ≡ remains.old) }
+    ensures no_hub { IfSome (request_of (texts_of words.now)) (λ asked. leaves_hub asked ≡ false → SameHub remains.old remains.new) }
+    ensures no_ranks_left { IfSome (request_of (texts_of words.now)) (λ asked. leaves_ranks asked ≡ false → SameRanks remains.old remains.new) }
 {
     let Some(request) = Request::of(words) else {
         return report(Fault::Usage, err);

@@ -34,10 +34,7 @@ fn main(rt: HostRuntime) -> ExitCode {
         };
     }
     let mut board = board_of(boxes);
-    let mut remains = Remains {
-        heart: None,
-        token: None,
-    };
+    let mut remains = Remains::none();
     let mut input = StdSource::new(rt.stdin());
     let mut out = StdSink::new(writer(&stdout));
     let mut shelf = FileShelf::new(&rt);

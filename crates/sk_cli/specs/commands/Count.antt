@@ -1,12 +1,12 @@
 -- What `count` is asked, and what it does.
-use Rattle.std.specs.Prelude.{◌≡◌, ℕ, ◌≤◌, true, false, List, [], ◌∷◌, ◌++◌, length, take, All, if◌then◌else◌, Option, None, Some, IfSome, is_none, option_and_then, option_map}
+use Rattle.std.specs.Prelude.{◌≡◌, ℕ, ◌≤◌, List, [], ◌∷◌, ◌++◌, length, All, if◌then◌else◌, Option, None, Some, IfSome, is_none, option_and_then, option_map}
 use Rattle.sk_model.specs.Limits.{least_k, most_k, most_size, most_updaters, IsFrom}
 use Rattle.sk_gate.specs.Hands.{TokenState}
 use Rattle.sk_hub.specs.Hearts.{HeartState}
 use Rattle.sk_read.specs.declared.kind.Kind.{Kind}
 use Rattle.sk_read.specs.declared.kind.Kind.TheVariants as kind
 use Rattle.sk_read.specs.Items.{items_by}
-use Rattle.sk_read.specs.Units.{units_by, units_of, complete_units_of, IsSoundUpTo}
+use Rattle.sk_read.specs.Units.{units_by}
 use Rattle.sk_read.specs.declared.units.Units.{Units}
 use Rattle.sk_ingest.specs.Windows.{most_lines}
 use Rattle.sk_count.specs.declared.plan.Plan.{Plan}
@@ -16,8 +16,7 @@ use Rattle.sk_count.specs.Hubs.{ShowsAll, ShowsMoments}
 use Rattle.sk_count.specs.Texts.{interim_text, places_after}
 use Rattle.sk_cli.specs.Behaviour.{Behaviour}
 use Rattle.sk_cli.specs.Beside.{Beside, board_places}
-use Rattle.sk_cli.specs.Lines.{lines_before}
-use Rattle.sk_cli.specs.Readable.{IsReadable, IsReadableSoFar, IsRefusedBy}
+use Rattle.sk_cli.specs.Told.{telling_on}
 use Rattle.sk_cli.specs.Options.{Given, value_behind, is_given, number_in, seed_by, updaters_by, sizes_by, window_by, eager_by, propagator_by, alarms_by}
 use Rattle.sk_cli.specs.declared.options.Name.TheVariants as name
 use Rattle.sk_cli.specs.declared.commands.count.What.{What}
@@ -106,23 +105,12 @@ pub record LeavesHub (plan : Plan) (from : Beside) (units : List (List ℕ)) (du
   pub board : to.board ≡ places_after plan.k (armed_by plan from.board) course.moments
   pub heart : HeartState
   pub token : TokenState
-  pub remains : to.remains ≡ record { heart = Some heart; token = Some token }
+  pub heart_left : to.remains.heart ≡ Some heart
+  pub token_left : to.remains.token ≡ Some token
   pub hub : token.table ≡ heart.table
   pub shows : ShowsAll plan (items_by plan.kind units) (course.windows ++ course.rest ∷ []) course.moments heart
   pub asked : ShowsMoments plan course.moments token
 
 -- it writes the interim text as it reads, and last the estimate
 abbrev pub counting : Plan → Behaviour
-counting plan = record {
-  reads = true;
-  writes_last = is_none plan.window;
-  writes_by_lines = false;
-  IsFine = IsReadable plan.kind plan.column;
-  IsFineSoFar = IsReadableSoFar plan.kind plan.column;
-  Refuses = IsRefusedBy plan.kind plan.column;
-  IsDue = λ from text due. IsWhole plan from (units_of (counted plan) text) due;
-  Leaves = λ from text due to. LeavesHub plan from (units_of (counted plan) text) due to;
-  IsDueSoFar = λ from taken due. IsInterim plan from (complete_units_of (counted plan) taken) due;
-  IsDueAt = λ from fault text due. IsInterim plan from (lines_before fault (units_of (counted plan) text)) due;
-  IsDueBefore = λ from text due. (n : ℕ) × IsSoundUpTo (counted plan) n text × IsInterim plan from (take n (units_of (counted plan) text)) due;
-}
+counting plan = telling_on plan.kind plan.column (is_none plan.window) (IsInterim plan) (IsWhole plan) (LeavesHub plan)

@@ -1,44 +1,107 @@
 -- What `quantile` is asked, and what it does.
-use Rattle.std.specs.Prelude.{ℕ, ◌-◌, ◌<◌, List, ◌++◌, length, codes, decimal, Option, option_and_then, option_map}
-use Rattle.sk_model.specs.Limits.{IsFrom}
+use Rattle.std.specs.Prelude.{◌≡◌, ℕ, ◌-◌, ◌<◌, ◌≤◌, List, [], ◌∷◌, ◌++◌, length, is_none, Option, Some, IfSome, option_and_then, option_map}
+use Rattle.std.specs.Int.{abs_diff}
+use Rattle.sk_model.specs.Entries.{Entry, items_of_entries}
+use Rattle.sk_model.specs.Limits.{most_size, most_updaters, IsFrom}
 use Rattle.sk_model.specs.Width.{item_end}
-use Rattle.sk_quant.specs.Held.{ranked}
+use Rattle.sk_hub.specs.Hearts.{HeartState}
 use Rattle.sk_quant.specs.Limits.{least_quantile_k, most_quantile_k, key_end}
-use Rattle.sk_quant.specs.Ranks.{rank_error}
+use Rattle.sk_quant.specs.Ranks.{rank_of, rank_error}
+use Rattle.sk_ingest.specs.Windows.{most_lines}
 use Rattle.sk_read.specs.declared.kind.Kind.TheVariants.{Raw}
+use Rattle.sk_snap.specs.History.{entries_in}
+use Rattle.sk_snap.specs.Versions.{Learnt, items_in}
+use Rattle.sk_rank.specs.declared.plan.Plan.{Plan}
+use Rattle.sk_rank.specs.Feeding.{Course}
+use Rattle.sk_rank.specs.Nearness.{IsNear}
+use Rattle.sk_rank.specs.Ranks.{IsListOf, Goes, Shows}
+use Rattle.sk_rank.specs.Texts.{interim_text, told_line, rank_line}
 use Rattle.sk_cli.specs.Behaviour.{Behaviour}
-use Rattle.sk_cli.specs.Options.{Given, value_behind, number_in, required_in}
-use Rattle.sk_cli.specs.Told.{telling}
+use Rattle.sk_cli.specs.Beside.{Beside}
+use Rattle.sk_cli.specs.Options.{Given, value_behind, number_in, required_in, updaters_by, window_by, propagator_by}
+use Rattle.sk_cli.specs.Told.{telling_on}
 use Rattle.sk_cli.specs.declared.options.Name.TheVariants as name
-use Rattle.sk_cli.specs.declared.commands.quantile.QuantilePlan.{QuantilePlan}
+use Rattle.sk_cli.specs.declared.commands.quantile.How.{How}
+use Rattle.sk_cli.specs.declared.commands.quantile.What.{What}
 
 -- ---- its plan
 
--- the plan that options spell
-abbrev pub plan_by : List Given → Option QuantilePlan
-plan_by given =
+-- which number's rank is told, and by which sketch
+abbrev pub what_by : List Given → Option What
+what_by given =
     option_and_then (λ at. option_and_then (λ k. option_map (λ key. record { k = k; key = key; at = at }) (number_in 0 (key_end - 1) 0 (value_behind name.Key given)))
     (number_in least_quantile_k most_quantile_k 128 (value_behind name.K given))) (required_in 0 (item_end - 1) (value_behind name.At given))
 
--- its numbers are within their limits
-pub record IsWithin (plan : QuantilePlan) : Type 0 where
-  pub k : IsFrom least_quantile_k most_quantile_k plan.k
-  pub key : plan.key < key_end
+-- by which updaters, and what is told on the way
+abbrev pub how_by : List Given → Option How
+how_by given =
+    option_and_then (λ size. option_and_then (λ updaters. option_and_then (λ window.
+    option_map (λ propagator. record { size = size; updaters = updaters; window = window; propagator = propagator })
+    (propagator_by given)) (window_by given)) (updaters_by given)) (number_in 1 most_size 64 (value_behind name.B given))
 
--- ---- what it does
+abbrev pub plan_with : What → How → Plan
+plan_with what how = record {
+  k = what.k;
+  key = what.key;
+  at = what.at;
+  size = how.size;
+  updaters = how.updaters;
+  window = how.window;
+  propagator = how.propagator;
+}
 
--- a word, and a number behind it
-abbrev pub labelled : List ℕ → ℕ → List ℕ
-labelled label number = label ++ decimal number
+-- their numbers are within their limits
+pub record IsWhat (what : What) : Type 0 where
+  pub k : IsFrom least_quantile_k most_quantile_k what.k
+  pub key : what.key < key_end
 
--- how many items there are, how many of them lie below a number, and by how much that may be off
-abbrev pub told_line : ℕ → ℕ → ℕ → List ℕ
-told_line n below within = labelled (codes "n ") n ++ (labelled (codes " below ") below ++ (labelled (codes " within ") within ++ codes "\n"))
+pub record IsHow (how : How) : Type 0 where
+  pub size : IsFrom 1 most_size how.size
+  pub updaters : IsFrom 1 most_updaters how.updaters
+  pub window : IfSome how.window (IsFrom 1 most_lines)
 
--- the line of these items, by what the sketch of the plan holds of them
-abbrev pub rank_line : QuantilePlan → List ℕ → List ℕ
-rank_line plan items = told_line (length items) (ranked plan.at plan.k plan.key items) (rank_error (length items) plan.k)
+-- the plan that options spell
+abbrev pub plan_by : List Given → Option Plan
+plan_by given = option_and_then (λ what. option_map (λ how. plan_with what how) (how_by given)) (what_by given)
 
--- each line spells its item; once the text has ended it writes that line
-abbrev pub ranking : QuantilePlan → Behaviour
-ranking plan = telling Raw 0 (rank_line plan)
+-- ---- what it writes, with a course of it: its lines cut into windows, and a moment behind each full one
+
+-- the interim text of these lines: a line for each moment
+pub record IsInterim (plan : Plan) (from : Beside) (units : List (List ℕ)) (due : List ℕ) : Type 0 where
+  pub course : Course plan units
+  pub is : due ≡ interim_text plan course.moments
+
+-- the whole text of these lines: the interim text, and then the rank in a list that has of each updater the items of its
+-- blocks, and that the list of each moment begins
+pub record IsWhole (plan : Plan) (from : Beside) (units : List (List ℕ)) (due : List ℕ) : Type 0 where
+  pub course : Course plan units
+  pub list : List Entry
+  pub has_all : IsListOf plan (course.windows ++ course.rest ∷ []) list
+  pub goes : Goes course.moments list
+  pub near : IsNear plan.at plan.k plan.key (items_of_entries list)
+  pub is : due ≡ interim_text plan course.moments ++ rank_line plan (items_of_entries list)
+
+-- once this is written, the heart of the one hub that ranked is left, and the reader that knows exactly the list of the
+-- last line, and both show this run
+pub record LeavesRanks (plan : Plan) (from : Beside) (units : List (List ℕ)) (due : List ℕ) (to : Beside) : Type 0 where
+  pub course : Course plan units
+  pub heart : HeartState
+  pub reader : Learnt
+  pub is : due ≡ interim_text plan course.moments ++ rank_line plan (items_in reader.known)
+  pub heart_left : to.remains.ranks ≡ Some heart
+  pub reader_left : to.remains.reader ≡ Some reader
+  pub has_all : IsListOf plan (course.windows ++ course.rest ∷ []) (entries_in reader.known)
+  pub goes : Goes course.moments (entries_in reader.known)
+  pub near : IsNear plan.at plan.k plan.key (items_in reader.known)
+  pub shows : Shows plan heart reader
+
+-- each line spells its item; it writes the interim text as it reads, and last the rank in all
+abbrev pub ranking : Plan → Behaviour
+ranking plan = telling_on Raw 0 (is_none plan.window) (IsInterim plan) (IsWhole plan) (LeavesRanks plan)
+
+-- what is due ends with a line of as many items as these, and of their rank up to the error that it tells
+pub record TellsNear (plan : Plan) (items due : List ℕ) : Type 0 where
+  pub front : List ℕ
+  pub below : ℕ
+  pub is : due ≡ front ++ told_line (length items) below (rank_error (length items) plan.k)
+  pub near : abs_diff below (rank_of plan.at items) ≤ rank_error (length items) plan.k

@@ -5,7 +5,8 @@ use Rattle.sk_serve.specs.Plans.{IsServable}
 use Rattle.sk_serve.specs.Serves.{surroundings, TellsSessions, ServeEnds}
 use Rattle.sk_serve.specs.declared.fault.ServeFault.TheVariants as serve
 use Rattle.sk_serve.specs.declared.plan.ServePlan.{ServePlan}
-use Rattle.sk_cli.specs.Beside.{Beside, board_places}
+use Rattle.sk_count.specs.declared.remains.Remains.{Remains}
+use Rattle.sk_cli.specs.Beside.{Beside, Left, board_places}
 use Rattle.sk_cli.specs.Options.{Given, value_behind, number_in, required_in, seed_by, sizes_by, eager_by, alarms_by}
 use Rattle.sk_cli.specs.Outside.{Closed}
 use Rattle.sk_cli.specs.declared.options.Name.TheVariants as name
@@ -34,10 +35,14 @@ pub record IsWithin (plan : ServePlan) : Type 0 where
 
 -- ---- how it goes
 
+-- what is left of the hub that counted
+abbrev pub counted_left : Left → Remains
+counted_left left = record { heart = left.heart; token = left.token }
+
 -- all its sessions were served, and all that is due for them was written
 abbrev pub ServesAll : ServePlan → ℕ → Beside → Beside → Option (List ℕ) → Option (List ℕ) → Closed → Type 0
 ServesAll plan most from to old new links =
-    TellsSessions plan most (surroundings old from.board links.before) (surroundings new to.board links.after) to.remains
+    TellsSessions plan most (surroundings old from.board links.before) (surroundings new to.board links.after) (counted_left to.remains)
 
 -- where it may end by a fault: with nothing written save at a failed write
 abbrev pub EndsServing : ServePlan → ℕ → Beside → Beside → Option (List ℕ) → Option (List ℕ) → Closed → Fault → Type 0

@@ -40,13 +40,17 @@ usage:
       --key S      which numbers, 0 to 281474976710655 (0)
       --b B        how many items an updater hands over at once, 1 to 4096 (64)
       --k, --updaters, --propagator as for count
-  sketchd quantile --at X [--k K] [--key S] [--file NAME]
+  sketchd quantile --at X [--k K] [--key S] [--file NAME] [--updaters N] [--b B] [--window W]
+                   [--propagator yes|no]
       reads numbers, one a line, and writes how many there are, how many of them are below X, and by
       how much that may be off
       --at X       0 to 281474976710655
       --k K        2 to 4096 (128); a larger one takes more memory, and less may be off
       --key S      which coins are tossed, 0 to 281474976710655 (0)
       --file NAME  reads this file in place of the standard input
+      --b B        how many items an updater hands over at once, 1 to 4096 (64)
+      --window W   writes the same of what was handed over by then after each W lines too
+      --updaters, --propagator as for count
   sketchd replay [--file NAME]
       plays a schedule of the sketch's concurrent protocol and writes the answer to each event; the
       first line is `machine K B N` or `vacant K N`

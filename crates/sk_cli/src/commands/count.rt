@@ -1,7 +1,7 @@
 // The command that estimates how many distinct items there are.
 ghost use Rattle.std.specs.Prelude.{◌≡◌, ◌≢◌, ◌≤◌, All, IsSome, None, [], Ok, Err, IfErr, IfSome, MatchResult, length, true};
 ghost use Rattle.sk_model.specs.Limits.{source_limit};
-ghost use Rattle.sk_cli.specs.Beside.{Beside, beside_of, board_places, cleared};
+ghost use Rattle.sk_cli.specs.Beside.{beside_of, board_places, cleared, SameRanks};
 ghost use Rattle.sk_cli.specs.Fault.{fault_by};
 ghost use Rattle.sk_cli.specs.Outside.{streams_of};
 ghost use Rattle.sk_cli.specs.Run.{Executes, HasCauses};
@@ -9,7 +9,8 @@ ghost use Rattle.sk_cli.specs.commands.Count.{what_by, how_by, plan_by, column_b
 
 use crate::fault::Fault;
 use crate::options::{Name, Options};
-use sk_count::{Numbers, Plan, Remains};
+use crate::remains::Remains;
+use sk_count::{Numbers, Plan};
 use sk_io::{Sink, Source};
 use sk_model::limits::{LEAST_K, MOST_K};
 use sk_read::{Fault as ReadingFault, Kind};
@@ -128,7 +129,7 @@ fn answer_of(column: u32, counted: Result<(), ReadingFault>) -> Result<(), Fault
 
 /// Counts the distinct items of a source by many updaters, and writes an estimate after each full window, where that
 /// is asked for, and last one thread's estimate of all.
-pub fn count<R: Threads + Wait + Sync, S: Source, O: Sink, B: Seen>(
+pub fn count<R: Threads + Wait + Sync, S: Source, O: Sink, B: Seen, W: Wait + Drop>(
     rt: &R,
     alloc: Global,
     plan: &Plan,
@@ -136,7 +137,7 @@ pub fn count<R: Threads + Wait + Sync, S: Source, O: Sink, B: Seen>(
     source: &mut S,
     out: &mut O,
     board: &mut B,
-    remains: &mut Remains,
+    remains: &mut Remains<W>,
 ) -> Result<(), Fault>
     requires within { IsWithin plan.now }
     requires bound { most ≤ source_limit }
@@ -150,8 +151,11 @@ pub fn count<R: Threads + Wait + Sync, S: Source, O: Sink, B: Seen>(
     ensures last { (counting plan.now).writes_last ≡ true → IfErr result (λ fault. fault ≢ Fault.WriteFault → out.new ≡ out.old) }
     ensures board { plan.now.alarms ≡ [] → B.places board.new ≡ cleared (B.places board.old) }
     ensures remains { IfErr result (λ _. remains.new ≡ remains.old) }
+    ensures ranks { SameRanks remains.old remains.new }
     ensures stays { S.stands_on source.new ≡ S.stands_on source.old }
 {
-    let counted = sk_count::count(rt, alloc, plan, most, source, out, board, remains);
+    let mut left = remains.take_counted();
+    let counted = sk_count::count(rt, alloc, plan, most, source, out, board, &mut left);
+    remains.put_counted(left);
     answer_of(plan.column, counted)
 }

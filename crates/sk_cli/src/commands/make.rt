@@ -1,6 +1,6 @@
 // The command that counts lines which it makes itself.
 ghost use Rattle.std.specs.Prelude.{◌≡◌, ◌≢◌, ℕ, All, IsSome, Option, List, IfErr, IfSome, length};
-ghost use Rattle.sk_cli.specs.Beside.{beside_of, board_places, cleared};
+ghost use Rattle.sk_cli.specs.Beside.{beside_of, board_places, cleared, SameRanks};
 ghost use Rattle.sk_cli.specs.Outside.{over_output};
 ghost use Rattle.sk_cli.specs.Run.{Executes, HasCauses};
 ghost use Rattle.sk_cli.specs.commands.Make.{plan_by, IsWithin, counted_by, making};
@@ -8,7 +8,8 @@ ghost use Rattle.sk_cli.specs.commands.Make.{plan_by, IsWithin, counted_by, maki
 use crate::commands::count::count;
 use crate::fault::Fault;
 use crate::options::{Name, Options};
-use sk_count::{Numbers, Plan, Remains};
+use crate::remains::Remains;
+use sk_count::{Numbers, Plan};
 use sk_io::Sink;
 use sk_make::{MOST_MADE, MakeSource};
 use sk_model::limits::{LEAST_K, MOST_K, MOST_SIZE, SOURCE_LIMIT};
@@ -82,13 +83,13 @@ impl MakePlan {
 
 /// Counts the lines that it makes by many updaters, and writes how many they are and one thread's estimate. It reads
 /// nothing.
-pub fn make<R: Threads + Wait + Sync, O: Sink, B: Seen>(
+pub fn make<R: Threads + Wait + Sync, O: Sink, B: Seen, W: Wait + Drop>(
     rt: &R,
     alloc: Global,
     plan: &MakePlan,
     out: &mut O,
     board: &mut B,
-    remains: &mut Remains,
+    remains: &mut Remains<W>,
 ) -> Result<(), Fault>
     requires within { IsWithin plan.now }
     requires places { length (B.places board.old) ≡ board_places }
@@ -101,6 +102,7 @@ pub fn make<R: Threads + Wait + Sync, O: Sink, B: Seen>(
     ensures last { IfErr result (λ fault. fault ≢ Fault.WriteFault → out.new ≡ out.old) }
     ensures board { B.places board.new ≡ cleared (B.places board.old) }
     ensures remains { IfErr result (λ _. remains.new ≡ remains.old) }
+    ensures ranks { SameRanks remains.old remains.new }
 {
     let Ok(mut source) = MakeSource::new(plan.n, plan.key) else {
         return Err(Fault::OutOfMemory);

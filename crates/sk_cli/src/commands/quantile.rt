@@ -1,26 +1,27 @@
 // The command that tells the rank of a number.
-ghost use Rattle.std.specs.Prelude.{◌≡◌, ◌≢◌, ◌≤◌, OnOk, OnErr, IfErr, IfSome};
-ghost use Rattle.std.specs.Io.KnownBytes.{Appends};
-ghost use Rattle.sk_model.specs.Causes.{HasCause, AppendsPart};
+ghost use Rattle.std.specs.Prelude.{◌≡◌, ◌≢◌, ◌≤◌, List, IfErr, IfSome, true};
 ghost use Rattle.sk_model.specs.Limits.{source_limit};
-ghost use Rattle.sk_cli.specs.Beside.{Beside};
+ghost use Rattle.sk_rank.specs.Plans.{IsWithin};
+ghost use Rattle.sk_cli.specs.Beside.{beside_of, SameHub};
 ghost use Rattle.sk_cli.specs.Outside.{streams_of};
 ghost use Rattle.sk_cli.specs.Run.{Executes, HasCauses};
-ghost use Rattle.sk_cli.specs.commands.Quantile.{plan_by, IsWithin, labelled, told_line, ranking};
+ghost use Rattle.sk_cli.specs.commands.Quantile.{what_by, how_by, plan_by, IsWhat, IsHow, ranking};
+ghost use Rattle.sk_watch.specs.Places.{Place};
 
 use crate::fault::Fault;
 use crate::options::{Name, Options};
-use sk_count::write_number;
-use sk_io::{Failed, Sink, Source, write_all};
-use sk_model::limits::ITEM_END;
-use sk_quant::Quant;
+use crate::remains::Remains;
+use sk_io::{Sink, Source};
+use sk_model::limits::{ITEM_END, MOST_SIZE};
 use sk_quant::limits::{KEY_END, LEAST_QUANTILE_K, MOST_QUANTILE_K};
-use sk_read::{Intake, Kind, Taker, read_items};
+use sk_rank::{Plan, rank};
 use std::alloc::Global;
+use std::sync::Wait;
+use std::thread::Threads;
 
 /// Which number's rank is told, and by which sketch.
 #[derive(Clone, Copy, Debug, PartialEq, Eq)]
-pub struct QuantilePlan {
+pub struct What {
     /// How many items a level of the sketch has.
     pub k: u32,
     /// Whose coins it tosses.
@@ -29,98 +30,100 @@ pub struct QuantilePlan {
     pub at: u64,
 }
 
-impl QuantilePlan {
-    /// The plan that the options spell. `None` where a number is out of its limits, or that whose rank is told is
-    /// not given.
-    pub fn of(options: &Options<'_>) -> Option<QuantilePlan>
-        ensures value { result ≡ plan_by options.now }
-        ensures limits { IfSome result IsWithin }
+/// By which updaters numbers are ranked, and what is told on the way.
+#[derive(Clone, Copy, Debug, PartialEq, Eq)]
+pub struct How {
+    /// How many items a buffer of each updater holds.
+    pub size: u32,
+    /// How many updaters there are.
+    pub updaters: u32,
+    /// After so many lines a rank is written, where that is asked for.
+    pub window: Option<u32>,
+    /// Whether the heart propagates beside the updaters.
+    pub propagator: bool,
+}
+
+impl What {
+    /// What the options spell. `None` where a number is out of its limits, or that whose rank is told is not given.
+    pub fn of(options: &Options<'_>) -> Option<What>
+        ensures value { result ≡ what_by options.now }
+        ensures limits { IfSome result IsWhat }
     {
         let at = options.required(Name::At, 0, ITEM_END - 1)?;
         let (least, most) = (u64::from(LEAST_QUANTILE_K), u64::from(MOST_QUANTILE_K));
         let k = options.number(Name::K, least, most, 128)? as u32;
         let key = options.number(Name::Key, 0, KEY_END - 1, 0)?;
-        Some(QuantilePlan { k, key, at })
+        Some(What { k, key, at })
     }
 }
 
-// A quantiles sketch that takes items.
-#[derive(Drop)]
-struct Ranks {
-    quant: Quant,
-}
-
-impl Taker for Ranks {
-    ghost use Rattle.std.specs.Prelude.{[], ◌∷◌};
-    ghost use Rattle.sk_quant.specs.Quantiles.{IsSketchOf};
-
-    ghost stands_for = { λ ranks items. IsSketchOf ranks.quant items };
-
-    ghost numbers = { λ ranks. ranks.quant.k ∷ ranks.quant.key ∷ [] };
-
-    #[inline(always)]
-    fn take(&mut self, item: u64) {
-        self.quant.update(item);
+impl How {
+    /// What the options spell. `None` where a value is out of its form or its limits.
+    pub fn of(options: &Options<'_>) -> Option<How>
+        ensures value { result ≡ how_by options.now }
+        ensures limits { IfSome result IsHow }
+    {
+        let size = options.number(Name::B, 1, u64::from(MOST_SIZE), 64)? as u32;
+        let updaters = options.updaters()?;
+        let window = options.window()?;
+        let propagator = options.propagator()?;
+        Some(How {
+            size,
+            updaters,
+            window,
+            propagator,
+        })
     }
 }
 
-// Writes a word, and a number behind it.
-fn write_labelled<O: Sink>(out: &mut O, label: &[u8], number: u64) -> Result<(), Failed>
-    ensures ok { OnOk result (Appends (O.written out.old) (O.written out.new) (labelled label.now number)) }
-    ensures part { OnErr result (AppendsPart (O.written out.old) (O.written out.new) (labelled label.now number)) }
-    ensures cause { HasCause (O.faults out.old) (O.faults out.new) result }
+/// The plan that the options spell. `None` where a value is out of its form or its limits, or the number whose rank is
+/// told is not given.
+pub fn plan_of(options: &Options<'_>) -> Option<Plan>
+    ensures value { result ≡ plan_by options.now }
+    ensures limits { IfSome result IsWithin }
 {
-    write_all(out, label)?;
-    write_number(out, number)
+    let what = What::of(options)?;
+    let how = How::of(options)?;
+    Some(Plan {
+        k: what.k,
+        key: what.key,
+        at: what.at,
+        size: how.size,
+        updaters: how.updaters,
+        window: how.window,
+        propagator: how.propagator,
+    })
 }
 
-// Writes how many items there are, how many of them lie below a number, and by how much that may be off.
-fn write_line<O: Sink>(out: &mut O, n: u64, below: u64, within: u64) -> Result<(), Failed>
-    ensures ok { OnOk result (Appends (O.written out.old) (O.written out.new) (told_line n below within)) }
-    ensures part { OnErr result (AppendsPart (O.written out.old) (O.written out.new) (told_line n below within)) }
-    ensures cause { HasCause (O.faults out.old) (O.faults out.new) result }
-{
-    write_labelled(out, b"n ", n)?;
-    write_labelled(out, b" below ", below)?;
-    write_labelled(out, b" within ", within)?;
-    write_all(out, b"\n")
-}
-
-// The same, with its fault as one of the program.
-fn tell<O: Sink>(out: &mut O, n: u64, below: u64, within: u64) -> Result<(), Fault>
-    ensures ok { OnOk result (Appends (O.written out.old) (O.written out.new) (told_line n below within)) }
-    ensures part { OnErr result (AppendsPart (O.written out.old) (O.written out.new) (told_line n below within)) }
-    ensures cause { HasCause (O.faults out.old) (O.faults out.new) result }
-    ensures err { IfErr result (λ fault. fault ≡ Fault.WriteFault) }
-{
-    write_line(out, n, below, within).map_err(|_| Fault::WriteFault)
-}
-
-/// Reads the numbers of a source, one a line, on one thread, and once it has ended writes how many there are, how many
-/// of them lie below the plan's, and by how much that may be off (Agarwal and others, "Mergeable Summaries", PODS 2012).
-pub fn quantile<S: Source, O: Sink>(
+/// Reads the numbers of a source, one a line, by many updaters, and once it has ended writes how many there are, how
+/// many of them lie below the plan's, and by how much that may be off (Agarwal and others, "Mergeable Summaries",
+/// PODS 2012); after each full window, where that is asked for, the same of what was published by then.
+pub fn quantile<'r, R: Threads + Wait + Sync, S: Source, O: Sink>(
+    rt: &'r R,
     alloc: Global,
-    plan: &QuantilePlan,
+    plan: &Plan,
     most: u64,
     source: &mut S,
     out: &mut O,
+    remains: &mut Remains<&'r R>,
 ) -> Result<(), Fault>
     requires within { IsWithin plan.now }
     requires bound { most ≤ source_limit }
-    ensures done { (from to : Beside) → let old = streams_of S.Source O.Sink source.old out.old in
-        let new = streams_of S.Source O.Sink source.new out.new in Executes (ranking plan.now) most from to old new result }
+    ensures done { (before after : List Place) → let old = streams_of S.Source O.Sink source.old out.old in
+        let new = streams_of S.Source O.Sink source.new out.new in
+        Executes (ranking plan.now) most (beside_of before remains.old) (beside_of after remains.new) old new result }
     ensures causes { let old = streams_of S.Source O.Sink source.old out.old in
         let new = streams_of S.Source O.Sink source.new out.new in HasCauses old new result }
-    ensures last { IfErr result (λ fault. fault ≢ Fault.WriteFault → out.new ≡ out.old) }
+    ensures last { (ranking plan.now).writes_last ≡ true → IfErr result (λ fault. fault ≢ Fault.WriteFault → out.new ≡ out.old) }
+    ensures remains { IfErr result (λ _. remains.new ≡ remains.old) }
+    ensures hub { SameHub remains.old remains.new }
     ensures stays { S.stands_on source.new ≡ S.stands_on source.old }
 {
-    let quant = Quant::new(alloc, plan.k, plan.key)?;
-    let mut ranks = Ranks { quant };
-    let intake = Intake::of_items(Kind::Raw, 0, most);
-    match read_items(alloc, &intake, source, &mut ranks) {
-        Ok(_units) => {
-            let quant = &ranks.quant;
-            tell(out, quant.len(), quant.below(plan.at), quant.error())
+    match rank(rt, alloc, plan, most, source, out) {
+        Ok((heart, reader)) => {
+            remains.ranks = Some(heart);
+            remains.reader = Some(reader);
+            Ok(())
         }
         Err(fault) => Err(Fault::of_reading(0, fault)),
     }

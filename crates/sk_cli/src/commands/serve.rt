@@ -2,7 +2,7 @@
 ghost use Rattle.std.specs.Prelude.{◌≡◌, ◌≢◌, ◌≤◌, [], All, IsSome, length, IfErr, IfSome, MatchResult};
 ghost use Rattle.sk_model.specs.Causes.{HasCauseIn};
 ghost use Rattle.sk_model.specs.Limits.{source_limit};
-ghost use Rattle.sk_cli.specs.Beside.{beside_of, board_places, cleared};
+ghost use Rattle.sk_cli.specs.Beside.{beside_of, board_places, cleared, SameRanks};
 ghost use Rattle.sk_cli.specs.Fault.{fault_by_serve};
 ghost use Rattle.sk_cli.specs.Outside.{closed_in};
 ghost use Rattle.sk_cli.specs.commands.Serve.{plan_by, IsWithin, ServesSo};
@@ -10,7 +10,7 @@ ghost use Rattle.sk_serve.specs.Served.{AreClosed};
 
 use crate::fault::Fault;
 use crate::options::{Name, Options};
-use sk_count::Remains;
+use crate::remains::Remains;
 use sk_io::{Door, Sink};
 use sk_model::limits::{LEAST_K, MOST_K, MOST_UPDATERS};
 use sk_serve::{ServeFault, ServePlan};
@@ -56,7 +56,7 @@ fn answer_of(served: Result<(), ServeFault>) -> Result<(), Fault>
 
 /// Serves the sessions of the plan, each over a link of fewer than `most` bytes, and writes how each ended and the
 /// estimate of all that was added.
-pub fn serve<R: Threads + Wait + Sync, O: Sink, D: Door, B: Seen>(
+pub fn serve<R: Threads + Wait + Sync, O: Sink, D: Door, B: Seen, W: Wait + Drop>(
     rt: &R,
     alloc: Global,
     plan: &ServePlan,
@@ -64,7 +64,7 @@ pub fn serve<R: Threads + Wait + Sync, O: Sink, D: Door, B: Seen>(
     out: &mut O,
     door: &mut D,
     board: &mut B,
-    remains: &mut Remains,
+    remains: &mut Remains<W>,
 ) -> Result<(), Fault>
 where
     D::Link: Send,
@@ -77,10 +77,13 @@ where
     ensures last { IfErr result (λ fault. fault ≢ Fault.WriteFault → out.new ≡ out.old) }
     ensures board { plan.now.alarms ≡ [] → B.places board.new ≡ cleared (B.places board.old) }
     ensures remains { IfErr result (λ _. remains.new ≡ remains.old) }
+    ensures ranks { SameRanks remains.old remains.new }
     ensures writes { HasCauseIn Fault.WriteFault (O.faults out.old) (O.faults out.new) result }
     ensures net { HasCauseIn Fault.NetFault (D.faults door.old) (D.faults door.new) result }
     ensures links { AreClosed (D.accepted door.old) (D.accepted door.new) (D.ended door.old) (D.ended door.new) }
 {
-    let served = sk_serve::serve(rt, alloc, plan, most, out, door, board, remains);
+    let mut left = remains.take_counted();
+    let served = sk_serve::serve(rt, alloc, plan, most, out, door, board, &mut left);
+    remains.put_counted(left);
     answer_of(served)
 }

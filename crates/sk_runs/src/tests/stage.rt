@@ -120,10 +120,7 @@ where
     let mut input = input_of(alloc, streams, text)?;
     let mut out = out_of(alloc, streams)?;
     let mut err = MemSink::new(alloc, streams.err as usize, 1_000, Vec::new(alloc))?;
-    let mut remains = Remains {
-        heart: None,
-        token: None,
-    };
+    let mut remains = Remains::none();
     let status = run(
         rt,
         alloc,

@@ -68,7 +68,12 @@ quantile --at 1 --k 1
 quantile --at 1 --k 4097
 quantile --at 1 --key 281474976710656
 quantile --at 1 --raw
-quantile --at 1 --updaters 2
+quantile --at 1 --updaters 65
+quantile --at 1 --b 0
+quantile --at 1 --b 1,2
+quantile --at 1 --window 0
+quantile --at 1 --propagator maybe
+quantile --at 1 --eager yes
 count --at 1
 serve
 serve --port
@@ -153,7 +158,7 @@ fn check_refused<R: Threads + Wait + Abort + Sync>(
 
 #[test]
 fn words_that_are_no_command(rt: HostRuntime) -> Result<(), Fail> {
-    check_refused(&rt, rt.alloc(), REFUSED, 106)
+    check_refused(&rt, rt.alloc(), REFUSED, 111)
 }
 
 #[test]

@@ -35,8 +35,8 @@ returns-in-Image-clause-done g c =
 
 pub returns-in-Quantile-clause-opened : goal.returns-in-Quantile-clause-opened
 returns-in-Quantile-clause-opened g c =
-    let beside : Beside = beside_of (g.B.Seen.places c.args.board.now) c.args.remains.now in
-    never_opens _ _ _ _ _ _ c.quantile.result (c.quantile.ensures.done beside beside)
+    let places = g.B.Seen.places c.args.board.now in
+    never_opens _ _ _ _ _ _ c.quantile.result (c.quantile.ensures.done places places)
 
 pub returns-in-Image-clause-opened : goal.returns-in-Image-clause-opened
 returns-in-Image-clause-opened g c =

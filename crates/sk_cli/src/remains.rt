@@ -1,0 +1,54 @@
+// What a run leaves behind.
+ghost use Rattle.std.specs.Prelude.{◌≡◌, None};
+
+use sk_count::Remains as Counted;
+use sk_heap::HeapTheta;
+use sk_hub::{Heart, Token};
+use sk_snap::{QuantReader, VersionedQuant};
+use std::sync::Wait;
+
+/// The handles of the hub that a run made: of one that counted, or of one that ranked, whose sketch keeps the
+/// runtime.
+#[derive(Drop)]
+pub struct Remains<W: Wait + Drop> {
+    pub heart: Option<Heart<HeapTheta>>,
+    pub token: Option<Token<HeapTheta>>,
+    pub ranks: Option<Heart<VersionedQuant<W>>>,
+    pub reader: Option<QuantReader>,
+}
+
+impl<W: Wait + Drop> Remains<W> {
+    /// None of them, as a run is handed them.
+    pub fn none() -> Remains<W>
+        ensures heart { result.heart ≡ None }
+        ensures token { result.token ≡ None }
+        ensures ranks { result.ranks ≡ None }
+        ensures reader { result.reader ≡ None }
+    {
+        Remains {
+            heart: None,
+            token: None,
+            ranks: None,
+            reader: None,
+        }
+    }
+
+    // Takes out what is left of a hub that counted.
+    pub(crate) fn take_counted(&mut self) -> Counted
+        ensures taken { result ≡ record { heart = self.old.heart; token = self.old.token } }
+        ensures left { self.new ≡ record self.old { heart = None; token = None } }
+    {
+        Counted {
+            heart: self.heart.take(),
+            token: self.token.take(),
+        }
+    }
+
+    // Puts in what is left of a hub that counted.
+    pub(crate) fn put_counted(&mut self, counted: Counted)
+        ensures { self.new ≡ record self.old { heart = counted.heart; token = counted.token } }
+    {
+        self.heart = counted.heart;
+        self.token = counted.token;
+    }
+}
