@@ -176,6 +176,16 @@ pub fn hash48(seed: u32, bytes: &[u8]) -> u64
     if bytes.len() == BLOCK_LEN {
         return hash_block(seed, bytes).0 >> 16;
     }
+    hash_other(seed, bytes)
+}
+
+// The same at any other length. It is a call, so that the loop around one block keeps its registers.
+#[inline(never)]
+#[tactic(auto, unfolding(sk_model::specs::Murmur::hash_of))]
+fn hash_other(seed: u32, bytes: &[u8]) -> u64
+    ensures value { result ≡ hash_of seed bytes.now }
+    ensures item { IsItem result }
+{
     murmur128(seed, bytes).0 >> 16
 }
 

@@ -132,7 +132,7 @@ fraction_parts n d = refl
 
 -- ---- few digits
 
-digit_at : (bytes : List ℕ) (i : ℕ) → i < length bytes → list_all is_ascii_digit bytes ≡ true → get_or bytes i 0 - 48 ≤ 9
+pub digit_at : (bytes : List ℕ) (i : ℕ) → i < length bytes → list_all is_ascii_digit bytes ≡ true → get_or bytes i 0 - 48 ≤ 9
 digit_at bytes i in_bytes digits = elim (cases_Bool (is_ascii_digit (get_or bytes i 0))) [
   | inl digit ↦ is_at_most (get_or bytes i 0) digit
   | inr other ↦ absurd (true≢false (sym digits ∙ list_all_at is_ascii_digit bytes i 0 in_bytes other))

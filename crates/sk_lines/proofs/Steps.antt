@@ -169,9 +169,9 @@ no_last_line c none given text f =
     lines_at_end c given text f ∙ ap (λ (l : List ℕ). given ++ lines_of l) none ∙ ap (λ (ls : List (List ℕ)). given ++ ls) lines_of_nothing ∙ append-nil given
 
 -- what a line loses at its end is one CR
-record Stripped (piece line : List ℕ) : Type 0 where
-  by_cr : length line < length piece → piece ≡ line ++ 13 ∷ []
-  alone : length piece ≤ length line → piece ≡ line
+pub record Stripped (piece line : List ℕ) : Type 0 where
+  pub by_cr : length line < length piece → piece ≡ line ++ 13 ∷ []
+  pub alone : length piece ≤ length line → piece ≡ line
 
 stripped_by : (piece : List ℕ) (b : Bool) → (slice_index piece (length piece - 1) == 13) ≡ b → Stripped piece (cond b (take (length piece - 1) piece) piece)
 stripped_by piece true is = record {
@@ -189,7 +189,7 @@ stripped_by piece false is = record {
   alone = λ most. refl;
 }
 
-stripped : (piece : List ℕ) → Stripped piece (strip_carriage_return piece)
+pub stripped : (piece : List ℕ) → Stripped piece (strip_carriage_return piece)
 stripped piece = stripped_by piece (slice_index piece (length piece - 1) == 13) refl
 
 -- how many bytes a line keeps tells how it ended
@@ -312,7 +312,7 @@ not_long Line other = refl
 not_long More other = refl
 not_long (Long n) other = absurd (other n refl)
 
-front_of : (piece line : List ℕ) → line ≡ strip_carriage_return piece → take (length line) piece ≡ line
+pub front_of : (piece line : List ℕ) → line ≡ strip_carriage_return piece → take (length line) piece ≡ line
 front_of piece line is =
     let s : Stripped piece line = subst (Stripped piece) (sym is) (stripped piece) in
     ⊎_elim

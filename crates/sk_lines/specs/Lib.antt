@@ -6,3 +6,5 @@ pub mod Fractions
 pub mod Hashes
 pub mod Inside
 pub mod Marks
+pub mod Spans
+pub mod Wide

@@ -1,10 +1,12 @@
 // Lines cut out of pieces of a text.
-ghost use Rattle.std.specs.Prelude.{◌≡◌, ◌≢◌, ◌↔◌, ◌+◌, ◌-◌, ◌^◌, ◌≤◌, ℕ, List, [], ◌++◌, length, replicate, slice_range, vec_len, vec_capacity, IfOk, true, false};
+ghost use Rattle.std.specs.Prelude.{◌≡◌, ◌≢◌, ◌↔◌, ◌+◌, ◌-◌, ◌^◌, ◌≤◌, ℕ, List, [], ◌++◌, length, replicate, slice_range, take, vec_len, vec_capacity, IfOk, true, false};
 ghost use Rattle.std.specs.Str.Lines.{strip_carriage_return};
 ghost use Rattle.sk_model.specs.Lines.{lines_of, open_lines_of, IsFirstLong};
+ghost use Rattle.sk_lines.specs.Spans.{GivesLines};
 ghost use Rattle.sk_lines.specs.Cutter.{Follows, GivesLine, GivesLast, Waits, IsLongAfter, HasNoLf, counted, is_long};
 
 use crate::marks::{BLOCK, seek, take_lf};
+use crate::spans::{GROUP, Span, cut_lines, find_ends};
 use sk_model::OutOfMemory;
 use std::alloc::Global;
 use std::marker::Model;
@@ -180,6 +182,27 @@ impl Lines {
         self.last
     }
 
+    /// Moves on to the next complete lines that are held, puts to the front of `spans` where they lie in
+    /// `front`, and answers how many they are. They may be fewer than are held: where there is none, `next`
+    /// goes on.
+    pub fn next_lines(&mut self, spans: &mut [Span; GROUP]) -> usize
+        ensures few { result ≤ GROUP }
+        ensures lines { GivesLines self.old self.new (take result spans.new) }
+        ensures after_end { self.old.ended ≡ true → result ≡ 0 }
+        ensures hungry { self.old.hungry ≡ true → result ≡ 0 }
+    {
+        if self.ended || self.hungry || matches!(self.last, Next::Long(_)) {
+            return 0;
+        }
+        let found = find_ends(&self.buffer, self.at, spans);
+        let (count, at) = cut_lines(&self.buffer, self.at, self.limit, spans, found);
+        self.at = at;
+        self.scanned = at;
+        self.marks = 0;
+        self.number = self.number.saturating_add(count as u64);
+        count
+    }
+
     // Answers where no LF is held.
     fn rest_is_open(&mut self) -> Next
         requires piece { HasNoLf self.old.rest }
@@ -342,7 +365,7 @@ fn refill(buffer: &mut Vec<u8>, at: usize, piece: &[u8])
 
 // How many bytes the line from `at` up to `end` has without the CR at its end.
 #[inline(always)]
-fn line_len(bytes: &[u8], at: usize, end: usize) -> usize
+pub(crate) fn line_len(bytes: &[u8], at: usize, end: usize) -> usize
     requires from { at ≤ end }
     requires within { end ≤ length bytes.now }
     ensures { result ≡ length (strip_carriage_return (slice_range bytes.now at end)) }

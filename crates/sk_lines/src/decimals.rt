@@ -176,7 +176,7 @@ fn put_parts(into: &mut [u8], n: u64, d: u64) -> usize
 
 // How many digits a number has.
 #[inline(always)]
-fn decimal_len(n: u64) -> usize
+pub(crate) fn decimal_len(n: u64) -> usize
     ensures { result ≡ length (decimal n) }
 {
     n.max(1).ilog10() as usize + 1

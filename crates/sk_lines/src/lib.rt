@@ -6,8 +6,10 @@ mod decimals;
 mod hashes;
 pub mod laws;
 mod marks;
+mod spans;
 #[cfg(test)]
 mod tests;
+mod wide;
 
 pub use cutter::{Ending, Lines, MOST_LIMIT, MOST_PIECE, Next};
 pub use decimals::{
@@ -16,3 +18,5 @@ pub use decimals::{
 };
 pub use hashes::{HASH_LINE_LEN, hash_line, read_hash};
 pub use sk_model::OutOfMemory;
+pub use spans::{GROUP, Span};
+pub use wide::read_number_at;

@@ -48,7 +48,7 @@ fn search(bytes: &[u8], from: usize) -> (usize, u64)
 
 // Bit k says whether the byte at place `at + k` is LF.
 #[inline(always)]
-fn lfs_of_block(bytes: &[u8], at: usize) -> u64
+pub(crate) fn lfs_of_block(bytes: &[u8], at: usize) -> u64
     requires { at + 64 ≤ length bytes.now }
     ensures { (k : ℕ) → (bit_at result k ≡ 1) ↔ ((k < 64) × (slice_index bytes.now (at + k) ≡ 10)) }
 {
@@ -65,28 +65,28 @@ pub(crate) fn take_lf(scanned: usize, marks: u64) -> (usize, u64)
     ensures { (bytes : List ℕ) (at : ℕ) → KnowsLfs bytes at scanned marks
         → TakesLf bytes at scanned result.0 result.1 }
 {
-    let mark = first_mark(marks);
+    let mark = lowest_mark(marks);
     (scanned - BLOCK + mark, without_mark(marks, mark))
 }
 
-// The place of the lowest mark.
+// The place of the lowest mark, or the last place where there is none.
 #[inline(always)]
-fn first_mark(marks: u64) -> usize
-    requires { marks ≢ 0 }
+pub(crate) fn lowest_mark(marks: u64) -> usize
     ensures bound { result < 64 }
-    ensures set { bit_at marks result ≡ 1 }
+    ensures set { marks ≢ 0 → bit_at marks result ≡ 1 }
     ensures below { (k : ℕ) → k < result → bit_at marks k ≡ 0 }
 {
-    marks.trailing_zeros() as usize
+    (marks | (1 << 63)).trailing_zeros() as usize
 }
 
 // The marks without one of them.
 #[inline(always)]
-fn without_mark(marks: u64, place: usize) -> u64
+pub(crate) fn without_mark(marks: u64, place: usize) -> u64
     requires { place < 64 }
     ensures kept { (k : ℕ) → k < 64 → k ≢ place → bit_at result k ≡ bit_at marks k }
     ensures cleared { bit_at result place ≡ 0 }
     ensures no_more { (k : ℕ) → bit_at result k ≡ 1 → bit_at marks k ≡ 1 }
+    ensures none { marks ≡ 0 → result ≡ 0 }
 {
     marks & !(1 << place)
 }

@@ -224,6 +224,75 @@ fn numbers_at_their_limits(rt: HostRuntime) -> Result<(), Fail> {
     Ok(())
 }
 
+// Digits, and the numbers that the first of them spell.
+const DIGITS: &[u8; 15] = b"281474976710655";
+
+const SPELLED: [u64; 15] = [
+    2,
+    28,
+    281,
+    2_814,
+    28_147,
+    281_474,
+    2_814_749,
+    28_147_497,
+    281_474_976,
+    2_814_749_767,
+    28_147_497_671,
+    281_474_976_710,
+    2_814_749_767_106,
+    28_147_497_671_065,
+    281_474_976_710_655,
+];
+
+#[test]
+fn numbers_at_places_of_a_text(rt: HostRuntime) {
+    for place in 0..21usize {
+        for len in 1..16usize {
+            let mut text = [b'7'; 40];
+            text[place..place + len].copy_from_slice(&DIGITS[..len]);
+            let number = read_number_at(&text, place, place + len, 281_474_976_710_656);
+            assert_eq!(rt; number, Some(SPELLED[len - 1]), "at {place}");
+        }
+    }
+}
+
+#[test]
+fn one_byte_that_is_no_digit(rt: HostRuntime) {
+    for place in 0..21usize {
+        for other in 0..15usize {
+            let mut text = [b'7'; 40];
+            text[place..place + 15].copy_from_slice(DIGITS);
+            for byte in *b"/:\n\xb7" {
+                text[place + other] = byte;
+                let number = read_number_at(&text, place, place + 15, 281_474_976_710_656);
+                assert_eq!(rt; number, None, "at {place}, {other}");
+            }
+        }
+    }
+}
+
+#[test]
+fn numbers_of_a_text_at_their_limits(rt: HostRuntime) {
+    let text = b"0000000000281474976710656 18446744073709551615";
+    let below = 281_474_976_710_656;
+    assert_eq!(rt; read_number_at(text, 10, 25, below), None);
+    assert_eq!(rt; read_number_at(text, 10, 25, below + 1), Some(below));
+    assert_eq!(rt;
+        read_number_at(text, 9, 24, below),
+        Some(28_147_497_671_065)
+    );
+    assert_eq!(rt; read_number_at(text, 8, 24, below), None);
+    assert_eq!(rt; read_number_at(text, 9, 25, u64::MAX), Some(below));
+    assert_eq!(rt; read_number_at(text, 8, 25, u64::MAX), Some(below));
+    assert_eq!(rt; read_number_at(text, 20, 20, below), None);
+    assert_eq!(rt;
+        read_number_at(text, 26, 42, u64::MAX),
+        Some(1_844_674_407_370_955)
+    );
+    assert_eq!(rt; read_number_at(text, 26, 46, u64::MAX), None);
+}
+
 // How the last line ended, told behind one more piece.
 fn ending_behind(lines: &mut Lines, piece: &[u8]) -> Ending
     requires size { length piece.now ≤ MOST_PIECE }

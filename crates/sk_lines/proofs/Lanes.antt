@@ -1,0 +1,183 @@
+-- Lemmas on the lanes of a block: what stands before a line is 0, and then come its bytes less the first digit.
+use Rattle.std.proofs.Common.{◌≡◌, ℕ, zero, suc, ◌+◌, ◌-◌, ◌*◌, ◌%◌, ◌^◌, ◌<◌, ◌≤◌, ◌&&◌, not, Bool, true, false, cond, List, [], ◌∷◌, length, take, map, replicate, get_or, slice_index, sym, refl, ap, ◌∙◌, arith, nat_eq, nat_lt, nat_le, ⊎_elim, take_all, true≢false, eqb-true, eq-eqb, lt-ltb, le-ltb, le-leb}
+use borrow.Author.Tests.{lt-leb, ne_eqb}
+use Rattle.std.proofs.Math.ListN.{get_or-map}
+use Rattle.std.specs.List.{list_all, slice_range}
+use Rattle.std.specs.Char.{is_ascii_digit}
+use Rattle.std.specs.Simd.Lanes.{mask_l, top, zip2, sel_l, chunk}
+use Rattle.std.proofs.lemmas.Simd.{mask_l-mod, zip2_splat, zip2_splat_left, length-chunk, get_or-chunk, get_or-sel_l, length-sel_l}
+use Rattle.std.proofs.lemmas.Bool.{cases_Bool, cases_lt, leb-true}
+use Rattle.std.proofs.lemmas.List.{length-map, get_or_past, get_or_default, length-replicate, get_or-replicate}
+use Rattle.std.proofs.lemmas.List.Folds.{list_all_at}
+use Rattle.std.proofs.lemmas.List.Sums.{fold_more}
+use Rattle.sk_model.specs.Numbers.{value_of}
+use Rattle.sk_lines.specs.Wide.{EndIn, joined}
+use Rattle.sk_lines.proofs.Digits.{value_of_none, value_of_more, digit_at, digit_is_high}
+
+-- ---- whether all lanes are digits
+
+abbrev marked : ℕ → ℕ
+marked y = cond (nat_lt 9 y) 255 0
+
+abbrev is_small : ℕ → Bool
+is_small y = nat_le y 9
+
+small_or_marked : (y : ℕ) → is_small y ≡ not (nat_lt 9 y)
+small_or_marked y = ⊎_elim
+    (λ (high : 9 < y). lt-leb y 9 high ∙ ap not (sym (lt-ltb 9 y high)))
+    (λ (low : y ≤ 9). le-leb y 9 low ∙ ap not (sym (le-ltb 9 y low)))
+    (cases_lt 9 y)
+
+none_of : (b rest : Bool) (m : ℕ) → nat_eq m 0 ≡ rest → nat_eq (cond (top 7 (cond b 255 0)) 1 0 + 2 * m) 0 ≡ (not b && rest)
+none_of true rest m is = ne_eqb (1 + 2 * m) 0 (λ e. omega (arith, e))
+none_of false true m is = eq-eqb (0 + 2 * m) 0 (omega (arith, eqb-true m 0 is))
+none_of false false m is = ne_eqb (0 + 2 * m) 0 (λ e. true≢false (sym (eq-eqb m 0 (omega (arith, e))) ∙ is))
+
+none_marked : (ys : List ℕ) → nat_eq (mask_l (map (top 7) (map marked ys))) 0 ≡ list_all is_small ys
+none_marked [] = refl
+none_marked (y ∷ ys) = none_of (nat_lt 9 y) (list_all is_small ys) (mask_l (map (top 7) (map marked ys))) (none_marked ys) ∙ ap (λ (b : Bool). b && list_all is_small ys) (sym (small_or_marked y))
+
+pub are_small : (ys : List ℕ) → length ys ≡ 16
+    → nat_eq (mask_l (map (top 7) (zip2 (λ a b. cond (nat_lt a b) 255 0) (replicate 16 9) ys)) % 2 ^ 64) 0 ≡ list_all is_small ys
+are_small ys size =
+    let short : length (map (top 7) (map marked ys)) ≤ 64 = omega (arith, length-map (map marked ys) (top 7), length-map ys marked, size) in
+    ap (λ (l : List ℕ). nat_eq (mask_l (map (top 7) l) % 2 ^ 64) 0) (zip2_splat_left (λ (a b : ℕ). cond (nat_lt a b) 255 0) 9 16 ys size)
+    ∙ ap (λ (m : ℕ). nat_eq m 0) (mask_l-mod (map (top 7) (map marked ys)) 64 short) ∙ none_marked ys
+
+pub each_small : (ys : List ℕ) → list_all is_small ys ≡ true → (k : ℕ) → slice_index ys k < 10
+each_small ys all k = ⊎_elim
+    (λ (inside : k < length ys). ⊎_elim
+    (λ (small : is_small (get_or ys k 0) ≡ true). omega (arith, leb-true (get_or ys k 0) 9 small))
+    (λ (other : is_small (get_or ys k 0) ≡ false). absurd (true≢false (sym all ∙ list_all_at is_small ys k 0 inside other)))
+    (cases_Bool (is_small (get_or ys k 0))))
+    (λ (past : length ys ≤ k). omega (arith, get_or_past ys k 0 past))
+    (cases_lt k (length ys))
+
+-- ---- the lanes of a line
+
+each_passes : (p : ℕ → Bool) (xs : List ℕ) → ((k : ℕ) → k < length xs → p (get_or xs k 0) ≡ true) → list_all p xs ≡ true
+each_passes p [] each = refl
+each_passes p (x ∷ xs) each = ap (λ (b : Bool). b && list_all p xs) (each 0 (omega arith)) ∙ each_passes p xs (λ k below. each (suc k) (omega arith))
+
+-- a byte whose lane is small is a digit
+digit_by_lane : (x : ℕ) → x < 256 → (x + 208) % 256 < 10 → is_ascii_digit x ≡ true
+digit_by_lane x small low = ap (λ (b : Bool). b && nat_le x 57) (le-leb 48 x (omega arith)) ∙ le-leb x 57 (omega arith)
+
+module _ (text lanes : List ℕ) (from to : ℕ) (some : from < to) (few : to ≤ from + 16) (within : to ≤ length text) (bytes : (i : ℕ) → slice_index text i < 256) (ends : EndIn lanes text from to) where
+  long : length (slice_range text from to) ≡ to - from
+  long = length-chunk from (to - from) text (omega arith)
+
+  line_byte : (k : ℕ) → k < to - from → get_or (slice_range text from to) k 0 ≡ slice_index text (from + k)
+  line_byte k inside = get_or-chunk from (to - from) text k 0 inside
+
+  pub digits_by_lanes : list_all is_small lanes ≡ true → list_all is_ascii_digit (slice_range text from to) ≡ true
+  digits_by_lanes all = each_passes is_ascii_digit (slice_range text from to) (λ k below.
+      let inside : k < to - from = omega (arith, long, below) in
+      ap is_ascii_digit (line_byte k inside)
+      ∙ digit_by_lane (slice_index text (from + k)) (bytes (from + k)) (omega (arith, ends.back k inside, each_small lanes all (16 - (to - from) + k))))
+
+  digit_lane : list_all is_ascii_digit (slice_range text from to) ≡ true → (k : ℕ) → k < to - from
+      → (slice_index lanes (16 - (to - from) + k) ≡ get_or (slice_range text from to) k 0 - 48) × (get_or (slice_range text from to) k 0 - 48 ≤ 9)
+  digit_lane digits k inside =
+      let below : k < length (slice_range text from to) = omega (arith, long) in
+      let low = digit_at (slice_range text from to) k below digits in
+      (omega (arith, ends.back k inside, line_byte k inside, low, digit_is_high (slice_range text from to) k below digits), low)
+
+  pub lanes_by_digits : list_all is_ascii_digit (slice_range text from to) ≡ true → list_all is_small lanes ≡ true
+  lanes_by_digits digits = each_passes is_small lanes (λ k below. le-leb (get_or lanes k 0) 9 (⊎_elim
+      (λ (before : k + (to - from) < 16). omega (arith, ends.front k before))
+      (λ (inside : 16 ≤ k + (to - from)).
+      let i : ℕ = k - (16 - (to - from)) in
+      let is : 16 - (to - from) + i ≡ k = omega arith in
+      let lane = digit_lane digits i (omega (arith, ends.wide, below)) in
+      omega (arith, ap (λ (j : ℕ). get_or lanes j 0) is, lane))
+      (cases_lt (k + (to - from)) 16)))
+
+  zeros_joined : (z : ℕ) → z + (to - from) ≤ 16 → joined 10 (take z lanes) ≡ 0
+  unfolding joined
+  zeros_joined zero fits = refl
+  zeros_joined (suc z) fits =
+      let next : suc z ≡ z + 1 = omega arith in
+      ap (λ (n : ℕ). joined 10 (take n lanes)) next ∙ fold_more (λ (value : ℕ) (number : ℕ). 10 * value + number) 0 lanes z 0 (omega (arith, ends.wide))
+      ∙ omega (arith, ends.front z (omega arith), zeros_joined z (omega arith))
+
+  line_joined : list_all is_ascii_digit (slice_range text from to) ≡ true → (n : ℕ) → n ≤ to - from → joined 10 (take (16 - (to - from) + n) lanes) ≡ value_of (take n (slice_range text from to))
+  unfolding joined
+  line_joined digits zero fits =
+      let same : 16 - (to - from) + 0 ≡ 16 - (to - from) = omega arith in
+      ap (λ (n : ℕ). joined 10 (take n lanes)) same ∙ zeros_joined (16 - (to - from)) (omega arith) ∙ sym value_of_none
+  line_joined digits (suc n) fits =
+      let next : 16 - (to - from) + suc n ≡ (16 - (to - from) + n) + 1 = omega arith in
+      let last : suc n ≡ n + 1 = omega arith in
+      ap (λ (m : ℕ). joined 10 (take m lanes)) next ∙ fold_more (λ (value : ℕ) (number : ℕ). 10 * value + number) 0 lanes (16 - (to - from) + n) 0 (omega (arith, ends.wide))
+      ∙ omega (arith, line_joined digits n (omega arith), (digit_lane digits n (omega arith)).0, value_of_more (slice_range text from to) n (omega (arith, long)))
+      ∙ ap (λ (m : ℕ). value_of (take m (slice_range text from to))) (sym last)
+
+  pub value_by_lanes : list_all is_ascii_digit (slice_range text from to) ≡ true → joined 10 lanes ≡ value_of (slice_range text from to)
+  value_by_lanes digits =
+      let whole : 16 - (to - from) + (to - from) ≡ 16 = omega arith in
+      ap (joined 10) (sym (take_all 16 lanes (omega (arith, ends.wide)))) ∙ ap (λ (n : ℕ). joined 10 (take n lanes)) (sym whole)
+      ∙ line_joined digits (to - from) (omega arith) ∙ ap value_of (take_all (to - from) (slice_range text from to) (omega (arith, long)))
+
+-- ---- the lanes that are kept
+
+abbrev down : ℕ → List ℕ
+down zero = []
+down (suc n) = suc n ∷ down n
+
+mapped_down : (f : ℕ → Bool) (n k : ℕ) → k < n → get_or (map f (down n)) k false ≡ f (n - k)
+mapped_down f zero k below = absurd (omega arith)
+mapped_down f (suc n) zero below = ap f (omega arith)
+mapped_down f (suc n) (suc k) below = mapped_down f n k (omega arith) ∙ ap f (omega arith)
+
+abbrev less_zero : ℕ → ℕ
+less_zero x = (x + 208) % 256
+
+abbrev kept : ℕ → ℕ → Bool
+kept n d = top 7 (cond (nat_le d n) 255 0)
+
+abbrev kept_lanes : List ℕ → ℕ → ℕ → List ℕ
+kept_lanes text at n = sel_l (map (kept n) (down 16)) (zip2 (λ a b. (a + (256 - b)) % 256) (chunk at 16 text) (replicate 16 48)) (replicate 16 0)
+
+kept_is : (b : Bool) → top 7 (cond b 255 0) ≡ b
+kept_is true = refl
+kept_is false = refl
+
+module _ (text : List ℕ) (at n : ℕ) (within : at + 16 ≤ length text) where
+  block_long : length (chunk at 16 text) ≡ 16
+  block_long = length-chunk at 16 text within
+
+  less : zip2 (λ (a b : ℕ). (a + (256 - b)) % 256) (chunk at 16 text) (replicate 16 48) ≡ map less_zero (chunk at 16 text)
+  less = zip2_splat (λ (a b : ℕ). (a + (256 - b)) % 256) (chunk at 16 text) 16 48 block_long
+
+  mask_long : length (map (kept n) (down 16)) ≡ 16
+  mask_long = length-map (down 16) (kept n)
+
+  less_long : length (map less_zero (chunk at 16 text)) ≡ 16
+  less_long = length-map (chunk at 16 text) less_zero ∙ block_long
+
+  less_lane : (k : ℕ) → k < 16 → get_or (map less_zero (chunk at 16 text)) k 0 ≡ less_zero (slice_index text (at + k))
+  less_lane k below = get_or-map less_zero (chunk at 16 text) k 48
+      ∙ ap less_zero (get_or_default (chunk at 16 text) k 48 0 (omega (arith, block_long)) ∙ get_or-chunk at 16 text k 0 below)
+
+  lane_of_block : (k : ℕ) → k < 16 → slice_index (kept_lanes text at n) k ≡ cond (nat_le (16 - k) n) (less_zero (slice_index text (at + k))) 0
+  lane_of_block k below =
+      ap (λ (l : List ℕ). get_or (sel_l (map (kept n) (down 16)) l (replicate 16 0)) k 0) less
+      ∙ get_or-sel_l (map (kept n) (down 16)) (map less_zero (chunk at 16 text)) (replicate 16 0) k 0 (omega (arith, mask_long)) (omega (arith, less_long)) (omega (arith, length-replicate {A = ℕ} 16 0))
+      ∙ ap (λ (b : Bool). cond b (get_or (map less_zero (chunk at 16 text)) k 0) (get_or (replicate 16 0) k 0)) (mapped_down (kept n) 16 k below ∙ kept_is (nat_le (16 - k) n))
+      ∙ ap (λ (x : ℕ). cond (nat_le (16 - k) n) x (get_or (replicate 16 0) k 0)) (less_lane k below)
+      ∙ ap (λ (x : ℕ). cond (nat_le (16 - k) n) (less_zero (slice_index text (at + k))) x) (get_or-replicate 16 k 0 0 below)
+
+  pub length_kept : length (kept_lanes text at n) ≡ 16
+  length_kept =
+      let lanes : List ℕ = zip2 (λ (a b : ℕ). (a + (256 - b)) % 256) (chunk at 16 text) (replicate 16 48) in
+      let long : length lanes ≡ 16 = ap (λ (l : List ℕ). length l) less ∙ less_long in
+      length-sel_l (map (kept n) (down 16)) lanes (replicate 16 0) (omega (arith, mask_long, long)) (omega (arith, mask_long, length-replicate {A = ℕ} 16 0)) ∙ mask_long
+
+  pub lane_in_front : (k : ℕ) → k + n < 16 → slice_index (kept_lanes text at n) k ≡ 0
+  lane_in_front k before = lane_of_block k (omega arith) ∙ ap (λ (b : Bool). cond b (less_zero (slice_index text (at + k))) 0) (lt-leb (16 - k) n (omega arith))
+
+  pub lane_of_line : (k i : ℕ) → k < n → n ≤ 16 → at + 16 ≡ i + n → slice_index (kept_lanes text at n) (16 - n + k) ≡ less_zero (slice_index text (i + k))
+  lane_of_line k i inside few place = lane_of_block (16 - n + k) (omega arith)
+      ∙ ap (λ (b : Bool). cond b (less_zero (slice_index text (at + (16 - n + k)))) 0) (le-leb (16 - (16 - n + k)) n (omega arith))
+      ∙ ap (λ (j : ℕ). less_zero (slice_index text j)) (omega arith)

@@ -1,0 +1,53 @@
+use Rattle.std.proofs.Common.{◌≡◌, ◌+◌, ◌≤◌, false, true≢false, length, take, vec_len, ap, arith, sym, subst, ◌∙◌, refl, le_refl, length-take}
+use Rattle.sk_lines.specs.Cutter.{is_long, counted}
+use Rattle.sk_lines.specs.Inside.{cutter_of}
+use Rattle.sk_lines.specs.Spans.{GivesLines, AreLines}
+use Rattle.sk_lines.proofs.Places.{known_none}
+use Rattle.sk_lines.proofs.Steps.{not_long}
+use Rattle.sk_lines.proofs.Groups.{lines_given, reader_at, sound_going}
+use Rattle.sk_lines.proofs.cutter.Lines.next_lines.Goals.{After-cut_lines-count, in-Long, in_default}
+use Rattle.sk_lines.proofs.cutter.Lines.next_lines.Goals as goal
+
+-- the reader behind the lines
+given : (c : After-cut_lines-count) → (c.cut_lines-count.result.1 + 64 ≤ vec_len c.self.inside.buffer) × (c.self.inside.at ≤ c.cut_lines-count.result.1)
+    × GivesLines (cutter_of c.self.inside) (reader_at (cutter_of c.self.inside) c.self.inside.buffer.items (vec_len c.self.inside.buffer) c.cut_lines-count.result.1 (counted (c.self.inside.number + length (take c.cut_lines-count.result.0 c.cut_lines-count.new.spans)))) (take c.cut_lines-count.result.0 c.cut_lines-count.new.spans)
+given c =
+    let a = c.self.inside in
+    let whole = sym c.deref-2.ensures.len ∙ ap length c.deref-2.ensures.value in
+    lines_given (cutter_of a) a.buffer.items (vec_len a.buffer) whole c.self.invariant.zeros (take c.cut_lines-count.result.0 c.cut_lines-count.new.spans) a.at c.cut_lines-count.result.1 a.number c.self.invariant.at (omega (arith, c.self.ranges.1))
+    (subst (λ bytes. AreLines bytes a.limit a.at (take c.cut_lines-count.result.0 c.cut_lines-count.new.spans) c.cut_lines-count.result.1) c.deref-2.ensures.value c.cut_lines-count.ensures.lines)
+
+short : (c : After-cut_lines-count) → is_long c.self.inside.last ≡ false
+short c = elim c.match-matches.branch [
+  | in-Long w ↦ absurd (true≢false (sym w.matches-is ∙ c.if-matches.false))
+  | in_default w ↦ not_long c.self.inside.last w.in_default.not-Long
+]
+
+pub invariant_of-self : goal.invariant_of-self
+invariant_of-self c =
+    let a = c.self.inside in
+    let kept = c.self.invariant in
+    let g = given (goal.at.invariant_of-self c).After-cut_lines-count in
+    record {
+      low = kept.low;
+      high = kept.high;
+      room = kept.room;
+      at = g.0;
+      zeros = kept.zeros;
+      line_start = kept.line_start;
+      line_end = kept.line_end;
+      scanned = omega (arith, g.0);
+      block = λ some. absurd (some refl);
+      marks = known_none a.buffer.items c.cut_lines-count.result.1 c.cut_lines-count.result.1 (le_refl c.cut_lines-count.result.1) (λ i from before. absurd (omega arith));
+      sound = sound_going _ c.if-self-2.false c.if-self.false (short (goal.at.invariant_of-self c).After-cut_lines-count);
+    }
+
+pub returns-clause-lines : goal.returns-clause-lines
+returns-clause-lines c =
+    let a = c.self.inside in
+    let count = c.cut_lines-count.result.0 in
+    let all = (given (goal.at.returns-clause-lines c).After-cut_lines-count).2 in
+    let size : length (take count c.cut_lines-count.new.spans) ≡ count = omega (arith, length-take count c.cut_lines-count.new.spans, c.cut_lines-count.array_long, c.cut_lines-count.ensures.few, c.find_ends-found.ensures.few) in
+    let number : counted (a.number + length (take count c.cut_lines-count.new.spans)) ≡ c.saturating_add-self-inside.result = omega (arith, size, c.saturating_add-self-inside.ensures) in
+    subst (λ m. GivesLines c.args.self.now (reader_at (cutter_of a) a.buffer.items (vec_len a.buffer) c.cut_lines-count.result.1 m) (take count c.cut_lines-count.new.spans)) number
+    (subst (λ old. GivesLines old (reader_at (cutter_of a) a.buffer.items (vec_len a.buffer) c.cut_lines-count.result.1 (counted (a.number + length (take count c.cut_lines-count.new.spans)))) (take count c.cut_lines-count.new.spans)) c.self.view_is all)

@@ -1,0 +1,90 @@
+// Numbers out of the 16 bytes before a place: no loop, and whatever is in front of the number.
+ghost use Rattle.std.specs.Prelude.{◌≡◌, ℕ, ◌+◌, ◌<◌, ◌≤◌, length, slice_index, nat_le};
+ghost use Rattle.std.specs.List.{list_all, slice_range};
+ghost use Rattle.sk_model.specs.Numbers.{number_of};
+ghost use Rattle.sk_lines.specs.Wide.{EndIn, pairs, joined};
+
+use crate::decimals::{decimal_len, read_number};
+use std::simd::prelude::*;
+
+// How many bytes are looked at.
+const WIDE: usize = 16;
+
+// How far each of them is from the end.
+const TO_END: [u8; WIDE] = [16, 15, 14, 13, 12, 11, 10, 9, 8, 7, 6, 5, 4, 3, 2, 1];
+
+/// The number below `below` that the bytes of a text from one place up to another spell, as
+/// `read_number` reads it.
+#[inline(always)]
+pub fn read_number_at(text: &[u8], from: usize, to: usize, below: u64) -> Option<u64>
+    requires order { from ≤ to }
+    requires within { to ≤ length text.now }
+    requires end { 1 ≤ below }
+    ensures { result ≡ number_of below (slice_range text.now from to) }
+{
+    if to < WIDE || to - from > WIDE {
+        return read_number(&text[from..to], below);
+    }
+    if from == to || to - from > decimal_len(below - 1) {
+        return None;
+    }
+    let lanes = lanes_before(text, from, to);
+    if !are_digits(lanes) {
+        return None;
+    }
+    let value = value_of_lanes(lanes);
+    if value < below { Some(value) } else { None }
+}
+
+// The bytes of a short line less the first digit, behind lanes of 0. Whatever is before the line goes.
+#[inline(always)]
+fn lanes_before(text: &[u8], from: usize, to: usize) -> u8x16
+    requires some { from < to }
+    requires few { to ≤ from + 16 }
+    requires room { 16 ≤ to }
+    requires within { to ≤ length text.now }
+    ensures { EndIn result text.now from to }
+{
+    let block = u8x16::from_slice(&text[to - WIDE..]) - u8x16::splat(b'0');
+    u8x16::from_array(TO_END)
+        .simd_le(u8x16::splat((to - from) as u8))
+        .select(block, u8x16::splat(0))
+}
+
+// Whether no lane is above 9.
+#[inline(always)]
+fn are_digits(lanes: u8x16) -> bool
+    ensures { result ≡ list_all (λ digit. nat_le digit 9) lanes }
+{
+    lanes.simd_gt(u8x16::splat(9)).to_bitmask() == 0
+}
+
+// The number that 16 digits spell: by twos, by fours, and then all.
+#[inline(always)]
+fn value_of_lanes(lanes: u8x16) -> u64
+    requires { (k : ℕ) → slice_index lanes k < 10 }
+    ensures { result ≡ joined 10 lanes }
+{
+    let [a, b, c, d] = fours(twos(lanes)).to_array();
+    (u64::from(a) * 10_000 + u64::from(b)) * 100_000_000 + (u64::from(c) * 10_000 + u64::from(d))
+}
+
+// The numbers that each two of 16 digits spell.
+#[inline(always)]
+fn twos(lanes: u8x16) -> u16x8
+    requires { (k : ℕ) → slice_index lanes k < 10 }
+    ensures value { result ≡ pairs 10 lanes }
+    ensures small { (k : ℕ) → slice_index result k < 100 }
+{
+    u16x8::from_le_bytes(lanes) * u16x8::splat(10 * 0x100 + 1) >> u16x8::splat(8)
+}
+
+// The numbers that each two of eight numbers of two digits make.
+#[inline(always)]
+fn fours(twos: u16x8) -> u32x4
+    requires { (k : ℕ) → slice_index twos k < 100 }
+    ensures value { result ≡ pairs 100 twos }
+    ensures small { (k : ℕ) → slice_index result k < 10_000 }
+{
+    u32x4::from_le_bytes(twos.to_le_bytes()) * u32x4::splat(100 * 0x1_0000 + 1) >> u32x4::splat(16)
+}
