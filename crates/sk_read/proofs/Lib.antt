@@ -2,6 +2,7 @@ mod CauseLaws
 pub mod ColumnLaws
 pub mod Cuts
 pub mod FaultLaws
+pub mod GroupLaws
 pub mod ItemLaws
 pub mod LineEnds
 pub mod PartLaws

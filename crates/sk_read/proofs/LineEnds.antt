@@ -1,12 +1,12 @@
 -- How the reading of a source ends.
-use Rattle.std.proofs.Common.{◌≡◌, ℕ, ◌+◌, ◌≤◌, List, [], ◌∷◌, ◌++◌, length, take, false, Option, None, Some, IfSome, Result, Ok, Err, IsErrAnd, inl, inr, refl, sym, ap, ◌∙◌, subst, arith, append-nil, length-append}
+use Rattle.std.proofs.Common.{◌≡◌, ℕ, ◌+◌, ◌≤◌, List, [], ◌∷◌, ◌++◌, length, take, false, Option, None, Some, IfSome, Result, Ok, Err, IsErrAnd, inl, inr, refl, sym, ap, ◌∙◌, subst, arith, append-nil, append_assoc, length-append}
 use Rattle.std.specs.Io.KnownBytes.{Consumes}
 use Rattle.std.proofs.KnownBytes.{Consumes-nil}
-use Rattle.std.proofs.lemmas.List.Elements.{All-nil}
+use Rattle.std.proofs.lemmas.List.Elements.{All-nil, All-take}
 use Rattle.sk_model.specs.Limits.{line_limit}
 use Rattle.sk_model.specs.Lines.{lines_of, AreWithin, IsFirstLong}
 use Rattle.sk_model.specs.Missing.{Begins}
-use Rattle.sk_model.proofs.Missing.{begins_append, begins_trans}
+use Rattle.sk_model.proofs.Missing.{begins_refl, begins_append, begins_trans}
 use Rattle.sk_read.specs.declared.reader.LineFault.{LineFault}
 use Rattle.sk_read.specs.declared.reader.LineFault.TheVariants as stop
 use Rattle.sk_read.specs.declared.fault.Fault.{Fault}
@@ -15,10 +15,10 @@ use Rattle.sk_read.specs.declared.units.Units.{Units}
 use Rattle.sk_read.specs.declared.units.Units.TheVariants.{Lines}
 use Rattle.sk_read.specs.Faults.{fault_by, IsOfTaker}
 use Rattle.sk_read.specs.Reading.{Reading, HasRead, Goes}
-use Rattle.sk_read.specs.Reads.{IsSettled, IsInTime, ReadsAll, StopsAt, Ends, Reads}
+use Rattle.sk_read.specs.Reads.{IsSettled, IsInTime, ReadsAll, StopsAt, StopsAmong, Ends, Reads}
 use Rattle.sk_read.specs.Units.{IsSoundUpTo}
 use Rattle.sk_read.proofs.ItemLaws.{front_is, has_few}
-use Rattle.sk_read.proofs.Readings.{given_settled, nothing_read}
+use Rattle.sk_read.proofs.Readings.{given_settled, in_time_more, nothing_read}
 
 pub settled_so : (P Q : List ℕ → Type 0) (left : Option (List ℕ)) (taken : List ℕ) → ((text : List ℕ) → P text → Q text) → IsSettled P left taken → IsSettled Q left taken
 settled_so P Q left taken so (inl always) = inl (λ later. so (taken ++ later) (always later))
@@ -31,10 +31,10 @@ settled_told P (Some text) None taken consumed settled = absurd consumed
 settled_told P (Some text) (Some rest) taken consumed (inl always) = subst P (sym consumed) (always rest)
 settled_told P (Some text) (Some rest) taken consumed (inr here) = subst P (sym (consumed ∙ ap (λ (l : List ℕ). taken ++ l) here.0 ∙ append-nil taken)) here.1
 
--- a taker stopped at a line
-line_stops : (Stopped : List (List ℕ) → List ℕ → Type 0) (most : ℕ) (r : Reading) (old left : Option (List ℕ)) (given : List (List ℕ)) (line taken : List ℕ) → r.most ≡ most → Consumes old left taken → Stopped given line →
-    HasRead r left (given ++ line ∷ []) taken → IsInTime Lines given taken → StopsAt Lines most Stopped old left
-line_stops Stopped most r old left given line taken is consumed stopped read in_time = (
+-- a taker stopped at a line, and lines behind it may have been given too
+line_stops : (Stopped : List (List ℕ) → List ℕ → Type 0) (most : ℕ) (r : Reading) (old left : Option (List ℕ)) (given : List (List ℕ)) (line : List ℕ) (all : List (List ℕ)) (taken : List ℕ) → r.most ≡ most →
+    Consumes old left taken → Stopped given line → Begins (given ++ line ∷ []) all → HasRead r left all taken → IsInTime Lines given taken → StopsAt Lines most Stopped old left
+line_stops Stopped most r old left given line all taken is consumed stopped among read in_time = (
   line,
   record {
     given = given;
@@ -43,19 +43,33 @@ line_stops Stopped most r old left given line taken is consumed stopped read in_
     size = omega (arith, read.has.count, read.bound, is);
     in_time = in_time;
     known = stopped;
-    comes = settled_so (λ (text : List ℕ). Begins (given ++ line ∷ []) (lines_of text))
-        (λ (text : List ℕ). Begins given (lines_of text) × (Begins (given ++ line ∷ []) (lines_of text) × IsSoundUpTo Lines (length given + 1) text)) left taken (λ text begins. (
-          begins_trans given (given ++ line ∷ []) (lines_of text) (begins_append given (line ∷ [])) begins,
-          (begins, within text begins),
-        )) (given_settled r left (given ++ line ∷ []) taken read);
+    comes = settled_so (λ (text : List ℕ). Begins all (lines_of text))
+        (λ (text : List ℕ). Begins given (lines_of text) × (Begins (given ++ line ∷ []) (lines_of text) × IsSoundUpTo Lines (length given + 1) text)) left taken (λ text begins.
+        let first = begins_trans (given ++ line ∷ []) all (lines_of text) among begins in (
+          begins_trans given (given ++ line ∷ []) (lines_of text) (begins_append given (line ∷ [])) first,
+          (first, within text first),
+        )) (given_settled r left all taken read);
   },
 )
   where
+    short : AreWithin line_limit (given ++ line ∷ [])
+    short =
+        let Short : List ℕ → Type 0 = λ (l : List ℕ). length l ≤ line_limit in
+        let every : AreWithin line_limit all = subst (λ (m : ℕ). AreWithin m all) read.limit read.has.within in
+        subst (AreWithin line_limit) (front_is (given ++ line ∷ []) all among) (All-take Short (length (given ++ line ∷ [])) all every)
+
     within : (text : List ℕ) → Begins (given ++ line ∷ []) (lines_of text) → IsSoundUpTo Lines (length given + 1) text
     within text begins =
         let front : take (length given + 1) (lines_of text) ≡ given ++ line ∷ [] =
         ap (λ (m : ℕ). take m (lines_of text)) (omega (arith, length-append given (line ∷ []))) ∙ front_is (given ++ line ∷ []) (lines_of text) begins in
-        subst (AreWithin line_limit) (sym front) (subst (λ (m : ℕ). AreWithin m (given ++ line ∷ [])) read.limit read.has.within)
+        subst (AreWithin line_limit) (sym front) short
+
+-- behind other lines they come so too
+begins_behind : (given front more : List (List ℕ)) (unit : List ℕ) → Begins (front ++ unit ∷ []) more → Begins ((given ++ front) ++ unit ∷ []) (given ++ more)
+begins_behind given front more unit begins = (
+  begins.0,
+  ap (λ (l : List (List ℕ)). given ++ l) begins.1 ∙ sym (append_assoc given (front ++ unit ∷ []) begins.0) ∙ ap (λ (l : List (List ℕ)). l ++ begins.0) (sym (append_assoc given front (unit ∷ []))),
+)
 
 module _ (Gave : List (List ℕ) → Type 0) (Stopped : Fault → List (List ℕ) → List ℕ → Type 0) (most : ℕ) where
   -- a taker stopped at a unit, for this fault
@@ -130,7 +144,17 @@ module _ (Gave : List (List ℕ) → Type 0) (Stopped : Fault → List (List ℕ
   pub line_missed : (r : Reading) (old left : Option (List ℕ)) (given : List (List ℕ)) (line taken : List ℕ) (n : ℕ) (f : Fault) → r.most ≡ most → Consumes old left taken → n ≡ length given + 1 → IsOfTaker n f →
       Stopped f given line → HasRead r left (given ++ line ∷ []) taken → IsInTime Lines given taken → Ends Lines most Gave Stopped old left f
   line_missed r old left given line taken n f is consumed place of stopped read in_time =
-      taker_ends Lines old left given line n f place of stopped (λ (Known : List (List ℕ) → List ℕ → Type 0) known. line_stops Known most r old left given line taken is consumed known read in_time)
+      taker_ends Lines old left given line n f place of stopped (λ (Known : List (List ℕ) → List ℕ → Type 0) known.
+      line_stops Known most r old left given line (given ++ line ∷ []) taken is consumed known (begins_refl (given ++ line ∷ [])) read in_time)
+
+  -- a taker of lines that come behind those given stopped at one of them, for this fault
+  pub line_missed_among : (r : Reading) (old left : Option (List ℕ)) (given more : List (List ℕ)) (taken : List ℕ) (f : Fault) → r.most ≡ most → Consumes old left taken → StopsAmong Stopped f given more →
+      HasRead r left (given ++ more) taken → IsInTime Lines given taken → Ends Lines most Gave Stopped old left f
+  line_missed_among r old left given more taken f is consumed stops read in_time =
+      let before = given ++ stops.front in
+      taker_ends Lines old left before stops.unit (length given + length stops.front + 1) f (omega (arith, length-append given stops.front)) stops.fault stops.stopped
+      (λ (Known : List (List ℕ) → List ℕ → Type 0) known.
+      line_stops Known most r old left before stops.unit (given ++ more) taken is consumed known (begins_behind given stops.front more stops.unit stops.begins) read (in_time_more Lines given stops.front taken in_time))
 
   -- the last line was given
   pub all_lines : (r : Reading) (old left : Option (List ℕ)) (given : List (List ℕ)) (taken : List ℕ) (n : ℕ) → r.most ≡ most → Consumes old left taken → Gave given → Goes r left given taken (Ok false) →

@@ -1,10 +1,12 @@
 -- What a reader of a source's lines finds.
-use Rattle.std.proofs.Common.{◌≡◌, ◌≢◌, ℕ, ◌+◌, ◌-◌, ◌<◌, ◌≤◌, Bool, true, false, List, [], ◌∷◌, ◌++◌, length, take, Option, Result, Ok, Err, IsErrAnd, refl, inl, inr, arith, append-nil, length-append, sym, ap, ◌∙◌, subst}
+use Rattle.std.proofs.Common.{◌≡◌, ◌≢◌, ℕ, ◌+◌, ◌-◌, ◌<◌, ◌≤◌, Bool, true, false, List, [], ◌∷◌, ◌++◌, length, take, slice_range, Option, Result, Ok, Err, IsErrAnd, refl, inl, inr, arith, append-nil, length-append, sym, ap, ◌∙◌, subst}
 use Rattle.std.specs.Str.Lines.{strip_carriage_return}
 use Rattle.sk_model.specs.Lines.{lines_of, open_lines_of, AreWithin, IsFirstLong}
 use Rattle.sk_model.proofs.Missing.{begins_more}
 use Rattle.sk_model.proofs.Lines.{long_stays_long, lines_are_few}
 use Rattle.sk_lines.specs.Cutter.{Cutter, Follows, IsLongAfter, is_long}
+use Rattle.sk_lines.specs.Spans.{GivesLines, lines_at}
+use Rattle.sk_lines.specs.declared.spans.Span.{Span}
 use Rattle.sk_lines.specs.declared.cutter.Next.{Next}
 use Rattle.sk_lines.specs.declared.cutter.Next.TheVariants as next
 use Rattle.sk_read.specs.Reading.{Reading, HasGiven, HasRead, HaveEnded, Goes, Stands, ComesLong, GivesLine, IsLongNext, IsLongLast}
@@ -16,6 +18,7 @@ use Rattle.sk_read.specs.declared.reader.LineFault.{LineFault}
 use Rattle.sk_read.specs.declared.reader.LineFault.TheVariants as fault
 use Rattle.sk_model.specs.Missing.{Begins}
 use Rattle.sk_lines.proofs.Steps.{given_lines_stay}
+use Rattle.std.proofs.lemmas.List.{length-map}
 use Rattle.std.proofs.lemmas.List.Elements.{All-cons, All-nil}
 use Rattle.sk_read.proofs.ItemLaws.{front_is}
 use Rattle.std.specs.Io.KnownBytes.{IsAtEnd}
@@ -77,16 +80,46 @@ read_on old new left now given more taken fed read has end limit most bound in_t
   in_time = in_time;
 }
 
--- one line more was given
-pub in_time_more : (units : Units) (given : List (List ℕ)) (line taken : List ℕ) → IsInTime units given taken → IsInTime units (given ++ line ∷ []) taken
-in_time_more units given line taken is = record {
+-- more lines were given
+pub in_time_more : (units : Units) (given more : List (List ℕ)) (taken : List ℕ) → IsInTime units given taken → IsInTime units (given ++ more) taken
+in_time_more units given more taken is = record {
   front = is.front;
   piece = is.piece;
   joined = is.joined;
   size = is.size;
   sound = is.sound;
-  earlier = begins_more (complete_units_of units is.front) given (line ∷ []) is.earlier;
+  earlier = begins_more (complete_units_of units is.front) given more is.earlier;
 }
+
+-- lines that were held are given: behind the end there is none
+pub given_more : (old new : Reading) (spans : List Span) (given : List (List ℕ)) (taken : List ℕ) → GivesLines old.cutter new.cutter spans → new ≡ record old { cutter = new.cutter } → (old.ended ≡ true → spans ≡ []) →
+    HasGiven old given taken → HasGiven new (given ++ lines_at spans new.cutter.front) taken
+given_more old new spans given taken gives stays none has = record {
+  follows = λ going. gives.follows given taken (has.follows (sym ended ∙ going));
+  whole = λ over. has.whole (sym ended ∙ over) ∙ sym (no_more (sym ended ∙ over));
+  within = within old.ended refl;
+  going = ap (λ (c : Cutter). is_long c.last) gives.stays ∙ has.going;
+  number = omega (arith, gives.number, has.number, length-append given (lines_at spans new.cutter.front), length-map spans (λ (span : Span). slice_range new.cutter.front span.from span.to));
+  size = λ over. omega (arith, has.size (sym ended ∙ over), ap (λ (r : Reading). r.most) stays, ap (λ (r : Reading). r.taken) stays);
+  count = has.count ∙ sym (ap (λ (r : Reading). r.taken) stays);
+}
+  where
+    ended : new.ended ≡ old.ended
+    ended = ap (λ (r : Reading). r.ended) stays
+
+    no_more : old.ended ≡ true → given ++ lines_at spans new.cutter.front ≡ given
+    no_more over = ap (λ (l : List Span). given ++ lines_at l new.cutter.front) (none over) ∙ append-nil given
+
+    limit : new.cutter.limit ≡ old.cutter.limit
+    limit = ap (λ (c : Cutter). c.limit) gives.stays
+
+    within : (b : Bool) → old.ended ≡ b → AreWithin new.cutter.limit (given ++ lines_at spans new.cutter.front)
+    within true over = subst (λ (m : ℕ). AreWithin m (given ++ lines_at spans new.cutter.front)) (sym limit) (subst (AreWithin old.cutter.limit) (sym (no_more over)) has.within)
+    within false going = (gives.follows given taken (has.follows going)).within
+
+-- for each line given, at least one byte fewer is held
+pub fewer_left : (old new : Cutter) (spans : List Span) (n : ℕ) → GivesLines old new spans → length spans ≡ n → length new.rest + n ≤ length old.rest
+fewer_left old new spans n gives count = omega (arith, ap length gives.bytes, length-append old.front old.rest, length-append new.front new.rest, gives.grows, count)
 
 pub have_ended : (r : Reading) (given : List (List ℕ)) (taken : List ℕ) → r.cutter.limit ≡ line_limit → Stands r given taken → HaveEnded given taken
 have_ended r given taken limit stands = (
@@ -141,7 +174,7 @@ pub goes_end : (old r : Reading) (left : Option (List ℕ)) (given : List (List 
     ((n : ℕ) → result ≡ Err (fault.LongLine n) → IsLongLast old n) → result ≢ Err fault.ReadFault → result ≢ Err fault.TooMuch → Goes r left given taken result
 goes_end old r left given taken (Ok true) read end limit most same ended line none long no_read no_much = (
   read_on old r left left given (given ++ r.cutter.line ∷ []) taken taken read (line refl given taken read.has) (λ _. end) limit most (omega (arith, same, most, read.bound))
-      (in_time_more Lines given r.cutter.line taken read.in_time),
+      (in_time_more Lines given (r.cutter.line ∷ []) taken read.in_time),
   read.in_time,
 )
 goes_end old r left given taken (Ok false) read end limit most same ended line none long no_read no_much =

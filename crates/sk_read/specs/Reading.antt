@@ -105,3 +105,7 @@ abbrev pub GoesHeld : Reading → Option (List ℕ) → List (List ℕ) → List
 GoesHeld r left given taken (Ok true) = HasRead r left (given ++ r.cutter.line ∷ []) taken
 GoesHeld r left given taken (Ok false) = HasRead r left given taken × HoldsNone r given taken
 GoesHeld r left given taken (Err why) = Goes r left given taken (Err why)
+
+-- more lines of the bytes taken were given, and of these this is known
+abbrev pub GivesMore : Reading → Option (List ℕ) → List (List ℕ) → List ℕ → (List (List ℕ) → Type 0) → Type 0
+GivesMore r left given taken Known = (more : List (List ℕ)) × HasRead r left (given ++ more) taken × Known more

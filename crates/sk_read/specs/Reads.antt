@@ -5,6 +5,7 @@ use Rattle.sk_model.specs.Missing.{Begins}
 use Rattle.sk_read.specs.declared.units.Units.{Units}
 use Rattle.sk_read.specs.declared.fault.Fault.{Fault}
 use Rattle.sk_read.specs.declared.fault.Fault.TheVariants.{OutOfMemory, ReadFault, LongLine, BadItem, BadCsv, TooMuch, WriteFault}
+use Rattle.sk_read.specs.Faults.{IsOfTaker}
 use Rattle.sk_read.specs.Units.{units_of, complete_units_of, IsSound, IsSoundUpTo, IsSoundSoFar, IsLongBehind, IsUnevenBehind}
 
 -- one read takes at most so many bytes
@@ -57,6 +58,14 @@ pub record BreaksOff (units : Units) (most : ℕ) (Known : List (List ℕ) → T
 abbrev pub StopsAt : Units → ℕ → (List (List ℕ) → List ℕ → Type 0) → Option (List ℕ) → Option (List ℕ) → Type 0
 StopsAt units most Stopped old new = (unit : List ℕ) × BreaksOff units most (λ given. Stopped given unit)
     (λ given text. Begins (given ++ unit ∷ []) (units_of units text) × IsSoundUpTo units (length given + 1) text) old new
+
+-- a taker of units that come behind those given stopped at one of them
+pub record StopsAmong (Stopped : Fault → List (List ℕ) → List ℕ → Type 0) (why : Fault) (given units : List (List ℕ)) : Type 0 where
+  pub front : List (List ℕ)
+  pub unit : List ℕ
+  pub begins : Begins (front ++ unit ∷ []) units
+  pub stopped : Stopped why (given ++ front) unit
+  pub fault : IsOfTaker (length given + length front + 1) why
 
 -- why it ended before the source
 abbrev pub Ends : Units → ℕ → (List (List ℕ) → Type 0) → (Fault → List (List ℕ) → List ℕ → Type 0) → Option (List ℕ) → Option (List ℕ) → Fault → Type 0

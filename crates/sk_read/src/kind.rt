@@ -1,11 +1,11 @@
 // How a line becomes an item.
-ghost use Rattle.std.specs.Prelude.{◌≡◌, ◌<◌, ℕ, Some, is_some, IfSome, true};
+ghost use Rattle.std.specs.Prelude.{◌≡◌, ◌<◌, ◌≤◌, ℕ, length, slice_range, Some, is_some, IfSome, true};
 ghost use Rattle.sk_model.specs.Numbers.{number_of};
 ghost use Rattle.sk_read.specs.Items.{item_of};
 ghost use Rattle.sk_model.specs.Width.{IsItem, item_end};
 
 use sk_hash::hash48;
-use sk_lines::{are_digits, read_number};
+use sk_lines::{Span, are_digits, read_number, read_number_at};
 use sk_theta::ITEM_END;
 
 // Any so many digits spell a number below the end of the items.
@@ -30,6 +30,20 @@ impl Kind {
         match self {
             Kind::Hash(seed) => Some(hash48(seed, line)),
             Kind::Raw => read_number(line, ITEM_END),
+        }
+    }
+
+    /// The item of the line that lies in a text.
+    #[inline(always)]
+    pub fn item_at(self, text: &[u8], span: Span) -> Option<u64>
+        requires order { span.from ≤ span.to }
+        requires within { span.to ≤ length text.now }
+        ensures value { result ≡ item_of self (slice_range text.now span.from span.to) }
+        ensures below { IfSome result IsItem }
+    {
+        match self {
+            Kind::Hash(seed) => Some(hash48(seed, &text[span.from..span.to])),
+            Kind::Raw => read_number_at(text, span.from, span.to, ITEM_END),
         }
     }
 

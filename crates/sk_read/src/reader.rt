@@ -1,14 +1,15 @@
 // The lines of a source.
-ghost use Rattle.std.specs.Prelude.{◌≡◌, ◌≤◌, ◌<◌, ◌+◌, ◌-◌, ◌^◌, ℕ, List, [], ◌∷◌, ◌++◌, Option, Ok, Err, OnOk, OnErr, IfOk, IsErrOf, ◌≢◌, length, true, false, vec_len};
+ghost use Rattle.std.specs.Prelude.{◌≡◌, ◌≤◌, ◌<◌, ◌+◌, ◌-◌, ◌^◌, ℕ, List, [], ◌∷◌, ◌++◌, Option, Ok, Err, OnOk, OnErr, IfOk, IsErrOf, ◌≢◌, length, take, true, false, vec_len};
 ghost use Rattle.std.specs.Io.KnownBytes.{Consumes, IsAtEnd, Keeps};
 ghost use Rattle.sk_model.specs.Causes.{HasCauseIn};
 ghost use Rattle.sk_model.specs.Lines.{lines_of};
+ghost use Rattle.sk_lines.specs.Spans.{GivesLines, lines_at};
 ghost use Rattle.sk_lines.specs.declared.cutter.Next.TheVariants as next;
 ghost use Rattle.sk_read.specs.Reading.{HasGiven, GivesLine, HasRead, Goes, GoesHeld, MovesOn, Stands, IsLongNext, IsLongLast, Feeds, remaining_of};
 ghost use Rattle.sk_model.specs.Limits.{source_limit};
 
 use sk_io::{BoundFault, Source, read_within};
-use sk_lines::{Lines, Next};
+use sk_lines::{GROUP, Lines, Next, Span};
 use sk_model::OutOfMemory;
 use sk_model::limits::LINE_LIMIT;
 use std::alloc::Global;
@@ -210,6 +211,19 @@ impl LineReader {
             Next::More => Ok(false),
             Next::Long(line) => Err(LineFault::LongLine(line)),
         }
+    }
+
+    /// Moves on to the next complete lines of the bytes that were read, puts to the front of `spans` where
+    /// they lie in `front`, and answers how many they are. Where there is none `next` goes on.
+    pub fn next_lines(&mut self, spans: &mut [Span; GROUP]) -> usize
+        ensures few { result ≤ GROUP }
+        ensures lines { GivesLines self.old.cutter self.new.cutter (take result spans.new) }
+        ensures goes { (left : Option (List ℕ)) (given : List (List ℕ)) (taken : List ℕ) → HasRead self.old left given taken
+            → HasRead self.new left (given ++ lines_at (take result spans.new) self.new.cutter.front) taken }
+        ensures stays { self.new ≡ record self.old { cutter = self.new.cutter } }
+        ensures progress { remaining_of self.new + result ≤ remaining_of self.old }
+    {
+        self.lines.next_lines(spans)
     }
 
     /// The line that the last call of `next` or `next_held` gave.

@@ -2,8 +2,10 @@
 ghost use Rattle.std.specs.Prelude.{◌≡◌, ◌≤◌, ◌+◌, ℕ, List, [], ◌∷◌, ◌++◌, OnOk, IfErr, length};
 ghost use Rattle.sk_model.specs.Causes.{HasCauseIn};
 ghost use Rattle.sk_model.specs.Limits.{line_limit, source_limit, most_kept};
+ghost use Rattle.sk_model.specs.Lines.{AreWithin};
+ghost use Rattle.sk_lines.specs.Spans.{AreBehind, lines_at};
 ghost use Rattle.sk_read.specs.Faults.{IsOfTaker};
-ghost use Rattle.sk_read.specs.Reads.{Reads};
+ghost use Rattle.sk_read.specs.Reads.{Reads, StopsAmong};
 ghost use Rattle.sk_read.specs.Standing.{Standing};
 ghost use Rattle.sk_read.specs.Units.{units_by};
 ghost use Rattle.sk_read.specs.declared.fault.Fault.{Fault};
@@ -13,6 +15,7 @@ use crate::fault::Fault;
 use crate::lines::read_lines;
 use crate::records::read_records;
 use sk_io::Source;
+use sk_lines::{GROUP, Span};
 use std::alloc::Global;
 
 /// The units of a source: what of it becomes one item or none.
@@ -59,6 +62,28 @@ pub trait UnitTaker {
             → stopped start self.new why units unit.now) }
         ensures fault { IfErr result (IsOfTaker number) }
         ensures stays { stands_on self.new ≡ stands_on self.old };
+
+    /// Takes units that lie in a text, in order, behind so many that it was given. After an error it is
+    /// not used again.
+    fn take_all(&mut self, text: &[u8], spans: &[Span], before: u64) -> Result<(), Fault>
+        requires few { length spans.now ≤ GROUP }
+        requires within { AreBehind 0 spans.now text.now }
+        requires short { AreWithin line_limit (lines_at spans.now text.now) }
+        requires room { before + length spans.now ≤ most_kept }
+        requires behind { (start : _) × (units : List (List ℕ)) × (length units ≡ before) × went start self.old units }
+        ensures went { OnOk result ((start : _) (units : List (List ℕ)) → length units ≡ before → went start self.old units
+            → went start self.new (units ++ lines_at spans.now text.now)) }
+        ensures stopped { IfErr result (λ why. (start : _) (units : List (List ℕ)) → length units ≡ before → went start self.old units
+            → StopsAmong (stopped start self.new) why units (lines_at spans.now text.now)) }
+        ensures stays { stands_on self.new ≡ stands_on self.old }
+    {
+        let mut number = before;
+        'unit: for span in spans {
+            number += 1;
+            self.take(&text[span.from..span.to], number)?;
+        }
+        Ok(())
+    }
 }
 
 /// Gives the units of a source of fewer than `most` bytes to the taker, in order, and answers how

@@ -10,7 +10,7 @@ use Rattle.sk_read.specs.declared.units.Units.TheVariants.{Lines}
 use Rattle.sk_read.proofs.CauseLaws.{steady_ok}
 use Rattle.sk_read.proofs.FaultLaws.{given_fault, no_read_fault}
 use Rattle.sk_read.proofs.ItemLaws.{has_few, last_within}
-use Rattle.sk_read.proofs.LineEnds.{ends_read, nothing_came, no_line, line_missed, all_lines}
+use Rattle.sk_read.proofs.LineEnds.{ends_read, nothing_came, no_line, line_missed, line_missed_among, all_lines}
 use Rattle.sk_read.proofs.lines.read_lines.Given.{Over}
 use Rattle.sk_read.proofs.lines.read_lines.Goals.{In_ok-next}
 use Rattle.sk_read.proofs.lines.read_lines.Goals as goal
@@ -41,6 +41,14 @@ short : (g : Over) (c : In_ok-next g) → c.in_ok-next.field-0 ≡ true → leng
 short g c is =
     let read = (next_line g c is).2.0 in
     subst (λ (m : ℕ). length c.next.new.self.cutter.line ≤ m) read.limit (last_within c.next.new.self.cutter.limit c.line.invariant.given c.next.new.self.cutter.line read.has.within)
+
+-- the taker behind it
+taken_next : (g : Over) (c : In_ok-next g) → c.in_ok-next.field-0 ≡ true → (n : ℕ) (line : List ℕ) (new : g.row.T.Denot) → n ≡ c.next.new.self.cutter.number → line ≡ c.next.new.self.cutter.line →
+    ((start : g.row.T.Denot) (units : List (List ℕ)) → length units + 1 ≡ n → g.T.UnitTaker.went start c.line.taker units → g.T.UnitTaker.went start new (units ++ line ∷ [])) →
+    g.T.UnitTaker.went c.args.taker.now new (c.line.invariant.given ++ c.next.new.self.cutter.line ∷ [])
+taken_next g c is n line new count own took =
+    let inv = c.line.invariant in
+    subst (λ (l : List ℕ). g.T.UnitTaker.went c.args.taker.now new (inv.given ++ l ∷ [])) own (took c.args.taker.now inv.given (sym (numbered g c is n count)) inv.gave)
 
 pub returns-in_err-reader-clause-read : goal.returns-in_err-reader-clause-read
 returns-in_err-reader-clause-read g c =
@@ -89,22 +97,65 @@ take-requires g c =
       behind = (c.args.taker.now, inv.given, sym place, inv.gave);
     }
 
+pub give_held-requires : goal.give_held-requires
+give_held-requires g c =
+    let inv = c.line.invariant in
+    let at = (goal.at.give_held-requires g c).In_ok-next in
+    let next = next_line g at c.if-branch.true in
+    let went = taken_next g at c.if-branch.true c.number.result c.line-in-line.result.now c.take.new.self c.number.ensures c.line-in-line.ensures c.in_ok-take.ensures.went in
+    record { behind = (c.args.taker.now, g.S.Source.left c.next.new.source, inv.given ++ c.next.new.self.cutter.line ∷ [], inv.taken ++ next.0, next.2.0, went) }
+
 pub line-preserved : goal.line-preserved
 line-preserved g c =
     let inv = c.line.invariant in
     let at = (goal.at.line-preserved g c).In_ok-next in
     let next = next_line g at c.if-branch.true in
-    let gave = c.in_ok-take.ensures.went c.args.taker.now inv.given (sym (numbered g at c.if-branch.true c.number.result c.number.ensures)) inv.gave in
+    let left = g.S.Source.left c.next.new.source in
+    let given = inv.given ++ c.next.new.self.cutter.line ∷ [] in
+    let taken = inv.taken ++ next.0 in
+    let went = taken_next g at c.if-branch.true c.number.result c.line-in-line.result.now c.take.new.self c.number.ensures c.line-in-line.ensures c.in_ok-take.ensures.went in
+    let held = c.in_ok-give_held.ensures.gave c.args.taker.now left given taken next.2.0 went in
     record {
-      given = inv.given ++ c.next.new.self.cutter.line ∷ [];
-      taken = inv.taken ++ next.0;
-      read = next.2.0;
+      given = given ++ held.0;
+      taken = taken;
+      read = held.1;
       consumed = Consumes-trans _ _ _ _ _ inv.consumed next.1;
-      gave = subst (λ (l : List ℕ). g.T.UnitTaker.went c.args.taker.now c.take.new.self (inv.given ++ l ∷ [])) c.line-in-line.ensures gave;
-      most = c.next.ensures.most ∙ inv.most;
+      gave = held.2;
+      most = c.give_held.ensures.most ∙ c.next.ensures.most ∙ inv.most;
       steady = steady_ok _ _ _ _ _ c.next.ensures.cause c.in_ok-next.was ∙ inv.steady;
       stays = c.next.ensures.stays ∙ inv.stays;
-      standing = c.take.ensures.stays ∙ inv.standing;
+      standing = c.give_held.ensures.stays ∙ c.take.ensures.stays ∙ inv.standing;
+    }
+
+pub returns-in_err-give_held-clause-read : goal.returns-in_err-give_held-clause-read
+returns-in_err-give_held-clause-read g c =
+    let inv = c.line.invariant in
+    let old = g.S.Source.left c.args.source.now in
+    let left = g.S.Source.left c.next.new.source in
+    let Gave = g.T.UnitTaker.went c.args.taker.now c.give_held.new.taker in
+    let Stopped = g.T.UnitTaker.stopped c.args.taker.now c.give_held.new.taker in
+    let at = (goal.at.returns-in_err-give_held-clause-read g c).In_ok-next in
+    let next = next_line g at c.if-branch.true in
+    let given = inv.given ++ c.next.new.self.cutter.line ∷ [] in
+    let taken = inv.taken ++ next.0 in
+    let f = c.in_err-give_held.field-0.0 in
+    let went = taken_next g at c.if-branch.true c.number.result c.line-in-line.result.now c.take.new.self c.number.ensures c.line-in-line.ensures c.in_ok-take.ensures.went in
+    let held = c.in_err-give_held.ensures.stopped c.args.taker.now left given taken next.2.0 went in
+    ends_read Gave Stopped c.args.most Lines old left f c.from_residual-in_err-give_held.result c.from_residual-in_err-give_held.ensures.1
+    (line_missed_among Gave Stopped c.args.most c.give_held.new.reader old left given held.0 taken f (c.give_held.ensures.most ∙ c.next.ensures.most ∙ inv.most)
+    (Consumes-trans _ _ _ _ _ inv.consumed next.1) held.2 held.1 next.2.0.in_time)
+
+pub returns-in_err-give_held-clause-cause : goal.returns-in_err-give_held-clause-cause
+returns-in_err-give_held-clause-cause g c =
+    let inv = c.line.invariant in
+    let at = (goal.at.returns-in_err-give_held-clause-cause g c).In_ok-next in
+    let next = next_line g at c.if-branch.true in
+    let f = c.in_err-give_held.field-0.0 in
+    let went = taken_next g at c.if-branch.true c.number.result c.line-in-line.result.now c.take.new.self c.number.ensures c.line-in-line.ensures c.in_ok-take.ensures.went in
+    let held = c.in_err-give_held.ensures.stopped c.args.taker.now (g.S.Source.left c.next.new.source) (inv.given ++ c.next.new.self.cutter.line ∷ []) (inv.taken ++ next.0) next.2.0 went in
+    record {
+      steady = λ _. steady_ok _ _ _ _ _ c.next.ensures.cause c.in_ok-next.was ∙ inv.steady;
+      failed = λ is. absurd (no_read_fault _ f held.2.fault (given_fault _ f _ c.from_residual-in_err-give_held.ensures.1 is));
     }
 
 pub returns-in_err-take-clause-read : goal.returns-in_err-take-clause-read
