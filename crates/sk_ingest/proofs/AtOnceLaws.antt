@@ -1,19 +1,23 @@
 -- Units that go to one updater at once.
-use Rattle.std.proofs.Common.{◌≡◌, ◌≢◌, ◌==◌, inl, inr, ℕ, ◌+◌, ◌<◌, ◌≤◌, Bool, true, false, List, [], ◌∷◌, ◌++◌, length, get_or, set, Option, Some, IsSome, Result, All, sym, ap, refl, ◌∙◌, subst, arith, append-nil}
-use Rattle.std.proofs.lemmas.Bool.{false≢true, eqb-false}
-use Rattle.std.proofs.lemmas.List.{get_or-set_same, get_or_read}
-use Rattle.std.proofs.lemmas.List.Elements.{All-nil, All-push}
+use Rattle.std.proofs.Common.{◌≡◌, ◌≢◌, ◌==◌, inl, inr, ℕ, ◌+◌, ◌<◌, ◌≤◌, Bool, true, false, List, [], ◌∷◌, ◌++◌, length, get_or, set, take, drop, Option, Some, None, IsSome, Result, All, sym, ap, refl, ◌∙◌, subst, arith, append-nil, append_assoc}
+use Rattle.std.specs.List.{filter}
+use Rattle.std.proofs.lemmas.Bool.{false≢true, eqb-false, eqb-true}
+use Rattle.std.proofs.lemmas.List.{get_or_default, get_or-set_same, get_or_read, length-set, length-take-le, take_more, take-append-drop}
+use Rattle.std.proofs.lemmas.List.Elements.{All-nil, All-push, All-head, All-tail}
 use Rattle.sk_model.specs.Entries.{Entry}
-use Rattle.sk_hub.specs.Updaters.{UpdaterState}
+use Rattle.sk_model.specs.Missing.{Begins}
+use Rattle.sk_hub.specs.Hearts.{HeartState}
+use Rattle.sk_hub.specs.Updaters.{UpdaterState, base_of}
 use Rattle.sk_read.specs.declared.kind.Kind.{Kind}
 use Rattle.sk_read.specs.declared.items.Intake.{Intake}
 use Rattle.sk_read.specs.Items.{item_of, IsGood}
-use Rattle.sk_read.specs.Reads.{Reads}
+use Rattle.sk_read.specs.Reads.{Reads, StopsAmong}
 use Rattle.sk_read.specs.declared.units.Units.{Units}
 use Rattle.sk_read.specs.declared.fault.Fault.{Fault}
 use Rattle.sk_read.specs.declared.fault.Fault.TheVariants as fault
 use Rattle.sk_ingest.specs.Windows.{fills, all_lines, item_in, items_in}
 use Rattle.sk_ingest.specs.Feeds.{Takes}
+use Rattle.sk_ingest.specs.Gathered.{IsBad}
 use Rattle.sk_ingest.specs.Rounds.{block_of, HaveFew}
 use Rattle.sk_ingest.specs.Shares.{share, TakeShares}
 use Rattle.sk_ingest.specs.Hubs.{Hub, IsHub, FeedsWindow, HeartGoesOn}
@@ -21,10 +25,12 @@ use Rattle.sk_ingest.specs.Ingests.{Terms, Feeds, IsReported, Reported, GoesThro
 use Rattle.sk_ingest.specs.Takers.{UnitsWent, IsAlone, untold}
 use Rattle.sk_ingest.proofs.Joined.{blocks_joined}
 use Rattle.sk_ingest.proofs.Items.{items_append, one_item, no_item}
+use Rattle.sk_ingest.proofs.Gathering.{takes_all}
 use Rattle.sk_ingest.proofs.Shares.{share_one}
 use Rattle.sk_ingest.proofs.Updaters.{none_refl, takes_none, takes_trans}
+use Rattle.sk_ingest.proofs.Between.{parts_taken}
 use Rattle.sk_ingest.proofs.Cutting.{no_units, unit_left, unit_fills}
-use Rattle.sk_ingest.proofs.HubLaws.{heart_goes, hub_fed, few_left, few_fed, no_window}
+use Rattle.sk_ingest.proofs.HubLaws.{heart_waits, heart_goes, hub_fed, few_left, few_fed, no_window}
 use Rattle.sk_ingest.proofs.Ingestion.{reads_by, ends_by, all_by, one_unit_more, no_windows, reported_next}
 
 -- ---- one updater
@@ -36,19 +42,19 @@ one_block lines = sym (append-nil (block_of lines 0 1)) ∙ blocks_joined lines 
 lone_share : (kind : Kind) (lines : List (List ℕ)) → share kind (lines ∷ []) 1 0 ≡ items_in kind lines
 lone_share kind lines = share_one kind lines 1 0 ∙ ap (items_in kind) (one_block lines)
 
--- it took its share, and then an item of one line more, or none
-lone_more : (keeps : ℕ → ℕ → Bool) (hint_of : List ℕ → List Entry → ℕ) (kind : Kind) (lines : List (List ℕ)) (line : List ℕ) (us vs ws : List UpdaterState) → length us ≡ 1 → length ws ≡ length vs → TakeShares keeps hint_of kind (lines ∷ []) us vs
-    → ((d : UpdaterState) → Takes keeps hint_of (get_or vs 0 d) (items_in kind (line ∷ [])) (get_or ws 0 d)) → TakeShares keeps hint_of kind ((lines ++ line ∷ []) ∷ []) us ws
-lone_more keeps hint_of kind lines line us vs ws one same taken more = record {
+-- it took its share, and then the items of more lines
+lone_more : (keeps : ℕ → ℕ → Bool) (hint_of : List ℕ → List Entry → ℕ) (kind : Kind) (lines more : List (List ℕ)) (us vs ws : List UpdaterState) → length us ≡ 1 → length ws ≡ length vs → TakeShares keeps hint_of kind (lines ∷ []) us vs
+    → ((d : UpdaterState) → Takes keeps hint_of (get_or vs 0 d) (items_in kind more) (get_or ws 0 d)) → TakeShares keeps hint_of kind ((lines ++ more) ∷ []) us ws
+lone_more keeps hint_of kind lines more us vs ws one same taken took = record {
   count = same ∙ taken.count;
   each = λ i d within.
       let first : 0 ≡ i = omega arith in
       let was : Takes keeps hint_of (get_or us 0 d) (items_in kind lines) (get_or vs 0 d)
       = subst (λ l. Takes keeps hint_of (get_or us 0 d) l (get_or vs 0 d)) (ap (λ n. share kind (lines ∷ []) n 0) one ∙ lone_share kind lines) (taken.each 0 d (omega arith)) in
-      let all : items_in kind lines ++ items_in kind (line ∷ []) ≡ share kind ((lines ++ line ∷ []) ∷ []) (length us) 0
-      = sym (ap (λ n. share kind ((lines ++ line ∷ []) ∷ []) n 0) one ∙ lone_share kind (lines ++ line ∷ []) ∙ items_append kind lines (line ∷ [])) in
-      subst (λ j. Takes keeps hint_of (get_or us j d) (share kind ((lines ++ line ∷ []) ∷ []) (length us) j) (get_or ws j d)) first
-      (subst (λ l. Takes keeps hint_of (get_or us 0 d) l (get_or ws 0 d)) all (takes_trans keeps hint_of (get_or us 0 d) (get_or vs 0 d) (get_or ws 0 d) (items_in kind lines) (items_in kind (line ∷ [])) was (more d)));
+      let all : items_in kind lines ++ items_in kind more ≡ share kind ((lines ++ more) ∷ []) (length us) 0
+      = sym (ap (λ n. share kind ((lines ++ more) ∷ []) n 0) one ∙ lone_share kind (lines ++ more) ∙ items_append kind lines more) in
+      subst (λ j. Takes keeps hint_of (get_or us j d) (share kind ((lines ++ more) ∷ []) (length us) j) (get_or ws j d)) first
+      (subst (λ l. Takes keeps hint_of (get_or us 0 d) l (get_or ws 0 d)) all (takes_trans keeps hint_of (get_or us 0 d) (get_or vs 0 d) (get_or ws 0 d) (items_in kind lines) (items_in kind more) was (took d)));
 }
 
 -- ---- units
@@ -81,14 +87,14 @@ unit_at_once {R} t units unit a b x r s went good least untold one heart token s
     fed =
         let between : length went.ingests.between.updaters ≡ 1 = omega (arith, one, went.ingests.last.updaters.count) in record {
           heart = heart_goes went.ingests.between.heart b.heart x.heart went.ingests.last.heart heart;
-          updaters = lone_more t.keeps t.hint_of t.plan.kind rest unit went.ingests.between.updaters b.updaters x.updaters between same went.ingests.last.updaters taken;
+          updaters = lone_more t.keeps t.hint_of t.plan.kind rest (unit ∷ []) went.ingests.between.updaters b.updaters x.updaters between same went.ingests.last.updaters taken;
           token = token ∙ went.ingests.last.token;
         }
 
     step : FeedsWindow t.keeps t.hint_of t.plan.kind (unit ∷ []) b x
     step = record {
       heart = heart;
-      updaters = lone_more t.keeps t.hint_of t.plan.kind [] unit b.updaters b.updaters x.updaters one same (no_window t.keeps t.hint_of t.plan.kind b).updaters taken;
+      updaters = lone_more t.keeps t.hint_of t.plan.kind [] (unit ∷ []) b.updaters b.updaters x.updaters one same (no_window t.keeps t.hint_of t.plan.kind b).updaters taken;
       token = token;
     }
 
@@ -130,34 +136,136 @@ unit_at_once {R} t units unit a b x r s went good least untold one heart token s
       few = few;
     }
 
+-- ---- many units at once
+
+-- no unit more: the one updater has taken nothing
+idle_at_once : {R : Type 0} (t : Terms R) (units : List (List ℕ)) (a b x : Hub) (r s : R) → UnitsWent t units a r b s → length b.updaters ≡ 1 → HeartGoesOn b.heart x.heart → x.token ≡ b.token → length x.updaters ≡ length b.updaters
+    → ((d : UpdaterState) → Takes t.keeps t.hint_of (get_or b.updaters 0 d) (items_in t.plan.kind []) (get_or x.updaters 0 d)) → UnitsWent t units a r x s
+idle_at_once {R} t units a b x r s went one heart token same taken = record {
+  ingests = record {
+    rest = went.ingests.rest;
+    between = went.ingests.between;
+    goes = went.ingests.goes;
+    last = fed;
+    hub = hub_fed t.keeps t.hint_of t.plan.kind [] b x went.ingests.hub step;
+  };
+  few = few_fed t.keeps t.hint_of t.plan.kind (length units) [] b.updaters x.updaters went.few step.updaters;
+}
+  where
+    fed : Feeds t went.ingests.rest went.ingests.between x
+    fed =
+        let between : length went.ingests.between.updaters ≡ 1 = omega (arith, one, went.ingests.last.updaters.count) in record {
+          heart = heart_goes went.ingests.between.heart b.heart x.heart went.ingests.last.heart heart;
+          updaters = subst (λ l. TakeShares t.keeps t.hint_of t.plan.kind (l ∷ []) went.ingests.between.updaters x.updaters) (append-nil went.ingests.rest)
+              (lone_more t.keeps t.hint_of t.plan.kind went.ingests.rest [] went.ingests.between.updaters b.updaters x.updaters between same went.ingests.last.updaters taken);
+          token = token ∙ went.ingests.last.token;
+        }
+
+    step : FeedsWindow t.keeps t.hint_of t.plan.kind [] b x
+    step = record {
+      heart = heart;
+      updaters = lone_more t.keeps t.hint_of t.plan.kind [] [] b.updaters b.updaters x.updaters one same (no_window t.keeps t.hint_of t.plan.kind b).updaters taken;
+      token = token;
+    }
+
+-- lines more: their items were taken
+pub lines_at_once : {R : Type 0} (t : Terms R) (units lines : List (List ℕ)) (a b x : Hub) (r s : R) (e : UpdaterState) → UnitsWent t units a r b s → All (IsGood t.plan.kind) lines → 1 ≤ t.plan.window → t.plan.interim ≡ false → length b.updaters ≡ 1
+    → HeartGoesOn b.heart x.heart → x.token ≡ b.token → length x.updaters ≡ length b.updaters → ((d : UpdaterState) → Takes t.keeps t.hint_of (get_or b.updaters 0 d) (items_in t.plan.kind lines) (get_or x.updaters 0 d))
+    → UnitsWent t (units ++ lines) a r x s
+lines_at_once t units [] a b x r s e went good least off one heart token same taken =
+    subst (λ l. UnitsWent t l a r x s) (sym (append-nil units)) (idle_at_once t units a b x r s went one heart token same taken)
+lines_at_once {R} t units (line ∷ lines) a b x r s e went good least off one heart token same taken =
+    subst (λ l. UnitsWent t l a r x s) (append_assoc units (line ∷ []) lines)
+    (lines_at_once t (units ++ line ∷ []) lines a y x r s e first (All-tail (IsGood t.plan.kind) line lines good) least off refl (heart_waits x.heart) token (same ∙ one)
+    (λ d. subst (Takes t.keeps t.hint_of parts.0 (items_in t.plan.kind lines)) (get_or_default x.updaters 0 e d (omega (arith, same, one))) parts.2))
+  where
+    parts : (v : UpdaterState) × Takes t.keeps t.hint_of (get_or b.updaters 0 e) (items_in t.plan.kind (line ∷ [])) v × Takes t.keeps t.hint_of v (items_in t.plan.kind lines) (get_or x.updaters 0 e)
+    parts = parts_taken t.keeps t.hint_of (get_or b.updaters 0 e) (get_or x.updaters 0 e) (items_in t.plan.kind (line ∷ [])) (items_in t.plan.kind lines)
+        (subst (λ l. Takes t.keeps t.hint_of (get_or b.updaters 0 e) l (get_or x.updaters 0 e)) (items_append t.plan.kind (line ∷ []) lines) (taken e))
+
+    y : Hub
+    y = record { heart = x.heart; updaters = parts.0 ∷ []; token = b.token }
+
+    first : UnitsWent t (units ++ line ∷ []) a r y s
+    first = unit_at_once t units line a b y r s went (All-head (IsGood t.plan.kind) line lines good) least off one heart refl (sym one)
+        (λ d. subst (λ z. Takes t.keeps t.hint_of z (items_in t.plan.kind (line ∷ [])) parts.0) (get_or_default b.updaters 0 e d (omega (arith, one))) parts.1)
+
 -- ---- an item
 
-item_is : (kind : Kind) (unit : List ℕ) (item : ℕ) → 0 < length unit → item_of kind unit ≡ Some item → item_in kind unit ≡ Some item
+pub item_is : (kind : Kind) (unit : List ℕ) (item : ℕ) → 0 < length unit → item_of kind unit ≡ Some item → item_in kind unit ≡ Some item
 item_is kind [] item some is = let none : ⊥ = omega arith in absurd none
 item_is kind (byte ∷ rest) item some is = is
+
+-- the one updater took items
+lone_took : (keeps : ℕ → ℕ → Bool) (hint_of : List ℕ → List Entry → ℕ) (items : List ℕ) (us : List UpdaterState) (u u' : UpdaterState) → length us ≡ 1 → u ≡ get_or us 0 u → Takes keeps hint_of u items u'
+    → (d : UpdaterState) → Takes keeps hint_of (get_or us 0 d) items (get_or (set us 0 u') 0 d)
+lone_took keeps hint_of items us u u' one read taken = λ d.
+    let inside : 0 < length us = omega arith in
+    subst (Takes keeps hint_of (get_or us 0 d) items) (sym (get_or-set_same us 0 u' d inside)) (subst (λ z. Takes keeps hint_of z items u') (get_or_read us 0 u inside read d) taken)
 
 -- the one updater took the unit's item
 pub one_took : (keeps : ℕ → ℕ → Bool) (hint_of : List ℕ → List Entry → ℕ) (kind : Kind) (unit : List ℕ) (item : ℕ) (us : List UpdaterState) (u u' : UpdaterState) → length us ≡ 1 → u ≡ get_or us 0 u → 0 < length unit → item_of kind unit ≡ Some item → Takes keeps hint_of u (item ∷ []) u'
     → (d : UpdaterState) → Takes keeps hint_of (get_or us 0 d) (items_in kind (unit ∷ [])) (get_or (set us 0 u') 0 d)
 one_took keeps hint_of kind unit item us u u' one read some is taken = λ d.
-    let inside : 0 < length us = omega arith in
-    subst (λ l. Takes keeps hint_of (get_or us 0 d) l (get_or (set us 0 u') 0 d)) (sym (one_item kind unit item (item_is kind unit item some is)))
-    (subst (Takes keeps hint_of (get_or us 0 d) (item ∷ [])) (sym (get_or-set_same us 0 u' d inside)) (subst (λ z. Takes keeps hint_of z (item ∷ []) u') (get_or_read us 0 u inside read d) taken))
+    subst (λ l. Takes keeps hint_of (get_or us 0 d) l (get_or (set us 0 u') 0 d)) (sym (one_item kind unit item (item_is kind unit item some is))) (lone_took keeps hint_of (item ∷ []) us u u' one read taken d)
 
 -- an empty unit has none
 pub none_took : (keeps : ℕ → ℕ → Bool) (hint_of : List ℕ → List Entry → ℕ) (kind : Kind) (unit : List ℕ) (us : List UpdaterState) → length unit ≡ 0 → (d : UpdaterState) → Takes keeps hint_of (get_or us 0 d) (items_in kind (unit ∷ [])) (get_or us 0 d)
 none_took keeps hint_of kind [] us none = λ d. let u = get_or us 0 d in subst (λ l. Takes keeps hint_of u l u) (sym (no_item kind [] refl)) (takes_none keeps hint_of u u (none_refl u))
 none_took keeps hint_of kind (byte ∷ rest) us none = let no : ⊥ = omega arith in absurd no
 
+pub empty_is : (kind : Kind) (unit : List ℕ) → length unit ≡ 0 → item_in kind unit ≡ None
+empty_is kind [] none = refl
+empty_is kind (byte ∷ rest) none = let no : ⊥ = omega arith in absurd no
+
 -- a unit that is told not to be empty
 pub filled : (unit : List ℕ) (tells : Bool) → tells ≡ (length unit == 0) → tells ≡ false → 0 < length unit
 filled unit tells told not_empty = let some : length unit ≢ 0 = eqb-false (length unit) 0 (sym told ∙ not_empty) in omega arith
+
+-- one that is told to be empty
+pub empty : (unit : List ℕ) (tells : Bool) → tells ≡ (length unit == 0) → tells ≡ true → length unit ≡ 0
+empty unit tells told is = eqb-true (length unit) 0 (sym told ∙ is)
 
 pub good_item : (kind : Kind) (unit : List ℕ) (item : ℕ) → item_of kind unit ≡ Some item → IsGood kind unit
 good_item kind unit item is = λ some. subst IsSome (sym is) refl
 
 pub good_empty : (kind : Kind) (unit : List ℕ) → length unit ≡ 0 → IsGood kind unit
 good_empty kind unit none = λ some. let no : ⊥ = omega arith in absurd no
+
+-- ---- lines of whose items those were left out that the hint of the updater filters
+
+-- these were fed to it
+pub lines_taken : (keeps : ℕ → ℕ → Bool) (hint_of : List ℕ → List Entry → ℕ) (plan : Intake) (units lines : List (List ℕ)) (kept : List ℕ) (hint : ℕ) (a b : Hub) (heart : HeartState) (u u' : UpdaterState) → UnitsWent (untold keeps hint_of plan) units a tt b tt → IsAlone plan b
+    → All (IsGood plan.kind) lines → HeartGoesOn b.heart heart → u ≡ get_or b.updaters 0 u → hint ≡ hint_of u.view.numbers (base_of u) → kept ≡ filter (keeps hint) (items_in plan.kind lines) → Takes keeps hint_of u kept u'
+    → UnitsWent (untold keeps hint_of plan) (units ++ lines) a tt (record { heart = heart; updaters = set b.updaters 0 u'; token = b.token }) tt
+lines_taken keeps hint_of plan units lines kept hint a b heart u u' went alone good goes read is those taken =
+    lines_at_once (untold keeps hint_of plan) units lines a b (record { heart = heart; updaters = set b.updaters 0 u'; token = b.token }) tt tt u went good alone.least alone.untold alone.one goes refl (length-set b.updaters 0 u')
+    (lone_took keeps hint_of (items_in plan.kind lines) b.updaters u u' alone.one read (takes_all keeps hint_of u u' hint (items_in plan.kind lines) is (subst (λ l. Takes keeps hint_of u l u') those taken)))
+
+-- a line behind those before it
+line_begins : (lines : List (List ℕ)) (n : ℕ) → n < length lines → Begins (take n lines ++ get_or lines n [] ∷ []) lines
+line_begins lines n within = (drop (n + 1) lines, sym (take-append-drop (n + 1) lines) ∙ ap (λ l. l ++ drop (n + 1) lines) (take_more lines n [] within))
+
+-- it is no item
+pub stops_at_bad : {R : Type 0} (t : Terms R) (units lines : List (List ℕ)) (before n : ℕ) (a b : Hub) (r s : R) → length units ≡ before → n < length lines → IsBad t.plan.kind (get_or lines n []) → UnitsWent t (units ++ take n lines) a r b s
+    → StopsAmong (StopsAtUnit t a r s) (fault.BadItem (before + n + 1)) units lines
+stops_at_bad t units lines before n a b r s count within bad went = record {
+  front = take n lines;
+  unit = get_or lines n [];
+  begins = line_begins lines n within;
+  stopped = ((went.ingests.rest, went.ingests.between, went.ingests.goes), bad.0, bad.1);
+  fault = omega (arith, count, length-take-le n lines (omega arith));
+}
+
+-- no memory was found for its item
+pub stops_for_memory : {R : Type 0} (t : Terms R) (units lines : List (List ℕ)) (a b : Hub) (r s : R) → 0 < length lines → UnitsWent t units a r b s → StopsAmong (StopsAtUnit t a r s) fault.OutOfMemory units lines
+stops_for_memory t units lines a b r s some went = record {
+  front = [];
+  unit = get_or lines 0 [];
+  begins = line_begins lines 0 some;
+  stopped = inl (subst (GoesSoFar t a r s) (sym (append-nil units)) (went.ingests.rest, went.ingests.between, went.ingests.goes));
+  fault = tt;
+}
 
 -- ---- a run whose report is not told is one without a report
 

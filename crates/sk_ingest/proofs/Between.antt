@@ -57,7 +57,7 @@ unfolding held_more
 goes_from_held u w more goes = record { number = goes.number; size = goes.size; table = goes.table; eager = goes.eager; name = goes.name; numbers = goes.numbers; sized = goes.sized; base = begins_refl (base_of w); handed = goes.handed; seen = goes.seen; steps = goes.steps; told = goes.told }
 
 -- who took items in two parts took the first, and then the second
-parts_taken : (keeps : ℕ → ℕ → Bool) (hint_of : List ℕ → List Entry → ℕ) (u w : UpdaterState) (xs ys : List ℕ) → Takes keeps hint_of u (xs ++ ys) w → (v : UpdaterState) × Takes keeps hint_of u xs v × Takes keeps hint_of v ys w
+pub parts_taken : (keeps : ℕ → ℕ → Bool) (hint_of : List ℕ → List Entry → ℕ) (u w : UpdaterState) (xs ys : List ℕ) → Takes keeps hint_of u (xs ++ ys) w → (v : UpdaterState) × Takes keeps hint_of u xs v × Takes keeps hint_of v ys w
 unfolding held_more
 parts_taken keeps hint_of u w xs ys taken =
     let parts = parts_kept keeps (hint_of u.view.numbers) (base_of w) xs ys taken.more taken.of_items in

@@ -17,6 +17,9 @@ pub mod Between
 pub mod StretchLaws
 pub mod Ingestion
 pub mod Filled
+pub mod ManyLines
+pub mod ManySpans
 pub mod HeldLines
 pub mod WindowLaws
 pub mod AtOnceLaws
+pub mod Gathering

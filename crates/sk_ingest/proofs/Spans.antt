@@ -18,7 +18,7 @@ range_stays text more from to le within =
     ap (take (to - from)) (drop-append-le from text more inside) ∙ take-append-le (to - from) (drop from text) more short
 
 -- the lines stay where the text grows
-lines_stay : (spans : List Span) (text more : List ℕ) → All (λ span. (span.from ≤ span.to) × (span.to ≤ length text)) spans → lines_at spans (text ++ more) ≡ lines_at spans text
+pub lines_stay : (spans : List Span) (text more : List ℕ) → All (λ span. (span.from ≤ span.to) × (span.to ≤ length text)) spans → lines_at spans (text ++ more) ≡ lines_at spans text
 lines_stay [] text more within = refl
 lines_stay (span ∷ spans) text more within =
     let here = within 0 span (omega arith) in

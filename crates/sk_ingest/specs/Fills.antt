@@ -1,5 +1,5 @@
 -- What it means that a window was filled with the lines of a source, and that it was not.
-use Rattle.std.specs.Prelude.{◌≡◌, ◌≢◌, ℕ, ◌<◌, ◌≤◌, Bool, true, false, List, [], ◌∷◌, ◌++◌, length, All, Option, IsNone, Result, Ok, OnOk, IfErr}
+use Rattle.std.specs.Prelude.{◌≡◌, ◌≢◌, ℕ, ◌+◌, ◌<◌, ◌≤◌, Bool, true, false, List, [], ◌∷◌, ◌++◌, length, All, Option, IsNone, Result, Ok, OnOk, IfErr}
 use Rattle.std.specs.Io.KnownBytes.{Consumes}
 use Rattle.sk_read.specs.Reading.{Reading, HasRead, HoldsNone}
 use Rattle.sk_read.specs.Reads.{IsInTime, Ends}
@@ -8,6 +8,7 @@ use Rattle.sk_read.specs.Items.{item_of, IsGood}
 use Rattle.sk_model.specs.Limits.{most_kept}
 use Rattle.sk_model.specs.Missing.{Begins}
 use Rattle.sk_ingest.specs.Windows.{FillsNone, IsFullWindow}
+use Rattle.sk_read.specs.Faults.{IsOfTaker}
 use Rattle.sk_read.specs.declared.kind.Kind.{Kind}
 use Rattle.sk_read.specs.declared.fault.Fault.{Fault}
 use Rattle.sk_read.specs.declared.fault.Fault.TheVariants.{OutOfMemory, BadItem}
@@ -40,3 +41,20 @@ pub record TakesHeld (kind : Kind) (most : ℕ) (old new : List (List ℕ)) (r r
   pub few : (left : Option (List ℕ)) (given : List (List ℕ)) (taken : List ℕ) → HasRead r left (given ++ old) taken → length (given ++ new) ≤ most_kept
   pub stopped : IfErr result (λ why. (first left : Option (List ℕ)) (given : List (List ℕ)) (taken : List ℕ) → Consumes first left taken → HasRead r left (given ++ old) taken
       → Ends Lines r.most (λ lines. lines ≡ given ++ new) (RefusesLine kind (given ++ new)) first left why)
+
+-- the lines of a window went on by those that a reader held, and it stays unfilled
+pub record TakesMore (kind : Kind) (most : ℕ) (old new : List (List ℕ)) (r r' : Reading) : Type 0 where
+  pub begins : Begins old new
+  pub unfilled : FillsNone most new
+  pub good : All (IsGood kind) new
+  pub read : (left : Option (List ℕ)) (given : List (List ℕ)) (taken : List ℕ) → HasRead r left (given ++ old) taken → HasRead r' left (given ++ new) taken
+
+-- of lines that come behind so many, the first went to the end of a window's, and the next was refused
+pub record RefusesAmong (kind : Kind) (before : ℕ) (why : Fault) (old lines new : List (List ℕ)) : Type 0 where
+  pub front : List (List ℕ)
+  pub line : List ℕ
+  pub begins : Begins (front ++ line ∷ []) lines
+  pub kept : new ≡ old ++ front
+  pub good : All (IsGood kind) front
+  pub fault : IsOfTaker (before + length front + 1) why
+  pub refused : (given : List (List ℕ)) → RefusesLine kind given why given line

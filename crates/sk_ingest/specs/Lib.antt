@@ -11,3 +11,4 @@ pub mod Ingests
 pub mod Takers
 pub mod Fills
 pub mod Stretches
+pub mod Gathered

@@ -1,10 +1,11 @@
 -- What contracts see of a window, and the items of its lines.
-use Rattle.std.specs.Prelude.{◌≡◌, ℕ, ◌+◌, ◌-◌, ◌<◌, ◌≤◌, ◌==◌, ◌||◌, nat_le, Bool, true, false, List, [], ◌∷◌, ◌++◌, length, take, drop, map, slice_range, Option, None, filter_map, flat_map, All}
+use Rattle.std.specs.Prelude.{◌≡◌, ℕ, ◌+◌, ◌-◌, ◌<◌, ◌≤◌, ◌==◌, ◌||◌, nat_le, Bool, true, false, List, [], ◌∷◌, ◌++◌, length, take, drop, map, sum, slice_range, Option, None, filter_map, flat_map, All}
 use Rattle.std.specs.List.{concat}
 use Rattle.sk_model.specs.Limits.{line_limit}
 use Rattle.sk_lines.specs.Cutter.{Cutter}
 use Rattle.sk_read.specs.Items.{item_of}
 use Rattle.sk_read.specs.declared.kind.Kind.{Kind}
+use Rattle.sk_lines.specs.declared.spans.Span.{Span as Place}
 use Rattle.sk_ingest.specs.declared.marks.Span.{Span}
 
 pub record WindowState : Type 0 where
@@ -64,6 +65,14 @@ items_in kind lines = filter_map (item_in kind) lines
 -- the lines that lie in a text
 abbrev pub lines_at : List Span → List ℕ → List (List ℕ)
 lines_at spans text = map (λ span. slice_range text span.from span.to) spans
+
+-- the spans of a text that lies behind another, from a place of it on, where that one ends
+abbrev pub moved : ℕ → ℕ → List Place → List Span
+moved from end spans = map (λ span. record { from = end + (span.from - from); to = end + (span.to - from) }) spans
+
+-- how many bytes lie in spans
+abbrev pub sizes_of : List Place → ℕ
+sizes_of spans = sum (map (λ span. span.to - span.from) spans)
 
 -- a text, and behind it the bytes that a reader has given since, up to a place
 abbrev pub text_with : List ℕ → Cutter → Cutter → ℕ → List ℕ

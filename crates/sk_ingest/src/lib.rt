@@ -9,6 +9,8 @@ mod feed;
 mod feeder;
 mod feeders;
 mod filling;
+mod gathered;
+mod groups;
 mod held;
 mod ingesting;
 pub mod laws;

@@ -1,6 +1,6 @@
 //! Where the lines of a window lie in its text.
-ghost use Rattle.std.specs.Prelude.{◌≡◌, ◌+◌, ◌<◌, ◌≤◌, ◌^◌, ◌++◌, ◌∷◌, ◌==◌, ◌||◌, nat_le, [], length, vec_capacity, IfOk};
-ghost use Rattle.sk_ingest.specs.Windows.{full_bytes};
+ghost use Rattle.std.specs.Prelude.{◌≡◌, ◌+◌, ◌-◌, ◌<◌, ◌≤◌, ◌^◌, ◌++◌, ◌∷◌, ◌==◌, ◌||◌, nat_le, true, [], length, All, vec_capacity, IfOk};
+ghost use Rattle.sk_ingest.specs.Windows.{full_bytes, moved, sizes_of};
 
 use sk_model::OutOfMemory;
 use std::alloc::Global;
@@ -65,12 +65,41 @@ impl Marks {
         });
     }
 
+    // Marks lines that lie in a text behind a place of it, which comes behind the window's text.
+    pub(crate) fn push_all(&mut self, spans: &[sk_lines::Span], from: usize)
+        requires room { length self.old.spans.items + length spans.now ≤ vec_capacity self.old.spans }
+        requires behind { All (λ span. (from ≤ span.from) × (span.from ≤ span.to) × (self.old.end + (span.to - from) < 2 ^ 32)) spans.now }
+        requires size { self.old.size + sizes_of spans.now < 2 ^ 32 }
+        ensures spans { self.new.spans.items ≡ self.old.spans.items ++ moved from self.old.end spans.now }
+        ensures size { self.new.size ≡ self.old.size + sizes_of spans.now }
+        ensures end { self.new.end ≡ self.old.end }
+        ensures most { self.new.most ≡ self.old.most }
+        ensures room { vec_capacity self.new.spans ≡ vec_capacity self.old.spans }
+    {
+        let end = self.end;
+        'line: for span in spans {
+            self.size += span.to - span.from;
+            self.spans.push_reserved(Span {
+                from: (end + (span.from - from)) as u32,
+                to: (end + (span.to - from)) as u32,
+            });
+        }
+    }
+
     // Whether no line more may come.
     #[inline(always)]
     pub(crate) fn is_full(&self) -> bool
         ensures { result ≡ ((length self.now.spans.items == self.now.most) || nat_le full_bytes self.now.size) }
     {
         self.spans.len() == self.most as usize || self.size >= FULL_BYTES
+    }
+
+    // Whether more may come behind so many lines more, of so many bytes in all.
+    pub(crate) fn has_room_for(&self, lines: usize, bytes: usize) -> bool
+        ensures { result ≡ true → (length self.now.spans.items + lines < self.now.most) × (self.now.size + bytes < full_bytes) }
+    {
+        self.spans.len().saturating_add(lines) < self.most as usize
+            && self.size.saturating_add(bytes) < FULL_BYTES
     }
 
     pub(crate) fn clear(&mut self)

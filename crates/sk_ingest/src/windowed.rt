@@ -14,6 +14,7 @@ use crate::ways::feed_window;
 use crate::window::Window;
 use sk_compose::Composable;
 use sk_hub::Opened;
+use sk_lines::Span;
 use sk_read::{Fault, Intake, Kind, UnitTaker};
 use std::sync::Wait;
 
@@ -50,6 +51,15 @@ impl<C: Composable, P: Report<C>, R: Wait> UnitTaker for Windowed<'_, '_, '_, '_
             unit,
             number,
         )
+    }
+
+    fn take_all(&mut self, text: &[u8], spans: &[Span], before: u64) -> Result<(), Fault> {
+        let mut number = before;
+        'unit: for span in spans {
+            number += 1;
+            self.take(&text[span.from..span.to], number)?;
+        }
+        Ok(())
     }
 }
 

@@ -1,12 +1,15 @@
-use Rattle.std.proofs.Common.{sym, ap, ◌∙◌, subst}
-use Rattle.sk_ingest.specs.Windows.{lines_at}
-use Rattle.sk_ingest.specs.Fills.{TakesHeld}
-use Rattle.sk_ingest.proofs.HeldLines.{no_room_held}
+use Rattle.std.proofs.Common.{sym, subst}
+use Rattle.sk_ingest.specs.Fills.{TakesMore}
+use Rattle.sk_ingest.proofs.ManyLines.{held_behind}
 use Rattle.sk_ingest.proofs.window.Window.take_held.Goals as goal
 
-pub returns-in_err-reserve-clause-takes : goal.returns-in_err-reserve-clause-takes
-returns-in_err-reserve-clause-takes c =
-    let same = ap (λ t. lines_at c.self.inside.marks.spans.items t) c.reserve.ensures.items ∙ ap (λ w. w.lines) c.self.view_is in
-    subst (λ l. TakesHeld c.args.kind c.self.inside.marks.most c.args.self.now.lines l c.args.reader.now c.args.reader.now c.from_residual.result) (sym same)
-    (subst (λ m. TakesHeld c.args.kind m c.args.self.now.lines c.args.self.now.lines c.args.reader.now c.args.reader.now c.from_residual.result) (sym (ap (λ w. w.most) c.self.view_is))
-    (no_room_held c.args.kind c.args.self.now.most c.args.self.now.lines c.args.reader.now c.from_residual.result c.from_residual.ensures.1 c.requires.unfilled c.requires.good))
+pub take_rest_held-requires-clause-started : goal.take_rest_held-requires-clause-started
+take_rest_held-requires-clause-started c =
+    let start = c.requires.started in
+    (start.0, start.1, start.2, c.in_ok-take_groups.ensures.more.read start.0 start.1 start.2 start.3)
+
+pub returns-clause-takes : goal.returns-clause-takes
+returns-clause-takes c =
+    let more = subst (λ m. TakesMore c.args.kind m c.args.self.now.lines c.take_groups.new.window.lines c.args.reader.now c.take_groups.new.reader) (sym c.take_rest_held.ensures.most) c.in_ok-take_groups.ensures.more in
+    held_behind c.args.kind c.take_rest_held.new.self.most c.args.self.now.lines c.take_groups.new.window.lines c.take_rest_held.new.self.lines c.args.reader.now c.take_groups.new.reader c.take_rest_held.new.reader c.take_rest_held.result
+    c.take_groups.ensures.bound more c.take_rest_held.ensures.takes
