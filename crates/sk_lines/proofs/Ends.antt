@@ -110,3 +110,15 @@ later_ends spans i count s less = ap (map (λ (s : Span). s.to)) (ap (drop (i + 
 pub first_end : (bytes : List ℕ) (at end : ℕ) (ends more : List ℕ) → ends ≡ end ∷ more → AreEnds bytes at ends → IsFirstLf bytes at end × AreEnds bytes (end + 1) more
 unfolding FollowLfs
 first_end bytes at end ends more is (last, follow) = let f = subst (λ es. FollowLfs bytes at es last) is follow in (f.0, (last, f.1))
+
+-- where no end was found, nothing was passed
+pub none_passed : (bytes : List ℕ) (from at : ℕ) (ends : List ℕ) → ends ≡ [] → FollowLfs bytes from ends at → from ≡ at
+unfolding FollowLfs
+none_passed bytes from at [] is follow = follow
+none_passed bytes from at (end ∷ ends) is follow = absurd (cc)
+
+-- nor where no line was made
+pub none_made : (bytes : List ℕ) (limit from at : ℕ) (spans : List Span) → spans ≡ [] → AreLines bytes limit from spans at → from ≡ at
+unfolding AreLines
+none_made bytes limit from at [] is lines = lines
+none_made bytes limit from at (span ∷ spans) is lines = absurd (cc)

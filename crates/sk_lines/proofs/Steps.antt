@@ -1,10 +1,11 @@
 -- What a step of the reader does to the lines given.
 use Rattle.std.proofs.Common.{◌≡◌, ◌≢◌, ℕ, ◌+◌, ◌-◌, ◌<◌, ◌≤◌, ◌==◌, inr, ⊎_elim, le_refl, take_at, take-take, take-add, true≢false, Bool, true, false, cond, List, [], ◌∷◌, ◌++◌, length, take, drop, get_or, slice_index, refl, sym, ap, ◌∙◌, subst, arith, append_assoc, append-nil, length-append, length-take, length-drop, take-append-drop, get_or-take, get_or-drop, drop-drop, eqb-true}
 use Rattle.std.specs.Str.Lines.{strip_carriage_return}
-use Rattle.std.proofs.lemmas.List.{drop_more, drop-take, take_more, take_all, get_or_default, get_or_at}
+use Rattle.std.proofs.lemmas.List.{drop_more, drop-take, take_more, take_all, get_or_default, get_or_at, get_or_append_left}
 use Rattle.std.proofs.lemmas.Bool.{cases_lt}
 use Rattle.sk_model.specs.Lines.{lines_of, open_lines_of, AreWithin, IsFirstLong}
 use Rattle.sk_model.specs.Missing.{Begins}
+use Rattle.sk_lines.specs.Spans.{IsLongLine}
 use Rattle.sk_lines.specs.Marks.{KnowsLfs, IsFirstLf, TakesLf}
 use Rattle.sk_model.proofs.Lines.{lines_of_nothing, after_whole_lines, first_line, a_line_alone, a_last_piece, within_append, within_one, long_after_front, long_stays_long, length-strip}
 use Rattle.sk_lines.specs.declared.cutter.Ending.{Ending}
@@ -119,6 +120,14 @@ long_before_lf limit place rest lf over =
     ap open_lines_of lf.split ∙ ap lines_of (append_assoc piece (10 ∷ drop (place + 1) rest) (10 ∷ [])) ∙ first_line piece after lf.piece in
     subst (IsFirstLong limit 0) (sym is) (first_is_long limit (strip_carriage_return piece) (lines_of after) over)
 
+-- the same, where it lies in a buffer
+pub long_in_rest : (bytes : List ℕ) (at have : ℕ) → at ≤ have → have ≤ length bytes → (limit : ℕ) → IsLongLine bytes limit at → ((i : ℕ) → have ≤ i → slice_index bytes i ≡ 0) → IsFirstLong limit 0 (open_lines_of (take (have - at) (drop at bytes)))
+long_in_rest bytes at have ordered inside limit (end, first, over) zeros =
+    let rest : List ℕ = take (have - at) (drop at bytes) in
+    let lf = lf_in_rest bytes at have ordered inside end first zeros in
+    let piece = front_of_rest bytes at have ordered inside (end - at) (omega (arith, lf.within, length_rest bytes at have ordered inside)) in
+    long_before_lf limit (end - at) rest lf (omega (arith, over, ap (λ (l : List ℕ). length (strip_carriage_return l)) piece))
+
 -- the piece behind the last LF is too long, whatever follows
 pub long_so_far : (limit : ℕ) (rest : List ℕ) → HasNoLf rest → limit < length (strip_carriage_return rest) → IsFirstLong limit 0 (open_lines_of rest)
 long_so_far limit rest none over = subst (IsFirstLong limit 0) (sym (a_line_alone rest none)) (first_is_long limit (strip_carriage_return rest) [] over)
@@ -218,6 +227,13 @@ up_to_lf text line place ending lf s e =
     take_more text place 0 lf.within ∙ ap (λ (byte : ℕ). take place text ++ byte ∷ []) (lf_byte text place lf)
     ∙ bytes_of (take place text) line [] ending s e ∙ append-nil (line ++ end_bytes ending)
 
+plain_front : (line more : List ℕ) → HasNoLf (line ++ more) → HasNoLf line
+plain_front line more none = λ k d below is. none k d (omega (arith, length-append line more)) (get_or_append_left line more d k below ∙ is)
+
+plain_line : (piece line : List ℕ) → Stripped piece line → HasNoLf piece → HasNoLf line
+plain_line piece line s none = ⊎_elim (λ (less : length line < length piece). plain_front line (13 ∷ []) (subst HasNoLf (s.by_cr less) none))
+    (λ (most : length piece ≤ length line). subst HasNoLf (s.alone most) none) (cases_lt (length line) (length piece))
+
 pub gives_line : (old new : Cutter) (place : ℕ) → HasLfAt old.rest place → new.limit ≡ old.limit → new.rest ≡ drop (place + 1) old.rest
     → new.number ≡ counted (old.number + 1) → new.line ≡ strip_carriage_return (take place old.rest) → length new.line ≤ old.limit
     → EndsBy (length new.line) place new.ending → new.front ≡ old.front ++ take (place + 1) old.rest → GivesLine old new
@@ -232,6 +248,7 @@ gives_line old new place lf limit rest number line fits ends front =
       bytes = lf.split ∙ bytes_of piece new.line (drop (place + 1) old.rest) new.ending s e ∙ ap (λ (l : List ℕ). new.line ++ end_bytes new.ending ++ l) (sym rest);
       front = front ∙ ap (λ (l : List ℕ). old.front ++ l) (up_to_lf old.rest new.line place new.ending lf s e);
       ending = not_nothing (length new.line) place new.ending ends;
+      plain = plain_line piece new.line s lf.piece;
       shorter = omega (arith, ap length rest, length-drop (place + 1) old.rest, lf.within);
     }
 

@@ -71,6 +71,7 @@ pub record GivesLine (old new : Cutter) : Type 0 where
   pub bytes : old.rest ≡ new.line ++ end_bytes new.ending ++ new.rest
   pub front : new.front ≡ old.front ++ (new.line ++ end_bytes new.ending)
   pub ending : new.ending ≢ Ending.Nothing
+  pub plain : HasNoLf new.line
   pub shorter : length new.rest < length old.rest
 
 -- all complete lines of a text are given, and its last piece is no line that is too long
@@ -90,6 +91,7 @@ pub record GivesLast (old new : Cutter) : Type 0 where
   pub within : (given : List (List ℕ)) (text : List ℕ) → Follows old given text → AreWithin old.limit (lines_of text)
   pub number : new.number ≡ counted (old.number + 1)
   pub bytes : old.rest ≡ new.line
+  pub plain : HasNoLf new.line
   pub ending : new.ending ≡ Ending.Nothing
 
 -- what holds at each moment

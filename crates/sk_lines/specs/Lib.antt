@@ -6,5 +6,8 @@ pub mod Fractions
 pub mod Hashes
 pub mod Inside
 pub mod Marks
+pub mod Pages
+pub mod Runs
+pub mod ShortNumbers
 pub mod Spans
 pub mod Wide

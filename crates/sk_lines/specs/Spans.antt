@@ -1,8 +1,9 @@
 -- Many lines at once, by the places where they lie.
-use Rattle.std.specs.Prelude.{◌≡◌, ℕ, ◌+◌, ◌≤◌, List, [], ◌∷◌, ◌++◌, length, take, map, slice_range, All}
+use Rattle.std.specs.Prelude.{◌≡◌, ◌⊎◌, ℕ, ◌+◌, ◌<◌, ◌≤◌, List, [], ◌∷◌, ◌++◌, length, take, map, slice_range, All}
 use Rattle.std.specs.List.{concat}
 use Rattle.std.specs.Str.Lines.{strip_carriage_return}
-use Rattle.sk_lines.specs.Cutter.{Cutter, Follows, counted}
+use Rattle.sk_model.specs.Lines.{open_lines_of, IsFirstLong}
+use Rattle.sk_lines.specs.Cutter.{Cutter, Follows, HasNoLf, counted}
 use Rattle.sk_lines.specs.Marks.{KnowsLfs, IsFirstLf}
 use Rattle.sk_lines.specs.declared.spans.Span.{Span}
 
@@ -25,6 +26,10 @@ pub record GivesLines (old new : Cutter) (spans : List Span) : Type 0 where
   pub ends : length new.front ≤ length old.front + length (concat (lines_at spans new.front)) + (length spans + length spans)
   -- nothing else has changed
   pub stays : new ≡ record old { front = new.front; rest = new.rest; number = new.number }
+
+-- why no line was given: none is complete, or the next is too long
+abbrev pub HasNoShortLine : Cutter → Type 0
+HasNoShortLine old = HasNoLf old.rest ⊎ IsFirstLong old.limit 0 (open_lines_of old.rest)
 
 -- ---- how they are found
 
@@ -56,3 +61,7 @@ pub record IsLine (bytes : List ℕ) (limit from end : ℕ) (span : Span) : Type
 unfoldable pub AreLines : List ℕ → ℕ → ℕ → List Span → ℕ → Type 0
 AreLines bytes limit from [] at = from ≡ at
 AreLines bytes limit from (span ∷ spans) at = (end : ℕ) × IsLine bytes limit from end span × AreLines bytes limit (end + 1) spans at
+
+-- the line from a place on is too long
+abbrev pub IsLongLine : List ℕ → ℕ → ℕ → Type 0
+IsLongLine bytes limit from = (end : ℕ) × IsFirstLf bytes from end × (limit < length (strip_carriage_return (slice_range bytes from end)))

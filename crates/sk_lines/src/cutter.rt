@@ -1,11 +1,13 @@
 // Lines cut out of pieces of a text.
-ghost use Rattle.std.specs.Prelude.{◌≡◌, ◌≢◌, ◌↔◌, ◌+◌, ◌-◌, ◌^◌, ◌≤◌, ℕ, List, [], ◌++◌, length, replicate, slice_range, take, vec_len, vec_capacity, IfOk, true, false};
+ghost use Rattle.std.specs.Prelude.{◌≡◌, ◌≢◌, ◌↔◌, ◌+◌, ◌-◌, ◌^◌, ◌<◌, ◌≤◌, ℕ, List, [], ◌++◌, length, replicate, slice_range, take, vec_len, vec_capacity, IfOk, true, false};
 ghost use Rattle.std.specs.Str.Lines.{strip_carriage_return};
 ghost use Rattle.sk_model.specs.Lines.{lines_of, open_lines_of, IsFirstLong};
-ghost use Rattle.sk_lines.specs.Spans.{GivesLines};
+ghost use Rattle.sk_lines.specs.Runs.{GivesRun, GivesNone};
+ghost use Rattle.sk_lines.specs.Spans.{GivesLines, HasNoShortLine};
 ghost use Rattle.sk_lines.specs.Cutter.{Follows, GivesLine, GivesLast, Waits, IsLongAfter, HasNoLf, counted, is_long};
 
 use crate::marks::{BLOCK, seek, take_lf};
+use crate::runs::skip_lfs;
 use crate::spans::{GROUP, Span, cut_lines, find_ends};
 use sk_model::OutOfMemory;
 use std::alloc::Global;
@@ -183,19 +185,44 @@ impl Lines {
     }
 
     /// Moves on to the next complete lines that are held, puts to the front of `spans` where they lie in
-    /// `front`, and answers how many they are. They may be fewer than are held: where there is none, `next`
-    /// goes on.
+    /// `front`, and answers how many they are. They may be fewer than are held; where there is none, no line is
+    /// complete or the next is too long, and `next` tells.
     pub fn next_lines(&mut self, spans: &mut [Span; GROUP]) -> usize
         ensures few { result ≤ GROUP }
         ensures lines { GivesLines self.old self.new (take result spans.new) }
         ensures after_end { self.old.ended ≡ true → result ≡ 0 }
         ensures hungry { self.old.hungry ≡ true → result ≡ 0 }
+        ensures none { result ≡ 0 → is_long self.old.last ≡ false → HasNoShortLine self.old }
     {
         if self.ended || self.hungry || matches!(self.last, Next::Long(_)) {
             return 0;
         }
         let found = find_ends(&self.buffer, self.at, spans);
         let (count, at) = cut_lines(&self.buffer, self.at, self.limit, spans, found);
+        self.at = at;
+        self.scanned = at;
+        self.marks = 0;
+        self.number = self.number.saturating_add(count as u64);
+        count
+    }
+
+    /// Moves on to the next complete lines that are held, at most so many, and answers how many they are: `front`
+    /// has become longer by them and what ended them. Where more bytes are held than a line may have it moves
+    /// over none, and `next` goes on.
+    pub fn next_run(&mut self, most: usize) -> usize
+        ensures few { result ≤ most }
+        ensures run { GivesRun self.old self.new result }
+        ensures after_end { self.old.ended ≡ true → result ≡ 0 }
+        ensures none { result ≡ 0 → 0 < most → is_long self.old.last ≡ false → GivesNone self.old }
+    {
+        if self.ended || self.hungry || matches!(self.last, Next::Long(_)) {
+            return 0;
+        }
+        let held = self.buffer.len() - BLOCK - self.at;
+        if held > self.limit {
+            return 0;
+        }
+        let (count, at) = skip_lfs(&self.buffer, self.at, most);
         self.at = at;
         self.scanned = at;
         self.marks = 0;

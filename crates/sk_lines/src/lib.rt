@@ -6,6 +6,9 @@ mod decimals;
 mod hashes;
 pub mod laws;
 mod marks;
+mod page;
+mod runs;
+mod short_numbers;
 mod spans;
 #[cfg(test)]
 mod tests;
@@ -17,6 +20,8 @@ pub use decimals::{
     put_text, read_number,
 };
 pub use hashes::{HASH_LINE_LEN, hash_line, read_hash};
+pub use page::{Page, PageLines};
+pub use short_numbers::are_short_numbers;
 pub use sk_model::OutOfMemory;
 pub use spans::{GROUP, Span};
 pub use wide::read_number_at;

@@ -8,7 +8,7 @@ use std::simd::prelude::*;
 /// How many places a mask has.
 pub(crate) const BLOCK: usize = 64;
 
-const LF: u8 = b'\n';
+pub(crate) const LF: u8 = b'\n';
 
 // Goes on to the first place at or behind `scanned` where a block with an LF ends, and marks its LFs.
 #[inline(always)]

@@ -1,7 +1,7 @@
 // Many lines at once, by the places where they lie.
-ghost use Rattle.std.specs.Prelude.{◌≡◌, ◌≢◌, ◌+◌, ◌<◌, ◌≤◌, ℕ, List, length, take};
+ghost use Rattle.std.specs.Prelude.{◌≡◌, ◌≢◌, ◌+◌, ◌<◌, ◌≤◌, ℕ, List, length, take, slice_index};
 ghost use Rattle.sk_lines.specs.Marks.{KnowsLfs};
-ghost use Rattle.sk_lines.specs.Spans.{HoldsEnds, AreEnds, AreLines, ends_of};
+ghost use Rattle.sk_lines.specs.Spans.{HoldsEnds, AreEnds, AreLines, IsLongLine, ends_of};
 
 use crate::cutter::line_len;
 use crate::marks::{BLOCK, lfs_of_block, lowest_mark, without_mark};
@@ -9,7 +9,7 @@ use crate::marks::{BLOCK, lfs_of_block, lowest_mark, without_mark};
 /// How many lines are given at once at most.
 pub const GROUP: usize = 128;
 
-/// Where a line lies in a text: from one place up to, not including, another.
+/// Where a line lies in a text: from one byte, counted from 0, up to, not including, another.
 #[derive(Clone, Copy, Debug, PartialEq, Eq)]
 pub struct Span {
     pub from: usize,
@@ -27,6 +27,7 @@ pub(crate) fn find_ends(bytes: &[u8], from: usize, spans: &mut [Span; GROUP]) ->
     requires padded { BLOCK ≤ length bytes.now }
     ensures few { result ≤ GROUP }
     ensures ends { AreEnds bytes.now from (ends_of result spans.new) }
+    ensures none { result ≡ 0 → (i : ℕ) → from ≤ i → i + BLOCK < length bytes.now → slice_index bytes.now i ≢ 10 }
 {
     let mut count = 0;
     let mut scanned = from;
@@ -115,6 +116,7 @@ pub(crate) fn cut_lines(
     ensures few { result.0 ≤ count }
     ensures within { result.1 ≤ length bytes.now }
     ensures lines { AreLines bytes.now limit from (take result.0 spans.new) result.1 }
+    ensures long { result.0 < count → IsLongLine bytes.now limit result.1 }
 {
     let mut at = from;
     'line: for i in 0..count {

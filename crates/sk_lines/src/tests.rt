@@ -381,3 +381,22 @@ fn fractions_as_text(rt: HostRuntime) -> Result<(), Fail> {
     }
     Ok(())
 }
+
+#[test]
+fn lines_by_their_bytes(rt: HostRuntime) -> Result<(), Fail> {
+    // how many lines are wanted at most, how many are given, and what is left
+    let rows: [(usize, usize, &[u8]); 4] = [
+        (0, 0, b"a\r\nbb\n\nccc"),
+        (1, 1, b"bb\n\nccc"),
+        (2, 2, b"\nccc"),
+        (9, 3, b"ccc"),
+    ];
+    for (most, count, rest) in rows {
+        let mut lines = Lines::new(rt.alloc(), 16)?;
+        lines.feed(b"a\r\nbb\n\nccc");
+        assert_eq!(rt; lines.next_run(most), count);
+        assert_eq!(rt; lines.rest(), rest);
+        assert_eq!(rt; lines.front().len() + lines.rest().len(), 10);
+    }
+    Ok(())
+}

@@ -37,3 +37,8 @@ line-preserved c =
           (record { lf = n.0; start = refl; size = ap (λ k. c.line.at + k) c.line_len-len.ensures; short = omega (arith, c.if-len-limit.false) }));
       ends = subst (AreEnds c.args.bytes.now (end + 1)) (sym (later_ends c.line.spans c.line.i c.args.count span c.line-test.true)) n.1;
     }
+
+pub returns-then-len-limit-clause-long : goal.returns-then-len-limit-clause-long
+returns-then-len-limit-clause-long c =
+    let n = next (goal.at.returns-then-len-limit-clause-long c).In-line in
+    λ _. (_, n.0, omega (arith, c.if-len-limit.true, c.line_len-len.ensures))

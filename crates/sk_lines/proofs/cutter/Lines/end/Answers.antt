@@ -2,7 +2,7 @@ use Rattle.std.proofs.Common.{◌≡◌, ℕ, ◌-◌, ◌<◌, ◌≤◌, lengt
 use Rattle.std.proofs.lemmas.List.{nil_from_length}
 use Rattle.sk_lines.proofs.Places as places
 use Rattle.sk_lines.specs.Inside.{cutter_of}
-use Rattle.sk_lines.specs.Cutter.{Cutter, IsSound}
+use Rattle.sk_lines.specs.Cutter.{HasNoLf, Cutter, IsSound}
 use Rattle.sk_lines.proofs.Steps as steps
 use Rattle.sk_lines.proofs.cutter.Lines.end.Goals as goal
 
@@ -133,6 +133,7 @@ returns-clause-line c =
       within = steps.last_within old (sound.piece c.requires) some fits;
       number = omega (arith, c.saturating_add-self-inside.ensures, ap (λ (x : Cutter). x.number) is);
       bytes = sym line;
+      plain = subst HasNoLf (sym line) (sound.piece c.requires);
       ending = refl;
     }
 

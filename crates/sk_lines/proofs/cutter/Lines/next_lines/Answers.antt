@@ -1,9 +1,11 @@
-use Rattle.std.proofs.Common.{◌≡◌, ◌+◌, ◌≤◌, false, true≢false, length, take, vec_len, ap, arith, sym, subst, ◌∙◌, refl, le_refl, length-take}
+use Rattle.std.proofs.Common.{◌≡◌, ◌≢◌, ℕ, List, ◌+◌, ◌-◌, ◌<◌, ◌≤◌, inl, inr, ⊎_elim, slice_index, false, true≢false, length, take, vec_len, ap, arith, sym, subst, ◌∙◌, refl, le_refl, length-take}
 use Rattle.sk_lines.specs.Cutter.{is_long, counted}
 use Rattle.sk_lines.specs.Inside.{cutter_of}
-use Rattle.sk_lines.specs.Spans.{GivesLines, AreLines}
+use Rattle.sk_lines.specs.Spans.{GivesLines, AreLines, IsLongLine, HasNoShortLine}
 use Rattle.sk_lines.proofs.Places.{known_none}
-use Rattle.sk_lines.proofs.Steps.{not_long}
+use Rattle.std.proofs.lemmas.Bool.{cases_lt}
+use Rattle.sk_lines.proofs.Ends.{none_made}
+use Rattle.sk_lines.proofs.Steps.{not_long, no_lf_in_rest, long_in_rest}
 use Rattle.sk_lines.proofs.Groups.{lines_given, reader_at, sound_going}
 use Rattle.sk_lines.proofs.cutter.Lines.next_lines.Goals.{After-cut_lines-count, in-Long, in_default}
 use Rattle.sk_lines.proofs.cutter.Lines.next_lines.Goals as goal
@@ -51,3 +53,21 @@ returns-clause-lines c =
     let number : counted (a.number + length (take count c.cut_lines-count.new.spans)) ≡ c.saturating_add-self-inside.result = omega (arith, size, c.saturating_add-self-inside.ensures) in
     subst (λ m. GivesLines c.args.self.now (reader_at (cutter_of a) a.buffer.items (vec_len a.buffer) c.cut_lines-count.result.1 m) (take count c.cut_lines-count.new.spans)) number
     (subst (λ old. GivesLines old (reader_at (cutter_of a) a.buffer.items (vec_len a.buffer) c.cut_lines-count.result.1 (counted (a.number + length (take count c.cut_lines-count.new.spans)))) (take count c.cut_lines-count.new.spans)) c.self.view_is all)
+
+-- where no line is made of the ends found, no line is complete or the next is too long
+pub returns-clause-none : goal.returns-clause-none
+returns-clause-none c = λ none short.
+    let a = c.self.inside in
+    let have = vec_len a.buffer - 64 in
+    let ordered : a.at ≤ have = omega (arith, c.self.invariant.at) in
+    let inside : have ≤ length a.buffer.items = omega (arith, a.buffer.ok.0) in
+    let zeros : (i : ℕ) → have ≤ i → slice_index a.buffer.items i ≡ 0 = λ i past. c.self.invariant.zeros i (omega (arith, past)) in
+    subst HasNoShortLine c.self.view_is (⊎_elim
+    (λ (some : 0 < c.find_ends-found.result).
+    let long = subst (λ (bytes : List ℕ). IsLongLine bytes a.limit c.cut_lines-count.result.1) c.deref-2.ensures.value (c.cut_lines-count.ensures.long (omega (arith, none, some))) in
+    let here : a.at ≡ c.cut_lines-count.result.1 = none_made c.deref-2.result.now a.limit a.at c.cut_lines-count.result.1 (take c.cut_lines-count.result.0 c.cut_lines-count.new.spans) (ap (λ (n : ℕ). take n c.cut_lines-count.new.spans) none) c.cut_lines-count.ensures.lines in
+    let is = subst (λ (k : ℕ). IsLongLine a.buffer.items a.limit k) (sym here) long in
+    inr (long_in_rest a.buffer.items a.at have ordered inside a.limit is zeros))
+    (λ (no : c.find_ends-found.result ≤ 0). inl (no_lf_in_rest a.buffer.items a.at have ordered inside
+    (λ i from below. subst (λ (bytes : List ℕ). slice_index bytes i ≢ 10) c.deref.ensures.value (c.find_ends-found.ensures.none (omega arith) i from (omega (arith, below, c.deref.ensures.len, a.buffer.ok.0))))))
+    (cases_lt 0 c.find_ends-found.result))

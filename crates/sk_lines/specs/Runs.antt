@@ -1,0 +1,27 @@
+-- Whole lines of a text, in the bytes that they came in.
+use Rattle.std.specs.Prelude.{◌≡◌, ◌⊎◌, ℕ, ◌+◌, ◌<◌, ◌≤◌, List, [], ◌++◌, length, drop, All}
+use Rattle.sk_model.specs.Lines.{lines_of}
+use Rattle.sk_lines.specs.Cutter.{Cutter, Follows, IsOfWholeLines, HasNoLf, counted}
+
+-- so many lines, each with what ended it
+pub record IsRun (n : ℕ) (run : List ℕ) : Type 0 where
+  pub whole : IsOfWholeLines run
+  pub count : length (lines_of run) ≡ n
+
+-- the bytes that were given in between
+abbrev pub run_between : Cutter → Cutter → List ℕ
+run_between old new = drop (length old.front) new.front
+
+-- the next lines were given, so many
+pub record GivesRun (old new : Cutter) (n : ℕ) : Type 0 where
+  pub is : IsRun n (run_between old new)
+  pub front : new.front ≡ old.front ++ run_between old new
+  pub rest : old.rest ≡ run_between old new ++ new.rest
+  pub follows : (given : List (List ℕ)) (text : List ℕ) → Follows old given text → Follows new (given ++ lines_of (run_between old new)) text
+  pub number : new.number ≡ counted (old.number + n)
+  -- nothing else has changed
+  pub stays : new ≡ record old { front = new.front; rest = new.rest; number = new.number }
+
+-- why no line was given many at once: none is complete, or more bytes are held than a line may have
+abbrev pub GivesNone : Cutter → Type 0
+GivesNone old = HasNoLf old.rest ⊎ (old.limit < length old.rest)

@@ -1,0 +1,82 @@
+// Whole lines, passed over without a look at each.
+ghost use Rattle.std.specs.Prelude.{◌≡◌, ◌≢◌, ℕ, ◌+◌, ◌<◌, ◌≤◌, length, slice_index, slice_range};
+ghost use Rattle.sk_lines.specs.Runs.{IsRun};
+
+use crate::marks::{BLOCK, LF, lfs_of_block};
+
+// Passes over so many LFs at most from a place on, and answers how many they are, and the place behind the last.
+pub(crate) fn skip_lfs(bytes: &[u8], from: usize, most: usize) -> (usize, usize)
+    requires within { from + BLOCK ≤ length bytes.now }
+    requires zeros { (i : ℕ) → length bytes.now ≤ i + 64 → slice_index bytes.now i ≡ 0 }
+    ensures few { result.0 ≤ most }
+    ensures place { (from ≤ result.1) × (result.1 + 64 ≤ length bytes.now) }
+    ensures run { IsRun result.0 (slice_range bytes.now from result.1) }
+    ensures all { result.0 < most → (i : ℕ) → result.1 ≤ i → i + 64 < length bytes.now → slice_index bytes.now i ≢ 10 }
+{
+    let passed = skip_blocks(bytes, from, most);
+    skip_bytes(bytes, from, most, passed)
+}
+
+// LFs that were passed over.
+#[derive(Clone, Copy)]
+struct Passed {
+    count: usize,
+    // the place behind the last
+    at: usize,
+    // no other lies before this place
+    scanned: usize,
+}
+
+// Passes over blocks while their LFs are not too many.
+fn skip_blocks(bytes: &[u8], from: usize, most: usize) -> Passed
+    requires within { from + BLOCK ≤ length bytes.now }
+    requires zeros { (i : ℕ) → length bytes.now ≤ i + 64 → slice_index bytes.now i ≡ 0 }
+    ensures few { result.count ≤ most }
+    ensures place { (from ≤ result.at) × (result.at ≤ result.scanned) × (result.at + 64 ≤ length bytes.now) × (result.scanned ≤ length bytes.now) }
+    ensures run { IsRun result.count (slice_range bytes.now from result.at) }
+    ensures none { (i : ℕ) → result.at ≤ i → i < result.scanned → slice_index bytes.now i ≢ 10 }
+{
+    let mut passed = Passed {
+        count: 0,
+        at: from,
+        scanned: from,
+    };
+    'block: while passed.scanned < bytes.len() - BLOCK {
+        let marks = lfs_of_block(bytes, passed.scanned);
+        let found = marks.count_ones() as usize;
+        if found > most - passed.count {
+            return passed;
+        }
+        passed.scanned += BLOCK;
+        if marks != 0 {
+            passed.count += found;
+            passed.at = passed.scanned - marks.leading_zeros() as usize;
+        }
+    }
+    passed
+}
+
+// Goes on byte by byte.
+fn skip_bytes(bytes: &[u8], from: usize, most: usize, passed: Passed) -> (usize, usize)
+    requires few { passed.count ≤ most }
+    requires place { (from ≤ passed.at) × (passed.at ≤ passed.scanned) × (passed.at + 64 ≤ length bytes.now) × (passed.scanned ≤ length bytes.now) }
+    requires run { IsRun passed.count (slice_range bytes.now from passed.at) }
+    requires none { (i : ℕ) → passed.at ≤ i → i < passed.scanned → slice_index bytes.now i ≢ 10 }
+    ensures few { result.0 ≤ most }
+    ensures place { (from ≤ result.1) × (result.1 + 64 ≤ length bytes.now) }
+    ensures run { IsRun result.0 (slice_range bytes.now from result.1) }
+    ensures all { result.0 < most → (i : ℕ) → result.1 ≤ i → i + 64 < length bytes.now → slice_index bytes.now i ≢ 10 }
+{
+    let mut count = passed.count;
+    let mut at = passed.at;
+    let mut scanned = passed.scanned;
+    'byte: while count < most && scanned < bytes.len() - BLOCK {
+        let byte = bytes[scanned];
+        scanned += 1;
+        if byte == LF {
+            count += 1;
+            at = scanned;
+        }
+    }
+    (count, at)
+}
