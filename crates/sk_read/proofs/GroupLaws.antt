@@ -1,13 +1,15 @@
 -- Lines that are given many at once.
-use Rattle.std.proofs.Common.{◌≡◌, ℕ, ◌+◌, ◌<◌, ◌≤◌, List, [], ◌∷◌, ◌++◌, length, take, drop, map, slice_range, slice_index_or, take-append-drop, Option, Result, Ok, Err, IfErr, IsErrAnd, sym, ap, ◌∙◌, subst, arith, length-append, append_assoc}
+use Rattle.std.proofs.Common.{◌≡◌, ◌⊎◌, refl, ℕ, ◌+◌, ◌<◌, ◌≤◌, List, [], ◌∷◌, ◌++◌, length, take, drop, map, slice_range, slice_index_or, take-append-drop, Option, Result, Ok, Err, IfErr, IsErrAnd, sym, ap, ◌∙◌, subst, arith, length-append, append_assoc}
 use Rattle.std.proofs.lemmas.List.{length-map, length-take-le, map-append, map_more, get_or-map}
 use Rattle.std.proofs.lemmas.List.Elements.{All-drop}
 use Rattle.std.proofs.Math.Seq.{drop-append_seam}
-use Rattle.sk_model.specs.Lines.{AreWithin}
+use Rattle.std.proofs.lemmas.List.{drop_at}
+use Rattle.sk_model.specs.Lines.{AreWithin, IsFirstLong, open_lines_of}
 use Rattle.sk_model.specs.Limits.{line_limit, most_kept}
 use Rattle.sk_model.specs.Missing.{Begins}
 use Rattle.sk_lines.specs.declared.spans.Span.{Span}
-use Rattle.sk_lines.specs.Spans.{lines_at}
+use Rattle.sk_lines.specs.Cutter.{Cutter, HasNoLf}
+use Rattle.sk_lines.specs.Spans.{GivesLines, HasNoShortLine, lines_at}
 use Rattle.sk_read.specs.declared.fault.Fault.{Fault}
 use Rattle.sk_read.specs.Faults.{IsOfTaker}
 use Rattle.sk_read.specs.Reading.{Reading, HasRead}
@@ -89,3 +91,11 @@ pub short_group : (r : Reading) (left : Option (List ℕ)) (given lines : List (
 short_group r left given lines taken read =
     let within = subst (λ (m : ℕ). AreWithin m (given ++ lines)) read.limit read.has.within in
     subst (AreWithin line_limit) (drop-append_seam given lines) (All-drop (λ (l : List ℕ). length l ≤ line_limit) (length given) (given ++ lines) within)
+
+-- where no line is given, none is short that comes next
+pub none_moved : (old new : Cutter) → GivesLines old new [] → HasNoShortLine old → HasNoShortLine new
+none_moved old new gives none =
+    let size : length new.front ≡ length old.front = omega (arith, gives.grows, gives.ends) in
+    let rest : new.rest ≡ old.rest = sym (drop_at new.front new.rest (length new.front) refl) ∙ ap (drop (length new.front)) (sym gives.bytes) ∙ drop_at old.front old.rest (length new.front) (sym size) in
+    let limit : new.limit ≡ old.limit = ap (λ (c : Cutter). c.limit) gives.stays in
+    subst (λ (l : List ℕ). HasNoLf l ⊎ IsFirstLong new.limit 0 (open_lines_of l)) (sym rest) (subst (λ (m : ℕ). HasNoLf old.rest ⊎ IsFirstLong m 0 (open_lines_of old.rest)) (sym limit) none)

@@ -4,7 +4,8 @@ use Rattle.std.specs.Str.Lines.{strip_carriage_return}
 use Rattle.sk_model.specs.Lines.{lines_of, open_lines_of, AreWithin, IsFirstLong}
 use Rattle.sk_model.proofs.Missing.{begins_more}
 use Rattle.sk_model.proofs.Lines.{long_stays_long, lines_are_few}
-use Rattle.sk_lines.specs.Cutter.{Cutter, Follows, IsLongAfter, is_long}
+use Rattle.sk_lines.specs.Cutter.{Cutter, Follows, IsLongAfter, is_long, counted}
+use Rattle.sk_lines.specs.Runs.{GivesRun, run_between}
 use Rattle.sk_lines.specs.Spans.{GivesLines, lines_at}
 use Rattle.sk_lines.specs.declared.spans.Span.{Span}
 use Rattle.sk_lines.specs.declared.cutter.Next.{Next}
@@ -18,7 +19,7 @@ use Rattle.sk_read.specs.declared.reader.LineFault.{LineFault}
 use Rattle.sk_read.specs.declared.reader.LineFault.TheVariants as fault
 use Rattle.sk_model.specs.Missing.{Begins}
 use Rattle.sk_lines.proofs.Steps.{given_lines_stay}
-use Rattle.std.proofs.lemmas.List.{length-map}
+use Rattle.std.proofs.lemmas.List.{length-map, nil_from_length}
 use Rattle.std.proofs.lemmas.List.Elements.{All-cons, All-nil}
 use Rattle.sk_read.proofs.ItemLaws.{front_is}
 use Rattle.std.specs.Io.KnownBytes.{IsAtEnd}
@@ -92,14 +93,15 @@ in_time_more units given more taken is = record {
 }
 
 -- lines that were held are given: behind the end there is none
-pub given_more : (old new : Reading) (spans : List Span) (given : List (List ℕ)) (taken : List ℕ) → GivesLines old.cutter new.cutter spans → new ≡ record old { cutter = new.cutter } → (old.ended ≡ true → spans ≡ []) →
-    HasGiven old given taken → HasGiven new (given ++ lines_at spans new.cutter.front) taken
-given_more old new spans given taken gives stays none has = record {
-  follows = λ going. gives.follows given taken (has.follows (sym ended ∙ going));
+given_lines : (old new : Reading) (lines : List (List ℕ)) (given : List (List ℕ)) (taken : List ℕ) → ((given : List (List ℕ)) (text : List ℕ) → Follows old.cutter given text → Follows new.cutter (given ++ lines) text)
+    → new.cutter.number ≡ counted (old.cutter.number + length lines) → new.cutter.limit ≡ old.cutter.limit → new.cutter.last ≡ old.cutter.last → new ≡ record old { cutter = new.cutter } → (old.ended ≡ true → lines ≡ [])
+    → HasGiven old given taken → HasGiven new (given ++ lines) taken
+given_lines old new lines given taken follows number limit last stays none has = record {
+  follows = λ going. follows given taken (has.follows (sym ended ∙ going));
   whole = λ over. has.whole (sym ended ∙ over) ∙ sym (no_more (sym ended ∙ over));
   within = within old.ended refl;
-  going = ap (λ (c : Cutter). is_long c.last) gives.stays ∙ has.going;
-  number = omega (arith, gives.number, has.number, length-append given (lines_at spans new.cutter.front), length-map spans (λ (span : Span). slice_range new.cutter.front span.from span.to));
+  going = ap is_long last ∙ has.going;
+  number = omega (arith, number, has.number, length-append given lines);
   size = λ over. omega (arith, has.size (sym ended ∙ over), ap (λ (r : Reading). r.most) stays, ap (λ (r : Reading). r.taken) stays);
   count = has.count ∙ sym (ap (λ (r : Reading). r.taken) stays);
 }
@@ -107,15 +109,30 @@ given_more old new spans given taken gives stays none has = record {
     ended : new.ended ≡ old.ended
     ended = ap (λ (r : Reading). r.ended) stays
 
-    no_more : old.ended ≡ true → given ++ lines_at spans new.cutter.front ≡ given
-    no_more over = ap (λ (l : List Span). given ++ lines_at l new.cutter.front) (none over) ∙ append-nil given
+    no_more : old.ended ≡ true → given ++ lines ≡ given
+    no_more over = ap (λ (l : List (List ℕ)). given ++ l) (none over) ∙ append-nil given
 
-    limit : new.cutter.limit ≡ old.cutter.limit
-    limit = ap (λ (c : Cutter). c.limit) gives.stays
+    within : (b : Bool) → old.ended ≡ b → AreWithin new.cutter.limit (given ++ lines)
+    within true over = subst (λ (m : ℕ). AreWithin m (given ++ lines)) (sym limit) (subst (AreWithin old.cutter.limit) (sym (no_more over)) has.within)
+    within false going = (follows given taken (has.follows going)).within
 
-    within : (b : Bool) → old.ended ≡ b → AreWithin new.cutter.limit (given ++ lines_at spans new.cutter.front)
-    within true over = subst (λ (m : ℕ). AreWithin m (given ++ lines_at spans new.cutter.front)) (sym limit) (subst (AreWithin old.cutter.limit) (sym (no_more over)) has.within)
-    within false going = (gives.follows given taken (has.follows going)).within
+pub given_more : (old new : Reading) (spans : List Span) (given : List (List ℕ)) (taken : List ℕ) → GivesLines old.cutter new.cutter spans → new ≡ record old { cutter = new.cutter } → (old.ended ≡ true → spans ≡ []) →
+    HasGiven old given taken → HasGiven new (given ++ lines_at spans new.cutter.front) taken
+given_more old new spans given taken gives stays none =
+    given_lines old new (lines_at spans new.cutter.front) given taken gives.follows
+    (omega (arith, gives.number, length-map spans (λ (span : Span). slice_range new.cutter.front span.from span.to)))
+    (ap (λ (c : Cutter). c.limit) gives.stays) (ap (λ (c : Cutter). c.last) gives.stays) stays (λ over. ap (λ (l : List Span). lines_at l new.cutter.front) (none over))
+
+pub given_run : (old new : Reading) (n : ℕ) (given : List (List ℕ)) (taken : List ℕ) → GivesRun old.cutter new.cutter n → new ≡ record old { cutter = new.cutter } → (old.ended ≡ true → n ≡ 0) →
+    HasGiven old given taken → HasGiven new (given ++ lines_of (run_between old.cutter new.cutter)) taken
+given_run old new n given taken gives stays none =
+    given_lines old new (lines_of (run_between old.cutter new.cutter)) given taken gives.follows
+    (omega (arith, gives.number, gives.is.count))
+    (ap (λ (c : Cutter). c.limit) gives.stays) (ap (λ (c : Cutter). c.last) gives.stays) stays (λ over. nil_from_length _ (gives.is.count ∙ none over))
+
+-- for each line given, at least one byte fewer is held
+pub fewer_by_run : (old new : Cutter) (n : ℕ) → GivesRun old new n → length new.rest + n ≤ length old.rest
+fewer_by_run old new n gives = omega (arith, ap length gives.rest, length-append (run_between old new) new.rest, lines_are_few (run_between old new), gives.is.count)
 
 -- for each line given, at least one byte fewer is held
 pub fewer_left : (old new : Cutter) (spans : List Span) (n : ℕ) → GivesLines old new spans → length spans ≡ n → length new.rest + n ≤ length old.rest

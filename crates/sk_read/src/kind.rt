@@ -1,11 +1,13 @@
 // How a line becomes an item.
-ghost use Rattle.std.specs.Prelude.{◌≡◌, ◌<◌, ◌≤◌, ℕ, length, slice_range, Some, is_some, IfSome, true};
+ghost use Rattle.std.specs.Prelude.{◌≡◌, ◌<◌, ◌≤◌, ℕ, length, slice_range, All, Some, is_some, IfSome, true};
 ghost use Rattle.sk_model.specs.Numbers.{number_of};
-ghost use Rattle.sk_read.specs.Items.{item_of};
+ghost use Rattle.sk_model.specs.Lines.{lines_of};
+ghost use Rattle.sk_lines.specs.Cutter.{IsOfWholeLines};
+ghost use Rattle.sk_read.specs.Items.{item_of, IsGood};
 ghost use Rattle.sk_model.specs.Width.{IsItem, item_end};
 
 use sk_hash::hash48;
-use sk_lines::{Span, are_digits, read_number, read_number_at};
+use sk_lines::{Span, are_digits, are_short_numbers, read_number, read_number_at};
 use sk_theta::ITEM_END;
 
 // Any so many digits spell a number below the end of the items.
@@ -55,6 +57,18 @@ impl Kind {
         match self {
             Kind::Hash(_) => true,
             Kind::Raw => is_short_number(line) || self.item(line).is_some(),
+        }
+    }
+
+    /// Whether each line of a text of whole lines is empty or has an item. Where it answers `false` some line may
+    /// have none.
+    pub fn are_items(self, run: &[u8]) -> bool
+        requires { IsOfWholeLines run.now }
+        ensures { result ≡ true → All (IsGood self) (lines_of run.now) }
+    {
+        match self {
+            Kind::Hash(_) => true,
+            Kind::Raw => are_short_numbers(run),
         }
     }
 }

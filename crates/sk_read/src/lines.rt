@@ -2,6 +2,7 @@
 ghost use Rattle.std.specs.Prelude.{◌≡◌, ◌≤◌, ℕ, List, [], ◌++◌, Option, OnOk, IfErr};
 ghost use Rattle.sk_model.specs.Causes.{HasCauseIn};
 ghost use Rattle.sk_model.specs.Limits.{source_limit};
+ghost use Rattle.sk_lines.specs.Spans.{HasNoShortLine};
 ghost use Rattle.sk_read.specs.Reading.{HasRead, GivesMore, remaining_of};
 ghost use Rattle.sk_read.specs.Reads.{Reads, StopsAmong};
 ghost use Rattle.sk_read.specs.declared.units.Units.TheVariants as units;
@@ -36,7 +37,8 @@ pub(crate) fn read_lines<S: Source, T: UnitTaker>(
     Ok(reader.number())
 }
 
-// Gives complete lines that the reader holds to the taker, many at once. `spans` is room for them.
+// Gives the complete lines that the reader holds to the taker, many at once, up to one that is too long. `spans`
+// is room for them.
 fn give_held<T: UnitTaker>(
     reader: &mut LineReader,
     spans: &mut [Span; GROUP],
@@ -47,6 +49,7 @@ fn give_held<T: UnitTaker>(
         → GivesMore reader.new left given taken (λ more. T.went start taker.new (given ++ more))) }
     ensures stopped { IfErr result (λ why. (start : _) (left : Option (List ℕ)) (given : List (List ℕ)) (taken : List ℕ) → HasRead reader.old left given taken → T.went start taker.old given
         → GivesMore reader.new left given taken (λ more. StopsAmong (T.stopped start taker.new) why given more)) }
+    ensures all { OnOk result (HasNoShortLine reader.new.cutter) }
     ensures most { reader.new.most ≡ reader.old.most }
     ensures remaining { remaining_of reader.new ≤ remaining_of reader.old }
     ensures stays { T.stands_on taker.new ≡ T.stands_on taker.old }

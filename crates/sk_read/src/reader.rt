@@ -3,7 +3,9 @@ ghost use Rattle.std.specs.Prelude.{◌≡◌, ◌≤◌, ◌<◌, ◌+◌, ◌-
 ghost use Rattle.std.specs.Io.KnownBytes.{Consumes, IsAtEnd, Keeps};
 ghost use Rattle.sk_model.specs.Causes.{HasCauseIn};
 ghost use Rattle.sk_model.specs.Lines.{lines_of};
-ghost use Rattle.sk_lines.specs.Spans.{GivesLines, lines_at};
+ghost use Rattle.sk_lines.specs.Cutter.{HasNoLf, is_long};
+ghost use Rattle.sk_lines.specs.Runs.{GivesRun, GivesNone, run_between};
+ghost use Rattle.sk_lines.specs.Spans.{GivesLines, HasNoShortLine, lines_at};
 ghost use Rattle.sk_lines.specs.declared.cutter.Next.TheVariants as next;
 ghost use Rattle.sk_read.specs.Reading.{HasGiven, GivesLine, HasRead, Goes, GoesHeld, MovesOn, Stands, IsLongNext, IsLongLast, Feeds, remaining_of};
 ghost use Rattle.sk_model.specs.Limits.{source_limit};
@@ -114,6 +116,7 @@ impl LineReader {
         ensures hungry { result ≡ next.More → self.new.cutter.hungry ≡ true }
         ensures long { (n : ℕ) → result ≡ next.Long n → IsLongNext self.old n }
         ensures last { self.new.cutter.last ≡ result }
+        ensures plain { result ≡ next.Line → HasNoLf self.new.cutter.line }
         ensures moves { result ≡ next.Line → MovesOn self.old.cutter self.new.cutter }
         ensures held { result ≢ next.Line → self.new.cutter.front ≡ self.old.cutter.front }
         ensures limit { self.new.cutter.limit ≡ self.old.cutter.limit }
@@ -131,6 +134,7 @@ impl LineReader {
         requires open { self.old.ended ≡ false }
         requires size { self.old.taken < self.old.most }
         ensures line { result ≡ Ok true → GivesLine self.old self.new × (self.new.cutter.last ≡ next.Line) × (remaining_of self.new < remaining_of self.old) }
+        ensures plain { result ≡ Ok true → HasNoLf self.new.cutter.line }
         ensures none { result ≡ Ok false → (given : List (List ℕ)) (taken : List ℕ) → HasGiven self.old given taken → (lines_of taken ≡ given) × HasGiven self.new given taken }
         ensures long { (n : ℕ) → result ≡ Err (LineFault.LongLine n) → IsLongLast self.old n }
         ensures only_long { (result ≢ Err LineFault.ReadFault) × (result ≢ Err LineFault.TooMuch) }
@@ -156,6 +160,7 @@ impl LineReader {
         ensures goes { (given : List (List ℕ)) (taken : List ℕ) → HasRead self.old (S.left source.old) given taken
             → (more : List ℕ) × Consumes (S.left source.old) (S.left source.new) more × Goes self.new (S.left source.new) given (taken ++ more) result }
         ensures holds { result ≡ Ok true → self.new.cutter.last ≡ next.Line }
+        ensures plain { result ≡ Ok true → HasNoLf self.new.cutter.line }
         ensures progress { result ≡ Ok true → remaining_of self.new < remaining_of self.old }
         ensures most { self.new.most ≡ self.old.most }
         ensures cause { HasCauseIn LineFault.ReadFault (S.faults source.old) (S.faults source.new) result }
@@ -173,6 +178,7 @@ impl LineReader {
         ensures goes { (given : List (List ℕ)) (taken : List ℕ) → HasRead self.old (S.left source.old) given taken
             → (more : List ℕ) × Consumes (S.left source.old) (S.left source.new) more × Goes self.new (S.left source.new) given (taken ++ more) result }
         ensures holds { result ≡ Ok true → self.new.cutter.last ≡ next.Line }
+        ensures plain { result ≡ Ok true → HasNoLf self.new.cutter.line }
         ensures progress { result ≡ Ok true → remaining_of self.new < remaining_of self.old }
         ensures most { self.new.most ≡ self.old.most }
         ensures cause { HasCauseIn LineFault.ReadFault (S.faults source.old) (S.faults source.new) result }
@@ -199,6 +205,7 @@ impl LineReader {
     pub fn next_held(&mut self) -> Result<bool, LineFault>
         ensures goes { (left : Option (List ℕ)) (given : List (List ℕ)) (taken : List ℕ) → HasRead self.old left given taken → GoesHeld self.new left given taken result }
         ensures holds { result ≡ Ok true → self.new.cutter.last ≡ next.Line }
+        ensures plain { result ≡ Ok true → HasNoLf self.new.cutter.line }
         ensures moves { result ≡ Ok true → MovesOn self.old.cutter self.new.cutter }
         ensures held { result ≢ Ok true → self.new.cutter.front ≡ self.old.cutter.front }
         ensures long { (result ≢ Err LineFault.ReadFault) × (result ≢ Err LineFault.TooMuch) }
@@ -221,9 +228,24 @@ impl LineReader {
         ensures goes { (left : Option (List ℕ)) (given : List (List ℕ)) (taken : List ℕ) → HasRead self.old left given taken
             → HasRead self.new left (given ++ lines_at (take result spans.new) self.new.cutter.front) taken }
         ensures stays { self.new ≡ record self.old { cutter = self.new.cutter } }
+        ensures none { result ≡ 0 → is_long self.old.cutter.last ≡ false → HasNoShortLine self.old.cutter }
         ensures progress { remaining_of self.new + result ≤ remaining_of self.old }
     {
         self.lines.next_lines(spans)
+    }
+
+    /// Moves on to the next complete lines of the bytes that were read, at most so many, and answers how many
+    /// they are: `front` has become longer by them and what ended them. Where there is none `next_held` goes on.
+    pub fn next_run(&mut self, most: usize) -> usize
+        ensures few { result ≤ most }
+        ensures run { GivesRun self.old.cutter self.new.cutter result }
+        ensures goes { (left : Option (List ℕ)) (given : List (List ℕ)) (taken : List ℕ) → HasRead self.old left given taken
+            → HasRead self.new left (given ++ lines_of (run_between self.old.cutter self.new.cutter)) taken }
+        ensures stays { self.new ≡ record self.old { cutter = self.new.cutter } }
+        ensures none { result ≡ 0 → 0 < most → is_long self.old.cutter.last ≡ false → GivesNone self.old.cutter }
+        ensures progress { remaining_of self.new + result ≤ remaining_of self.old }
+    {
+        self.lines.next_run(most)
     }
 
     /// The line that the last call of `next` or `next_held` gave.

@@ -1,10 +1,10 @@
-use Rattle.std.proofs.Common.{◌≡◌, ◌++◌, ℕ, List, Option, take, sym, ap, ◌∙◌, subst, arith, append-nil, append_assoc}
+use Rattle.std.proofs.Common.{◌≡◌, ◌++◌, ℕ, List, [], Option, take, sym, ap, ◌∙◌, subst, arith, append-nil, append_assoc}
 use Rattle.sk_lines.specs.declared.spans.Span.{Span}
-use Rattle.sk_lines.specs.Spans.{lines_at}
+use Rattle.sk_lines.specs.Spans.{GivesLines, lines_at}
 use Rattle.sk_read.specs.declared.fault.Fault.{Fault}
 use Rattle.sk_read.specs.Reading.{Reading, HasRead, GivesMore}
 use Rattle.sk_read.specs.Reads.{StopsAmong}
-use Rattle.sk_read.proofs.GroupLaws.{with_fault, stops_behind, as_many, room_for, short_group}
+use Rattle.sk_read.proofs.GroupLaws.{with_fault, stops_behind, as_many, room_for, short_group, none_moved}
 use Rattle.sk_read.proofs.lines.give_held.Goals as goal
 
 -- the reader behind a group, by the bytes in which this lies
@@ -89,3 +89,12 @@ returns-in_err-take_all-clause-stopped g c =
       subst (λ (l : List (List ℕ)). HasRead next.new.self left l taken) (append_assoc given gave.0 (lines_at spans text)) now,
       stops_behind (g.T.UnitTaker.stopped start c.take_all.new.self) f given gave.0 (lines_at spans text) (c.in_err-take_all.ensures.stopped start whole number gave.2),
     ))
+
+pub returns-then-count-eq0-clause-all : goal.returns-then-count-eq0-clause-all
+returns-then-count-eq0-clause-all g c =
+    let known = c.requires.behind in
+    let gave = c.group.invariant.gave known.0 known.1 known.2 known.3 known.4 known.5 in
+    let next = c.next_lines-count in
+    let none : take next.result next.new.spans ≡ [] = ap (λ (n : ℕ). take n next.new.spans) c.if-count-eq0.true in
+    none_moved c.group.reader.cutter next.new.self.cutter (subst (GivesLines c.group.reader.cutter next.new.self.cutter) none next.ensures.lines)
+    (next.ensures.none c.if-count-eq0.true gave.1.has.going)
