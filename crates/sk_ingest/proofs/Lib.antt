@@ -1,4 +1,3 @@
-pub mod Spans
 pub mod Blocks
 pub mod Items
 pub mod Joined
@@ -18,8 +17,8 @@ pub mod StretchLaws
 pub mod Ingestion
 pub mod Filled
 pub mod ManyLines
-pub mod ManySpans
 pub mod HeldLines
 pub mod WindowLaws
 pub mod AtOnceLaws
 pub mod Gathering
+pub mod Pages

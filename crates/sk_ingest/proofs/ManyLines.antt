@@ -1,14 +1,13 @@
 -- Lines that a reader held, taken into a window many at once.
-use Rattle.std.proofs.Common.{◌≡◌, ℕ, ◌+◌, ◌<◌, ◌≤◌, ◌||◌, nat_le, Bool, true, false, List, [], ◌∷◌, ◌++◌, length, take, drop, map, slice_range, All, Option, Result, Ok, Err, OnOk, IsErrAnd, IfErr, refl, sym, ap, ◌∙◌, subst, arith, append-nil, append_assoc, length-append, take-append-drop}
+use Rattle.std.proofs.Common.{◌≡◌, ℕ, ◌+◌, ◌-◌, ◌<◌, ◌≤◌, ◌||◌, nat_le, ⊎_elim, Bool, true, false, List, [], ◌∷◌, ◌++◌, length, take, drop, slice_index_or, All, Option, Result, Ok, Err, OnOk, IsErrAnd, IfErr, refl, sym, ap, ◌∙◌, subst, arith, append-nil, append_assoc, length-append, length-take, take-append-drop, take-add, take_at}
 use Rattle.std.specs.List.{concat}
 use Rattle.std.specs.Io.KnownBytes.{Consumes}
-use Rattle.std.proofs.lemmas.Bool.{ne_eqb, lt-leb}
-use Rattle.std.proofs.lemmas.List.{length-take, length-map, map-append, map_more, take-append-le}
-use Rattle.std.proofs.lemmas.List.Elements.{All-append, All-push}
+use Rattle.std.proofs.lemmas.Bool.{cases_lt, ne_eqb, lt-leb}
+use Rattle.std.proofs.lemmas.List.{drop_at, take_all, take_more, take-append-le, get_or-append_right}
+use Rattle.std.proofs.lemmas.List.Elements.{All-append}
 use Rattle.std.proofs.lemmas.List.Folds.{concat-append}
-use Rattle.sk_model.proofs.Missing.{begins_trans}
-use Rattle.sk_lines.specs.Spans.{lines_at as lines_in}
-use Rattle.sk_lines.specs.declared.spans.Span.{Span as Place}
+use Rattle.sk_model.specs.Missing.{Begins}
+use Rattle.sk_model.proofs.Missing.{begins_trans, begins_more}
 use Rattle.sk_read.specs.Faults.{IsOfTaker}
 use Rattle.sk_read.specs.Items.{IsGood}
 use Rattle.sk_read.specs.Reading.{Reading, HasRead}
@@ -17,15 +16,16 @@ use Rattle.sk_read.specs.declared.fault.Fault.{Fault}
 use Rattle.sk_read.specs.declared.fault.Fault.TheVariants as fault
 use Rattle.sk_read.specs.declared.kind.Kind.{Kind}
 use Rattle.sk_read.specs.declared.units.Units.TheVariants.{Lines}
-use Rattle.sk_read.proofs.GroupLaws.{nth_line, lines_begin}
 use Rattle.sk_read.proofs.LineEnds.{line_missed_among}
+use Rattle.sk_ingest.specs.Gathered.{IsBad}
 use Rattle.sk_ingest.specs.Windows.{full_bytes, fills, FillsNone}
-use Rattle.sk_ingest.specs.Fills.{RefusesLine, RefusesAmong, TakesHeld, TakesMore}
+use Rattle.sk_ingest.specs.Fills.{RefusesLine, RefusesFrom, EndsWithLine, TakesHeld, TakesMore, TakesSome}
 use Rattle.sk_ingest.proofs.Filled.{read_few}
+use Rattle.sk_ingest.proofs.HeldLines.{full_held}
 
--- where there is room for lines, they fill no window
-pub many_unfilled : (most : ℕ) (old more : List (List ℕ)) → length old + length more < most → length (concat old) + length (concat more) < full_bytes → FillsNone most (old ++ more)
-many_unfilled most old more few small = λ n within.
+-- where there is room for lines, no beginning of them fills a window, unless all do
+few_unfilled : (most : ℕ) (old more : List (List ℕ)) → length old + length more ≤ most → length (concat old) + length (concat more) < full_bytes → (n : ℕ) → n < length (old ++ more) → fills most (take n (old ++ more)) ≡ false
+few_unfilled most old more few small n within =
     let all = old ++ more in
     let front = take n all in
     let count : length front < most = omega (arith, length-take n all, length-append old more) in
@@ -34,15 +34,39 @@ many_unfilled most old more few small = λ n within.
     ap (λ b. b || nat_le full_bytes (length (concat front))) (ne_eqb (length front) most (λ same. let no : ⊥ = omega arith in absurd no))
     ∙ lt-leb full_bytes (length (concat front)) (omega (arith, joined, total))
 
+-- the last of some lines
+last_of : (lines : List (List ℕ)) → 0 < length lines → (front : List (List ℕ)) × (line : List ℕ) × (lines ≡ front ++ line ∷ [])
+last_of [] some = absurd (omega arith)
+last_of (line ∷ []) some = ([], line, refl)
+last_of (first ∷ next ∷ lines) some = let l = last_of (next ∷ lines) (omega arith) in (first ∷ l.0, l.1, ap (λ ls. first ∷ ls) l.2)
+
 -- some lines were given, and put into the window
-pub more_taken : (kind : Kind) (most : ℕ) (old group new : List (List ℕ)) (r r' : Reading) → new ≡ old ++ group → FillsNone most (old ++ group) → All (IsGood kind) old → All (IsGood kind) group
-    → ((left : Option (List ℕ)) (given : List (List ℕ)) (taken : List ℕ) → HasRead r left given taken → HasRead r' left (given ++ group) taken) → TakesMore kind most old new r r'
-more_taken kind most old group new r r' is unfilled good more gave = subst (λ ls. TakesMore kind most old ls r r') (sym is) (record {
-  begins = (group, refl);
-  unfilled = unfilled;
-  good = All-append (IsGood kind) old group good more;
-  read = λ left given taken has. subst (λ ls. HasRead r' left ls taken) (append_assoc given old group) (gave left (given ++ old) taken has);
-})
+pub some_taken : (kind : Kind) (most : ℕ) (old group new : List (List ℕ)) (r r' : Reading) → new ≡ old ++ group → 0 < length group → length old + length group ≤ most → length (concat old) + length (concat group) < full_bytes
+    → All (IsGood kind) old → All (IsGood kind) group → ((left : Option (List ℕ)) (given : List (List ℕ)) (taken : List ℕ) → HasRead r left given taken → HasRead r' left (given ++ group) taken) → TakesSome kind most old new r r'
+some_taken kind most old group new r r' is some few small good more gave =
+    let l = last_of group some in
+    subst (λ ls. TakesSome kind most old ls r r') (sym is) (record {
+      last = (old ++ l.0, l.1, ap (λ ls. old ++ ls) l.2 ∙ sym (append_assoc old l.0 (l.1 ∷ [])), (l.0, refl));
+      unfilled = few_unfilled most old group few small;
+      good = All-append (IsGood kind) old group good more;
+      read = λ left given taken has. subst (λ ls. HasRead r' left ls taken) (append_assoc given old group) (gave left (given ++ old) taken has);
+    })
+
+-- they do not fill it
+pub some_more : (kind : Kind) (most : ℕ) (old new : List (List ℕ)) (r r' : Reading) → TakesSome kind most old new r r' → fills most new ≡ false → TakesMore kind most old new r r'
+some_more kind most old new r r' some still = record {
+  begins = begins_with some.last;
+  unfilled = λ n within. ⊎_elim (λ (less : n < length new). some.unfilled n less) (λ (all : length new ≤ n). ap (fills most) (take_all n new all) ∙ still) (cases_lt n (length new));
+  good = some.good;
+  read = some.read;
+}
+  where
+    begins_with : EndsWithLine old new → Begins old new
+    begins_with (front, line, is, begins) = subst (Begins old) (sym is) (begins_more old front (line ∷ []) begins)
+
+-- they do
+pub some_full : (kind : Kind) (most : ℕ) (old new : List (List ℕ)) (r r' : Reading) → TakesSome kind most old new r r' → fills most new ≡ true → TakesHeld kind most old new r r' (Ok true)
+some_full kind most old new r r' some full = full_held kind most old new r r' (record { full = full; first = some.unfilled }) some.good some.last some.read
 
 pub none_taken : (kind : Kind) (most : ℕ) (old : List (List ℕ)) (r r' : Reading) → FillsNone most old → All (IsGood kind) old
     → ((left : Option (List ℕ)) (given : List (List ℕ)) (taken : List ℕ) → HasRead r left given taken → HasRead r' left given taken) → TakesMore kind most old old r r'
@@ -119,57 +143,55 @@ no_room_some kind most old (line ∷ group) new r r' (Err why) some same is boun
 
 -- ---- lines that may be refused
 
--- the first of some lines have no more bytes than all
-pub front_small : (text : List ℕ) (spans : List Place) (i : ℕ) → length (concat (lines_in (take i spans) text)) ≤ length (concat (lines_in spans text))
-front_small text spans i =
-    let by : Place → List ℕ = λ p. slice_range text p.from p.to in
-    let all : lines_in spans text ≡ lines_in (take i spans) text ++ lines_in (drop i spans) text = ap (map by) (sym (take-append-drop i spans)) ∙ map-append by (take i spans) (drop i spans) in
-    omega (arith, ap (λ ls. length (concat ls)) all, ap length (concat-append (lines_in (take i spans) text) (lines_in (drop i spans) text)), length-append (concat (lines_in (take i spans) text)) (concat (lines_in (drop i spans) text)))
+-- of lines that come behind so many, the first went to the end of a window's, and the next was refused
+record RefusesAmong (kind : Kind) (before : ℕ) (why : Fault) (old lines new : List (List ℕ)) : Type 0 where
+  pub front : List (List ℕ)
+  pub line : List ℕ
+  pub begins : Begins (front ++ line ∷ []) lines
+  pub kept : new ≡ old ++ front
+  pub good : All (IsGood kind) front
+  pub fault : IsOfTaker (before + length front + 1) why
+  pub refused : (given : List (List ℕ)) → RefusesLine kind given why given line
 
-front_count : (text : List ℕ) (spans : List Place) (i : ℕ) → i < length spans → length (lines_in (take i spans) text) ≡ i
-front_count text spans i inside = omega (arith, length-map (take i spans) (λ (p : Place). slice_range text p.from p.to), length-take i spans)
-
--- behind the first of some lines a window has room
-pub front_unfilled : (most : ℕ) (old : List (List ℕ)) (text : List ℕ) (spans : List Place) (i : ℕ) → i < length spans → length old + length spans < most → length (concat old) + length (concat (lines_in spans text)) < full_bytes
-    → FillsNone most (old ++ lines_in (take i spans) text)
-front_unfilled most old text spans i inside room few =
-    many_unfilled most old (lines_in (take i spans) text) (omega (arith, front_count text spans i inside)) (omega (arith, front_small text spans i))
-
-pub refuses_at : (kind : Kind) (before i : ℕ) (why : Fault) (old : List (List ℕ)) (text : List ℕ) (spans : List Place) (new : List (List ℕ)) → i < length spans → new ≡ old ++ lines_in (take i spans) text → All (IsGood kind) (lines_in (take i spans) text)
-    → IsOfTaker (before + i + 1) why → ((given : List (List ℕ)) → RefusesLine kind given why given (nth_line text spans i)) → RefusesAmong kind before why old (lines_in spans text) new
-refuses_at kind before i why old text spans new inside kept good of refused = record {
-  front = lines_in (take i spans) text;
-  line = nth_line text spans i;
-  begins = lines_begin text spans i inside;
-  kept = kept;
-  good = good;
-  fault = subst (λ n. IsOfTaker (before + n + 1) why) (sym (front_count text spans i inside)) of;
-  refused = refused;
-}
-
--- one line more went there
-pub lines_on : (old lines : List (List ℕ)) (text : List ℕ) (spans : List Place) (i : ℕ) → i < length spans → lines ≡ old ++ lines_in (take i spans) text → lines ++ nth_line text spans i ∷ [] ≡ old ++ lines_in (take (i + 1) spans) text
-lines_on old lines text spans i inside is =
-    ap (λ ls. ls ++ nth_line text spans i ∷ []) is ∙ append_assoc old (lines_in (take i spans) text) (nth_line text spans i ∷ [])
-    ∙ ap (λ ls. old ++ ls) (sym (map_more (λ (p : Place). slice_range text p.from p.to) spans i (record { from = 0; to = 0 }) inside))
-
-pub good_on : (kind : Kind) (text : List ℕ) (spans : List Place) (i : ℕ) → i < length spans → All (IsGood kind) (lines_in (take i spans) text) → IsGood kind (nth_line text spans i) → All (IsGood kind) (lines_in (take (i + 1) spans) text)
-good_on kind text spans i inside good one =
-    subst (All (IsGood kind)) (sym (map_more (λ (p : Place). slice_range text p.from p.to) spans i (record { from = 0; to = 0 }) inside)) (All-push (IsGood kind) (lines_in (take i spans) text) (nth_line text spans i) good one)
+-- lines that stay up to the first that is no item
+refuses_among : (kind : Kind) (before : ℕ) (why : Fault) (old group new : List (List ℕ)) → RefusesFrom kind before why (length old) (old ++ group) new → RefusesAmong kind before why old group new
+refuses_among kind before why old group new r =
+    let j = r.place - length old in
+    let place : length old + j ≡ r.place = omega (arith, r.after) in
+    let inside : j < length group = omega (arith, r.within, length-append old group, r.after) in
+    let front = take j group in
+    let line = slice_index_or group j [] in
+    let kept : new ≡ old ++ front =
+    r.kept ∙ ap (λ n. take n (old ++ group)) (sym place) ∙ take-add (length old) j (old ++ group)
+    ∙ ap (λ ls. ls ++ take j (drop (length old) (old ++ group))) (take_at old group (length old) refl)
+    ∙ ap (λ ls. old ++ take j ls) (drop_at old group (length old) refl) in
+    let size : length front ≡ j = omega (arith, length-take j group) in
+    let here : slice_index_or (old ++ group) r.place [] ≡ line = get_or-append_right old group (length old) r.place [] refl r.after in
+    let bad = subst (IsBad kind) here r.refused in
+    record {
+      front = front;
+      line = line;
+      begins = (drop (j + 1) group, sym (take-append-drop (j + 1) group) ∙ ap (λ ls. ls ++ drop (j + 1) group) (take_more group j [] inside));
+      kept = kept;
+      good = subst (All (IsGood kind)) (ap (drop (length old)) kept ∙ drop_at old front (length old) refl) r.good;
+      fault = subst (λ n. IsOfTaker (before + n + 1) why) (sym size) (subst (IsOfTaker (before + j + 1)) (sym r.fault) refl);
+      refused = λ given. subst (λ w. RefusesLine kind given w given line) (sym r.fault) (refl, bad.0, bad.1);
+    }
 
 -- what went to a window that stays unfilled by all of them
-pub refused_unfilled : (kind : Kind) (before : ℕ) (why : Fault) (most : ℕ) (old group new : List (List ℕ)) → RefusesAmong kind before why old group new → FillsNone most (old ++ group) → FillsNone most new
-refused_unfilled kind before why most old group new refuses unfilled = λ n within.
-    let begins : old ++ group ≡ new ++ (refuses.line ∷ [] ++ refuses.begins.0) =
-    ap (λ ls. old ++ ls) (refuses.begins.1 ∙ append_assoc refuses.front (refuses.line ∷ []) refuses.begins.0) ∙ sym (append_assoc old refuses.front (refuses.line ∷ [] ++ refuses.begins.0)) ∙ ap (λ ls. ls ++ (refuses.line ∷ [] ++ refuses.begins.0)) (sym refuses.kept) in
-    ap (fills most) (sym (take-append-le n new (refuses.line ∷ [] ++ refuses.begins.0) within) ∙ ap (take n) (sym begins))
-    ∙ unfilled n (omega (arith, ap length begins, length-append new (refuses.line ∷ [] ++ refuses.begins.0)))
+refused_unfilled : (kind : Kind) (before : ℕ) (why : Fault) (most : ℕ) (old group new : List (List ℕ)) → RefusesAmong kind before why old group new → length old + length group ≤ most → length (concat old) + length (concat group) < full_bytes → FillsNone most new
+refused_unfilled kind before why most old group new refuses few small = λ n within.
+    let after : List (List ℕ) = refuses.line ∷ refuses.begins.0 in
+    let begins : old ++ group ≡ new ++ after =
+    ap (λ ls. old ++ ls) (refuses.begins.1 ∙ append_assoc refuses.front (refuses.line ∷ []) refuses.begins.0) ∙ sym (append_assoc old refuses.front after) ∙ ap (λ ls. ls ++ after) (sym refuses.kept) in
+    ap (fills most) (sym (take-append-le n new after within) ∙ ap (take n) (sym begins))
+    ∙ few_unfilled most old group few small n (omega (arith, within, ap length begins, length-append new after))
 
 -- a reader gave lines, of which one was refused
-pub refused_held : (kind : Kind) (most before : ℕ) (old group new : List (List ℕ)) (r r' : Reading) (why : Fault) → r'.most ≡ r.most → RefusesAmong kind before why old group new → FillsNone most new → All (IsGood kind) old
+refused_among : (kind : Kind) (most before : ℕ) (old group new : List (List ℕ)) (r r' : Reading) (why : Fault) → r'.most ≡ r.most → RefusesAmong kind before why old group new → FillsNone most new → All (IsGood kind) old
     → ((left : Option (List ℕ)) (given : List (List ℕ)) (taken : List ℕ) → HasRead r left (given ++ old) taken → length (given ++ old) ≡ before)
     → ((left : Option (List ℕ)) (given : List (List ℕ)) (taken : List ℕ) → HasRead r left given taken → HasRead r' left (given ++ group) taken) → TakesHeld kind most old new r r' (Err why)
-refused_held kind most before old group new r r' why bound refuses unfilled good counted gave = record {
+refused_among kind most before old group new r r' why bound refuses unfilled good counted gave = record {
   full = λ other. absurd (not_ok true other);
   unfilled = λ _. unfilled;
   good = subst (All (IsGood kind)) (sym refuses.kept) (All-append (IsGood kind) old refuses.front good refuses.good);
@@ -191,3 +213,12 @@ refused_held kind most before old group new r r' why bound refuses unfilled good
 
     not_ok : (b : Bool) → err ≡ Ok b → ⊥
     not_ok b other = cc
+
+-- a reader gave lines, of which one was taken out again with those behind it
+pub refused_held : (kind : Kind) (most before : ℕ) (old group new : List (List ℕ)) (r r' : Reading) (why : Fault) → r'.most ≡ r.most → RefusesFrom kind before why (length old) (old ++ group) new
+    → length old + length group ≤ most → length (concat old) + length (concat group) < full_bytes → All (IsGood kind) old
+    → ((left : Option (List ℕ)) (given : List (List ℕ)) (taken : List ℕ) → HasRead r left (given ++ old) taken → length (given ++ old) ≡ before)
+    → ((left : Option (List ℕ)) (given : List (List ℕ)) (taken : List ℕ) → HasRead r left given taken → HasRead r' left (given ++ group) taken) → TakesHeld kind most old new r r' (Err why)
+refused_held kind most before old group new r r' why bound refuses few small good counted gave =
+    let among = refuses_among kind before why old group new refuses in
+    refused_among kind most before old group new r r' why bound among (refused_unfilled kind before why most old group new among few small) good counted gave

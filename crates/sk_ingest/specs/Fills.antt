@@ -1,5 +1,5 @@
 -- What it means that a window was filled with the lines of a source, and that it was not.
-use Rattle.std.specs.Prelude.{◌≡◌, ◌≢◌, ℕ, ◌+◌, ◌<◌, ◌≤◌, Bool, true, false, List, [], ◌∷◌, ◌++◌, length, All, Option, IsNone, Result, Ok, OnOk, IfErr}
+use Rattle.std.specs.Prelude.{◌≡◌, ◌≢◌, ℕ, ◌+◌, ◌-◌, ◌<◌, ◌≤◌, Bool, true, false, List, [], ◌∷◌, ◌++◌, length, take, drop, slice_index_or, All, Option, IsNone, Result, Ok, OnOk, IfErr}
 use Rattle.std.specs.Io.KnownBytes.{Consumes}
 use Rattle.sk_read.specs.Reading.{Reading, HasRead, HoldsNone}
 use Rattle.sk_read.specs.Reads.{IsInTime, Ends}
@@ -7,8 +7,8 @@ use Rattle.sk_read.specs.declared.units.Units.TheVariants.{Lines}
 use Rattle.sk_read.specs.Items.{item_of, IsGood}
 use Rattle.sk_model.specs.Limits.{most_kept}
 use Rattle.sk_model.specs.Missing.{Begins}
-use Rattle.sk_ingest.specs.Windows.{FillsNone, IsFullWindow}
-use Rattle.sk_read.specs.Faults.{IsOfTaker}
+use Rattle.sk_ingest.specs.Gathered.{IsBad}
+use Rattle.sk_ingest.specs.Windows.{fills, FillsNone, IsFullWindow}
 use Rattle.sk_read.specs.declared.kind.Kind.{Kind}
 use Rattle.sk_read.specs.declared.fault.Fault.{Fault}
 use Rattle.sk_read.specs.declared.fault.Fault.TheVariants.{OutOfMemory, BadItem}
@@ -49,12 +49,19 @@ pub record TakesMore (kind : Kind) (most : ℕ) (old new : List (List ℕ)) (r r
   pub good : All (IsGood kind) new
   pub read : (left : Option (List ℕ)) (given : List (List ℕ)) (taken : List ℕ) → HasRead r left (given ++ old) taken → HasRead r' left (given ++ new) taken
 
--- of lines that come behind so many, the first went to the end of a window's, and the next was refused
-pub record RefusesAmong (kind : Kind) (before : ℕ) (why : Fault) (old lines new : List (List ℕ)) : Type 0 where
-  pub front : List (List ℕ)
-  pub line : List ℕ
-  pub begins : Begins (front ++ line ∷ []) lines
-  pub kept : new ≡ old ++ front
-  pub good : All (IsGood kind) front
-  pub fault : IsOfTaker (before + length front + 1) why
-  pub refused : (given : List (List ℕ)) → RefusesLine kind given why given line
+-- some lines that a reader held went to the end of a window's: no beginning of these fills it, unless all do
+pub record TakesSome (kind : Kind) (most : ℕ) (old new : List (List ℕ)) (r r' : Reading) : Type 0 where
+  pub last : EndsWithLine old new
+  pub unfilled : (n : ℕ) → n < length new → fills most (take n new) ≡ false
+  pub good : All (IsGood kind) new
+  pub read : (left : Option (List ℕ)) (given : List (List ℕ)) (taken : List ℕ) → HasRead r left (given ++ old) taken → HasRead r' left (given ++ new) taken
+
+-- of lines that come from a place on behind so many, those before the first that is no item stay
+pub record RefusesFrom (kind : Kind) (before : ℕ) (why : Fault) (first : ℕ) (old new : List (List ℕ)) : Type 0 where
+  pub place : ℕ
+  pub after : first ≤ place
+  pub within : place < length old
+  pub kept : new ≡ take place old
+  pub good : All (IsGood kind) (drop first new)
+  pub fault : why ≡ BadItem (before + (place - first) + 1)
+  pub refused : IsBad kind (slice_index_or old place [])

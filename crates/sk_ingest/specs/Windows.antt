@@ -1,17 +1,23 @@
 -- What contracts see of a window, and the items of its lines.
-use Rattle.std.specs.Prelude.{◌≡◌, ℕ, ◌+◌, ◌-◌, ◌<◌, ◌≤◌, ◌==◌, ◌||◌, nat_le, Bool, true, false, List, [], ◌∷◌, ◌++◌, length, take, drop, map, sum, slice_range, Option, None, filter_map, flat_map, All}
+use Rattle.std.specs.Prelude.{◌≡◌, ℕ, ◌+◌, ◌<◌, ◌≤◌, ◌==◌, ◌||◌, nat_le, Bool, true, false, List, [], ◌∷◌, ◌++◌, length, take, Option, None, filter_map, flat_map, All}
 use Rattle.std.specs.List.{concat}
-use Rattle.sk_model.specs.Limits.{line_limit}
-use Rattle.sk_lines.specs.Cutter.{Cutter}
+use Rattle.sk_lines.specs.Pages.{PageState}
+use Rattle.sk_lines.specs.Spans.{AreBehind, lines_at}
 use Rattle.sk_read.specs.Items.{item_of}
 use Rattle.sk_read.specs.declared.kind.Kind.{Kind}
-use Rattle.sk_lines.specs.declared.spans.Span.{Span as Place}
-use Rattle.sk_ingest.specs.declared.marks.Span.{Span}
+use Rattle.sk_lines.specs.declared.spans.Span.{Span}
 
 pub record WindowState : Type 0 where
   pub lines : List (List ℕ)
   -- how many lines it takes at most
   pub most : ℕ
+  -- how many of them, the last, lie apart from the others, and how many bytes the others have with what ended them
+  pub apart : ℕ
+  pub bytes : ℕ
+
+-- lines of a window, on the way through them: those to come
+pub record WindowLinesState : Type 0 where
+  pub rest : List (List ℕ)
 
 -- a window is of at most so many lines
 abbrev pub most_lines : ℕ
@@ -62,30 +68,12 @@ items_in kind lines = filter_map (item_in kind) lines
 
 -- ---- its fields
 
--- the lines that lie in a text
-abbrev pub lines_at : List Span → List ℕ → List (List ℕ)
-lines_at spans text = map (λ span. slice_range text span.from span.to) spans
-
--- the spans of a text that lies behind another, from a place of it on, where that one ends
-abbrev pub moved : ℕ → ℕ → List Place → List Span
-moved from end spans = map (λ span. record { from = end + (span.from - from); to = end + (span.to - from) }) spans
-
--- how many bytes lie in spans
-abbrev pub sizes_of : List Place → ℕ
-sizes_of spans = sum (map (λ span. span.to - span.from) spans)
-
--- a text, and behind it the bytes that a reader has given since, up to a place
-abbrev pub text_with : List ℕ → Cutter → Cutter → ℕ → List ℕ
-text_with text old new end = text ++ take (end - length text) (drop (length old.front) new.front)
-
--- a window of lines that lie in a text
-pub record IsWindow (spans : List Span) (end size most : ℕ) (text : List ℕ) : Type 0 where
-  pub within : All (λ span. (span.from ≤ span.to) × (span.to ≤ length text)) spans
-  pub at_end : end ≡ length text
+-- a window: a page of lines, and others behind it that lie in a text
+pub record IsWindow (page : PageState) (page_bytes : ℕ) (spans : List Span) (most : ℕ) (text : List ℕ) : Type 0 where
+  pub within : AreBehind 0 spans text
+  pub joined : length text ≡ length (concat (lines_at spans text))
   pub least : 1 ≤ most
   pub highest : most ≤ most_lines
-  pub count : length spans ≤ most
-  pub total : size ≡ length (concat (lines_at spans text))
-  pub bytes : size ≤ full_bytes + line_limit
-  -- two bytes end a line at most
-  pub ends : length text ≤ size + (length spans + length spans)
+  pub count : length page.lines + length spans ≤ most
+  pub small : page.size < full_bytes
+  pub bytes : 0 < length spans → page_bytes ≡ length (concat page.lines)

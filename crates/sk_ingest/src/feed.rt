@@ -45,8 +45,9 @@ pub fn feed_block<C: Composable, R: Wait>(
     ensures helping { OnErr result (IsTrue help) }
     ensures cause { OnErr result (IsTrue C.TAKES_MEMORY) }
 {
+    let mut lines = w.lines_from(from);
     'line: for place in from..to {
-        if let Some(item) = w.item(place, kind) {
+        if let Some(item) = lines.next_item(kind) {
             if !feed_item(rt, u, item, help)? {
                 return Ok(place);
             }

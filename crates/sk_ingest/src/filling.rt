@@ -10,6 +10,7 @@ ghost use Rattle.sk_read.specs.declared.units.Units.TheVariants as units;
 ghost use Rattle.sk_ingest.specs.Windows.{FillsNone, IsFullWindow};
 ghost use Rattle.sk_ingest.specs.Fills.{RefusesLine, ReadsLine};
 
+use crate::held::take_held;
 use crate::window::Window;
 use crate::windowed::is_good;
 use sk_io::Source;
@@ -48,11 +49,11 @@ pub(crate) fn fill<S: Source>(
         if !is_good(kind, line) {
             return Err(Fault::BadItem(reader.number()));
         }
-        window.push(line)?;
+        window.push_line(line)?;
         if window.is_full() {
             return Ok(true);
         }
-        if window.take_held(reader, kind)? {
+        if take_held(window, reader, kind)? {
             return Ok(true);
         }
     }

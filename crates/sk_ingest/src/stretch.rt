@@ -14,7 +14,7 @@ use std::alloc::Global;
 use std::marker::Model;
 
 // As many windows as this make a stretch full.
-const MOST_WINDOWS: usize = 4;
+const MOST_WINDOWS: usize = 16;
 
 // So do as many bytes of lines as this, so that a stretch of long lines stays small.
 const FULL_BYTES: usize = 16_777_216;

@@ -1,39 +1,46 @@
 //! A window: lines that are kept until they are fed.
-ghost use Rattle.std.specs.Prelude.{◌≡◌, ◌≢◌, ◌<◌, ◌≤◌, ◌+◌, ◌++◌, ◌∷◌, ◌==◌, ℕ, List, [], length, slice_index_or, All, Option, Err, true, false, OnOk, OnErr, IfOk, IfSome};
+ghost use Rattle.std.specs.Prelude.{◌≡◌, ◌<◌, ◌≤◌, ◌+◌, ◌++◌, ◌∷◌, ◌==◌, ℕ, List, [], length, take, drop, slice_index_or, true, false, OnOk, OnErr, IfOk, IfSome};
 ghost use Rattle.std.specs.List.{concat};
-ghost use Rattle.sk_lines.specs.Spans.{AreBehind, lines_at};
-ghost use Rattle.sk_ingest.specs.Windows.{most_lines, full_bytes, is_full, item_in, FillsNone};
-ghost use Rattle.sk_ingest.specs.Fills.{TakesHeld};
+ghost use Rattle.sk_lines.specs.Cutter.{HasNoLf};
+ghost use Rattle.sk_lines.specs.Runs.{IsRun};
+ghost use Rattle.sk_ingest.specs.Windows.{most_lines, full_bytes, is_full, item_in};
+ghost use Rattle.sk_model.specs.Lines.{lines_of};
 ghost use Rattle.sk_model.specs.Width.{IsItem};
-ghost use Rattle.sk_read.specs.Items.{IsGood};
-ghost use Rattle.sk_read.specs.Reading.{HasRead, remaining_of};
 
-use crate::groups::take_groups;
-use crate::held::mark_held;
-use crate::marks::Marks;
-use sk_lines::Span;
+use crate::window_lines::WindowLines;
+use sk_lines::{Page, Span};
 use sk_model::OutOfMemory;
-use sk_read::{Fault, Kind, LINE_LIMIT, LineReader};
+use sk_read::{Kind, LINE_LIMIT};
 use std::alloc::Global;
 use std::marker::Model;
+
+// As many bytes of lines as this make a window full.
+const FULL_BYTES: usize = 67_108_864;
 
 /// The lines of a source, or the fields of a column, that are fed together.
 #[derive(Drop)]
 pub struct Window {
-    // its lines, one behind the other, each with what ended it or without
+    // its first lines, in the bytes that they came in
+    page: Page,
+    // how many bytes these have without what ended them, where others lie behind
+    page_bytes: usize,
+    // the others, one behind the other, and where each lies
     text: Vec<u8>,
-    marks: Marks,
+    spans: Vec<Span>,
+    // how many lines there may be
+    most: u32,
 }
 
 impl Model for Window {
-    ghost use Rattle.std.specs.Prelude.{◌≤◌, vec_capacity};
-    ghost use Rattle.sk_ingest.specs.Windows.{WindowState, lines_at as lines_of_spans, IsWindow};
+    ghost use Rattle.std.specs.Prelude.{◌≤◌, ◌++◌, length, vec_capacity};
+    ghost use Rattle.sk_lines.specs.Spans.{lines_at};
+    ghost use Rattle.sk_ingest.specs.Windows.{WindowState, IsWindow};
 
     ghost Value = { WindowState };
 
-    ghost view = { λ w. record { lines = lines_of_spans w.marks.spans.items w.text.items; most = w.marks.most } };
+    ghost view = { λ w. record { lines = w.page.lines ++ lines_at w.spans.items w.text.items; most = w.most; apart = length w.spans.items; bytes = w.page.size } };
 
-    ghost invariant = { λ w. IsWindow w.marks.spans.items w.marks.end w.marks.size w.marks.most w.text.items × (w.marks.most ≤ vec_capacity w.marks.spans) };
+    ghost invariant = { λ w. IsWindow w.page w.page_bytes w.spans.items w.most w.text.items × (w.most ≤ vec_capacity w.spans) };
 }
 
 impl Window {
@@ -45,8 +52,11 @@ impl Window {
         ensures most { IfOk result (λ w. w.most ≡ lines) }
     {
         Ok(Window {
+            page: Page::new(alloc)?,
+            page_bytes: 0,
             text: Vec::new(alloc),
-            marks: Marks::new(alloc, lines)?,
+            spans: Vec::with_capacity(alloc, lines as usize)?,
+            most: lines,
         })
     }
 
@@ -58,74 +68,66 @@ impl Window {
         ensures refused { OnErr result (self.new.lines ≡ self.old.lines) }
         ensures most { self.new.most ≡ self.old.most }
     {
+        if self.spans.is_empty() {
+            self.page_bytes = bytes_of(&self.page);
+        }
+        let from = self.text.len();
         self.text.extend_from_slice(line)?;
-        self.marks.push(line.len());
+        self.spans.push_reserved(Span {
+            from,
+            to: self.text.len(),
+        });
         Ok(())
     }
 
-    // Whether it stays unfilled by so many lines more, of so many bytes in all.
-    pub(crate) fn has_room_for(&self, lines: usize, bytes: usize) -> bool
-        ensures { result ≡ true → (length self.now.lines + lines < self.now.most) × (length (concat self.now.lines) + bytes < full_bytes) }
-    {
-        self.marks.has_room_for(lines, bytes)
-    }
-
-    // Puts lines to the end that lie in a text, behind a place of it, each ended by two bytes at most.
-    pub(crate) fn push_all(
-        &mut self,
-        text: &[u8],
-        from: usize,
-        spans: &[Span],
-    ) -> Result<(), OutOfMemory>
-        requires place { from ≤ length text.now }
-        requires behind { AreBehind from spans.now text.now }
-        requires room { length self.old.lines + length spans.now < self.old.most }
-        requires few { length (concat self.old.lines) + length (concat (lines_at spans.now text.now)) < full_bytes }
-        requires ends { length text.now ≤ from + length (concat (lines_at spans.now text.now)) + (length spans.now + length spans.now) }
-        ensures lines { OnOk result (self.new.lines ≡ self.old.lines ++ lines_at spans.now text.now) }
+    // Puts a line to the end that was read, beside the others if it can lie there.
+    pub(crate) fn push_line(&mut self, line: &[u8]) -> Result<(), OutOfMemory>
+        requires room { is_full self.old ≡ false }
+        requires short { length line.now ≤ LINE_LIMIT }
+        requires plain { HasNoLf line.now }
+        ensures lines { OnOk result (self.new.lines ≡ self.old.lines ++ line.now ∷ []) }
         ensures refused { OnErr result (self.new.lines ≡ self.old.lines) }
         ensures most { self.new.most ≡ self.old.most }
     {
-        self.text.extend_from_slice(&text[from..])?;
-        self.marks.push_all(spans, from);
-        self.marks.end = self.text.len();
-        Ok(())
+        if self.has_room_for(line.len() + 2) {
+            return self.page.push(line);
+        }
+        self.push(line)
     }
 
-    // Takes the lines that a reader holds until the window is full, and answers whether it is.
-    pub(crate) fn take_held(&mut self, reader: &mut LineReader, kind: Kind) -> Result<bool, Fault>
-        requires unfilled { FillsNone self.old.most self.old.lines }
-        requires good { All (IsGood kind) self.old.lines }
-        requires started { (left : Option (List ℕ)) × (given : List (List ℕ)) × (taken : List ℕ) × HasRead reader.old left (given ++ self.old.lines) taken }
-        ensures takes { TakesHeld kind self.new.most self.old.lines self.new.lines reader.old reader.new result }
-        ensures most { self.new.most ≡ self.old.most }
-        ensures cause { result ≢ Err Fault.ReadFault }
-        ensures remaining { remaining_of reader.new ≤ remaining_of reader.old }
-        ensures bound { reader.new.most ≡ reader.old.most }
+    // Whether lines of so many bytes in all, with what ended them, can lie behind the others, and do not fill it by
+    // their bytes.
+    #[inline(always)]
+    pub(crate) fn has_room_for(&self, bytes: usize) -> bool
+        ensures apart { result ≡ true → self.now.apart ≡ 0 }
+        ensures small { result ≡ true → self.now.bytes + bytes < full_bytes }
+        ensures bytes { result ≡ true → length (concat self.now.lines) ≤ self.now.bytes }
     {
-        take_groups(self, reader, kind)?;
-        self.take_rest_held(reader, kind)
+        self.spans.is_empty() && self.page.size().saturating_add(bytes) < FULL_BYTES
     }
 
-    // The same, one after another.
-    fn take_rest_held(&mut self, reader: &mut LineReader, kind: Kind) -> Result<bool, Fault>
-        requires unfilled { FillsNone self.old.most self.old.lines }
-        requires good { All (IsGood kind) self.old.lines }
-        requires started { (left : Option (List ℕ)) × (given : List (List ℕ)) × (taken : List ℕ) × HasRead reader.old left (given ++ self.old.lines) taken }
-        ensures takes { TakesHeld kind self.new.most self.old.lines self.new.lines reader.old reader.new result }
+    // Puts lines to the end, so many, each with what ended it.
+    pub(crate) fn push_run(&mut self, run: &[u8], count: usize) -> Result<(), OutOfMemory>
+        requires run { IsRun count run.now }
+        requires apart { self.old.apart ≡ 0 }
+        requires room { length self.old.lines + count ≤ self.old.most }
+        requires small { self.old.bytes + length run.now < full_bytes }
+        ensures lines { OnOk result (self.new.lines ≡ self.old.lines ++ lines_of run.now) }
+        ensures refused { OnErr result (self.new.lines ≡ self.old.lines) }
         ensures most { self.new.most ≡ self.old.most }
-        ensures cause { result ≢ Err Fault.ReadFault }
-        ensures remaining { remaining_of reader.new ≤ remaining_of reader.old }
-        ensures bound { reader.new.most ≡ reader.old.most }
+        ensures apart { self.new.apart ≡ 0 }
     {
-        self.text.reserve(reader.rest().len())?;
-        let from = reader.front().len();
-        let taken = mark_held(reader, &mut self.marks, &self.text, kind);
-        let len = self.marks.end - self.text.len();
-        self.text
-            .extend_from_slice(&reader.front()[from..from + len])
-            .unwrap();
-        taken
+        self.page.push_run(run, count)
+    }
+
+    // Keeps the first lines, so many.
+    pub(crate) fn keep(&mut self, count: usize)
+        requires apart { self.old.apart ≡ 0 }
+        requires within { count ≤ length self.old.lines }
+        ensures lines { self.new.lines ≡ take count self.old.lines }
+        ensures most { self.new.most ≡ self.old.most }
+    {
+        self.page.keep(count);
     }
 
     /// How many lines it has.
@@ -134,12 +136,19 @@ impl Window {
         ensures within { result ≤ self.now.most }
         ensures most { self.now.most ≤ most_lines }
     {
-        self.marks.spans.len() as u32
+        (self.page.len() + self.spans.len()) as u32
     }
 
-    // How many bytes its lines have.
+    // How many lines more it takes.
+    pub(crate) fn room(&self) -> u32
+        ensures { length self.now.lines + result ≡ self.now.most }
+    {
+        self.most - self.len()
+    }
+
+    // About how many bytes its lines have.
     pub(crate) fn size(&self) -> usize {
-        self.marks.size
+        self.page.size().saturating_add(self.text.len())
     }
 
     pub fn is_empty(&self) -> bool
@@ -152,36 +161,61 @@ impl Window {
     pub fn is_full(&self) -> bool
         ensures { result ≡ is_full self.now }
     {
-        self.marks.is_full()
+        self.len() == self.most || self.has_full_bytes()
+    }
+
+    // Whether its lines have as many bytes as make it full: a page alone never has.
+    fn has_full_bytes(&self) -> bool
+        ensures yes { result ≡ true → full_bytes ≤ length (concat self.now.lines) }
+        ensures no { result ≡ false → length (concat self.now.lines) < full_bytes }
+    {
+        let size = self.page.size();
+        let page_bytes = if self.spans.is_empty() {
+            size
+        } else {
+            self.page_bytes
+        };
+        page_bytes.saturating_add(self.text.len()) >= FULL_BYTES
+    }
+
+    /// Its lines from a place on, counted from 0.
+    pub fn lines_from(&self, place: u32) -> WindowLines<'_>
+        requires { place ≤ length self.now.lines }
+        ensures { result.rest ≡ drop place self.now.lines }
+    {
+        let place = place as usize;
+        let lines = self.page.len();
+        if place < lines {
+            return WindowLines::of(
+                self.page.lines_from(place),
+                lines - place,
+                &self.text,
+                &self.spans,
+            );
+        }
+        WindowLines::of(
+            self.page.lines_from(lines),
+            0,
+            &self.text,
+            &self.spans[place - lines..],
+        )
     }
 
     /// The line at a place, counted from 0.
-    #[inline]
     pub fn line(&self, i: u32) -> &[u8]
         requires { i < length self.now.lines }
         ensures { result.now ≡ slice_index_or self.now.lines i [] }
     {
-        let span = self.marks.spans[i as usize];
-        &self.text[span.from as usize..span.to as usize]
+        self.lines_from(i).next_line()
     }
 
     /// The item of the line at a place: none where it is empty, or has to spell a number and does not.
-    #[inline]
     pub fn item(&self, i: u32, kind: Kind) -> Option<u64>
         requires { i < length self.now.lines }
         ensures value { result ≡ item_in kind (slice_index_or self.now.lines i []) }
         ensures below { IfSome result IsItem }
     {
-        let span = self.marks.spans[i as usize];
-        let place = Span {
-            from: span.from as usize,
-            to: span.to as usize,
-        };
-        if place.from == place.to {
-            None
-        } else {
-            kind.item_at(&self.text, place)
-        }
+        self.lines_from(i).next_item(kind)
     }
 
     /// Takes all lines out. The memory stays.
@@ -189,7 +223,23 @@ impl Window {
         ensures lines { self.new.lines ≡ [] }
         ensures most { self.new.most ≡ self.old.most }
     {
+        self.page.clear();
         self.text.clear();
-        self.marks.clear();
+        self.spans.clear();
     }
+}
+
+// How many bytes the lines of a page have without what ended them.
+fn bytes_of(page: &Page) -> usize
+    ensures { result ≡ length (concat page.now.lines) }
+{
+    // It tells the proof that they are few enough to be counted.
+    let _size = page.size();
+    let mut lines = page.lines_from(0);
+    let mut bytes = 0;
+    'line: for _ in 0..page.len() {
+        let span = lines.next_line();
+        bytes += span.to - span.from;
+    }
+    bytes
 }

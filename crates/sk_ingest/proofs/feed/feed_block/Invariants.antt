@@ -1,4 +1,4 @@
-use Rattle.std.proofs.Common.{ℕ, List, ◌≤◌, ◌+◌, ◌-◌, ◌++◌, length, slice_range}
+use Rattle.std.proofs.Common.{◌≡◌, ℕ, List, ◌≤◌, ◌+◌, ◌-◌, ◌++◌, length, drop, slice_range}
 use Rattle.sk_hub.specs.Updaters.{UpdaterState, kept_of}
 use Rattle.sk_ingest.specs.Windows.{items_in}
 use Rattle.sk_ingest.specs.Feeds.{Takes}
@@ -8,6 +8,7 @@ use Rattle.sk_model.specs.Limits.{most_kept}
 
 abbrev pub invariant-line : goal.invariant-line
 invariant-line g l = let k = g.C.Composable in record {
+  rest : l.lines.rest ≡ drop l.place l.w.lines;
   taken : Takes k.keeps_of k.hint_of l.initial.u (items_in l.kind (slice_range l.w.lines l.from l.place)) l.u;
   room : length (kept_of l.u) + (l.to - l.place) ≤ most_kept;
   leads : (u' : UpdaterState) (items : List ℕ) → IsFedEach (filter_of k.keeps_of k.early_of k.hint_of) l.help l.u items u' → IsFedEach (filter_of k.keeps_of k.early_of k.hint_of) l.help l.initial.u (items_in l.kind (slice_range l.w.lines l.from l.place) ++ items) u';

@@ -53,35 +53,35 @@ returns-then-not-is_good-clause-stopped g c = λ first given taken consumed has.
     (c.next.ensures.most ∙ c.piece.invariant.bound) (Consumes-trans _ _ _ _ _ consumed one.consumed) place refl
     (subst (λ l. RefusesLine c.args.kind lines (fault.BadItem n) lines l) c.line-line.ensures (refl, (bad refl).0, (bad refl).1)) one.read one.in_time
 
-pub push-requires-clause-room : goal.push-requires-clause-room
-push-requires-clause-room g c = still_unfilled c.piece.window.most c.piece.window.lines c.piece.invariant.unfilled
+pub push_line-requires-clause-room : goal.push_line-requires-clause-room
+push_line-requires-clause-room g c = still_unfilled c.piece.window.most c.piece.window.lines c.piece.invariant.unfilled
 
-pub push-requires-clause-short : goal.push-requires-clause-short
-push-requires-clause-short g c =
-    let at = (goal.at.push-requires-clause-short g c).In_ok-next in
+pub push_line-requires-clause-short : goal.push_line-requires-clause-short
+push_line-requires-clause-short g c =
+    let at = (goal.at.push_line-requires-clause-short g c).In_ok-next in
     let start = c.requires.started in
     let left = g.S.Source.left c.next.new.source in
     let one = next_line g at c.if-branch.true start.0 start.1 start.2 in
     subst (λ l. length l ≤ line_limit) (sym c.line-line.ensures) (line_short c.next.new.self (g.S.Source.left c.args.source.now) left (start.0 ++ c.piece.window.lines) c.next.new.self.cutter.line start.1 one)
 
-pub returns-in_err-push-clause-stopped : goal.returns-in_err-push-clause-stopped
-returns-in_err-push-clause-stopped g c =
-    if_err_is c.from_residual-in_err-push.result fault.OutOfMemory _ c.from_residual-in_err-push.ensures.1 (λ first given taken consumed has.
-    let at = (goal.at.returns-in_err-push-clause-stopped g c).In_ok-next in
+pub returns-in_err-push_line-clause-stopped : goal.returns-in_err-push_line-clause-stopped
+returns-in_err-push_line-clause-stopped g c =
+    if_err_is c.from_residual-in_err-push_line.result fault.OutOfMemory _ c.from_residual-in_err-push_line.ensures.1 (λ first given taken consumed has.
+    let at = (goal.at.returns-in_err-push_line-clause-stopped g c).In_ok-next in
     let lines = given ++ c.piece.window.lines in
     let line = c.next.new.self.cutter.line in
     let left = g.S.Source.left c.next.new.source in
     let one = next_line g at c.if-branch.true given taken has in
     let place = line_number c.next.new.self (g.S.Source.left c.args.source.now) left lines line taken c.next.new.self.cutter.number one refl in
-    subst (λ l. Ends Lines c.args.reader.now.most (λ x. x ≡ given ++ l) (RefusesLine c.args.kind (given ++ l)) first left fault.OutOfMemory) (sym c.in_err-push.ensures.refused)
+    subst (λ l. Ends Lines c.args.reader.now.most (λ x. x ≡ given ++ l) (RefusesLine c.args.kind (given ++ l)) first left fault.OutOfMemory) (sym c.in_err-push_line.ensures.refused)
     (line_missed (λ l. l ≡ lines) (RefusesLine c.args.kind lines) c.args.reader.now.most c.next.new.self first left lines line (taken ++ one.more) c.next.new.self.cutter.number fault.OutOfMemory
     (c.next.ensures.most ∙ c.piece.invariant.bound) (Consumes-trans _ _ _ _ _ consumed one.consumed) place tt refl one.read one.in_time))
 
 pub returns-then-is_full-clause-full : goal.returns-then-is_full-clause-full
-returns-then-is_full-clause-full g c = λ _. now_full c.piece.window c.push.new.self c.line-line.result.now c.is_full.result c.piece.invariant.unfilled c.push.ensures.most c.in_ok-push.ensures.lines c.is_full.ensures c.if-is_full.true
+returns-then-is_full-clause-full g c = λ _. now_full c.piece.window c.push_line.new.self c.line-line.result.now c.is_full.result c.piece.invariant.unfilled c.push_line.ensures.most c.in_ok-push_line.ensures.lines c.is_full.ensures c.if-is_full.true
 
 pub returns-then-is_full-clause-good : goal.returns-then-is_full-clause-good
-returns-then-is_full-clause-good g c = still_good c.args.kind c.piece.window.lines c.push.new.self.lines c.line-line.result.now c.piece.invariant.good (c.is_good.ensures.good c.if-not-is_good.false) c.in_ok-push.ensures.lines
+returns-then-is_full-clause-good g c = still_good c.args.kind c.piece.window.lines c.push_line.new.self.lines c.line-line.result.now c.piece.invariant.good (c.is_good.ensures.good c.if-not-is_good.false) c.in_ok-push_line.ensures.lines
 
 pub returns-then-is_full-clause-last : goal.returns-then-is_full-clause-last
 returns-then-is_full-clause-last g c = λ _. λ given taken has.
@@ -90,7 +90,7 @@ returns-then-is_full-clause-last g c = λ _. λ given taken has.
     let one = next_line g at c.if-branch.true given taken has in (
       lines,
       c.line-line.result.now,
-      c.in_ok-push.ensures.lines,
+      c.in_ok-push_line.ensures.lines,
       subst (λ l. ReadsLine c.next.new.self (g.S.Source.left c.args.source.now) (g.S.Source.left c.next.new.source) (given ++ lines) l taken) (sym c.line-line.ensures) one,
     )
 
@@ -103,32 +103,32 @@ at_line g c is own lines same added given taken has =
 
 pub take_held-requires-clause-unfilled : goal.take_held-requires-clause-unfilled
 take_held-requires-clause-unfilled g c =
-    now_unfilled c.piece.window c.push.new.self c.line-line.result.now c.is_full.result c.piece.invariant.unfilled c.push.ensures.most c.in_ok-push.ensures.lines c.is_full.ensures c.if-is_full.false
+    now_unfilled c.piece.window c.push_line.new.self c.line-line.result.now c.is_full.result c.piece.invariant.unfilled c.push_line.ensures.most c.in_ok-push_line.ensures.lines c.is_full.ensures c.if-is_full.false
 
 pub take_held-requires-clause-good : goal.take_held-requires-clause-good
 take_held-requires-clause-good g c =
-    still_good c.args.kind c.piece.window.lines c.push.new.self.lines c.line-line.result.now c.piece.invariant.good (c.is_good.ensures.good c.if-not-is_good.false) c.in_ok-push.ensures.lines
+    still_good c.args.kind c.piece.window.lines c.push_line.new.self.lines c.line-line.result.now c.piece.invariant.good (c.is_good.ensures.good c.if-not-is_good.false) c.in_ok-push_line.ensures.lines
 
 pub take_held-requires-clause-started : goal.take_held-requires-clause-started
 take_held-requires-clause-started g c =
     let start = c.requires.started in
-    let now = at_line g (goal.at.take_held-requires-clause-started g c).In_ok-next c.if-branch.true c.line-line.result.now c.push.new.self.lines c.line-line.ensures c.in_ok-push.ensures.lines start.0 start.1 start.2 in
+    let now = at_line g (goal.at.take_held-requires-clause-started g c).In_ok-next c.if-branch.true c.line-line.result.now c.push_line.new.self.lines c.line-line.ensures c.in_ok-push_line.ensures.lines start.0 start.1 start.2 in
     (g.S.Source.left c.next.new.source, start.0, start.1 ++ now.0, now.2)
 
 pub returns-in_err-take_held-clause-few : goal.returns-in_err-take_held-clause-few
 returns-in_err-take_held-clause-few g c = λ given taken has.
-    let now = at_line g (goal.at.returns-in_err-take_held-clause-few g c).In_ok-next c.if-branch.true c.line-line.result.now c.push.new.self.lines c.line-line.ensures c.in_ok-push.ensures.lines given taken has in
+    let now = at_line g (goal.at.returns-in_err-take_held-clause-few g c).In_ok-next c.if-branch.true c.line-line.result.now c.push_line.new.self.lines c.line-line.ensures c.in_ok-push_line.ensures.lines given taken has in
     c.take_held.ensures.takes.few (g.S.Source.left c.next.new.source) given (taken ++ now.0) now.2
 
 pub returns-in_err-take_held-clause-stopped : goal.returns-in_err-take_held-clause-stopped
 returns-in_err-take_held-clause-stopped g c =
     let why = c.in_err-take_held.field-0.0 in
     if_err_is c.from_residual-in_err-take_held.result why _ c.from_residual-in_err-take_held.ensures.1 (λ first given taken consumed has.
-    let now = at_line g (goal.at.returns-in_err-take_held-clause-stopped g c).In_ok-next c.if-branch.true c.line-line.result.now c.push.new.self.lines c.line-line.ensures c.in_ok-push.ensures.lines given taken has in
+    let now = at_line g (goal.at.returns-in_err-take_held-clause-stopped g c).In_ok-next c.if-branch.true c.line-line.result.now c.push_line.new.self.lines c.line-line.ensures c.in_ok-push_line.ensures.lines given taken has in
     let left = g.S.Source.left c.next.new.source in
-    let lines = c.take_held.new.self.lines in
+    let lines = c.take_held.new.window.lines in
     subst (λ m. Ends Lines m (λ l. l ≡ given ++ lines) (RefusesLine c.args.kind (given ++ lines)) first left why) (c.next.ensures.most ∙ c.piece.invariant.bound)
-    (held_stopped c.take_held.result why (λ e. (first left : Option (List ℕ)) (given : List (List ℕ)) (taken : List ℕ) → Consumes first left taken → HasRead c.next.new.self left (given ++ c.push.new.self.lines) taken
+    (held_stopped c.take_held.result why (λ e. (first left : Option (List ℕ)) (given : List (List ℕ)) (taken : List ℕ) → Consumes first left taken → HasRead c.next.new.self left (given ++ c.push_line.new.self.lines) taken
     → Ends Lines c.next.new.self.most (λ l. l ≡ given ++ lines) (RefusesLine c.args.kind (given ++ lines)) first left e) c.in_err-take_held.was c.take_held.ensures.takes.stopped
     first left given (taken ++ now.0) (Consumes-trans _ _ _ _ _ consumed now.1) now.2))
 
@@ -138,13 +138,13 @@ returns-then-branch-2-clause-last g c = λ _. λ given taken has.
     let yes : c.take_held.result ≡ Ok true = c.in_ok-take_held.was ∙ ap (λ (b : Bool). Ok b) c.if-branch-2.true in
     let takes = c.take_held.ensures.takes in
     let left = g.S.Source.left c.next.new.source in
-    let now = at_line g at c.if-branch.true c.line-line.result.now c.push.new.self.lines c.line-line.ensures c.in_ok-push.ensures.lines given taken has in
-    held_last c.take_held.new.reader (g.S.Source.left c.args.source.now) left given c.push.new.self.lines c.take_held.new.self.lines taken now.0 now.1 (takes.last yes) now.2.in_time
+    let now = at_line g at c.if-branch.true c.line-line.result.now c.push_line.new.self.lines c.line-line.ensures c.in_ok-push_line.ensures.lines given taken has in
+    held_last c.take_held.new.reader (g.S.Source.left c.args.source.now) left given c.push_line.new.self.lines c.take_held.new.window.lines taken now.0 now.1 (takes.last yes) now.2.in_time
     (held_on c.take_held.result true _ yes takes.read left given (taken ++ now.0) now.2)
 
 pub returns-then-branch-2-clause-few : goal.returns-then-branch-2-clause-few
 returns-then-branch-2-clause-few g c = λ given taken has.
-    let now = at_line g (goal.at.returns-then-branch-2-clause-few g c).In_ok-next c.if-branch.true c.line-line.result.now c.push.new.self.lines c.line-line.ensures c.in_ok-push.ensures.lines given taken has in
+    let now = at_line g (goal.at.returns-then-branch-2-clause-few g c).In_ok-next c.if-branch.true c.line-line.result.now c.push_line.new.self.lines c.line-line.ensures c.in_ok-push_line.ensures.lines given taken has in
     c.take_held.ensures.takes.few (g.S.Source.left c.next.new.source) given (taken ++ now.0) now.2
 
 pub piece-preserved : goal.piece-preserved
@@ -156,9 +156,9 @@ piece-preserved g c =
     record {
       unfilled = takes.unfilled (not_yet c.take_held.result no);
       good = takes.good;
-      most = c.take_held.ensures.most ∙ c.push.ensures.most ∙ inv.most;
+      most = c.take_held.ensures.most ∙ c.push_line.ensures.most ∙ inv.most;
       read = λ given taken has.
-          let now = at_line g at c.if-branch.true c.line-line.result.now c.push.new.self.lines c.line-line.ensures c.in_ok-push.ensures.lines given taken has in
+          let now = at_line g at c.if-branch.true c.line-line.result.now c.push_line.new.self.lines c.line-line.ensures c.in_ok-push_line.ensures.lines given taken has in
           (now.0, now.1, held_on c.take_held.result false _ no takes.read (g.S.Source.left c.next.new.source) given (taken ++ now.0) now.2);
       bound = c.take_held.ensures.bound ∙ c.next.ensures.most ∙ inv.bound;
       fewer = omega (arith, c.take_held.ensures.remaining, c.next.ensures.progress (c.in_ok-next.was ∙ ap (λ (b : Bool). Ok b) c.if-branch.true), inv.fewer);
@@ -192,10 +192,10 @@ returns-clause-few g c = λ given taken has.
     let before = c.piece.invariant.read given taken has in
     read_few c.piece.reader (g.S.Source.left c.piece.source) (given ++ c.piece.window.lines) (taken ++ before.0) before.2
 
-pub returns-in_err-push-clause-few : goal.returns-in_err-push-clause-few
-returns-in_err-push-clause-few g c = λ given taken has.
+pub returns-in_err-push_line-clause-few : goal.returns-in_err-push_line-clause-few
+returns-in_err-push_line-clause-few g c = λ given taken has.
     let before = c.piece.invariant.read given taken has in
-    subst (λ l. length (given ++ l) ≤ most_kept) (sym c.in_err-push.ensures.refused)
+    subst (λ l. length (given ++ l) ≤ most_kept) (sym c.in_err-push_line.ensures.refused)
     (read_few c.piece.reader (g.S.Source.left c.piece.source) (given ++ c.piece.window.lines) (taken ++ before.0) before.2)
 
 pub returns-then-is_full-clause-few : goal.returns-then-is_full-clause-few
@@ -203,5 +203,5 @@ returns-then-is_full-clause-few g c = λ given taken has.
     let at = (goal.at.returns-then-is_full-clause-few g c).In_ok-next in
     let one = next_line g at c.if-branch.true given taken has in
     let left = g.S.Source.left c.next.new.source in
-    read_few c.next.new.self left (given ++ c.push.new.self.lines) (taken ++ one.more)
-    (line_added c.next.new.self left given c.piece.window.lines c.push.new.self.lines c.next.new.self.cutter.line c.line-line.result.now (taken ++ one.more) c.line-line.ensures c.in_ok-push.ensures.lines one.read)
+    read_few c.next.new.self left (given ++ c.push_line.new.self.lines) (taken ++ one.more)
+    (line_added c.next.new.self left given c.piece.window.lines c.push_line.new.self.lines c.next.new.self.cutter.line c.line-line.result.now (taken ++ one.more) c.line-line.ensures c.in_ok-push_line.ensures.lines one.read)
