@@ -370,16 +370,6 @@ sound_over c none last =
       ended = λ _ _. none;
     }
 
-pub sound_fed : (c : Cutter) → c.hungry ≡ false → c.last ≡ Next.More → c.ended ≡ false → IsSound c
-sound_fed c fed last going = record {
-  piece = λ hungry. absurd (true≢false (sym hungry ∙ fed));
-  fits = λ hungry. absurd (true≢false (sym hungry ∙ fed));
-  number = λ n long. absurd (cc);
-  open_long = λ n long _. absurd (cc);
-  ended_long = λ n long _. absurd (cc);
-  ended = λ over _. absurd (true≢false (sym over ∙ going));
-}
-
 -- the text up to a place behind another
 pub front_more : (bytes : List ℕ) (at have end : ℕ) → at ≤ end → end < have → take (end + 1) bytes ≡ take at bytes ++ take (end - at + 1) (take (have - at) (drop at bytes))
 front_more bytes at have end from text =

@@ -1,5 +1,6 @@
 -- What contracts see of a reader of lines.
-use Rattle.std.specs.Prelude.{◌≡◌, ◌≢◌, ℕ, ◌+◌, ◌-◌, ◌^◌, ◌<◌, ◌≤◌, min, ◌⊎◌, Bool, true, false, List, [], ◌∷◌, ◌++◌, All, length, take, drop}
+use Rattle.std.specs.Prelude.{◌≡◌, ◌≢◌, ℕ, ◌+◌, ◌-◌, ◌^◌, ◌<◌, ◌≤◌, min, ◌⊎◌, Bool, true, false, List, [], ◌∷◌, ◌++◌, All, length, take, drop, Option, Result, Ok, Err}
+use Rattle.std.specs.Io.KnownBytes.{Consumes, IsAtEnd, Keeps}
 use Rattle.std.specs.Str.Lines.{strip_carriage_return}
 use Rattle.sk_model.specs.Lines.{lines_of, open_lines_of, AreWithin, IsFirstLong}
 use Rattle.sk_lines.specs.declared.cutter.Ending.{Ending}
@@ -63,6 +64,22 @@ pub record Follows (c : Cutter) (given : List (List ℕ)) (text : List ℕ) : Ty
   pub lines : lines_of front ≡ given
   pub count : c.number ≡ counted (length given)
   pub within : AreWithin c.limit given
+
+-- a piece of the text was taken, maybe of no bytes
+pub record TakesPiece (old new : Cutter) (piece : List ℕ) : Type 0 where
+  pub follows : (given : List (List ℕ)) (text : List ℕ) → Follows old given text → Follows new given (text ++ piece)
+  pub front : new.front ≡ []
+  pub rest : new.rest ≡ old.rest ++ piece
+  pub number : new.number ≡ old.number
+  pub ending : new.ending ≡ old.ending
+  pub last : new.last ≡ Next.More
+  pub limit : new.limit ≡ old.limit
+  pub ended : new.ended ≡ false
+
+-- these bytes were read of a source, none only at its end: where the read failed there are none
+abbrev pub IsRead : {E : Type 0} → Option (List ℕ) → Option (List ℕ) → Result ℕ E → List ℕ → Type 0
+IsRead old new (Ok n) more = (length more ≡ n) × Consumes old new more × (n ≡ 0 → IsAtEnd new)
+IsRead old new (Err why) more = (more ≡ []) × Keeps old new
 
 -- the next line was given
 pub record GivesLine (old new : Cutter) : Type 0 where

@@ -1,3 +1,4 @@
+pub use Rattle.sk_model.specs.Causes
 pub use Rattle.sk_model.specs.Lines
 pub use Rattle.sk_model.specs.Numbers
 pub use Rattle.sk_model.specs.Width
@@ -6,6 +7,7 @@ pub mod Fractions
 pub mod Hashes
 pub mod Inside
 pub mod Marks
+pub mod Padded
 pub mod Pages
 pub mod Runs
 pub mod ShortNumbers

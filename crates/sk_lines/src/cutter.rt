@@ -1,14 +1,17 @@
 // Lines cut out of pieces of a text.
-ghost use Rattle.std.specs.Prelude.{◌≡◌, ◌≢◌, ◌↔◌, ◌+◌, ◌-◌, ◌^◌, ◌<◌, ◌≤◌, ℕ, List, [], ◌++◌, length, replicate, slice_range, take, vec_len, vec_capacity, IfOk, true, false};
+ghost use Rattle.std.specs.Prelude.{◌≡◌, ◌≢◌, ◌↔◌, ◌⊎◌, ◌+◌, ◌<◌, ◌≤◌, ℕ, List, [], ◌++◌, length, slice_range, take, Ok, IfOk, IsErr, IsErrOf, true, false};
 ghost use Rattle.std.specs.Str.Lines.{strip_carriage_return};
+ghost use Rattle.sk_model.specs.Causes.{HasCauseIn};
 ghost use Rattle.sk_model.specs.Lines.{lines_of, open_lines_of, IsFirstLong};
 ghost use Rattle.sk_lines.specs.Runs.{GivesRun, GivesNone};
 ghost use Rattle.sk_lines.specs.Spans.{GivesLines, HasNoShortLine};
-ghost use Rattle.sk_lines.specs.Cutter.{Follows, GivesLine, GivesLast, Waits, IsLongAfter, HasNoLf, counted, is_long};
+ghost use Rattle.sk_lines.specs.Cutter.{Follows, IsRead, TakesPiece, GivesLine, GivesLast, Waits, IsLongAfter, HasNoLf, counted, is_long};
 
 use crate::marks::{BLOCK, seek, take_lf};
+use crate::padded::Padded;
 use crate::runs::skip_lfs;
 use crate::spans::{GROUP, Span, cut_lines, find_ends};
+use sk_io::{BoundFault, Source};
 use sk_model::OutOfMemory;
 use std::alloc::Global;
 use std::marker::Model;
@@ -48,8 +51,8 @@ pub enum Ending {
 #[derive(Drop)]
 pub struct Lines {
     limit: usize,
-    // The text that is held, and a block of zeros, so that each block of the text may be read.
-    buffer: Vec<u8>,
+    // The text that is held.
+    buffer: Padded,
     // Where the bytes begin that no line given has.
     at: usize,
     // How far LFs were sought, and those of the block before that place which lie behind `at`.
@@ -65,8 +68,7 @@ pub struct Lines {
 }
 
 impl Model for Lines {
-    ghost use Rattle.std.specs.Prelude.{◌+◌, ◌-◌, ◌≤◌, ℕ, drop, take, vec_len, vec_capacity};
-    ghost use Rattle.sk_lines.specs.Cutter.{Cutter, IsSound};
+    ghost use Rattle.sk_lines.specs.Cutter.{Cutter};
 
     ghost Value = { Cutter };
 
@@ -92,7 +94,7 @@ impl Lines {
     {
         Ok(Lines {
             limit,
-            buffer: empty_buffer(alloc, limit + 1 + MOST_PIECE)?,
+            buffer: Padded::new(alloc, limit + 1 + MOST_PIECE)?,
             at: 0,
             scanned: 0,
             marks: 0,
@@ -122,14 +124,48 @@ impl Lines {
         ensures fed { self.new.hungry ≡ false }
         ensures ended { self.new.ended ≡ false }
     {
-        self.scanned = self.buffer.len() - BLOCK - self.at;
+        self.drop_given();
+        self.scanned = self.buffer.len() - BLOCK;
         self.marks = 0;
-        refill(&mut self.buffer, self.at, piece);
-        self.at = 0;
-        self.line_start = 0;
-        self.line_end = 0;
+        self.buffer.push(piece);
         self.last = Next::More;
         self.hungry = false;
+    }
+
+    /// Reads the next piece of the text from a source, at most `MOST_PIECE` bytes and at most `room`, and
+    /// answers how many they are: none only at the source's end. Where none may be read it answers `TooMuch`.
+    /// A read that fails takes none.
+    pub fn feed_from<S: Source>(&mut self, source: &mut S, room: u64) -> Result<usize, BoundFault>
+        requires hungry { self.old.hungry ≡ true }
+        requires not_ended { self.old.ended ≡ false }
+        ensures read { (more : List ℕ) × IsRead (S.left source.old) (S.left source.new) result more × TakesPiece self.old self.new more }
+        ensures hungry { (self.new.hungry ≡ true) ↔ (IsErr result ⊎ (result ≡ Ok 0)) }
+        ensures most { IfOk result (λ n. n ≤ MOST_PIECE) }
+        ensures room { IfOk result (λ n. n ≤ room) }
+        ensures too_much { IsErrOf result BoundFault.TooMuch ↔ (room ≡ 0) }
+        ensures cause { HasCauseIn BoundFault.ReadFault (S.faults source.old) (S.faults source.new) result }
+        ensures stays { S.stands_on source.new ≡ S.stands_on source.old }
+    {
+        self.drop_given();
+        self.scanned = self.buffer.len() - BLOCK;
+        self.marks = 0;
+        let read = self.buffer.read(source, room);
+        self.last = Next::More;
+        self.hungry = read.unwrap_or(0) == 0;
+        read
+    }
+
+    // Drops the lines that were given, so that what is left lies at the front.
+    fn drop_given(&mut self)
+        requires { self.old.hungry ≡ true }
+        ensures { self.new ≡ record self.old { front = []; line = [] } }
+    {
+        self.buffer.drop_front(self.at);
+        self.at = 0;
+        self.scanned = 0;
+        self.marks = 0;
+        self.line_start = 0;
+        self.line_end = 0;
     }
 
     /// The next line. It is `Long` as soon as the bytes fed tell it, and from then on always.
@@ -158,14 +194,14 @@ impl Lines {
         if let Next::Long(_) = self.last {
             return self.last;
         }
-        let (scanned, marks) = seek(&self.buffer, self.scanned, self.marks);
+        let (scanned, marks) = seek(self.buffer.bytes(), self.scanned, self.marks);
         if marks == 0 {
             self.scanned = scanned;
             self.marks = 0;
             return self.rest_is_open();
         }
         let (end, marks) = take_lf(scanned, marks);
-        let len = line_len(&self.buffer, self.at, end);
+        let len = line_len(self.buffer.bytes(), self.at, end);
         if len > self.limit {
             return self.stop();
         }
@@ -197,8 +233,8 @@ impl Lines {
         if self.ended || self.hungry || matches!(self.last, Next::Long(_)) {
             return 0;
         }
-        let found = find_ends(&self.buffer, self.at, spans);
-        let (count, at) = cut_lines(&self.buffer, self.at, self.limit, spans, found);
+        let found = find_ends(self.buffer.bytes(), self.at, spans);
+        let (count, at) = cut_lines(self.buffer.bytes(), self.at, self.limit, spans, found);
         self.at = at;
         self.scanned = at;
         self.marks = 0;
@@ -222,7 +258,7 @@ impl Lines {
         if held > self.limit {
             return 0;
         }
-        let (count, at) = skip_lfs(&self.buffer, self.at, most);
+        let (count, at) = skip_lfs(self.buffer.bytes(), self.at, most);
         self.at = at;
         self.scanned = at;
         self.marks = 0;
@@ -251,7 +287,7 @@ impl Lines {
         ensures ending { self.new.ending ≡ self.old.ending }
     {
         let text_end = self.buffer.len() - BLOCK;
-        if line_len(&self.buffer, self.at, text_end) > self.limit {
+        if line_len(self.buffer.bytes(), self.at, text_end) > self.limit {
             return self.stop();
         }
         self.hungry = true;
@@ -330,7 +366,7 @@ impl Lines {
         requires { self.now.last ≡ Next.Line }
         ensures { result.now ≡ self.now.line }
     {
-        &self.buffer[self.line_start..self.line_end]
+        &self.buffer.bytes()[self.line_start..self.line_end]
     }
 
     /// The bytes of the lines that were given since the last piece was fed, with what ended them.
@@ -338,14 +374,14 @@ impl Lines {
     pub fn front(&self) -> &[u8]
         ensures { result.now ≡ self.now.front }
     {
-        &self.buffer[..self.at]
+        &self.buffer.bytes()[..self.at]
     }
 
     /// The bytes that no line given has.
     pub fn rest(&self) -> &[u8]
         ensures { result.now ≡ self.now.rest }
     {
-        &self.buffer[self.at..self.buffer.len() - BLOCK]
+        &self.buffer.bytes()[self.at..self.buffer.len() - BLOCK]
     }
 
     /// How many lines were given. The count stops at the largest `u64`.
@@ -361,33 +397,6 @@ impl Lines {
     {
         self.ending
     }
-}
-
-// A buffer without a text, and with room for one of `room` bytes.
-fn empty_buffer(alloc: Global, room: usize) -> Result<Vec<u8>, OutOfMemory>
-    requires { room ≤ 2 ^ 32 }
-    ensures capacity { IfOk result (λ buffer. room + BLOCK ≤ vec_capacity buffer) }
-    ensures items { IfOk result (λ buffer. buffer.items ≡ replicate 64 0) }
-    ensures len { IfOk result (λ buffer. vec_len buffer ≡ BLOCK) }
-{
-    let mut buffer = Vec::with_capacity(alloc, room + BLOCK)?;
-    buffer.extend_from_slice(&[0; BLOCK])?;
-    Ok(buffer)
-}
-
-// Puts a piece behind the text that a buffer holds from `at` on, and moves that to its front.
-fn refill(buffer: &mut Vec<u8>, at: usize, piece: &[u8])
-    requires padded { at + BLOCK ≤ vec_len buffer.old }
-    requires room { vec_len buffer.old + length piece.now ≤ vec_capacity buffer.old + at }
-    ensures items { buffer.new.items
-        ≡ (slice_range buffer.old.items at (vec_len buffer.old - BLOCK) ++ piece.now) ++ replicate 64 0 }
-    ensures capacity { vec_capacity buffer.old ≤ vec_capacity buffer.new }
-{
-    let len = buffer.len() - BLOCK;
-    buffer.copy_within(at..len, 0);
-    buffer.truncate(len - at);
-    buffer.extend_from_slice(piece).unwrap();
-    buffer.extend_from_slice(&[0; BLOCK]).unwrap();
 }
 
 // How many bytes the line from `at` up to `end` has without the CR at its end.

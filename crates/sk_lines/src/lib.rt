@@ -6,6 +6,7 @@ mod decimals;
 mod hashes;
 pub mod laws;
 mod marks;
+mod padded;
 mod page;
 mod runs;
 mod short_numbers;

@@ -4,6 +4,7 @@ ghost use Rattle.sk_model.specs.Lines.{lines_of, open_lines_of};
 ghost use Rattle.sk_lines.specs.Cutter.{Follows, IsLongAfter};
 
 use super::*;
+use sk_io::{BoundFault, MemSource};
 use sk_model::limits::ITEM_DIGITS;
 use std::alloc::Global;
 use std::test::Fail;
@@ -302,6 +303,26 @@ fn ending_behind(lines: &mut Lines, piece: &[u8]) -> Ending
 {
     lines.feed(piece);
     lines.ending()
+}
+
+// A read that fails in mid-stream leaves what is held, and the next goes on behind it.
+#[test]
+fn lines_of_a_source_that_fails(rt: HostRuntime) -> Result<(), Fail> {
+    let alloc = rt.alloc();
+    let mut source = MemSource::new(b"ab\ncde".to_vec(alloc)?, 4, [1].to_vec(alloc)?);
+    let mut lines = Lines::new(alloc, 4)?;
+    assert_eq!(rt; lines.feed_from(&mut source, 9), Ok(4));
+    assert_eq!(rt; lines.next(), Next::Line);
+    if lines.next() == Next::More {
+        let answer = lines.feed_from(&mut source, 9);
+        assert_eq!(rt; answer, Err(BoundFault::ReadFault));
+        if answer.is_err() {
+            assert_eq!(rt; lines.rest(), b"c".as_slice());
+            assert_eq!(rt; lines.feed_from(&mut source, 1), Ok(1));
+            assert_eq!(rt; lines.rest(), b"cd".as_slice());
+        }
+    }
+    Ok(())
 }
 
 // How a line ended, told behind the piece that follows it.

@@ -10,15 +10,12 @@ ghost use Rattle.sk_lines.specs.declared.cutter.Next.TheVariants as next;
 ghost use Rattle.sk_read.specs.Reading.{HasGiven, GivesLine, HasRead, Goes, GoesHeld, MovesOn, Stands, IsLongNext, IsLongLast, Feeds, remaining_of};
 ghost use Rattle.sk_model.specs.Limits.{source_limit};
 
-use sk_io::{BoundFault, Source, read_within};
+use sk_io::{BoundFault, Source};
 use sk_lines::{GROUP, Lines, Next, Span};
 use sk_model::OutOfMemory;
 use sk_model::limits::LINE_LIMIT;
 use std::alloc::Global;
 use std::marker::Model;
-
-// The most bytes that one read is asked for.
-pub(crate) const PIECE_LEN: usize = 65_536;
 
 /// Why the lines of a source end before it does.
 #[derive(Clone, Copy, Debug, PartialEq, Eq)]
@@ -48,7 +45,6 @@ impl From<BoundFault> for LineFault {
 #[derive(Drop)]
 pub struct LineReader {
     lines: Lines,
-    piece: [u8; PIECE_LEN],
     taken: u64,
     most: u64,
     ended: bool,
@@ -75,7 +71,6 @@ impl LineReader {
     {
         Ok(LineReader {
             lines: Lines::new(alloc, LINE_LIMIT)?,
-            piece: [0; PIECE_LEN],
             taken: 0,
             most,
             ended: false,
@@ -88,21 +83,17 @@ impl LineReader {
         requires open { self.old.ended ≡ false }
         ensures fed { IfOk result (λ fed. (more : List ℕ) × Consumes (S.left source.old) (S.left source.new) more × Feeds self.old self.new more) }
         ensures some { result ≡ Ok true → (self.old.taken < self.new.taken) × (self.new.taken ≤ self.new.most) }
-        ensures end { result ≡ Ok false → IsAtEnd (S.left source.new) × (self.new ≡ self.old) × (self.new.taken < self.new.most) }
+        ensures end { result ≡ Ok false → IsAtEnd (S.left source.new) × (self.new.cutter.hungry ≡ true) × (self.new.taken < self.new.most) }
         ensures read_fault { IsErrOf result LineFault.ReadFault → (self.old.taken < self.old.most) }
         ensures too_much { IsErrOf result LineFault.TooMuch → self.old.taken ≡ self.old.most }
-        ensures err { OnErr result ((self.new ≡ self.old) × Keeps (S.left source.old) (S.left source.new)) }
+        ensures err { OnErr result ((self.new.most ≡ self.old.most) × Keeps (S.left source.old) (S.left source.new)) }
         ensures no_long { (n : ℕ) → result ≢ Err (LineFault.LongLine n) }
         ensures cause { HasCauseIn LineFault.ReadFault (S.faults source.old) (S.faults source.new) result }
         ensures stays { S.stands_on source.new ≡ S.stands_on source.old }
     {
-        let n = read_within(source, &mut self.piece, self.most - self.taken)?;
-        if n == 0 {
-            return Ok(false);
-        }
-        self.lines.feed(&self.piece[..n]);
+        let n = self.lines.feed_from(source, self.most - self.taken)?;
         self.taken += n as u64;
-        Ok(true)
+        Ok(n > 0)
     }
 }
 

@@ -8,10 +8,13 @@ ghost use Rattle.sk_read.specs.Parts.{HasStarted, HasTaken, HasHeld, Holds, Lack
 ghost use Rattle.sk_model.specs.Limits.{source_limit};
 
 use crate::fault::Fault;
-use crate::reader::{LineFault, PIECE_LEN};
+use crate::reader::LineFault;
 use crate::records::scan::{ScanState, scan};
 use sk_io::{Source, read_within};
 use std::alloc::Global;
+
+// The most bytes that one read is asked for.
+const PIECE_LEN: usize = 65_536;
 
 // The bytes of the byte order mark, U+FEFF in UTF-8.
 const MARK: [u8; 3] = [0xEF, 0xBB, 0xBF];

@@ -1,4 +1,4 @@
-use Rattle.std.proofs.Common.{◌≡◌, ℕ, ◌-◌, ◌<◌, ◌≤◌, length, take, drop, vec_len, refl, sym, ap, ◌∙◌, subst, arith}
+use Rattle.std.proofs.Common.{◌≡◌, ℕ, ◌-◌, ◌<◌, ◌≤◌, length, take, drop, refl, sym, ap, ◌∙◌, subst, arith}
 use Rattle.std.proofs.lemmas.List.{nil_from_length}
 use Rattle.sk_lines.proofs.Places as places
 use Rattle.sk_lines.specs.Inside.{cutter_of}
@@ -54,14 +54,14 @@ invariant_of-self-then-len-self c =
       block = kept.block;
       marks = kept.marks;
       sound = steps.sound_end_long (cutter_of a) c.saturating_add.result (omega (arith, c.saturating_add.ensures)) kept.sound hungry
-          (omega (arith, c.if-len-self.true, c.len-text_end.ensures, steps.length_rest a.buffer.items a.at (vec_len a.buffer - 64) (omega (arith, c.self.invariant.at)) (omega (arith, a.buffer.ok.0))));
+          (omega (arith, c.if-len-self.true, c.len-text_end.ensures, steps.length_rest a.buffer.items a.at (length a.buffer.items - 64) (omega (arith, c.self.invariant.at)) (omega arith)));
     }
 
 pub returns-then-len-self-clause-more : goal.returns-then-len-self-clause-more
 returns-then-len-self-clause-more c =
     let a = c.self.inside in
     let rest = ap (λ (x : Cutter). x.rest) c.self.view_is in
-    (λ more. absurd (cc), λ none. absurd (omega (arith, ap length (rest ∙ none), c.if-len-self.true, c.len-text_end.ensures, steps.length_rest a.buffer.items a.at (vec_len a.buffer - 64) (omega (arith, c.self.invariant.at)) (omega (arith, a.buffer.ok.0)))))
+    (λ more. absurd (cc), λ none. absurd (omega (arith, ap length (rest ∙ none), c.if-len-self.true, c.len-text_end.ensures, steps.length_rest a.buffer.items a.at (length a.buffer.items - 64) (omega (arith, c.self.invariant.at)) (omega arith))))
 
 pub returns-then-len-self-clause-long : goal.returns-then-len-self-clause-long
 returns-then-len-self-clause-long c =
@@ -70,7 +70,7 @@ returns-then-len-self-clause-long c =
     let is = c.self.view_is in
     let sound = subst IsSound is c.self.invariant.sound in
     let over : old.limit < length old.rest =
-    omega (arith, ap (λ (x : Cutter). length x.rest) is, ap (λ (x : Cutter). x.limit) is, c.if-len-self.true, c.len-text_end.ensures, steps.length_rest a.buffer.items a.at (vec_len a.buffer - 64) (omega (arith, c.self.invariant.at)) (omega (arith, a.buffer.ok.0))) in
+    omega (arith, ap (λ (x : Cutter). length x.rest) is, ap (λ (x : Cutter). x.limit) is, c.if-len-self.true, c.len-text_end.ensures, steps.length_rest a.buffer.items a.at (length a.buffer.items - 64) (omega (arith, c.self.invariant.at)) (omega arith)) in
     λ n same. let value : c.saturating_add.result ≡ n = cc in
     steps.is_long_ended old n (omega (arith, value, c.saturating_add.ensures, ap (λ (x : Cutter). x.number) is))
     (steps.long_at_end old.limit old.rest (sound.piece c.requires) over)
@@ -79,7 +79,7 @@ pub invariant_of-self-then-len-eq0 : goal.invariant_of-self-then-len-eq0
 invariant_of-self-then-len-eq0 c =
     let a = c.self.inside in
     let kept = c.self.invariant in
-    let size = steps.length_rest a.buffer.items a.at (vec_len a.buffer - 64) (omega (arith, kept.at)) (omega (arith, a.buffer.ok.0)) in
+    let size = steps.length_rest a.buffer.items a.at (length a.buffer.items - 64) (omega (arith, kept.at)) (omega arith) in
     record {
       low = kept.low;
       high = kept.high;
@@ -99,7 +99,7 @@ invariant_of-self-2 c =
     let a = c.self.inside in
     let kept = c.self.invariant in
     let end : ℕ = c.len-text_end.result - 64 in
-    let size = steps.length_rest a.buffer.items end (vec_len a.buffer - 64) (omega (arith, c.len-text_end.ensures)) (omega (arith, a.buffer.ok.0)) in
+    let size = steps.length_rest a.buffer.items end (length a.buffer.items - 64) (omega (arith, c.len-text_end.ensures)) (omega arith) in
     record {
       low = kept.low;
       high = kept.high;
@@ -122,7 +122,7 @@ returns-clause-line c =
     let sound = subst IsSound is c.self.invariant.sound in
     let end = c.len-text_end.ensures in
     let rest = ap (λ (x : Cutter). x.rest) is in
-    let size = steps.length_rest a.buffer.items a.at (vec_len a.buffer - 64) (omega (arith, c.self.invariant.at)) (omega (arith, a.buffer.ok.0)) in
+    let size = steps.length_rest a.buffer.items a.at (length a.buffer.items - 64) (omega (arith, c.self.invariant.at)) (omega arith) in
     let long : length old.rest ≡ c.len-text_end.result - 64 - a.at = omega (arith, ap length rest, size, end) in
     let some : 0 < length old.rest = omega (arith, c.if-len-eq0.false) in
     let fits : length old.rest ≤ old.limit = omega (arith, c.if-len-self.false, ap (λ (x : Cutter). x.limit) is) in
@@ -141,5 +141,5 @@ pub returns-clause-more : goal.returns-clause-more
 returns-clause-more c =
     let a = c.self.inside in
     let rest = ap (λ (x : Cutter). x.rest) c.self.view_is in
-    let size = steps.length_rest a.buffer.items a.at (vec_len a.buffer - 64) (omega (arith, c.self.invariant.at)) (omega (arith, a.buffer.ok.0)) in
+    let size = steps.length_rest a.buffer.items a.at (length a.buffer.items - 64) (omega (arith, c.self.invariant.at)) (omega arith) in
     (λ more. absurd (cc), λ none. absurd (omega (arith, ap length (rest ∙ none), c.if-len-eq0.false, c.len-text_end.ensures, size)))

@@ -1,33 +1,26 @@
-use Rattle.std.proofs.Common.{◌≡◌, ℕ, ◌+◌, ◌-◌, ◌<◌, List, ◌++◌, length, replicate, vec_len, refl, sym, ap, ◌∙◌, arith}
-use Rattle.sk_lines.specs.Inside.{cutter_of}
+use Rattle.std.proofs.Common.{◌≡◌, ◌-◌, ◌++◌, false, sym, ap, ◌∙◌, subst, arith}
+use Rattle.std.proofs.lemmas.Bool.{false≢true}
+use Rattle.sk_lines.specs.declared.cutter.Next.{Next}
 use Rattle.sk_lines.specs.Cutter.{Cutter}
-use Rattle.sk_lines.proofs.Places as places
-use Rattle.sk_lines.proofs.Steps as steps
+use Rattle.sk_lines.specs.Inside.{cutter_of, IsKept}
+use Rattle.sk_lines.specs.Padded.{PaddedState}
+use Rattle.sk_lines.proofs.Feeding.{at_front, fed_kept, fed_rest, follows_more}
 use Rattle.sk_lines.proofs.cutter.Lines.feed.Goals as goal
 
 pub invariant_of-self : goal.invariant_of-self
 invariant_of-self c =
     let a = c.self.inside in
-    let kept = c.self.invariant in
-    let hungry = ap (λ (x : Cutter). x.hungry) c.self.view_is ∙ c.requires.hungry in
-    let front : List ℕ = (cutter_of a).rest in
-    let bytes : List ℕ = c.refill.new.buffer.items in
-    let items : bytes ≡ (front ++ c.args.piece.now) ++ replicate 64 0 = c.refill.ensures.items in
-    let text : length bytes ≡ length front + length c.args.piece.now + 64 = places.length_padded bytes front c.args.piece.now items in
-    let whole = c.refill.new.buffer.ok.0 in
-    let size : length front ≡ vec_len a.buffer - 64 - a.at = steps.length_rest a.buffer.items a.at (vec_len a.buffer - 64) (omega (arith, kept.at)) (omega (arith, a.buffer.ok.0)) in
-    record {
-      low = kept.low;
-      high = kept.high;
-      room = omega (arith, kept.room, c.refill.ensures.capacity);
-      at = omega arith;
-      zeros = λ i past. places.padding_behind bytes (front ++ c.args.piece.now) i items (omega arith);
-      line_start = omega arith;
-      line_end = omega arith;
-      scanned = omega (arith, c.len.ensures);
-      block = λ some. absurd (some refl);
-      marks = places.known_none bytes 0 _ (omega arith) (λ i _ before lf.
-          let below : i < length front = omega (arith, c.len.ensures) in
-          kept.sound.piece hungry i 0 below (sym (places.kept_in_front bytes front c.args.piece.now i items below) ∙ lf));
-      sound = steps.sound_fed _ refl refl (ap (λ (x : Cutter). x.ended) c.self.view_is ∙ c.requires.not_ended);
-    }
+    let is = c.self.view_is ∙ c.drop_given.ensures in
+    let start = at_front a c.self.invariant (ap (λ (x : Cutter). x.front) is) in
+    subst (λ (b : PaddedState). IsKept (record a { buffer = b; scanned = c.len.result - 64; marks = 0; last = Next.More; hungry = false })) (sym c.push.ensures)
+    (fed_kept a c.args.piece.now c.self.invariant start (c.len.result - 64) false (ap (λ (x : Cutter). x.hungry) is ∙ c.requires.hungry) (ap (λ (x : Cutter). x.ended) is ∙ c.requires.not_ended)
+    (omega (arith, c.len.ensures)) (λ same. absurd (false≢true same)))
+
+pub returns-clause-follows : goal.returns-clause-follows
+returns-clause-follows c =
+    let a = c.self.inside in
+    let is = c.self.view_is ∙ c.drop_given.ensures in
+    let start = at_front a c.self.invariant (ap (λ (x : Cutter). x.front) is) in
+    let new : Cutter = cutter_of (record a { buffer = c.push.new.self; scanned = c.len.result - 64; marks = 0; last = Next.More; hungry = false }) in
+    let rest : new.rest ≡ (cutter_of a).rest ++ c.args.piece.now = ap (λ (b : PaddedState). (cutter_of (record a { buffer = b })).rest) c.push.ensures ∙ fed_rest a c.args.piece.now c.self.invariant start in
+    follows_more c.args.self.now new c.args.piece.now (rest ∙ ap (λ (x : Cutter). x.rest ++ c.args.piece.now) is) (ap (λ (x : Cutter). x.number) is) (ap (λ (x : Cutter). x.limit) is)

@@ -1,4 +1,4 @@
-use Rattle.std.proofs.Common.{◌≡◌, ℕ, ◌+◌, ◌-◌, ◌≤◌, ◌++◌, false, true≢false, List, length, take, drop, vec_len, refl, sym, ap, ◌∙◌, subst, arith, take-take, length-take}
+use Rattle.std.proofs.Common.{◌≡◌, ℕ, ◌+◌, ◌-◌, ◌≤◌, ◌++◌, false, true≢false, List, length, take, drop, refl, sym, ap, ◌∙◌, subst, arith, take-take, length-take}
 use Rattle.std.specs.Str.Lines.{strip_carriage_return}
 use Rattle.sk_model.specs.Lines.{open_lines_of}
 use Rattle.sk_model.proofs.Lines.{length-strip}
@@ -22,7 +22,7 @@ pub invariant_of-self : goal.invariant_of-self
 invariant_of-self c =
     let a = c.self.inside in
     let kept = c.self.invariant in
-    let known = places.sought _ a.buffer.items a.at a.scanned a.marks _ _ c.deref.ensures.value kept.marks c.seek-scanned.ensures.known in
+    let known = places.sought _ a.buffer.items a.at a.scanned a.marks _ _ c.bytes.ensures kept.marks c.seek-scanned.ensures.known in
     record {
       low = kept.low;
       high = kept.high;
@@ -31,7 +31,7 @@ invariant_of-self c =
       zeros = kept.zeros;
       line_start = kept.line_start;
       line_end = kept.line_end;
-      scanned = omega (arith, c.seek-scanned.ensures.bound, c.deref.ensures.len);
+      scanned = omega (arith, c.seek-scanned.ensures.bound, ap length c.bytes.ensures);
       block = λ some. absurd (some refl);
       marks = subst (KnowsLfs a.buffer.items a.at c.seek-scanned.result.0) c.if-marks-eq0.true known;
       sound = kept.sound;
@@ -42,11 +42,11 @@ rest_is_open-requires c =
     let a = c.self.inside in
     let kept = c.self.invariant in
     let known = subst (KnowsLfs a.buffer.items a.at c.seek-scanned.result.0) c.if-marks-eq0.true
-    (places.sought _ a.buffer.items a.at a.scanned a.marks _ _ c.deref.ensures.value kept.marks c.seek-scanned.ensures.known) in
+    (places.sought _ a.buffer.items a.at a.scanned a.marks _ _ c.bytes.ensures kept.marks c.seek-scanned.ensures.known) in
     let whole = c.seek-scanned.ensures.none c.if-marks-eq0.true in
     record {
-      piece = steps.no_lf_in_rest a.buffer.items a.at (vec_len a.buffer - 64) (omega (arith, kept.at)) (omega (arith, a.buffer.ok.0))
-          (λ i from below. places.no_lf_known a.buffer.items a.at c.seek-scanned.result.0 i known from (omega (arith, whole, c.deref.ensures.len)));
+      piece = steps.no_lf_in_rest a.buffer.items a.at (length a.buffer.items - 64) (omega (arith, kept.at)) (omega arith)
+          (λ i from below. places.no_lf_known a.buffer.items a.at c.seek-scanned.result.0 i known from (omega (arith, whole, ap length c.bytes.ensures)));
       not_long = steps.not_long a.last c.in_default.not-Long;
     }
 
@@ -63,19 +63,19 @@ pub line_len-len-requires : goal.line_len-len-requires
 line_len-len-requires c =
     let a = c.self.inside in
     let kept = c.self.invariant in
-    let known = places.sought _ a.buffer.items a.at a.scanned a.marks _ _ c.deref.ensures.value kept.marks c.seek-scanned.ensures.known in
+    let known = places.sought _ a.buffer.items a.at a.scanned a.marks _ _ c.bytes.ensures kept.marks c.seek-scanned.ensures.known in
     let end : ℕ = c.take_lf-end.result.0 in
-    let f = steps.found_line a.buffer.items a.at (vec_len a.buffer) end c.seek-scanned.result.0 c.take_lf-end.result.1 kept.at (omega (arith, a.buffer.ok.0)) kept.zeros
+    let f = steps.found_line a.buffer.items a.at (length a.buffer.items) end c.seek-scanned.result.0 c.take_lf-end.result.1 kept.at (omega arith) kept.zeros
     (c.take_lf-end.ensures a.buffer.items a.at known) in
-    record { from = f.from; within = omega (arith, f.text, c.deref-2.ensures.len) }
+    record { from = f.from; within = omega (arith, f.text, ap length c.bytes-2.ensures) }
 
 pub stop-requires : goal.stop-requires
 stop-requires c =
     let a = c.self.inside in
     let kept = c.self.invariant in
-    let known = places.sought _ a.buffer.items a.at a.scanned a.marks _ _ c.deref.ensures.value kept.marks c.seek-scanned.ensures.known in
+    let known = places.sought _ a.buffer.items a.at a.scanned a.marks _ _ c.bytes.ensures kept.marks c.seek-scanned.ensures.known in
     let end : ℕ = c.take_lf-end.result.0 in
-    let f = steps.found_line a.buffer.items a.at (vec_len a.buffer) end c.seek-scanned.result.0 c.take_lf-end.result.1 kept.at (omega (arith, a.buffer.ok.0)) kept.zeros
+    let f = steps.found_line a.buffer.items a.at (length a.buffer.items) end c.seek-scanned.result.0 c.take_lf-end.result.1 kept.at (omega arith) kept.zeros
     (c.take_lf-end.ensures a.buffer.items a.at known) in
     let old = c.args.self.now in
     let is = c.self.view_is in
@@ -83,7 +83,7 @@ stop-requires c =
     let going : is_long old.last ≡ false = ap (λ (x : Cutter). is_long x.last) (sym is) ∙ steps.not_long a.last c.in_default.not-Long in
     let lf : HasLfAt old.rest (end - a.at) = subst (λ (x : Cutter). HasLfAt x.rest (end - a.at)) is f.lf in
     let line : length (strip_carriage_return (take (end - a.at) old.rest)) ≡ c.line_len-len.result =
-    sym (c.line_len-len.ensures ∙ ap (λ (l : List ℕ). length (strip_carriage_return (take (end - a.at) (drop a.at l)))) c.deref-2.ensures.value
+    sym (c.line_len-len.ensures ∙ ap (λ (l : List ℕ). length (strip_carriage_return (take (end - a.at) (drop a.at l)))) c.bytes-2.ensures
     ∙ ap (λ (l : List ℕ). length (strip_carriage_return l)) (sym f.piece) ∙ ap (λ (x : Cutter). length (strip_carriage_return (take (end - a.at) x.rest))) is) in
     record {
       going_on = steps.goes_on old sound going (omega (arith, lf.within));
@@ -100,9 +100,9 @@ pub overflow_sub-end : goal.overflow_sub-end
 overflow_sub-end c =
     let a = c.self.inside in
     let kept = c.self.invariant in
-    let known = places.sought _ a.buffer.items a.at a.scanned a.marks _ _ c.deref.ensures.value kept.marks c.seek-scanned.ensures.known in
+    let known = places.sought _ a.buffer.items a.at a.scanned a.marks _ _ c.bytes.ensures kept.marks c.seek-scanned.ensures.known in
     let end : ℕ = c.take_lf-end.result.0 in
-    let f = steps.found_line a.buffer.items a.at (vec_len a.buffer) end c.seek-scanned.result.0 c.take_lf-end.result.1 kept.at (omega (arith, a.buffer.ok.0)) kept.zeros
+    let f = steps.found_line a.buffer.items a.at (length a.buffer.items) end c.seek-scanned.result.0 c.take_lf-end.result.1 kept.at (omega arith) kept.zeros
     (c.take_lf-end.ensures a.buffer.items a.at known) in
     f.from
 
@@ -110,19 +110,19 @@ pub overflow_add-self-2 : goal.overflow_add-self-2
 overflow_add-self-2 c =
     let a = c.self.inside in
     let kept = c.self.invariant in
-    let known = places.sought _ a.buffer.items a.at a.scanned a.marks _ _ c.deref.ensures.value kept.marks c.seek-scanned.ensures.known in
+    let known = places.sought _ a.buffer.items a.at a.scanned a.marks _ _ c.bytes.ensures kept.marks c.seek-scanned.ensures.known in
     let end : ℕ = c.take_lf-end.result.0 in
-    let f = steps.found_line a.buffer.items a.at (vec_len a.buffer) end c.seek-scanned.result.0 c.take_lf-end.result.1 kept.at (omega (arith, a.buffer.ok.0)) kept.zeros
+    let f = steps.found_line a.buffer.items a.at (length a.buffer.items) end c.seek-scanned.result.0 c.take_lf-end.result.1 kept.at (omega arith) kept.zeros
     (c.take_lf-end.ensures a.buffer.items a.at known) in
-    record { fits = omega (arith, f.text, c.deref-2.ensures.len, c.deref-2.type_inv.0) }
+    record { fits = omega (arith, f.text, ap length c.bytes-2.ensures, c.bytes-2.type_inv.0) }
 
 pub invariant_of-self-2 : goal.invariant_of-self-2
 invariant_of-self-2 c =
     let a = c.self.inside in
     let kept = c.self.invariant in
-    let known = places.sought _ a.buffer.items a.at a.scanned a.marks _ _ c.deref.ensures.value kept.marks c.seek-scanned.ensures.known in
+    let known = places.sought _ a.buffer.items a.at a.scanned a.marks _ _ c.bytes.ensures kept.marks c.seek-scanned.ensures.known in
     let end : ℕ = c.take_lf-end.result.0 in
-    let f = steps.found_line a.buffer.items a.at (vec_len a.buffer) end c.seek-scanned.result.0 c.take_lf-end.result.1 kept.at (omega (arith, a.buffer.ok.0)) kept.zeros
+    let f = steps.found_line a.buffer.items a.at (length a.buffer.items) end c.seek-scanned.result.0 c.take_lf-end.result.1 kept.at (omega arith) kept.zeros
     (c.take_lf-end.ensures a.buffer.items a.at known) in
     let old = c.args.self.now in
     let is = c.self.view_is in
@@ -130,7 +130,7 @@ invariant_of-self-2 c =
     let going : is_long old.last ≡ false = ap (λ (x : Cutter). is_long x.last) (sym is) ∙ steps.not_long a.last c.in_default.not-Long in
     let lf : HasLfAt old.rest (end - a.at) = subst (λ (x : Cutter). HasLfAt x.rest (end - a.at)) is f.lf in
     let line : length (strip_carriage_return (take (end - a.at) old.rest)) ≡ c.line_len-len.result =
-    sym (c.line_len-len.ensures ∙ ap (λ (l : List ℕ). length (strip_carriage_return (take (end - a.at) (drop a.at l)))) c.deref-2.ensures.value
+    sym (c.line_len-len.ensures ∙ ap (λ (l : List ℕ). length (strip_carriage_return (take (end - a.at) (drop a.at l)))) c.bytes-2.ensures
     ∙ ap (λ (l : List ℕ). length (strip_carriage_return l)) (sym f.piece) ∙ ap (λ (x : Cutter). length (strip_carriage_return (take (end - a.at) x.rest))) is) in
     let short : c.line_len-len.result ≤ end - a.at =
     omega (arith, line, length-strip (take (end - a.at) old.rest), length-take (end - a.at) old.rest) in
@@ -142,7 +142,7 @@ invariant_of-self-2 c =
       zeros = kept.zeros;
       line_start = omega arith;
       line_end = omega (arith, f.text, f.from);
-      scanned = omega (arith, c.seek-scanned.ensures.bound, c.deref.ensures.len);
+      scanned = omega (arith, c.seek-scanned.ensures.bound, ap length c.bytes.ensures);
       block = λ _. c.seek-scanned.ensures.block c.if-marks-eq0.false;
       marks = f.known;
       sound = steps.sound_line old _ (end - a.at) sound lf going (ap (λ (x : Cutter). x.hungry) is) (ap (λ (x : Cutter). x.ended) is) refl;
@@ -152,9 +152,9 @@ pub returns-clause-line : goal.returns-clause-line
 returns-clause-line c =
     let a = c.self.inside in
     let kept = c.self.invariant in
-    let known = places.sought _ a.buffer.items a.at a.scanned a.marks _ _ c.deref.ensures.value kept.marks c.seek-scanned.ensures.known in
+    let known = places.sought _ a.buffer.items a.at a.scanned a.marks _ _ c.bytes.ensures kept.marks c.seek-scanned.ensures.known in
     let end : ℕ = c.take_lf-end.result.0 in
-    let f = steps.found_line a.buffer.items a.at (vec_len a.buffer) end c.seek-scanned.result.0 c.take_lf-end.result.1 kept.at (omega (arith, a.buffer.ok.0)) kept.zeros
+    let f = steps.found_line a.buffer.items a.at (length a.buffer.items) end c.seek-scanned.result.0 c.take_lf-end.result.1 kept.at (omega arith) kept.zeros
     (c.take_lf-end.ensures a.buffer.items a.at known) in
     let old = c.args.self.now in
     let is = c.self.view_is in
@@ -162,14 +162,14 @@ returns-clause-line c =
     let going : is_long old.last ≡ false = ap (λ (x : Cutter). is_long x.last) (sym is) ∙ steps.not_long a.last c.in_default.not-Long in
     let lf : HasLfAt old.rest (end - a.at) = subst (λ (x : Cutter). HasLfAt x.rest (end - a.at)) is f.lf in
     let line : length (strip_carriage_return (take (end - a.at) old.rest)) ≡ c.line_len-len.result =
-    sym (c.line_len-len.ensures ∙ ap (λ (l : List ℕ). length (strip_carriage_return (take (end - a.at) (drop a.at l)))) c.deref-2.ensures.value
+    sym (c.line_len-len.ensures ∙ ap (λ (l : List ℕ). length (strip_carriage_return (take (end - a.at) (drop a.at l)))) c.bytes-2.ensures
     ∙ ap (λ (l : List ℕ). length (strip_carriage_return l)) (sym f.piece) ∙ ap (λ (x : Cutter). length (strip_carriage_return (take (end - a.at) x.rest))) is) in
     let piece : List ℕ = take (end - a.at) old.rest in
     let len : a.at + c.line_len-len.result - a.at ≡ c.line_len-len.result = omega arith in
-    let short : c.line_len-len.result ≤ vec_len a.buffer - 64 - a.at =
+    let short : c.line_len-len.result ≤ length a.buffer.items - 64 - a.at =
     omega (arith, line, length-strip piece, length-take (end - a.at) old.rest, f.text, f.from) in
     let given : take (a.at + c.line_len-len.result - a.at) (drop a.at a.buffer.items) ≡ strip_carriage_return piece =
-    ap (λ (n : ℕ). take n (drop a.at a.buffer.items)) len ∙ sym (take-take c.line_len-len.result (vec_len a.buffer - 64 - a.at) (drop a.at a.buffer.items) short)
+    ap (λ (n : ℕ). take n (drop a.at a.buffer.items)) len ∙ sym (take-take c.line_len-len.result (length a.buffer.items - 64 - a.at) (drop a.at a.buffer.items) short)
     ∙ ap (λ (x : Cutter). take c.line_len-len.result x.rest) is ∙ ap (λ (n : ℕ). take n old.rest) (sym line) ∙ steps.taken_line old.rest (strip_carriage_return piece) (end - a.at) refl in
     let long : length (take (a.at + c.line_len-len.result - a.at) (drop a.at a.buffer.items)) ≡ c.line_len-len.result = ap length given ∙ line in
     λ _. steps.gives_line old _ (end - a.at) lf (ap (λ (x : Cutter). x.limit) is)
@@ -182,16 +182,16 @@ returns-clause-line c =
       | then-len-end w ↦ by_cr_lf w.if-len-end.true w.self-is
       | else-len-end w ↦ by_lf w.if-len-end.false w.self-is
     ]))
-    (steps.front_more a.buffer.items a.at (vec_len a.buffer - 64) end f.from (omega (arith, f.text))
+    (steps.front_more a.buffer.items a.at (length a.buffer.items - 64) end f.from (omega (arith, f.text))
     ∙ ap (λ (x : Cutter). x.front ++ take (end - a.at + 1) x.rest) is)
 
 pub returns-clause-after_end : goal.returns-clause-after_end
 returns-clause-after_end c =
     let a = c.self.inside in
     let kept = c.self.invariant in
-    let known = places.sought _ a.buffer.items a.at a.scanned a.marks _ _ c.deref.ensures.value kept.marks c.seek-scanned.ensures.known in
+    let known = places.sought _ a.buffer.items a.at a.scanned a.marks _ _ c.bytes.ensures kept.marks c.seek-scanned.ensures.known in
     let end : ℕ = c.take_lf-end.result.0 in
-    let f = steps.found_line a.buffer.items a.at (vec_len a.buffer) end c.seek-scanned.result.0 c.take_lf-end.result.1 kept.at (omega (arith, a.buffer.ok.0)) kept.zeros
+    let f = steps.found_line a.buffer.items a.at (length a.buffer.items) end c.seek-scanned.result.0 c.take_lf-end.result.1 kept.at (omega arith) kept.zeros
     (c.take_lf-end.ensures a.buffer.items a.at known) in
     let old = c.args.self.now in
     let is = c.self.view_is in

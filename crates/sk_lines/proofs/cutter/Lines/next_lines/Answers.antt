@@ -1,4 +1,4 @@
-use Rattle.std.proofs.Common.{◌≡◌, ◌≢◌, ℕ, List, ◌+◌, ◌-◌, ◌<◌, ◌≤◌, inl, inr, ⊎_elim, slice_index, false, true≢false, length, take, vec_len, ap, arith, sym, subst, ◌∙◌, refl, le_refl, length-take}
+use Rattle.std.proofs.Common.{◌≡◌, ◌≢◌, ℕ, List, ◌+◌, ◌-◌, ◌<◌, ◌≤◌, inl, inr, ⊎_elim, slice_index, false, true≢false, length, take, ap, arith, sym, subst, ◌∙◌, refl, le_refl, length-take}
 use Rattle.sk_lines.specs.Cutter.{is_long, counted}
 use Rattle.sk_lines.specs.Inside.{cutter_of}
 use Rattle.sk_lines.specs.Spans.{GivesLines, AreLines, IsLongLine, HasNoShortLine}
@@ -11,13 +11,12 @@ use Rattle.sk_lines.proofs.cutter.Lines.next_lines.Goals.{After-cut_lines-count,
 use Rattle.sk_lines.proofs.cutter.Lines.next_lines.Goals as goal
 
 -- the reader behind the lines
-given : (c : After-cut_lines-count) → (c.cut_lines-count.result.1 + 64 ≤ vec_len c.self.inside.buffer) × (c.self.inside.at ≤ c.cut_lines-count.result.1)
-    × GivesLines (cutter_of c.self.inside) (reader_at (cutter_of c.self.inside) c.self.inside.buffer.items (vec_len c.self.inside.buffer) c.cut_lines-count.result.1 (counted (c.self.inside.number + length (take c.cut_lines-count.result.0 c.cut_lines-count.new.spans)))) (take c.cut_lines-count.result.0 c.cut_lines-count.new.spans)
+given : (c : After-cut_lines-count) → (c.cut_lines-count.result.1 + 64 ≤ length c.self.inside.buffer.items) × (c.self.inside.at ≤ c.cut_lines-count.result.1)
+    × GivesLines (cutter_of c.self.inside) (reader_at (cutter_of c.self.inside) c.self.inside.buffer.items (length c.self.inside.buffer.items) c.cut_lines-count.result.1 (counted (c.self.inside.number + length (take c.cut_lines-count.result.0 c.cut_lines-count.new.spans)))) (take c.cut_lines-count.result.0 c.cut_lines-count.new.spans)
 given c =
     let a = c.self.inside in
-    let whole = sym c.deref-2.ensures.len ∙ ap length c.deref-2.ensures.value in
-    lines_given (cutter_of a) a.buffer.items (vec_len a.buffer) whole c.self.invariant.zeros (take c.cut_lines-count.result.0 c.cut_lines-count.new.spans) a.at c.cut_lines-count.result.1 a.number c.self.invariant.at (omega (arith, c.self.ranges.1))
-    (subst (λ bytes. AreLines bytes a.limit a.at (take c.cut_lines-count.result.0 c.cut_lines-count.new.spans) c.cut_lines-count.result.1) c.deref-2.ensures.value c.cut_lines-count.ensures.lines)
+    lines_given (cutter_of a) a.buffer.items (length a.buffer.items) refl c.self.invariant.zeros (take c.cut_lines-count.result.0 c.cut_lines-count.new.spans) a.at c.cut_lines-count.result.1 a.number c.self.invariant.at (omega (arith, c.self.ranges.1))
+    (subst (λ bytes. AreLines bytes a.limit a.at (take c.cut_lines-count.result.0 c.cut_lines-count.new.spans) c.cut_lines-count.result.1) c.bytes-2.ensures c.cut_lines-count.ensures.lines)
 
 short : (c : After-cut_lines-count) → is_long c.self.inside.last ≡ false
 short c = elim c.match-matches.branch [
@@ -51,23 +50,23 @@ returns-clause-lines c =
     let all = (given (goal.at.returns-clause-lines c).After-cut_lines-count).2 in
     let size : length (take count c.cut_lines-count.new.spans) ≡ count = omega (arith, length-take count c.cut_lines-count.new.spans, c.cut_lines-count.array_long, c.cut_lines-count.ensures.few, c.find_ends-found.ensures.few) in
     let number : counted (a.number + length (take count c.cut_lines-count.new.spans)) ≡ c.saturating_add-self-inside.result = omega (arith, size, c.saturating_add-self-inside.ensures) in
-    subst (λ m. GivesLines c.args.self.now (reader_at (cutter_of a) a.buffer.items (vec_len a.buffer) c.cut_lines-count.result.1 m) (take count c.cut_lines-count.new.spans)) number
-    (subst (λ old. GivesLines old (reader_at (cutter_of a) a.buffer.items (vec_len a.buffer) c.cut_lines-count.result.1 (counted (a.number + length (take count c.cut_lines-count.new.spans)))) (take count c.cut_lines-count.new.spans)) c.self.view_is all)
+    subst (λ m. GivesLines c.args.self.now (reader_at (cutter_of a) a.buffer.items (length a.buffer.items) c.cut_lines-count.result.1 m) (take count c.cut_lines-count.new.spans)) number
+    (subst (λ old. GivesLines old (reader_at (cutter_of a) a.buffer.items (length a.buffer.items) c.cut_lines-count.result.1 (counted (a.number + length (take count c.cut_lines-count.new.spans)))) (take count c.cut_lines-count.new.spans)) c.self.view_is all)
 
 -- where no line is made of the ends found, no line is complete or the next is too long
 pub returns-clause-none : goal.returns-clause-none
 returns-clause-none c = λ none short.
     let a = c.self.inside in
-    let have = vec_len a.buffer - 64 in
+    let have = length a.buffer.items - 64 in
     let ordered : a.at ≤ have = omega (arith, c.self.invariant.at) in
-    let inside : have ≤ length a.buffer.items = omega (arith, a.buffer.ok.0) in
+    let inside : have ≤ length a.buffer.items = omega (arith) in
     let zeros : (i : ℕ) → have ≤ i → slice_index a.buffer.items i ≡ 0 = λ i past. c.self.invariant.zeros i (omega (arith, past)) in
     subst HasNoShortLine c.self.view_is (⊎_elim
     (λ (some : 0 < c.find_ends-found.result).
-    let long = subst (λ (bytes : List ℕ). IsLongLine bytes a.limit c.cut_lines-count.result.1) c.deref-2.ensures.value (c.cut_lines-count.ensures.long (omega (arith, none, some))) in
-    let here : a.at ≡ c.cut_lines-count.result.1 = none_made c.deref-2.result.now a.limit a.at c.cut_lines-count.result.1 (take c.cut_lines-count.result.0 c.cut_lines-count.new.spans) (ap (λ (n : ℕ). take n c.cut_lines-count.new.spans) none) c.cut_lines-count.ensures.lines in
+    let long = subst (λ (bytes : List ℕ). IsLongLine bytes a.limit c.cut_lines-count.result.1) c.bytes-2.ensures (c.cut_lines-count.ensures.long (omega (arith, none, some))) in
+    let here : a.at ≡ c.cut_lines-count.result.1 = none_made c.bytes-2.result.now a.limit a.at c.cut_lines-count.result.1 (take c.cut_lines-count.result.0 c.cut_lines-count.new.spans) (ap (λ (n : ℕ). take n c.cut_lines-count.new.spans) none) c.cut_lines-count.ensures.lines in
     let is = subst (λ (k : ℕ). IsLongLine a.buffer.items a.limit k) (sym here) long in
     inr (long_in_rest a.buffer.items a.at have ordered inside a.limit is zeros))
     (λ (no : c.find_ends-found.result ≤ 0). inl (no_lf_in_rest a.buffer.items a.at have ordered inside
-    (λ i from below. subst (λ (bytes : List ℕ). slice_index bytes i ≢ 10) c.deref.ensures.value (c.find_ends-found.ensures.none (omega arith) i from (omega (arith, below, c.deref.ensures.len, a.buffer.ok.0))))))
+    (λ i from below. subst (λ (bytes : List ℕ). slice_index bytes i ≢ 10) c.bytes.ensures (c.find_ends-found.ensures.none (omega arith) i from (omega (arith, below, ap length c.bytes.ensures))))))
     (cases_lt 0 c.find_ends-found.result))

@@ -1,5 +1,5 @@
-use Rattle.std.proofs.Common.{◌≡◌, ◌+◌, ◌-◌, ◌≤◌, ℕ, List, inl, inr, length, drop, ◌≢◌, slice_index, slice_range, vec_len, refl, sym, ap, ◌∙◌, subst, arith, length-take, length-drop}
-use Rattle.sk_lines.specs.Cutter.{Cutter, HasNoLf}
+use Rattle.std.proofs.Common.{◌≡◌, ◌-◌, ℕ, List, inl, length, drop, ◌≢◌, slice_index, slice_range, refl, ap, subst, arith, length-take, length-drop}
+use Rattle.sk_lines.specs.Cutter.{Cutter}
 use Rattle.sk_lines.specs.Inside.{cutter_of}
 use Rattle.sk_lines.specs.Runs.{GivesRun, GivesNone, IsRun}
 use Rattle.sk_lines.proofs.Steps.{length_rest, no_lf_in_rest}
@@ -15,17 +15,17 @@ returns-then-held-self-clause-run c = none_given c.args.self.now (omega (arith, 
 
 -- what was passed over, in the buffer
 passed : (c : After-skip_lfs-count) → IsRun c.skip_lfs-count.result.0 (slice_range c.self.inside.buffer.items c.self.inside.at c.skip_lfs-count.result.1)
-passed c = subst (λ (bytes : List ℕ). IsRun c.skip_lfs-count.result.0 (slice_range bytes c.self.inside.at c.skip_lfs-count.result.1)) c.deref.ensures.value c.skip_lfs-count.ensures.run
+passed c = subst (λ (bytes : List ℕ). IsRun c.skip_lfs-count.result.0 (slice_range bytes c.self.inside.at c.skip_lfs-count.result.1)) c.bytes.ensures c.skip_lfs-count.ensures.run
 
 pub returns-clause-run : goal.returns-clause-run
 returns-clause-run c =
     let a = c.self.inside in
     let at = (goal.at.returns-clause-run c).After-skip_lfs-count in
-    let size = length_rest a.buffer.items a.at (vec_len a.buffer - 64) (omega (arith, c.self.invariant.at)) (omega (arith, a.buffer.ok.0)) in
+    let size = length_rest a.buffer.items a.at (length a.buffer.items - 64) (omega (arith, c.self.invariant.at)) (omega arith) in
     let old = cutter_of a in
     let new : Cutter = cutter_of (record a { at = c.skip_lfs-count.result.1; scanned = c.skip_lfs-count.result.1; marks = 0; number = c.saturating_add-self-inside.result }) in
     subst (λ (x : Cutter). GivesRun x new c.skip_lfs-count.result.0) c.self.view_is
-    (run_given old new a.buffer.items c.skip_lfs-count.result.0 a.at c.skip_lfs-count.result.1 (vec_len a.buffer - 64) (passed at) c.skip_lfs-count.ensures.place.0 (omega (arith, c.skip_lfs-count.ensures.place.1, c.deref.ensures.len)) (omega (arith, a.buffer.ok.0))
+    (run_given old new a.buffer.items c.skip_lfs-count.result.0 a.at c.skip_lfs-count.result.1 (length a.buffer.items - 64) (passed at) c.skip_lfs-count.ensures.place.0 (omega (arith, c.skip_lfs-count.ensures.place.1, ap length c.bytes.ensures)) (omega arith)
     refl refl refl refl (omega (arith, size, c.if-held-self.false, c.len.ensures)) (omega (arith, c.saturating_add-self-inside.ensures)) refl)
 
 pub returns-clause-none : goal.returns-clause-none
@@ -35,6 +35,6 @@ returns-clause-none c =
     λ none some short.
     let run = slice_range a.buffer.items a.at c.skip_lfs-count.result.1 in
     let nothing = ap length (nothing_in_none run (subst (λ (n : ℕ). IsRun n run) none (passed at))) in
-    let here : c.skip_lfs-count.result.1 ≡ a.at = omega (arith, nothing, length-take (c.skip_lfs-count.result.1 - a.at) (drop a.at a.buffer.items), length-drop a.at a.buffer.items, c.skip_lfs-count.ensures.place, c.deref.ensures.len, a.buffer.ok.0) in
-    subst GivesNone c.self.view_is (inl (no_lf_in_rest a.buffer.items a.at (vec_len a.buffer - 64) (omega (arith, c.self.invariant.at)) (omega (arith, a.buffer.ok.0))
-    (λ i from below. subst (λ (bytes : List ℕ). slice_index bytes i ≢ 10) c.deref.ensures.value (c.skip_lfs-count.ensures.all (omega (arith, none, some)) i (omega (arith, here, from)) (omega (arith, below, c.deref.ensures.len, a.buffer.ok.0))))))
+    let here : c.skip_lfs-count.result.1 ≡ a.at = omega (arith, nothing, length-take (c.skip_lfs-count.result.1 - a.at) (drop a.at a.buffer.items), length-drop a.at a.buffer.items, c.skip_lfs-count.ensures.place, ap length c.bytes.ensures) in
+    subst GivesNone c.self.view_is (inl (no_lf_in_rest a.buffer.items a.at (length a.buffer.items - 64) (omega (arith, c.self.invariant.at)) (omega arith)
+    (λ i from below. subst (λ (bytes : List ℕ). slice_index bytes i ≢ 10) c.bytes.ensures (c.skip_lfs-count.ensures.all (omega (arith, none, some)) i (omega (arith, here, from)) (omega (arith, below, ap length c.bytes.ensures))))))

@@ -9,8 +9,8 @@ stop-requires-clause-long c =
     let a = c.self.inside in
     let old = c.args.self.now in
     let is = c.self.view_is in
-    let rest : take (c.len-text_end.result - 64 - a.at) (drop a.at c.deref.result.now) ≡ old.rest =
-    steps.same_rest _ _ a.at _ _ c.len-text_end.ensures c.deref.ensures.value ∙ ap (λ (x : Cutter). x.rest) is in
+    let rest : take (c.len-text_end.result - 64 - a.at) (drop a.at c.bytes.result.now) ≡ old.rest =
+    steps.same_rest _ _ a.at _ _ c.len-text_end.ensures c.bytes.ensures ∙ ap (λ (x : Cutter). x.rest) is in
     let over : old.limit < length (strip_carriage_return old.rest) =
     omega (arith, c.line_len.ensures, ap (λ (l : List ℕ). length (strip_carriage_return l)) rest, c.if-line_len-self.true, ap (λ (x : Cutter). x.limit) is) in
     steps.long_so_far old.limit old.rest c.requires.piece over
@@ -20,8 +20,8 @@ returns-clause-more c =
     let a = c.self.inside in
     let old = c.args.self.now in
     let is = c.self.view_is in
-    let rest : take (c.len-text_end.result - 64 - a.at) (drop a.at c.deref.result.now) ≡ old.rest =
-    steps.same_rest _ _ a.at _ _ c.len-text_end.ensures c.deref.ensures.value ∙ ap (λ (x : Cutter). x.rest) is in
+    let rest : take (c.len-text_end.result - 64 - a.at) (drop a.at c.bytes.result.now) ≡ old.rest =
+    steps.same_rest _ _ a.at _ _ c.len-text_end.ensures c.bytes.ensures ∙ ap (λ (x : Cutter). x.rest) is in
     let fits : length (strip_carriage_return old.rest) ≤ old.limit =
     omega (arith, c.line_len.ensures, ap (λ (l : List ℕ). length (strip_carriage_return l)) rest, c.if-line_len-self.false, ap (λ (x : Cutter). x.limit) is) in
     λ _. steps.waits_for_more c.args.self.now _ c.requires.piece fits

@@ -57,8 +57,7 @@ returns-in_err-refill-clause-goes g c = λ given taken read.
     let stands = c.cut.ensures.more c.in-More.is open_still given now before.2.has in
     let ended = have_ended c.cut.new.self given now (c.cut.ensures.limit ∙ before.2.limit) stands in
     let s = c.in_err-refill.field-0.0 in
-    let same = c.in_err-refill.ensures.err.0 in
-    let most = ap (λ (r : Reading). r.most) same in (
+    let most = c.in_err-refill.ensures.err.0 in (
       before.0,
       Consumes-kept _ _ _ before.0 before.1 c.in_err-refill.ensures.err.1,
       goes_err c.refill.new.self _ given now s c.from_residual.result c.from_residual.ensures.1 ended

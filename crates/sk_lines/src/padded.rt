@@ -1,0 +1,132 @@
+// A text with a block of zeros and room for more behind it.
+ghost use Rattle.std.specs.Prelude.{◌≡◌, ◌↔◌, ◌+◌, ◌^◌, ◌≤◌, ℕ, List, ◌++◌, length, take, drop, replicate, IfOk, IsErrOf};
+ghost use Rattle.sk_model.specs.Causes.{HasCauseIn};
+ghost use Rattle.sk_lines.specs.Cutter.{IsRead};
+ghost use Rattle.sk_lines.specs.Padded.{with_more};
+
+use crate::cutter::MOST_PIECE;
+use crate::marks::BLOCK;
+use sk_io::{BoundFault, Source, read_within};
+use sk_model::OutOfMemory;
+use std::alloc::Global;
+use std::marker::Model;
+
+// A text and a block of zeros, so that each block of the text may be read.
+#[derive(Drop)]
+pub(crate) struct Padded {
+    // As long as there is room, from the start on: what a read is to fill needs not be filled before.
+    bytes: Vec<u8>,
+    // Where the block of zeros ends.
+    end: usize,
+}
+
+impl Model for Padded {
+    ghost use Rattle.std.specs.Prelude.{◌≤◌, take, vec_len};
+    ghost use Rattle.sk_lines.specs.Padded.{PaddedState};
+
+    ghost Value = { PaddedState };
+
+    ghost view = { λ padded. record { items = take padded.end padded.bytes.items; room = vec_len padded.bytes } };
+
+    ghost invariant = { λ padded. padded.end ≤ vec_len padded.bytes };
+}
+
+impl Padded {
+    // No text, and room for one of `room` bytes.
+    pub(crate) fn new(alloc: Global, room: usize) -> Result<Padded, OutOfMemory>
+        requires { room ≤ 2 ^ 32 }
+        ensures items { IfOk result (λ padded. padded.items ≡ replicate 64 0) }
+        ensures room { IfOk result (λ padded. padded.room ≡ room + BLOCK) }
+    {
+        Ok(Padded {
+            bytes: Vec::from_elem(alloc, 0, room + BLOCK)?,
+            end: BLOCK,
+        })
+    }
+
+    // The text and the zeros.
+    #[inline(always)]
+    pub(crate) fn bytes(&self) -> &[u8]
+        ensures { result.now ≡ self.now.items }
+    {
+        &self.bytes[..self.end]
+    }
+
+    // How many bytes these are.
+    #[inline(always)]
+    pub(crate) fn len(&self) -> usize
+        ensures { result ≡ length self.now.items }
+    {
+        self.end
+    }
+
+    // Drops the bytes before a place.
+    pub(crate) fn drop_front(&mut self, at: usize)
+        requires { at ≤ length self.old.items }
+        ensures { self.new ≡ record self.old { items = drop at self.old.items } }
+    {
+        self.bytes.copy_within(at..self.end, 0);
+        self.end -= at;
+    }
+
+    // Puts a piece behind the text.
+    pub(crate) fn push(&mut self, piece: &[u8])
+        requires padded { BLOCK ≤ length self.old.items }
+        requires room { length self.old.items + length piece.now ≤ self.old.room }
+        ensures { self.new ≡ record self.old { items = with_more self.old.items piece.now } }
+    {
+        let len = self.end - BLOCK;
+        put(&mut self.bytes, len, piece);
+        put(&mut self.bytes, len + piece.len(), &[0; BLOCK]);
+        self.end += piece.len();
+    }
+
+    // Reads a piece of at most `room` bytes and puts it behind the text.
+    pub(crate) fn read<S: Source>(&mut self, source: &mut S, room: u64) -> Result<usize, BoundFault>
+        requires padded { BLOCK ≤ length self.old.items }
+        requires space { length self.old.items + MOST_PIECE ≤ self.old.room }
+        ensures read { (more : List ℕ) × IsRead (S.left source.old) (S.left source.new) result more
+            × (self.new ≡ record self.old { items = with_more self.old.items more }) }
+        ensures most { IfOk result (λ n. n ≤ MOST_PIECE) }
+        ensures room { IfOk result (λ n. n ≤ room) }
+        ensures too_much { IsErrOf result BoundFault.TooMuch ↔ (room ≡ 0) }
+        ensures cause { HasCauseIn BoundFault.ReadFault (S.faults source.old) (S.faults source.new) result }
+        ensures stays { S.stands_on source.new ≡ S.stands_on source.old }
+    {
+        let len = self.end - BLOCK;
+        let read = read_behind(&mut self.bytes, len, source, room);
+        let n = read.unwrap_or(0);
+        put(&mut self.bytes, len + n, &[0; BLOCK]);
+        self.end = len + n + BLOCK;
+        read
+    }
+}
+
+// Reads a piece of at most `room` bytes over those from a place on.
+fn read_behind<S: Source>(
+    bytes: &mut [u8],
+    at: usize,
+    source: &mut S,
+    room: u64,
+) -> Result<usize, BoundFault>
+    requires { at + MOST_PIECE ≤ length bytes.old }
+    ensures len { length bytes.new ≡ length bytes.old }
+    ensures read { (more : List ℕ) × IsRead (S.left source.old) (S.left source.new) result more
+        × (take (at + length more) bytes.new ≡ take at bytes.old ++ more) }
+    ensures most { IfOk result (λ n. n ≤ MOST_PIECE) }
+    ensures room { IfOk result (λ n. n ≤ room) }
+    ensures too_much { IsErrOf result BoundFault.TooMuch ↔ (room ≡ 0) }
+    ensures cause { HasCauseIn BoundFault.ReadFault (S.faults source.old) (S.faults source.new) result }
+    ensures stays { S.stands_on source.new ≡ S.stands_on source.old }
+{
+    read_within(source, &mut bytes[at..at + MOST_PIECE], room)
+}
+
+// Puts a piece over the bytes from a place on.
+fn put(bytes: &mut [u8], at: usize, piece: &[u8])
+    requires { at + length piece.now ≤ length bytes.old }
+    ensures len { length bytes.new ≡ length bytes.old }
+    ensures bytes { take (at + length piece.now) bytes.new ≡ take at bytes.old ++ piece.now }
+{
+    bytes[at..at + piece.len()].copy_from_slice(piece);
+}
