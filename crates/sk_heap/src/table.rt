@@ -1,14 +1,17 @@
 //! The table that hashes are looked up in, by linear probing. It has h + 1 for the hash h, and 0 at its
-//! empty places; a deletion shifts entries back (Knuth, The Art of Computer Programming 3, 6.4, algorithm R).
+//! empty places; a deletion moves the last entry of the run behind back, or else shifts the entries one by one
+//! (Knuth, The Art of Computer Programming 3, 6.4, algorithm R).
 ghost use Rattle.std.specs.Prelude.{◌≡◌, ◌≢◌, ◌+◌, ◌-◌, ◌%◌, ◌^◌, ◌<◌, ◌≤◌, ℕ, ◌∷◌, length, slice_index, Contains, IfOk, IfErr, true, false};
 ghost use Rattle.std.specs.Int.{IsPowerOfTwo};
 ghost use Rattle.sk_heap.specs.Heap.{HasSame};
 ghost use Rattle.sk_heap.specs.Table.{IsProbed, IsFirstEmpty, IsGap, going_round};
 ghost use Rattle.sk_model.specs.Width.{IsItem};
 
+use crate::walk::seek_round;
+
 // The place of a number in a table of that length.
 #[inline(always)]
-fn place(n: u64, len: usize) -> usize
+pub fn place(n: u64, len: usize) -> usize
     requires { IsPowerOfTwo len }
     ensures { result ≡ n % len }
 {
@@ -27,7 +30,11 @@ fn steps_to(hash: u64, at: usize, len: usize) -> usize
     place((at + len - place(hash, len)) as u64, len)
 }
 
+// How many places are looked at one by one: nearly all ways are shorter.
+const NEAR: u64 = 8;
+
 // The place of a hash, or the first empty one on the way.
+#[inline(always)]
 pub fn find(table: &[u64], hash: u64) -> Result<usize, usize>
     requires item { IsItem hash }
     requires power { IsPowerOfTwo (length table.now) }
@@ -37,8 +44,8 @@ pub fn find(table: &[u64], hash: u64) -> Result<usize, usize>
     ensures found { IfOk result (λ at. (at < length table.now) × (slice_index table.now at ≡ hash + 1)) }
     ensures empty { IfErr result (λ at. IsFirstEmpty hash table.now at) }
 {
-    'probe: for steps in 0..table.len() {
-        let at = place(hash + steps as u64, table.len());
+    'probe: for steps in 0..NEAR {
+        let at = place(hash + steps, table.len());
         let entry = table[at];
         if entry == hash + 1 {
             return Ok(at);
@@ -47,7 +54,20 @@ pub fn find(table: &[u64], hash: u64) -> Result<usize, usize>
             return Err(at);
         }
     }
-    unreachable!()
+    find_far(table, hash)
+}
+
+// The same where the way is long.
+#[inline(never)]
+fn find_far(table: &[u64], hash: u64) -> Result<usize, usize>
+    requires item { IsItem hash }
+    requires power { IsPowerOfTwo (length table.now) }
+    requires room { Contains table.now 0 }
+    ensures found { IfOk result (λ at. (at < length table.now) × (slice_index table.now at ≡ hash + 1)) }
+    ensures empty { IfErr result (λ at. IsFirstEmpty hash table.now at) }
+{
+    let at = seek_round(table, hash, hash + 1);
+    if table[at] == 0 { Err(at) } else { Ok(at) }
 }
 
 // Moves the entry at a step behind the gap into it, unless its way does not pass the gap. Answers where the
@@ -85,13 +105,9 @@ fn run_behind(table: &[u64], start: usize) -> usize
     ensures end { going_round (length table.now) table.now (start + (result + 1)) ≡ 0 }
     ensures last { result ≢ 0 → going_round (length table.now) table.now (start + result) ≢ 0 }
 {
-    let len = table.len();
-    'run: for step in 1..len {
-        if table[place((start + step) as u64, len)] == 0 {
-            return step - 1;
-        }
-    }
-    unreachable!()
+    let behind = (start + 1) as u64;
+    let end = seek_round(table, behind, 0);
+    steps_to(behind, end, table.len())
 }
 
 // Moves the last entry of the run behind the gap at a place into it, unless its way does not pass the gap.
