@@ -1,5 +1,5 @@
 -- An empty place that is closed: what stands behind it moves back.
-use Rattle.std.proofs.Common.{◌≡◌, ◌≢◌, ℕ, ◌+◌, ◌-◌, ◌%◌, ◌<◌, ◌≤◌, List, length, set, get_or, ⊎_elim, refl, sym, ap, ◌∙◌, arith, length-set}
+use Rattle.std.proofs.Common.{◌≡◌, ◌≢◌, ℕ, ◌+◌, ◌-◌, ◌%◌, ◌<◌, ◌≤◌, List, length, set, get_or, ⊎_elim, refl, sym, ap, subst, ◌∙◌, arith, length-set}
 use Rattle.std.proofs.lemmas.Bool.{cases_eq, cases_order}
 use Rattle.std.proofs.Math.Nat.{mod-eq_of_lt}
 use Rattle.sk_heap.specs.Table.{going_round, IsProbedOver, IsProbedButGap, IsGap}
@@ -58,41 +58,43 @@ module _ (len : ℕ) (t : List ℕ) (start gap step : ℕ) (long : len ≡ lengt
               (cases_eq c step),
         )
 
-    module _ (hole : going_round len t (start + gap) ≡ 0) (far : step - gap ≤ d) where
-      -- the gap is at the place that y's way meets so many steps before the entry
-      on_the_way : (y + (d - (step - gap))) % len ≡ (start + gap) % len
-      on_the_way = steps_back len y (d - (step - gap)) start gap (step - gap) d step (omega arith) reaches (omega arith) (omega arith)
+-- no way of an entry has an empty place but the gap
+abbrev pub IsOnlyGap : ℕ → List ℕ → ℕ → ℕ → Type 0
+IsOnlyGap len t start gap = (h n e : ℕ) → n < len → going_round len t (h + n) ≡ h + 1 → e < n → going_round len t (h + e) ≡ 0 → (h + e) % len ≡ (start + gap) % len
 
-      apart_places : (start + gap) % len ≢ (start + step) % len
-      apart_places same = let steps : gap ≡ step = one_round len start gap step (omega arith) within same in absurd (omega arith)
+module _ (len : ℕ) (t : List ℕ) (start gap step : ℕ) (long : len ≡ length t) (behind : gap < step) (within : step < len) (only : IsOnlyGap len t start gap) where
+  module _ (y d : ℕ) (under_d : d < len) (reaches : (y + d) % len ≡ (start + step) % len) (entry : going_round len t (start + step) ≡ y + 1) (hole : going_round len t (start + gap) ≡ 0) (far : step - gap ≤ d) where
+    -- the gap is at the place that y's way meets so many steps before the entry
+    on_the_way : (y + (d - (step - gap))) % len ≡ (start + gap) % len
+    on_the_way = steps_back len y (d - (step - gap)) start gap (step - gap) d step (omega arith) reaches (omega arith) (omega arith)
 
-      -- the next place has an entry that moves into the gap
-      pub gap_moves : IsProbedButGap len (set (set t ((start + gap) % len) (y + 1)) ((start + step) % len) 0) start step (step + 1)
-      gap_moves h n e under found less empty =
-          let gap_at : ℕ = (start + gap) % len in
-          let at : ℕ = (start + step) % len in
-          let filled : List ℕ = set t gap_at (y + 1) in
-          let inside : gap_at < length t = omega arith in
-          let inside' : at < length filled = omega (arith, length-set t gap_at (y + 1)) in
-          let off_at : (h + n) % len ≢ at = λ same. absurd (omega (arith, sym (round_at len filled at 0 (h + n) inside' same) ∙ found)) in
-          let found' : going_round len filled (h + n) ≡ h + 1 = sym (round_off len filled at 0 (h + n) off_at) ∙ found in (
-            ⊎_elim (λ same. same)
-                (λ off.
-                let empty' : going_round len filled (h + e) ≡ 0 = sym (round_off len filled at 0 (h + e) off) ∙ empty in
-                let off_gap : (h + e) % len ≢ gap_at = λ same. absurd (omega (arith, sym (round_at len t gap_at (y + 1) (h + e) inside same) ∙ empty')) in
-                let empty'' : going_round len t (h + e) ≡ 0 = sym (round_off len t gap_at (y + 1) (h + e) off_gap) ∙ empty' in
-                ⊎_elim
-                (λ same.
-                let hashes : h ≡ y = omega (arith, sym (round_at len t gap_at (y + 1) (h + n) inside same) ∙ found') in
-                let way : n ≡ d - (step - gap) = one_round len y n (d - (step - gap)) under (omega arith) (ap (λ (g : ℕ). (g + n) % len) (sym hashes) ∙ same ∙ sym on_the_way) in
-                let there : going_round len t (y + d) ≡ y + 1 = ap (λ (q : ℕ). get_or t q 0) reaches ∙ entry in
-                let empty_y : going_round len t (y + e) ≡ 0 = ap (λ (g : ℕ). going_round len t (g + e)) (sym hashes) ∙ empty'' in
-                absurd (off_gap (ap (λ (g : ℕ). (g + e) % len) hashes ∙ (but y d e under_d there (omega arith) empty_y).0)))
-                (λ apart. absurd (off_gap (but h n e under (sym (round_off len t gap_at (y + 1) (h + n) apart) ∙ found') less empty'').0))
-                (cases_eq ((h + n) % len) gap_at))
-                (cases_eq ((h + e) % len) at),
-            λ c above below. absurd (omega arith),
-          )
+    -- the entry moves into the gap
+    pub gap_moves : IsProbedButGap len (set (set t ((start + gap) % len) (y + 1)) ((start + step) % len) 0) start step (step + 1)
+    gap_moves h n e under found less empty =
+        let gap_at : ℕ = (start + gap) % len in
+        let at : ℕ = (start + step) % len in
+        let filled : List ℕ = set t gap_at (y + 1) in
+        let inside : gap_at < length t = omega arith in
+        let inside' : at < length filled = omega (arith, length-set t gap_at (y + 1)) in
+        let off_at : (h + n) % len ≢ at = λ same. absurd (omega (arith, sym (round_at len filled at 0 (h + n) inside' same) ∙ found)) in
+        let found' : going_round len filled (h + n) ≡ h + 1 = sym (round_off len filled at 0 (h + n) off_at) ∙ found in (
+          ⊎_elim (λ same. same)
+              (λ off.
+              let empty' : going_round len filled (h + e) ≡ 0 = sym (round_off len filled at 0 (h + e) off) ∙ empty in
+              let off_gap : (h + e) % len ≢ gap_at = λ same. absurd (omega (arith, sym (round_at len t gap_at (y + 1) (h + e) inside same) ∙ empty')) in
+              let empty'' : going_round len t (h + e) ≡ 0 = sym (round_off len t gap_at (y + 1) (h + e) off_gap) ∙ empty' in
+              ⊎_elim
+              (λ same.
+              let hashes : h ≡ y = omega (arith, sym (round_at len t gap_at (y + 1) (h + n) inside same) ∙ found') in
+              let way : n ≡ d - (step - gap) = one_round len y n (d - (step - gap)) under (omega arith) (ap (λ (g : ℕ). (g + n) % len) (sym hashes) ∙ same ∙ sym on_the_way) in
+              let there : going_round len t (y + d) ≡ y + 1 = ap (λ (q : ℕ). get_or t q 0) reaches ∙ entry in
+              let empty_y : going_round len t (y + e) ≡ 0 = ap (λ (g : ℕ). going_round len t (g + e)) (sym hashes) ∙ empty'' in
+              absurd (off_gap (ap (λ (g : ℕ). (g + e) % len) hashes ∙ only y d e under_d there (omega arith) empty_y)))
+              (λ apart. absurd (off_gap (only h n e under (sym (round_off len t gap_at (y + 1) (h + n) apart) ∙ found') less empty'')))
+              (cases_eq ((h + n) % len) gap_at))
+              (cases_eq ((h + e) % len) at),
+          λ c above below. absurd (omega arith),
+        )
 
 -- ---- the same of what the code keeps
 
@@ -147,9 +149,37 @@ module _ (t : List ℕ) (start gap step : ℕ) (within : step < length t) (g : I
         record {
           behind = omega arith;
           empty = round_at len filled at 0 (start + step) inside refl;
-          but = gap_moves len t start gap step refl (g.behind) within (g.but) y d under reaches entry (g.empty) far;
+          but = gap_moves len t start gap step refl (g.behind) within (λ h n e under found less empty. (g.but h n e under found less empty).0) y d under reaches entry (g.empty) far;
           ahead = (a.0, later, a.2, round_off len filled at 0 (start + a.0) off ∙ round_off len t hole (y + 1) (start + a.0) off' ∙ a.3);
         }
 
     pub apart_from_gap : (start + gap) % length t ≢ (start + step) % length t
     apart_from_gap same = let behind : gap < step = g.behind in let e : gap ≡ step = one_round (length t) start gap step (omega arith) within same in absurd (omega arith)
+
+-- the last entry before an empty place moves into the gap
+module _ (t : List ℕ) (start last : ℕ) (inside : start < length t) (within : last + 1 < length t) (g : IsGap (length t) t start 0 1) (ends : going_round (length t) t (start + (last + 1)) ≡ 0) (y d : ℕ) (under : d < length t) (reaches : (y + d) % length t ≡ (start + last) % length t) (entry : going_round (length t) t (start + last) ≡ y + 1) where
+  start_is : (start + 0) % length t ≡ start
+  start_is = let none : start + 0 ≡ start = omega arith in ap (λ (p : ℕ). p % length t) none ∙ mod-eq_of_lt inside
+
+  pub start_empty : get_or t start 0 ≡ 0
+  start_empty = ap (λ (p : ℕ). get_or t p 0) (sym start_is) ∙ g.empty
+
+  some_behind : 0 < last
+  some_behind = ⊎_elim (λ none. absurd (omega (arith, sym entry ∙ ap (λ (c : ℕ). going_round (length t) t (start + c)) none ∙ g.empty))) (λ some. omega arith) (cases_eq last 0)
+
+  pub apart_from_last : start ≢ (start + last) % length t
+  apart_from_last same = let e : 0 ≡ last = one_round (length t) start 0 last (omega arith) (omega arith) (start_is ∙ same) in absurd (omega (arith, some_behind))
+
+  pub last_moves : last ≤ d → IsProbedOver (length t) (set (set t start (y + 1)) ((start + last) % length t) 0)
+  last_moves far =
+      let len : ℕ = length t in
+      let at : ℕ = (start + last) % len in
+      let filled : List ℕ = set t start (y + 1) in
+      let off : (start + (last + 1)) % len ≢ at = λ same. let e : last + 1 ≡ last = one_round len start (last + 1) last within (omega arith) same in absurd (omega arith) in
+      let off' : (start + (last + 1)) % len ≢ start = λ same. let e : last + 1 ≡ 0 = one_round len start (last + 1) 0 within (omega arith) (same ∙ sym start_is) in absurd (omega arith) in
+      let long : len ≡ length (set filled at 0) = omega (arith, length-set t start (y + 1), length-set filled at 0) in
+      let but : IsProbedButGap len (set filled at 0) start last (last + 1) =
+      subst (λ (hole : ℕ). IsProbedButGap len (set (set t hole (y + 1)) at 0) start last (last + 1)) start_is
+      (gap_moves len t start 0 last refl some_behind (omega arith) (λ h n e under found less empty. (g.but h n e under found less empty).0) y d under reaches entry (g.empty) (omega arith)) in
+      gap_closes len (set filled at 0) start last (last + 1) long (omega arith) within but
+      (round_off len filled at 0 (start + (last + 1)) off ∙ round_off len t start (y + 1) (start + (last + 1)) off' ∙ ends)

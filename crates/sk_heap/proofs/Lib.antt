@@ -1,6 +1,7 @@
 pub mod Round
 pub mod Counts
 pub mod Probes
+pub mod Walks
 pub mod Gaps
 pub mod Distinct
 pub mod Kept

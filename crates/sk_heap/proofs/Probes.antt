@@ -1,6 +1,6 @@
 -- What a search along the table finds, and one more entry.
-use Rattle.std.proofs.Common.{◌≡◌, ◌≢◌, ℕ, ◌+◌, ◌-◌, ◌%◌, ◌<◌, List, length, set, get_or, Contains, ⊎_elim, sym, ap, ◌∙◌, arith}
-use Rattle.std.proofs.lemmas.Bool.{cases_eq, cases_order}
+use Rattle.std.proofs.Common.{◌≡◌, ◌≢◌, ℕ, ◌+◌, ◌-◌, ◌%◌, ◌<◌, ◌≤◌, List, length, set, get_or, Contains, ⊎_elim, sym, ap, ◌∙◌, arith}
+use Rattle.std.proofs.lemmas.Bool.{cases_eq, cases_lt, cases_order}
 use Rattle.std.proofs.lemmas.List.{get_or_default}
 use Rattle.std.proofs.Math.Seq.{get_or-set_same, get_or-set_other}
 use Rattle.sk_heap.specs.Table.{going_round, IsProbedOver, IsFirstEmpty}
@@ -33,6 +33,11 @@ module _ (len : ℕ) (t : List ℕ) (h : ℕ) where
   none_empty full p inside is =
       let under : (p + len - h % len) % len < len = omega arith in
       full ((p + len - h % len) % len) under (at_steps p inside ∙ is)
+
+-- no more places than there are have a number other than 0, since one is empty
+pub steps_are_few : (t : List ℕ) (h steps : ℕ) → Contains t 0 → ((e : ℕ) → e < steps → going_round (length t) t (h + e) ≢ 0) → steps < length t
+steps_are_few t h steps zero full =
+    ⊎_elim (λ (less : steps < length t). less) (λ (more : length t ≤ steps). absurd (none_empty (length t) t h (λ e under. full e (omega arith)) zero.0 zero.1 zero.2)) (cases_lt steps (length t))
 
 -- an entry more, at the first empty place
 pub one_more_probed : (len : ℕ) (t : List ℕ) (hash at steps : ℕ) → len ≡ length t → IsProbedOver len t → steps < len → at ≡ (hash + steps) % len → ((e : ℕ) → e < steps → going_round len t (hash + e) ≢ 0) → IsProbedOver len (set t at (hash + 1))

@@ -1,6 +1,6 @@
 -- Words on the table that a hash is looked up in. It has h + 1 for the hash h, and 0 at the empty places; one goes
 -- round from h modulo its length.
-use Rattle.std.specs.Prelude.{◌≡◌, ◌≢◌, ℕ, ◌+◌, ◌%◌, ◌<◌, ◌≤◌, List, length, slice_index}
+use Rattle.std.specs.Prelude.{◌≡◌, ◌≢◌, ◌⊎◌, ℕ, ◌+◌, ◌%◌, ◌<◌, ◌≤◌, List, length, slice_index}
 use Rattle.sk_heap.specs.Heap.{times}
 
 -- what stands at a place, going round
@@ -26,6 +26,19 @@ pub record IsFirstEmpty (hash : ℕ) (table : List ℕ) (at : ℕ) : Type 0 wher
   pub empty : slice_index table at ≡ 0
   pub passed : (e : ℕ) → e < steps → going_round (length table) table (hash + e) ≢ 0
   pub other : (e : ℕ) → e < steps → going_round (length table) table (hash + e) ≢ hash + 1
+
+-- no place from one up to another has a number
+abbrev pub HasNone : ℕ → List ℕ → ℕ → ℕ → Type 0
+HasNone x table from to = (k : ℕ) → from ≤ k → k < to → slice_index table k ≢ x
+
+-- the first place from where a number begins that is empty or has an entry
+pub record IsFirstFrom (entry : ℕ) (table : List ℕ) (number at : ℕ) : Type 0 where
+  pub steps : ℕ
+  pub within : steps < length table
+  pub is : at ≡ (number + steps) % length table
+  pub stops : (slice_index table at ≡ 0) ⊎ (slice_index table at ≡ entry)
+  pub full : (e : ℕ) → e < steps → going_round (length table) table (number + e) ≢ 0
+  pub other : (e : ℕ) → e < steps → going_round (length table) table (number + e) ≢ entry
 
 -- One place, `gap` steps behind start, is empty and is to be closed; those up to `step` were looked at.
 

@@ -28,7 +28,9 @@ fn replace_greatest(heap: &mut BinaryHeap<u64>, hash: u64) -> u64
     greatest
 }
 
-// Puts a hash to fewer than k others, at its empty place of the table.
+// Puts a hash to fewer than k others, at its empty place of the table. Out of line, as the next is: a hash
+// that is found pays for neither.
+#[inline(never)]
 fn add(heap: &mut BinaryHeap<u64>, table: &mut [u64], k: usize, at: usize, hash: u64)
     requires held { IsHeld k (heap_items heap.old) table.old }
     requires item { IsItem hash }
@@ -44,6 +46,7 @@ fn add(heap: &mut BinaryHeap<u64>, table: &mut [u64], k: usize, at: usize, hash:
 }
 
 // Puts a hash in the place of the greatest of k.
+#[inline(never)]
 fn exchange(heap: &mut BinaryHeap<u64>, table: &mut [u64], k: usize, at: usize, hash: u64) -> u64
     requires held { IsHeld k (heap_items heap.old) table.old }
     requires item { IsItem hash }

@@ -5,6 +5,7 @@ mod heap_theta;
 mod held;
 mod kind;
 mod table;
+mod walk;
 
 pub use heap_theta::HeapTheta;
 pub use sk_model::OutOfMemory;

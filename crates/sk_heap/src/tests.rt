@@ -34,10 +34,21 @@ fn entries_move_back_behind_one_that_goes(rt: HostRuntime) -> Result<(), Fail> {
     sketch.merge(&[9, 5]);
     assert_eq!(rt; sketch.table(), [0, 10, 6, 0].as_slice());
     assert!(rt; sketch.update(1));
-    assert_eq!(rt; sketch.table(), [0, 6, 2, 0].as_slice());
+    assert_eq!(rt; sketch.table(), [0, 2, 6, 0].as_slice());
     assert!(rt; sketch.update(3));
     assert_eq!(rt; sketch.table(), [0, 2, 0, 4].as_slice());
     assert!(rt; !sketch.update(1));
+    Ok(())
+}
+
+// Hashes 1, 9 and 17 begin at one place of a table of 8, and 3 and 4 stand where they begin.
+#[test]
+fn entries_move_back_before_one_that_stays(rt: HostRuntime) -> Result<(), Fail> {
+    let mut sketch = HeapTheta::new(rt.alloc(), 3)?;
+    sketch.merge(&[17, 9, 3]);
+    assert_eq!(rt; sketch.table(), [0, 18, 10, 4, 0, 0, 0, 0].as_slice());
+    assert!(rt; sketch.update(4));
+    assert_eq!(rt; sketch.table(), [0, 10, 0, 4, 5, 0, 0, 0].as_slice());
     Ok(())
 }
 

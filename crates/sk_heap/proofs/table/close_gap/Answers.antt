@@ -1,21 +1,11 @@
-use Rattle.std.proofs.Common.{◌≡◌, ℕ, ◌+◌, ◌<◌, List, length, ◌∙◌, subst, arith}
-use Rattle.sk_heap.specs.Table.{IsGap, going_round}
+use Rattle.std.proofs.Common.{◌≡◌, ℕ, ◌+◌, List, length, ap, sym, ◌∙◌, arith}
+use Rattle.sk_heap.specs.Table.{going_round}
 use Rattle.sk_heap.proofs.Gaps.{gap_ends}
 use Rattle.sk_heap.proofs.table.close_gap.Goals as goal
 
-pub returns-then-table-place-eq0-clause-probed : goal.returns-then-table-place-eq0-clause-probed
-returns-then-table-place-eq0-clause-probed c =
-    let t : List ℕ = c.shift.table in
-    let within : c.shift.step < length t = omega arith in
-    let long : length c.args.table.now ≡ length t = omega arith in
-    let ends : going_round (length t) t (c.args.start + c.shift.step) ≡ 0 = rw (← long) (rw c.place.ensures at c.if-table-place-eq0.true) in
-    gap_ends t c.args.start c.shift.gap c.shift.step within c.shift.invariant.gap ends
-
-pub shift-preserved : goal.shift-preserved
-shift-preserved c =
-    let new = c.shift_back-gap.new.table in
-    let long : length c.shift.table ≡ length new = omega arith in
-    record {
-      gap = subst (λ (len : ℕ). IsGap len new c.args.start c.shift_back-gap.result (c.shift.step + 1)) long c.shift_back-gap.ensures.gap;
-      same = λ x. c.shift_back-gap.ensures.same x ∙ c.shift.invariant.same x;
-    }
+pub returns-then-last-eq0-clause-probed : goal.returns-then-last-eq0-clause-probed
+returns-then-last-eq0-clause-probed c =
+    let t : List ℕ = c.args.table.now in
+    let next : c.run_behind-last.result + 1 ≡ 1 = omega (arith, c.if-last-eq0.true) in
+    let ends : going_round (length t) t (c.args.start + 1) ≡ 0 = ap (λ (n : ℕ). going_round (length t) t (c.args.start + n)) (sym next) ∙ c.run_behind-last.ensures.end in
+    gap_ends t c.args.start 0 1 (omega (arith, c.run_behind-last.ensures.within)) c.requires.gap ends

@@ -1,9 +1,12 @@
-use Rattle.std.proofs.Common.{length, arith}
-use Rattle.sk_heap.proofs.Probes.{none_empty}
+use Rattle.sk_heap.proofs.Probes.{steps_are_few}
 use Rattle.sk_heap.proofs.table.find.Goals as goal
 
-pub unreachable-requires : goal.unreachable-requires
-unreachable-requires c =
-    let t = c.args.table.now in
-    let zero = c.requires.room in
-    none_empty (length t) t c.args.hash (λ e less. c.probe.invariant.passed e (omega arith)) zero.0 zero.1 zero.2
+pub returns-then-entry-eq0-clause-empty : goal.returns-then-entry-eq0-clause-empty
+returns-then-entry-eq0-clause-empty c = record {
+  steps = c.probe.steps;
+  within = steps_are_few c.args.table.now c.args.hash c.probe.steps c.requires.room c.probe.invariant.passed;
+  is = c.place-at.ensures;
+  empty = c.if-entry-eq0.true;
+  passed = c.probe.invariant.passed;
+  other = c.probe.invariant.other;
+}

@@ -1,0 +1,70 @@
+//! The walk along a table to an entry or an empty place, several places at once.
+ghost use Rattle.std.specs.Prelude.{◌≡◌, ◌≢◌, ◌⊎◌, ◌+◌, ◌^◌, ◌<◌, ◌≤◌, ℕ, length, slice_index, Contains, true};
+ghost use Rattle.std.specs.Int.{IsPowerOfTwo};
+ghost use Rattle.sk_heap.specs.Table.{IsFirstFrom, HasNone};
+
+use crate::table::place;
+use std::simd::prelude::*;
+
+// How many places are looked at together.
+const WIDE: usize = 8;
+
+// Whether none of so many places from one on has a number.
+#[inline(always)]
+fn has_none(table: &[u64], at: usize, number: u64) -> bool
+    requires { at + 8 ≤ length table.now }
+    ensures { result ≡ true → HasNone number table.now at (at + 8) }
+{
+    u64x8::from_slice(&table[at..])
+        .simd_eq(u64x8::splat(number))
+        .to_bitmask()
+        == 0
+}
+
+// Passes over whole blocks in which no place is empty or has an entry.
+fn pass_blocks(table: &[u64], from: usize, entry: u64) -> usize
+    requires within { from ≤ length table.now }
+    ensures within { result ≤ length table.now }
+    ensures order { from ≤ result }
+    ensures full { HasNone 0 table.now from result }
+    ensures other { HasNone entry table.now from result }
+{
+    let mut at = from;
+    'block: while table.len() - at >= WIDE {
+        if !(has_none(table, at, 0) & has_none(table, at, entry)) {
+            return at;
+        }
+        at += WIDE;
+    }
+    at
+}
+
+// The first place from one on that is empty or has an entry, or the length where there is none.
+fn seek(table: &[u64], from: usize, entry: u64) -> usize
+    requires within { from ≤ length table.now }
+    ensures within { result ≤ length table.now }
+    ensures order { from ≤ result }
+    ensures full { HasNone 0 table.now from result }
+    ensures other { HasNone entry table.now from result }
+    ensures stops { result < length table.now → (slice_index table.now result ≡ 0) ⊎ (slice_index table.now result ≡ entry) }
+{
+    'place: for at in pass_blocks(table, from, entry)..table.len() {
+        if table[at] == 0 || table[at] == entry {
+            return at;
+        }
+    }
+    table.len()
+}
+
+// The same from the place of a number on, going round.
+pub fn seek_round(table: &[u64], number: u64, entry: u64) -> usize
+    requires power { IsPowerOfTwo (length table.now) }
+    requires room { Contains table.now 0 }
+    ensures { IsFirstFrom entry table.now number result }
+{
+    let at = seek(table, place(number, table.len()), entry);
+    if at < table.len() {
+        return at;
+    }
+    seek(table, 0, entry)
+}
