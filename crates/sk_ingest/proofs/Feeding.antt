@@ -1,6 +1,6 @@
 -- Lines whose items an updater takes.
-use Rattle.std.proofs.Common.{◌≡◌, ◌≢◌, ◌⊎◌, inl, inr, ⊎_elim, ℕ, ◌+◌, ◌-◌, ◌<◌, ◌≤◌, List, [], ◌∷◌, length, get_or, set, drop, slice_range, Bool, Some, None, subst, sym, ap, ◌∙◌, arith}
-use Rattle.std.proofs.lemmas.List.{length-take, get_or-set_same, get_or-set_other, get_or_read}
+use Rattle.std.proofs.Common.{◌≡◌, ◌≢◌, ◌⊎◌, inl, inr, ⊎_elim, ℕ, ◌+◌, ◌-◌, ◌<◌, ◌≤◌, List, [], ◌∷◌, length, get_or, set, slice_range, Bool, Some, None, subst, sym, ap, ◌∙◌, arith}
+use Rattle.std.proofs.lemmas.List.{get_or-set_same, get_or-set_other, get_or_read}
 use Rattle.std.proofs.lemmas.Bool.{cases_lt}
 use Rattle.sk_model.specs.Entries.{Entry}
 use Rattle.sk_read.specs.declared.kind.Kind.{Kind}
@@ -8,7 +8,7 @@ use Rattle.sk_hub.specs.Updaters.{UpdaterState, kept_of}
 use Rattle.sk_ingest.specs.Windows.{item_in, items_in}
 use Rattle.sk_ingest.specs.Feeds.{KeepsNone, Takes}
 use Rattle.sk_ingest.specs.Rounds.{block_of}
-use Rattle.sk_ingest.proofs.Items.{few_items, range_none, range_split, no_items, next_item, next_empty, items_append}
+use Rattle.sk_ingest.proofs.Items.{range_none, range_split, no_items, next_item, next_empty, items_append}
 use Rattle.sk_ingest.proofs.Updaters.{none_refl, takes_none, takes_trans, takes_then_none, takes_few}
 
 pub no_line : (keeps : ℕ → ℕ → Bool) (hint_of : List ℕ → List Entry → ℕ) (u : UpdaterState) (kind : Kind) (lines : List (List ℕ)) (from : ℕ) → Takes keeps hint_of u (items_in kind (slice_range lines from from)) u
@@ -46,14 +46,6 @@ room_after keeps hint_of v w item at to most taken below room = let few = takes_
 
 pub room_passed : (kept at to most : ℕ) → kept + (to - at) ≤ most → kept + (to - (at + 1)) ≤ most
 room_passed kept at to most room = omega arith
-
--- after the lines up to a place there is room for those behind it
-pub room_then : (keeps : ℕ → ℕ → Bool) (hint_of : List ℕ → List Entry → ℕ) (kind : Kind) (lines : List (List ℕ)) (from place to most : ℕ) (u v : UpdaterState) → from ≤ place → place ≤ to → Takes keeps hint_of u (items_in kind (slice_range lines from place)) v → length (kept_of u) + (to - from) ≤ most → length (kept_of v) + (to - place) ≤ most
-room_then keeps hint_of kind lines from place to most u v low high taken room =
-    let few = takes_few keeps hint_of u v (items_in kind (slice_range lines from place)) taken in
-    let items = few_items kind (slice_range lines from place) in
-    let count : length (slice_range lines from place) ≤ place - from = omega (arith, length-take (place - from) (drop from lines)) in
-    omega (arith, few, items, count)
 
 -- ---- one updater after another
 

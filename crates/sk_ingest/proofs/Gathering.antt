@@ -6,6 +6,7 @@ use Rattle.std.proofs.lemmas.List.{take_more, take_more_set, take-set}
 use Rattle.std.proofs.lemmas.List.Elements.{filter-append, All-filter}
 use Rattle.sk_model.specs.Entries.{Entry}
 use Rattle.sk_model.specs.Missing.{Begins}
+use Rattle.sk_model.proofs.Missing.{begins_trans}
 use Rattle.sk_model.specs.Width.{IsItem, AreItems}
 use Rattle.sk_compose.specs.Kept.{AreKept}
 use Rattle.sk_hub.specs.Updaters.{UpdaterState, base_of}
@@ -64,4 +65,13 @@ takes_all keeps hint_of u u' n items is taken = record {
   more = taken.more;
   kept = taken.kept;
   of_items = all_of_kept keeps (hint_of u.view.numbers) (base_of u) (base_of u') n items taken.more is taken.goes.base taken.of_items;
+}
+
+-- the same of a hint that it had then or earlier
+pub takes_by_earlier : (keeps : ℕ → ℕ → Bool) (hint_of : List ℕ → List Entry → ℕ) (u u' : UpdaterState) (base : List Entry) (items : List ℕ) → Begins base (base_of u) → Takes keeps hint_of u (filter (keeps (hint_of u.view.numbers base)) items) u' → Takes keeps hint_of u items u'
+takes_by_earlier keeps hint_of u u' base items earlier taken = record {
+  goes = taken.goes;
+  more = taken.more;
+  kept = taken.kept;
+  of_items = all_of_kept keeps (hint_of u.view.numbers) base (base_of u') (hint_of u.view.numbers base) items taken.more refl (begins_trans base (base_of u) (base_of u') earlier taken.goes.base) taken.of_items;
 }

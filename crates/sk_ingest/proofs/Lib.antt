@@ -21,4 +21,5 @@ pub mod HeldLines
 pub mod WindowLaws
 pub mod AtOnceLaws
 pub mod Gathering
+pub mod OnItsWay
 pub mod Pages

@@ -1,8 +1,8 @@
 -- The lines of a window: those of its page, and those behind that lie in its text.
-use Rattle.std.proofs.Common.{◌≡◌, ◌≢◌, ℕ, suc, ◌+◌, ◌-◌, ◌<◌, ◌≤◌, ◌==◌, nat_le, false, List, [], ◌∷◌, ◌++◌, length, take, drop, slice_range, refl, sym, ap, ◌∙◌, subst, arith, length-append, length-take, length-drop, append-nil, append_assoc}
+use Rattle.std.proofs.Common.{◌≡◌, ◌≢◌, ℕ, suc, ◌+◌, ◌-◌, ◌<◌, ◌≤◌, ◌==◌, nat_le, false, List, [], ◌∷◌, ◌++◌, length, take, drop, slice_range, refl, sym, ap, ◌∙◌, subst, arith, length-append, length-take, length-drop, append-nil, append_assoc, take-append-drop, take_at}
 use Rattle.std.specs.List.{concat}
 use Rattle.std.proofs.lemmas.Bool.{eqb-false, or_parts}
-use Rattle.std.proofs.lemmas.List.{drop-append-le, take-append-le, drop_at, take_all, map_push, length-map, drop-map}
+use Rattle.std.proofs.lemmas.List.{drop-append-le, take-append-le, drop_at, take_all, map-append, map_push, length-map, drop-map}
 use Rattle.std.proofs.Math.Seq.{drop-length, drop-append-add}
 use Rattle.std.proofs.lemmas.List.Elements.{All-push}
 use Rattle.std.proofs.lemmas.List.Folds.{concat-append}
@@ -68,6 +68,17 @@ lines_behind page spans all text bytes first lines place count rest same_spans s
     ∙ sym (drop-map (λ (span : Span). slice_range text span.from span.to) n spans)
     ∙ sym (drop-append-add page.lines (lines_at spans text) n)
     ∙ ap (λ k. drop k (page.lines ++ lines_at spans text)) sum
+
+-- the first of lines that lie in a text, behind a page that is at its end
+pub lines_apart : (page : List (List ℕ)) (spans front back : List Span) (text : List ℕ) (n : ℕ) → length page ≡ 0 → front ≡ take n spans → n ≤ length spans
+    → page ++ lines_at spans text ≡ lines_at (take n (front ++ back)) text ++ (page ++ lines_at (take (length spans - n) (drop n spans)) text)
+lines_apart [] spans front back text n end is few =
+    let count : length front ≡ n = omega (arith, ap length is, length-take n spans) in
+    let line = λ (span : Span). slice_range text span.from span.to in
+    ap (λ s. lines_at s text) (sym (take-append-drop n spans)) ∙ map-append line (take n spans) (drop n spans)
+    ∙ ap (λ s. lines_at s text ++ lines_at (drop n spans) text) (sym (take_at front back n count ∙ is))
+    ∙ ap (λ s. lines_at (take n (front ++ back)) text ++ lines_at s text) (sym (take_all (length spans - n) (drop n spans) (omega (arith, length-drop n spans))))
+lines_apart (line ∷ page) spans front back text n end is few = absurd (omega (arith, end))
 
 -- ---- how many bytes its lines have
 

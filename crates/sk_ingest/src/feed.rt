@@ -156,7 +156,10 @@ pub(crate) fn help_until_served<C: Composable, R: Wait>(
 }
 
 // Propagates once, and answers whether no other seat did.
-fn help_once<C: Composable, R: Wait>(rt: &R, u: &mut Updater<C>) -> Result<bool, OutOfMemory>
+pub(crate) fn help_once<C: Composable, R: Wait>(
+    rt: &R,
+    u: &mut Updater<C>,
+) -> Result<bool, OutOfMemory>
     ensures none { KeepsNone u.old u.new }
     ensures served { result ≡ Ok true → ServesAll u.old u.new }
     ensures elsewhere { result ≡ Ok false → FindsElsewhere u.old u.new }

@@ -8,7 +8,8 @@ ghost use Rattle.sk_ingest.specs.Shares.{share, TakeShares};
 ghost use Rattle.sk_model.specs.Limits.{most_updaters, most_kept};
 
 use crate::block::Block;
-use crate::feed::{feed_block, help_until_served};
+use crate::block_items::BlockItems;
+use crate::feed::{feed_block, help_once};
 use crate::propagation::Propagation;
 use crate::window::Window;
 use crossbeam_utils::Backoff;
@@ -141,18 +142,18 @@ fn feed_patiently<C: Composable, R: Wait>(
     ensures cause { OnErr result (IsTrue C.TAKES_MEMORY) }
 {
     let backoff = Backoff::new();
-    let mut place = block.from;
+    let mut items = BlockItems::of(window, block, kind);
     'again: for _ in rt.forever() {
-        place = feed_block(rt, u, window, place, block.to, kind, false)?;
-        if place == block.to {
-            return Ok(place);
+        if items.feed(u) {
+            return Ok(block.to);
         }
         wait_or_help(rt, u, &backoff, by)?;
     }
     unreachable!()
 }
 
-// Waits for the heart, if that propagates. Behind some such calls the updater propagates itself.
+// Waits for the heart, if that propagates. Else, and behind some such calls, the updater propagates once itself; where
+// another seat does, that may have served it.
 fn wait_or_help<C: Composable, R: Wait>(
     rt: &R,
     u: &mut Updater<C>,
@@ -166,8 +167,12 @@ fn wait_or_help<C: Composable, R: Wait>(
         backoff.snooze();
         return Ok(());
     }
-    backoff.reset();
-    help_until_served(rt, u)
+    if help_once(rt, u)? || backoff.is_completed() {
+        backoff.reset();
+    } else {
+        backoff.snooze();
+    }
+    Ok(())
 }
 
 // Feeds a window to its feeders at once, in at most so many threads. With `help` each propagates where it is busy.

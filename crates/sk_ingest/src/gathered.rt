@@ -7,6 +7,7 @@ ghost use Rattle.sk_read.specs.Items.{IsGood};
 ghost use Rattle.sk_ingest.specs.Windows.{items_in};
 ghost use Rattle.sk_ingest.specs.Gathered.{IsBad};
 
+use crate::window_lines::item_at;
 use sk_compose::Composable;
 use sk_lines::{GROUP, Span};
 use sk_read::Kind;
@@ -56,4 +57,29 @@ pub(crate) fn gather<C: Composable>(
         lines: spans.len(),
         items,
     }
+}
+
+// Puts the items of lines that a hint keeps to the front of `kept`, and answers how many they are. A line that is
+// no item is passed over.
+#[inline(always)]
+pub(crate) fn gather_all<C: Composable>(
+    kind: Kind,
+    hint: u64,
+    text: &[u8],
+    spans: &[Span],
+    kept: &mut [u64; GROUP],
+) -> usize
+    requires few { length spans.now ≤ GROUP }
+    requires within { AreBehind 0 spans.now text.now }
+    ensures few { result ≤ length spans.now }
+    ensures kept { take result kept.new ≡ filter (C.keeps_of hint) (items_in kind (lines_at spans.now text.now)) }
+{
+    let mut count = 0;
+    'line: for at in 0..spans.len() {
+        if let Some(item) = item_at(kind, text, spans[at]) {
+            kept[count] = item;
+            count += usize::from(C::keeps(hint, item));
+        }
+    }
+    count
 }

@@ -4,6 +4,7 @@
 mod at_once;
 mod beside;
 mod block;
+mod block_items;
 mod drain;
 mod feed;
 mod feeder;

@@ -9,6 +9,7 @@ ghost use Rattle.sk_ingest.specs.Hubs.{HeartGoesOn};
 ghost use Rattle.sk_model.specs.Limits.{most_updaters, most_kept};
 
 use crate::block::Block;
+use crate::block_items::BlockItems;
 use crate::feed::feed_block;
 use crate::propagation::{Propagation, propagate};
 use crate::window::Window;
@@ -42,7 +43,7 @@ pub(crate) fn feed_in_turn<C: Composable, R: Wait>(
     Ok(())
 }
 
-// Feeds a block. Each time the updater is busy one propagates.
+// Feeds a block. Each time the updater is busy one propagates; where the hub may be asked before, an eager one does, too.
 fn feed_through<C: Composable, R: Wait>(
     rt: &R,
     heart: &mut Heart<C>,
@@ -59,10 +60,13 @@ fn feed_through<C: Composable, R: Wait>(
     ensures heart { HeartGoesOn heart.old heart.new }
     ensures cause { OnErr result (IsTrue C.TAKES_MEMORY) }
 {
-    let mut place = block.from;
+    if by.helps() {
+        let _place = feed_block(rt, u, window, block.from, block.to, kind, true)?;
+        return Ok(());
+    }
+    let mut items = BlockItems::of(window, block, kind);
     'again: for _ in rt.forever() {
-        place = feed_block(rt, u, window, place, block.to, kind, by.helps())?;
-        if place == block.to {
+        if items.feed(u) {
             return Ok(());
         }
         propagate(rt, heart, u, by)?;

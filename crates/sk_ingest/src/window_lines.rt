@@ -1,10 +1,10 @@
 //! The lines of a window, one after another.
-ghost use Rattle.std.specs.Prelude.{◌≡◌, ◌<◌, ◌≤◌, ◌++◌, length, slice_range, slice_index_or, drop, [], IfSome};
+ghost use Rattle.std.specs.Prelude.{◌≡◌, ◌<◌, ◌≤◌, ◌++◌, length, slice_range, slice_index_or, take, drop, [], IfSome};
 ghost use Rattle.sk_lines.specs.Spans.{AreBehind, lines_at};
 ghost use Rattle.sk_ingest.specs.Windows.{item_in};
 ghost use Rattle.sk_model.specs.Width.{IsItem};
 
-use sk_lines::{PageLines, Span};
+use sk_lines::{GROUP, PageLines, Span};
 use sk_read::Kind;
 use std::marker::Model;
 
@@ -71,11 +71,29 @@ impl<'a> WindowLines<'a> {
         ensures rest { self.new.rest ≡ drop 1 self.old.rest }
     {
         let (text, span) = self.next_place();
-        if span.from == span.to {
-            None
-        } else {
-            kind.item_at(text, span)
+        item_at(kind, text, span)
+    }
+
+    // Moves on by some of the next lines, at most so many, puts to the front of `spans` where they lie in a text,
+    // and answers that text and how many they are.
+    pub(crate) fn next_lines(&mut self, spans: &mut [Span; GROUP], most: usize) -> (&'a [u8], usize)
+        requires some { 0 < length self.old.rest }
+        requires wanted { 0 < most }
+        ensures few { result.1 ≤ GROUP }
+        ensures most { result.1 ≤ most }
+        ensures some { 0 < result.1 }
+        ensures within { AreBehind 0 (take result.1 spans.new) result.0.now }
+        ensures lines { self.old.rest ≡ lines_at (take result.1 spans.new) result.0.now ++ self.new.rest }
+    {
+        if self.left > 0 {
+            let count = self.page.next_lines(spans, most);
+            self.left -= count;
+            return (self.page.text(), count);
         }
+        let count = self.spans.len().min(most).min(GROUP);
+        spans[..count].copy_from_slice(&self.spans[..count]);
+        self.spans = &self.spans[count..];
+        (self.text, count)
     }
 
     // Moves on, and tells where the next line lies.
@@ -95,5 +113,20 @@ impl<'a> WindowLines<'a> {
         let span = self.spans[0];
         self.spans = &self.spans[1..];
         (self.text, span)
+    }
+}
+
+// The item of a line that lies in a text: none where it is empty, or has to spell a number and does not.
+#[inline(always)]
+pub(crate) fn item_at(kind: Kind, text: &[u8], span: Span) -> Option<u64>
+    requires order { span.from ≤ span.to }
+    requires within { span.to ≤ length text.now }
+    ensures value { result ≡ item_in kind (slice_range text.now span.from span.to) }
+    ensures below { IfSome result IsItem }
+{
+    if span.from == span.to {
+        None
+    } else {
+        kind.item_at(text, span)
     }
 }

@@ -5,11 +5,12 @@ ghost use Rattle.sk_model.specs.Lines.{lines_of};
 ghost use Rattle.sk_lines.specs.Cutter.{HasNoLf, IsOfWholeLines};
 ghost use Rattle.sk_lines.specs.Pages.{IsPadded, Begins, text_in};
 ghost use Rattle.sk_lines.specs.Runs.{IsRun};
+ghost use Rattle.sk_lines.specs.Spans.{AreBehind, lines_at};
 
 use crate::cutter::line_len;
 use crate::marks::{BLOCK, seek, take_lf};
 use crate::runs::skip_lfs;
-use crate::spans::Span;
+use crate::spans::{GROUP, Span, cut_lines, find_ends};
 use sk_model::OutOfMemory;
 use std::alloc::Global;
 use std::marker::Model;
@@ -265,5 +266,24 @@ impl<'a> PageLines<'a> {
             from,
             to: from + len,
         }
+    }
+
+    /// Moves on by some of the next lines, at most so many, puts to the front of `spans` where they lie, and
+    /// answers how many they are: none only where none is left or wanted.
+    pub fn next_lines(&mut self, spans: &mut [Span; GROUP], most: usize) -> usize
+        ensures few { result ≤ GROUP }
+        ensures most { result ≤ most }
+        ensures within { AreBehind 0 (take result spans.new) self.old.text }
+        ensures lines { self.old.rest ≡ lines_at (take result spans.new) self.old.text ++ self.new.rest }
+        ensures some { 0 < most → 0 < length self.old.rest → 0 < result }
+        ensures text { self.new.text ≡ self.old.text }
+    {
+        let found = find_ends(self.text, self.at, spans).min(most);
+        // No line is longer than the text.
+        let (count, at) = cut_lines(self.text, self.at, self.text.len(), spans, found);
+        self.at = at;
+        self.scanned = at;
+        self.marks = 0;
+        count
     }
 }
