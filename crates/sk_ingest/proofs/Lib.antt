@@ -22,3 +22,6 @@ pub mod WindowLaws
 pub mod AtOnceLaws
 pub mod Gathering
 pub mod Pages
+pub mod DeliveryLaws
+pub mod SupplyLaws
+pub mod LaneLaws
