@@ -32,6 +32,10 @@ line_read r old mid new given line taken first second before next has = record {
 pub read_few : (r : Reading) (left : Option (List ℕ)) (given : List (List ℕ)) (taken : List ℕ) → HasRead r left given taken → length given ≤ most_kept
 read_few r left given taken read = omega (arith, has_few r given taken read.has, read.has.count, read.bound, read.few)
 
+-- the number of the lines given is their number
+pub read_number : (r : Reading) (left : Option (List ℕ)) (given : List (List ℕ)) (taken : List ℕ) → HasRead r left given taken → r.cutter.number ≡ length given
+read_number r left given taken read = omega (arith, has_few r given taken read.has, read.has.number, read.has.count, read.bound, read.few)
+
 -- its number, and its length
 pub line_number : (r : Reading) (old new : Option (List ℕ)) (given : List (List ℕ)) (line taken : List ℕ) (n : ℕ) → ReadsLine r old new given line taken → n ≡ r.cutter.number → n ≡ length given + 1
 line_number r old new given line taken n one count =

@@ -23,3 +23,6 @@ pub mod AtOnceLaws
 pub mod Gathering
 pub mod OnItsWay
 pub mod Pages
+pub mod DeliveryLaws
+pub mod SupplyLaws
+pub mod LaneLaws

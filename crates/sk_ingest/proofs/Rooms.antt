@@ -18,14 +18,14 @@ use Rattle.sk_ingest.proofs.Updaters.{takes_few, takes_none, takes_trans, none_r
 -- ---- how many
 
 -- a share has no more items than the blocks have lines, and these no more than the windows
-few_shares : (kind : Kind) (windows : List (List (List ℕ))) (n i : ℕ) → length (share kind windows n i) ≤ length (blocks_of windows i n)
+pub few_shares : (kind : Kind) (windows : List (List (List ℕ))) (n i : ℕ) → length (share kind windows n i) ≤ length (blocks_of windows i n)
 unfolding share
 few_shares kind [] n i = omega arith
 few_shares kind (lines ∷ more) n i =
     let rest = few_shares kind more n i in
     omega (arith, rest, few_items kind (block_of lines i n), length-append (items_in kind (block_of lines i n)) (share kind more n i), length-append (block_of lines i n) (blocks_of more i n))
 
-few_blocks : (windows : List (List (List ℕ))) (n i : ℕ) → i < n → length (blocks_of windows i n) ≤ length (all_lines windows)
+pub few_blocks : (windows : List (List (List ℕ))) (n i : ℕ) → i < n → length (blocks_of windows i n) ≤ length (all_lines windows)
 few_blocks [] n i within = omega arith
 few_blocks (lines ∷ more) n i within =
     let rest = few_blocks more n i within in

@@ -22,15 +22,15 @@ use Rattle.sk_ingest.specs.Rounds.{HaveFew, HaveRoomFor}
 use Rattle.sk_ingest.specs.Hubs.{Hub, IsHub}
 use Rattle.sk_ingest.specs.Ingests.{Terms, GoesSoFar, Ingests, StopsAtUnit, EndsEarly}
 use Rattle.sk_ingest.specs.Takers.{untold}
-use Rattle.sk_ingest.specs.Stretches.{EndUnfilled, GoOnInWindows, RefusesBehind, ReadsWindow, ReadsStretch, FeedsWindows}
+use Rattle.sk_ingest.specs.Stretches.{StretchState, StretchGoes, FeedsAndReads, EndUnfilled, GoOnInWindows, RefusesBehind, ReadsWindow, ReadsStretch, FeedsWindows}
 use Rattle.sk_ingest.proofs.Cutting.{none_unfilled, all_lines_more}
-use Rattle.sk_ingest.proofs.Filled.{read_few}
+use Rattle.sk_ingest.proofs.Filled.{read_few, read_number}
 use Rattle.sk_ingest.proofs.HubLaws.{hub_took}
 use Rattle.sk_ingest.proofs.Rooms.{few_took, room_for}
 use Rattle.sk_ingest.proofs.Between.{none_fed, fed_on, cut_so_far, ingests_all}
 use Rattle.sk_ingest.proofs.Ingestion.{ends_by}
 
-on_ok_at : (result : Result Bool Fault) (full : Bool) (P : Type 0) → result ≡ Ok full → OnOk result P → P
+pub on_ok_at : (result : Result Bool Fault) (full : Bool) (P : Type 0) → result ≡ Ok full → OnOk result P → P
 on_ok_at result full P is p = subst (λ x. OnOk x P) is p
 
 on_err_at : (result : Result Bool Fault) (why : Fault) (P : Fault → Type 0) → result ≡ Err why → IfErr result P → P why
@@ -118,14 +118,6 @@ no_window_read kind most r left result is least =
     (λ first given taken consumed has. lineends.no_memory (λ l. l ≡ given ++ []) (RefusesLine kind (given ++ [])) r.most r first left given taken refl consumed (sym (append-nil given)) has)
 
 -- ---- a stretch
-
--- windows were read into a stretch, and all are full
-pub record StretchGoes (kind : Kind) (most : ℕ) (windows : List (List (List ℕ))) (r r' : Reading) (old new : Option (List ℕ)) : Type 0 where
-  pub full : All (IsFullWindow most) windows
-  pub good : All (IsGood kind) (all_lines windows)
-  pub read : (given : List (List ℕ)) (taken : List ℕ) → HasRead r old given taken → (more : List ℕ) × Consumes old new more × HasRead r' new (given ++ all_lines windows) (taken ++ more)
-  pub bound : r'.most ≡ r.most
-  pub progress : remaining_of r' ≤ remaining_of r
 
 pub stretch_starts : (kind : Kind) (most : ℕ) (windows : List (List (List ℕ))) (r : Reading) (left : Option (List ℕ)) → windows ≡ [] → StretchGoes kind most windows r r left left
 stretch_starts kind most windows r left none = subst (λ l. StretchGoes kind most l r r left left) (sym none) (record {
@@ -228,6 +220,11 @@ module _ (kind : Kind) (most : ℕ) (windows : List (List (List ℕ))) (lines : 
       refuses given (fault.LongLine n) units line none = absurd none
       refuses given (fault.BadCsv n) units line none = absurd none
 
+-- no memory was found before anything was read
+pub nothing_read : (kind : Kind) (most : ℕ) (r : Reading) (left : Option (List ℕ)) (result : Result Bool Fault) → IsErrAnd result (λ x. x ≡ fault.OutOfMemory) → 1 ≤ most → ReadsStretch kind most [] r r left left result
+nothing_read kind most r left (Ok full) is least = absurd is
+nothing_read kind most r left (Err e) is least = stretch_failed kind most [] [] r r r left left left (stretch_starts kind most [] r left refl) [] e (Err e) (Err e) (no_window_read kind most r left (Err e) is least) refl refl
+
 -- where memory is found wanting behind a stretch, the reading ends behind it
 pub read_then_none : (kind : Kind) (most : ℕ) (windows : List (List (List ℕ))) (r r' : Reading) (old new : Option (List ℕ)) (full : Bool) (read result : Result Bool Fault) → 1 ≤ most → ReadsStretch kind most windows r r' old new read → read ≡ Ok full → IsErrAnd result (λ x. x ≡ fault.OutOfMemory) → ReadsStretch kind most windows r r' old new result
 read_then_none kind most windows r r' old new full read (Ok more) least stretch was is = absurd is
@@ -272,8 +269,10 @@ stretch_passed kind most windows r r' old new why read (Err e) stretch was is = 
 -- ---- stretch after stretch
 
 -- windows of lines were fed, and those of a stretch wait: these are full, or the source ended in the last of them
-pub record StretchesWent (keeps : ℕ → ℕ → Bool) (hint_of : List ℕ → List Entry → ℕ) (plan : Intake) (waiting : List (List (List ℕ))) (more : Bool) (a b : Hub) (r : Reading) (old new : Option (List ℕ)) : Type 0 where
+pub record StretchesWent (keeps : ℕ → ℕ → Bool) (hint_of : List ℕ → List Entry → ℕ) (plan : Intake) (waiting : List (List (List ℕ))) (before : ℕ) (more : Bool) (a b : Hub) (r : Reading) (old new : Option (List ℕ)) : Type 0 where
   pub fed : List (List (List ℕ))
+  -- how many lines these are
+  pub count : before ≡ length (all_lines fed)
   pub taken : List ℕ
   pub consumed : Consumes old new taken
   pub read : HasRead r new (all_lines fed ++ all_lines waiting) taken
@@ -286,9 +285,10 @@ pub record StretchesWent (keeps : ℕ → ℕ → Bool) (hint_of : List ℕ → 
   pub most : r.most ≡ plan.most
 
 -- before the first stretch
-pub none_went : (keeps : ℕ → ℕ → Bool) (hint_of : List ℕ → List Entry → ℕ) (plan : Intake) (a : Hub) (r : Reading) (left : Option (List ℕ)) → r.most ≡ plan.most → HasRead r left [] [] → StretchesWent keeps hint_of plan [] true a a r left left
+pub none_went : (keeps : ℕ → ℕ → Bool) (hint_of : List ℕ → List Entry → ℕ) (plan : Intake) (a : Hub) (r : Reading) (left : Option (List ℕ)) → r.most ≡ plan.most → HasRead r left [] [] → StretchesWent keeps hint_of plan [] 0 true a a r left left
 none_went keeps hint_of plan a r left most has = record {
   fed = [];
+  count = refl;
   taken = [];
   consumed = Consumes-nil left;
   read = has;
@@ -301,17 +301,18 @@ none_went keeps hint_of plan a r left most has = record {
   most = most;
 }
 
-both_joined : (fed waiting : List (List (List ℕ))) → all_lines (fed ++ waiting) ≡ all_lines fed ++ all_lines waiting
+pub both_joined : (fed waiting : List (List (List ℕ))) → all_lines (fed ++ waiting) ≡ all_lines fed ++ all_lines waiting
 both_joined fed waiting = flat_map-append (λ lines. lines) fed waiting
 
-module _ (keeps : ℕ → ℕ → Bool) (hint_of : List ℕ → List Entry → ℕ) (plan : Intake) (waiting : List (List (List ℕ))) (more : Bool) (a b : Hub) (r : Reading) (old mid : Option (List ℕ)) (went : StretchesWent keeps hint_of plan waiting more a b r old mid) where
+module _ (keeps : ℕ → ℕ → Bool) (hint_of : List ℕ → List Entry → ℕ) (plan : Intake) (waiting : List (List (List ℕ))) (before : ℕ) (more : Bool) (a b : Hub) (r : Reading) (old mid : Option (List ℕ)) (went : StretchesWent keeps hint_of plan waiting before more a b r old mid) where
   -- its windows are fed, and a further one is read
-  pub stretches_go : (windows : List (List (List ℕ))) (result : Result Bool Fault) (further : Bool) (c : Hub) (r' : Reading) (new : Option (List ℕ)) → more ≡ true → FeedsWindows keeps hint_of plan.kind waiting b c → ReadsStretch plan.kind plan.window windows r r' mid new result → result ≡ Ok further
-      → StretchesWent keeps hint_of plan windows further a c r' old new
-  stretches_go windows result further c r' new is fed stretch was =
+  pub stretches_go : (windows : List (List (List ℕ))) (behind : ℕ) (result : Result Bool Fault) (further : Bool) (c : Hub) (r' : Reading) (new : Option (List ℕ)) → more ≡ true → FeedsWindows keeps hint_of plan.kind waiting b c → ReadsStretch plan.kind plan.window windows r r' mid new result → result ≡ Ok further → behind ≡ r.cutter.number
+      → StretchesWent keeps hint_of plan windows behind further a c r' old new
+  stretches_go windows behind result further c r' new is fed stretch was first =
       let given = all_lines went.fed ++ all_lines waiting in
       let now = on_ok_at result further _ was stretch.read given went.taken went.read in record {
         fed = went.fed ++ waiting;
+        count = first ∙ read_number r mid given went.taken went.read ∙ ap length (sym (both_joined went.fed waiting));
         taken = went.taken ++ now.0;
         consumed = Consumes-trans _ _ _ _ _ went.consumed now.1;
         read = subst (λ l. HasRead r' new (l ++ all_lines windows) (went.taken ++ now.0)) (sym (both_joined went.fed waiting)) now.2;
@@ -323,6 +324,34 @@ module _ (keeps : ℕ → ℕ → Bool) (hint_of : List ℕ → List Entry → �
         feeds = fed_on keeps hint_of plan.kind went.fed waiting a b c went.feeds fed;
         most = stretch.bound ∙ went.most;
       }
+
+  -- further ones are read behind them
+  pub stretches_wait : (further : List (List (List ℕ))) (q : Reading) (new : Option (List ℕ)) → more ≡ true → StretchGoes plan.kind plan.window further r q mid new → StretchesWent keeps hint_of plan (waiting ++ further) before true a b q old new
+  stretches_wait further q new is goes =
+      let given = all_lines went.fed ++ all_lines waiting in
+      let now = goes.read given went.taken went.read in
+      let joined : given ++ all_lines further ≡ all_lines went.fed ++ all_lines (waiting ++ further) = append_assoc (all_lines went.fed) (all_lines waiting) (all_lines further) ∙ ap (λ l. all_lines went.fed ++ l) (sym (both_joined waiting further)) in record {
+        fed = went.fed;
+        count = went.count;
+        taken = went.taken ++ now.0;
+        consumed = Consumes-trans _ _ _ _ _ went.consumed now.1;
+        read = subst (λ l. HasRead q new l (went.taken ++ now.0)) joined now.2;
+        full = went.full;
+        waits = λ to. All-append (IsFullWindow plan.window) waiting further (went.waits is) goes.full;
+        unfilled = λ to. absurd (not_both (answer true) refl (ok_is true false to));
+        ended = λ to. absurd (not_both (answer true) refl (ok_is true false to));
+        good = subst (All (IsGood plan.kind)) joined (All-append (IsGood plan.kind) given (all_lines further) went.good goes.good);
+        feeds = went.feeds;
+        most = goes.bound ∙ went.most;
+      }
+
+  -- how many lines an updater has kept at most
+  pub stretches_few : HaveFew 0 [] a.updaters → HaveFew before [] b.updaters
+  stretches_few few = subst (λ n. HaveFew n [] b.updaters) (sym went.count) (few_took keeps hint_of plan.kind went.fed a.updaters b.updaters few went.feeds.updaters)
+
+  -- how many lines were read
+  pub stretches_lines : length (all_lines went.fed ++ all_lines waiting) ≡ before + length (all_lines waiting)
+  stretches_lines = length-append (all_lines went.fed) (all_lines waiting) ∙ ap (λ n. n + length (all_lines waiting)) (sym went.count)
 
   pub stretches_hub : IsHub a → IsHub b
   stretches_hub hub = hub_took keeps hint_of plan.kind went.fed a b hub went.feeds
@@ -400,6 +429,21 @@ module _ (keeps : ℕ → ℕ → Bool) (hint_of : List ℕ → List Entry → �
         ),
       )
 
+-- ---- a stretch and those behind it were fed, and one more was read
+
+module _ (keeps : ℕ → ℕ → Bool) (hint_of : List ℕ → List Entry → ℕ) (plan : Intake) (s next : StretchState) (a b c : Hub) (r r' : Reading) (old mid new : Option (List ℕ)) (result : Result Bool Fault) (went : StretchesWent keeps hint_of plan s.windows s.first true a b r old mid) (on : FeedsAndReads (λ windows. FeedsWindows keeps hint_of plan.kind windows b c) plan.kind plan.window s next r r' mid new result) where
+  waited : StretchesWent keeps hint_of plan (s.windows ++ on.more) s.first true a b on.between old on.mid
+  waited = stretches_wait keeps hint_of plan s.windows s.first true a b r old mid went on.more on.between on.mid refl on.goes
+
+  pub feeds_on : (further : Bool) → result ≡ Ok further → StretchesWent keeps hint_of plan next.windows next.first further a c r' old new
+  feeds_on further was =
+      subst (λ l. StretchesWent keeps hint_of plan l next.first further a c r' old new) (on_ok_at result further _ was on.is)
+      (stretches_go keeps hint_of plan (s.windows ++ on.more) s.first true a b on.between old on.mid waited on.last next.first result further c r' new refl (on_ok_at result further _ was on.fed) on.reads was (on_ok_at result further _ was on.first))
+
+  -- a fault came
+  pub feeds_fail : (why : Fault) → 1 ≤ plan.window → plan.interim ≡ false → result ≡ Err why → EndsEarly (untold keeps hint_of plan) Lines old new a tt tt why
+  feeds_fail why least off was = stretches_fail keeps hint_of plan (s.windows ++ on.more) s.first true a b on.between old on.mid waited on.last why result r' new least off refl on.reads was
+
 -- ---- what a call tells of the count of faults
 
 err_is : (A : Type 0) (e f : Fault) → IsErrOf {T = A} (Err e) f → e ≡ f
@@ -408,6 +452,9 @@ err_is A e f is = cc
 is_err : (A : Type 0) (e f : Fault) → e ≡ f → IsErrOf {T = A} (Err e) f
 is_err A e f is = ap (λ x. Err x) is
 
+no_read_fault : (e : Fault) → e ≡ fault.OutOfMemory → e ≡ fault.ReadFault → ⊥
+no_read_fault e memory read = cc
+
 pub cause_passed : {T : Type 0} (before start now : ℕ) (why : Fault) (read : Result Bool Fault) (result : Result T Fault) → HasCauseIn fault.ReadFault before now read → read ≡ Err why → IsErrAnd result (λ x. x ≡ why) → before ≡ start → HasCauseIn fault.ReadFault start now result
 cause_passed before start now why read (Ok n) cause was is same = absurd is
 cause_passed {T} before start now why read (Err e) cause was is same =
@@ -415,3 +462,8 @@ cause_passed {T} before start now why read (Err e) cause was is same =
       steady = λ other. so.steady (λ of. other (is_err T e fault.ReadFault (err_is Bool e fault.ReadFault of))) ∙ same;
       failed = λ of. subst (λ x. Rose x now) same (so.failed (is_err Bool e fault.ReadFault (err_is T e fault.ReadFault of)));
     }
+
+-- where memory was wanting no read failed
+pub none_caused : {T : Type 0} (before now : ℕ) (result : Result T Fault) → now ≡ before → IsErrAnd result (λ x. x ≡ fault.OutOfMemory) → HasCauseIn fault.ReadFault before now result
+none_caused before now (Ok n) same is = absurd is
+none_caused {T} before now (Err e) same is = record { steady = λ other. same; failed = λ of. absurd (no_read_fault e is (err_is T e fault.ReadFault of)) }

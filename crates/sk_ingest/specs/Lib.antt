@@ -12,3 +12,5 @@ pub mod Takers
 pub mod Fills
 pub mod Stretches
 pub mod Gathered
+pub mod Deliveries
+pub mod Lanes

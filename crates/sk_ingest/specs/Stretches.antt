@@ -1,5 +1,5 @@
 -- Windows of lines that are read before they are fed, and what it means that they were read and fed.
-use Rattle.std.specs.Prelude.{◌≡◌, ◌≢◌, ℕ, ◌<◌, Bool, true, false, List, [], ◌∷◌, ◌++◌, All, Option, Result, Ok, OnOk, IfErr}
+use Rattle.std.specs.Prelude.{◌≡◌, ◌≢◌, ℕ, ◌<◌, ◌≤◌, Bool, true, false, List, [], ◌∷◌, ◌++◌, All, Option, Result, Ok, OnOk, IfErr}
 use Rattle.std.specs.Io.KnownBytes.{Consumes}
 use Rattle.sk_model.specs.Entries.{Entry}
 use Rattle.sk_read.specs.Items.{IsGood}
@@ -19,6 +19,8 @@ pub record StretchState : Type 0 where
   pub windows : List (List (List ℕ))
   -- how many lines each takes at most
   pub most : ℕ
+  -- how many lines of the source come before them
+  pub first : ℕ
 
 -- ---- read
 
@@ -69,6 +71,14 @@ pub record ReadsStretch (kind : Kind) (most : ℕ) (windows : List (List (List �
   pub stopped : IfErr result (λ why. (first : Option (List ℕ)) (given : List (List ℕ)) (taken : List ℕ) → Consumes first old taken → HasRead r old given taken
       → Ends Lines r.most (GoOnInWindows kind most given) (RefusesBehind kind most given) first new why)
 
+-- windows of a source's lines were read by a reader, and all are full
+pub record StretchGoes (kind : Kind) (most : ℕ) (windows : List (List (List ℕ))) (r r' : Reading) (old new : Option (List ℕ)) : Type 0 where
+  pub full : All (IsFullWindow most) windows
+  pub good : All (IsGood kind) (all_lines windows)
+  pub read : (given : List (List ℕ)) (taken : List ℕ) → HasRead r old given taken → (more : List ℕ) × Consumes old new more × HasRead r' new (given ++ all_lines windows) (taken ++ more)
+  pub bound : r'.most ≡ r.most
+  pub progress : remaining_of r' ≤ remaining_of r
+
 -- ---- fed
 
 -- each updater took its share of these windows; the token is as it was
@@ -76,3 +86,17 @@ pub record FeedsWindows (keeps : ℕ → ℕ → Bool) (hint_of : List ℕ → L
   pub heart : HeartGoesOn a.heart b.heart
   pub updaters : TakeShares keeps hint_of kind windows a.updaters b.updaters
   pub token : b.token ≡ a.token
+
+-- windows that were read and others behind them were fed, and then a stretch was read: these are its windows
+pub record FeedsAndReads (Fed : List (List (List ℕ)) → Type 0) (kind : Kind) (most : ℕ) (old new : StretchState) (r r' : Reading) (left left' : Option (List ℕ)) (result : Result Bool Fault) : Type 0 where
+  -- those that were read and fed
+  pub more : List (List (List ℕ))
+  pub between : Reading
+  pub mid : Option (List ℕ)
+  pub goes : StretchGoes kind most more r between left mid
+  pub fed : OnOk result (Fed (old.windows ++ more))
+  -- and those that were read then
+  pub last : List (List (List ℕ))
+  pub reads : ReadsStretch kind most last between r' mid left' result
+  pub is : OnOk result (last ≡ new.windows)
+  pub first : OnOk result (new.first ≡ between.cutter.number)

@@ -12,7 +12,6 @@ use sk_compose::Composable;
 use sk_hub::{Heart, Opened, Sweep};
 use sk_model::OutOfMemory;
 use sk_read::Intake;
-use std::alloc::Global;
 use std::sync::Wait;
 use std::sync::atomic::{AtomicBool, Ordering};
 use std::thread::{Threads, join_mut};
@@ -102,7 +101,6 @@ pub(crate) fn run_beside<R: Threads + Wait + Sync, T: Propagates + Send, F: FnMu
 // Feeds a stretch in a thread of its own while the work is done here. A short one is fed before.
 pub(crate) fn feed_beside<R: Threads + Wait + Sync, C: Composable + Send, F: FnMut() -> A, A>(
     rt: &R,
-    alloc: Global,
     opened: &mut Opened<C>,
     stretch: &Stretch,
     plan: &Intake,
@@ -117,7 +115,7 @@ where
     ensures work { F.step work.old result.1 work.new }
 {
     if is_short(stretch) {
-        let fed = feed_stretch(rt, alloc, opened, stretch, plan);
+        let fed = feed_stretch(rt, opened, stretch, plan);
         return (fed, work());
     }
     join_mut(
@@ -126,7 +124,7 @@ where
             requires hub { IsHub (hub_of opened.now) }
             requires room { HaveRoomFor stretch.now.windows opened.now.updaters.items }
             ensures { OnOk result (FeedsWindows C.keeps_of C.hint_of plan.entry.now.kind stretch.entry.now.windows (hub_of opened.entry.now) (hub_of opened.exit.now)) }
-        { feed_stretch(rt, alloc, opened, stretch, plan) },
+        { feed_stretch(rt, opened, stretch, plan) },
         work,
     )
 }

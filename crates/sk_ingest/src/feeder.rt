@@ -73,7 +73,7 @@ impl<C: Composable> Feeder<C> {
 }
 
 // Feeds block i of n of each window, in order, and answers the place behind the last.
-fn feed_blocks<C: Composable, R: Wait>(
+pub(crate) fn feed_blocks<C: Composable, R: Wait>(
     rt: &R,
     u: &mut Updater<C>,
     windows: &[Window],

@@ -240,7 +240,7 @@ where
 }
 
 // The last is the first.
-fn turn<T>(elements: &mut Vec<T>)
+pub(crate) fn turn<T>(elements: &mut Vec<T>)
     ensures turned { elements.new.items ≡ reverse elements.old.items }
     ensures capacity { vec_capacity elements.new ≡ vec_capacity elements.old }
 {

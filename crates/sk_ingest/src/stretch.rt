@@ -13,10 +13,7 @@ use sk_read::{Fault, Kind, LineReader};
 use std::alloc::Global;
 use std::marker::Model;
 
-// As many windows as this make a stretch full.
-const MOST_WINDOWS: usize = 16;
-
-// So do as many bytes of lines as this, so that a stretch of long lines stays small.
+// As many bytes of lines as this make a stretch full, so that one of long lines stays small.
 const FULL_BYTES: usize = 16_777_216;
 
 // Windows that are fed together.
@@ -30,6 +27,8 @@ pub(crate) struct Stretch {
     size: usize,
     // how many lines each takes at most
     most: u32,
+    // how many lines of the source come before them
+    first: u64,
     alloc: Global,
 }
 
@@ -40,7 +39,7 @@ impl Model for Stretch {
 
     ghost Value = { StretchState };
 
-    ghost view = { λ b. record { windows = map (λ w. w.lines) (take b.used b.windows.items); most = b.most } };
+    ghost view = { λ b. record { windows = map (λ w. w.lines) (take b.used b.windows.items); most = b.most; first = b.first } };
 
     ghost invariant = { λ b. (b.used ≤ length b.windows.items) × (1 ≤ b.most) × (b.most ≤ most_lines) × All (λ w. w.most ≡ b.most) b.windows.items };
 }
@@ -59,6 +58,7 @@ impl Stretch {
             lines: 0,
             size: 0,
             most,
+            first: 0,
             alloc,
         }
     }
@@ -70,14 +70,25 @@ impl Stretch {
         &self.windows[..self.used]
     }
 
-    // Takes all windows out. Their memory stays.
-    fn clear(&mut self)
+    // Takes all windows out: those that come lie behind so many lines. The memory stays.
+    fn clear(&mut self, first: u64)
         ensures windows { self.new.windows ≡ [] }
         ensures most { self.new.most ≡ self.old.most }
+        ensures first { self.new.first ≡ first }
     {
+        self.first = first;
         self.used = 0;
         self.lines = 0;
         self.size = 0;
+    }
+
+    // How many lines a window takes at most.
+    pub(crate) fn most(&self) -> u32
+        ensures value { result ≡ self.now.most }
+        ensures least { 1 ≤ result }
+        ensures highest { result ≤ most_lines }
+    {
+        self.most
     }
 
     // How many lines it has.
@@ -85,9 +96,14 @@ impl Stretch {
         self.lines
     }
 
-    // Whether it takes no further window.
-    fn is_full(&self) -> bool {
-        self.used >= MOST_WINDOWS || self.size >= FULL_BYTES
+    // About how many bytes these have.
+    pub(crate) fn size(&self) -> usize {
+        self.size
+    }
+
+    // Whether it takes no further window, where so many lines are enough.
+    fn is_full(&self, enough: usize) -> bool {
+        self.lines >= enough || self.size >= FULL_BYTES
     }
 
     // Reads lines into a window more, and answers whether that is full.
@@ -101,6 +117,7 @@ impl Stretch {
         ensures reads { (lines : List (List ℕ)) × OnOk result (self.new.windows ≡ self.old.windows ++ lines ∷ [])
             × ReadsWindow kind self.old.most lines reader.old reader.new (S.left source.old) (S.left source.new) result }
         ensures most { self.new.most ≡ self.old.most }
+        ensures first { self.new.first ≡ self.old.first }
         ensures cause { HasCauseIn Fault.ReadFault (S.faults source.old) (S.faults source.new) result }
         ensures stays { S.stands_on source.new ≡ S.stands_on source.old }
     {
@@ -137,23 +154,25 @@ fn reserve(
     Ok(())
 }
 
-// Reads windows into a stretch, in the place of those that it has, until it is full, or answers `false` at the end of
-// the source: then the last of them is not full.
+// Reads windows into a stretch, in the place of those that it has, until it has as many lines as are enough or is full,
+// or answers `false` at the end of the source: then the last of them is not full.
 pub(crate) fn fill_stretch<S: Source>(
     reader: &mut LineReader,
     source: &mut S,
     stretch: &mut Stretch,
     kind: Kind,
+    enough: usize,
 ) -> Result<bool, Fault>
     requires started { (given : List (List ℕ)) × (taken : List ℕ) × HasRead reader.old (S.left source.old) given taken }
     ensures reads { ReadsStretch kind stretch.old.most stretch.new.windows reader.old reader.new (S.left source.old) (S.left source.new) result }
     ensures most { stretch.new.most ≡ stretch.old.most }
+    ensures first { stretch.new.first ≡ reader.old.cutter.number }
     ensures cause { HasCauseIn Fault.ReadFault (S.faults source.old) (S.faults source.new) result }
     ensures stays { S.stands_on source.new ≡ S.stands_on source.old }
 {
-    stretch.clear();
+    stretch.clear(reader.number());
     'window: while stretch.read_window(reader, source, kind)? {
-        if stretch.is_full() {
+        if stretch.is_full(enough) {
             return Ok(true);
         }
     }

@@ -68,7 +68,7 @@ pub(crate) fn threads_for<R: Threads>(rt: &R, updaters: usize) -> u32
 }
 
 // Whether each item that an updater keeps is handed over: at once they would only wait for one another.
-fn is_early<C: Composable>(updaters: &[Updater<C>]) -> bool {
+pub(crate) fn is_early<C: Composable>(updaters: &[Updater<C>]) -> bool {
     match updaters.first() {
         Some(updater) => updater.is_eager(),
         None => false,
@@ -149,53 +149,38 @@ where
     )
 }
 
-// Feeds the windows of a stretch to all updaters: at once, but one window after another where that is faster. A thread
-// to which the handles of a hub are lent finds room for feeders itself: both have no proof of their borrows.
-pub(crate) fn feed_stretch<C: Composable + Send, R: Threads + Wait + Sync>(
+// Feeds the windows of a stretch to all updaters, one after another.
+pub(crate) fn feed_stretch<C: Composable, R: Wait>(
     rt: &R,
-    alloc: Global,
     opened: &mut Opened<C>,
     stretch: &Stretch,
     plan: &Intake,
 ) -> Result<(), OutOfMemory>
-where
-    C::Told: Send,
     requires hub { IsHub (hub_of opened.old) }
     requires room { HaveRoomFor stretch.now.windows opened.old.updaters.items }
     ensures fed { OnOk result (FeedsWindows C.keeps_of C.hint_of plan.now.kind stretch.now.windows (hub_of opened.old) (hub_of opened.new)) }
 {
-    let windows = stretch.windows();
-    let next = feed_first(rt, opened, windows, plan, is_short(stretch))?;
-    if next == windows.len() {
-        return Ok(());
+    feed_windows_in_turn(rt, opened, stretch.windows(), plan)
+}
+
+// Feeds windows to all updaters, one after another.
+fn feed_windows_in_turn<C: Composable, R: Wait>(
+    rt: &R,
+    opened: &mut Opened<C>,
+    windows: &[Window],
+    plan: &Intake,
+) -> Result<(), OutOfMemory>
+    requires hub { IsHub (hub_of opened.old) }
+    requires room { HaveRoomFor (map (λ w. w.lines) windows.now) opened.old.updaters.items }
+    ensures fed { OnOk result (FeedsWindows C.keeps_of C.hint_of plan.now.kind (map (λ w. w.lines) windows.now) (hub_of opened.old) (hub_of opened.new)) }
+{
+    'window: for next in 0..windows.len() {
+        feed_window(rt, opened, &windows[next], plan)?;
     }
-    let mut feeders = feeders_for(rt, alloc, opened.updaters.len())?;
-    feed_windows_at_once(rt, opened, &mut feeders, &windows[next..], plan)
+    Ok(())
 }
 
 // Whether a stretch is fed sooner than threads are started.
 pub(crate) fn is_short(stretch: &Stretch) -> bool {
     stretch.lines() < LEAST_AT_ONCE as usize
-}
-
-// Feeds the first windows in this thread, as long as updaters are early, or all, and answers how many it fed.
-fn feed_first<C: Composable, R: Wait>(
-    rt: &R,
-    opened: &mut Opened<C>,
-    windows: &[Window],
-    plan: &Intake,
-    all: bool,
-) -> Result<usize, OutOfMemory>
-    requires hub { IsHub (hub_of opened.old) }
-    requires room { HaveRoomFor (map (λ w. w.lines) windows.now) opened.old.updaters.items }
-    ensures within { IfOk result (λ next. next ≤ length windows.now) }
-    ensures fed { IfOk result (λ next. FeedsWindows C.keeps_of C.hint_of plan.now.kind (take next (map (λ w. w.lines) windows.now)) (hub_of opened.old) (hub_of opened.new)) }
-{
-    'window: for next in 0..windows.len() {
-        if !all && !is_early(&opened.updaters) {
-            return Ok(next);
-        }
-        feed_window(rt, opened, &windows[next], plan)?;
-    }
-    Ok(windows.len())
 }

@@ -9,6 +9,7 @@ pub window-init : goal.window-init
 window-init g c = record {
   goes = stretch_starts c.args.kind c.args.stretch.now.most c.clear.new.self.windows c.args.reader.now (g.S.Source.left c.args.source.now) c.clear.ensures.windows;
   most = c.clear.ensures.most;
+  first = c.clear.ensures.first ∙ c.number.ensures;
   steady = refl;
   stays = refl;
 }
@@ -48,6 +49,7 @@ window-preserved g c =
       goes = stretch_goes c.args.kind most c.window.stretch.windows reads.0 c.args.reader.now c.window.reader c.read_window.new.reader old mid new inv.goes c.read_window.new.self.windows c.read_window.result one gave
           (subst (λ x. OnOk x (c.read_window.new.self.windows ≡ c.window.stretch.windows ++ reads.0 ∷ [])) gave reads.1);
       most = c.read_window.ensures.most ∙ inv.most;
+      first = c.read_window.ensures.first ∙ inv.first;
       steady = subst (λ x. OnOk x (g.S.Source.faults c.read_window.new.source ≡ g.S.Source.faults c.window.source)) c.in_ok-read_window.was
           (steady_on_ok _ (g.S.Source.faults c.window.source) (g.S.Source.faults c.read_window.new.source) c.read_window.result c.read_window.ensures.cause) ∙ inv.steady;
       stays = c.read_window.ensures.stays ∙ inv.stays;

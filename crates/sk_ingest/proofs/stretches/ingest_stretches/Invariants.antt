@@ -6,7 +6,7 @@ use Rattle.sk_ingest.proofs.stretches.ingest_stretches.Given as goal
 
 abbrev pub invariant-stretch : goal.invariant-stretch
 invariant-stretch g l = let k = g.C.Composable in record {
-  went : StretchesWent k.keeps_of k.hint_of l.plan l.stretch.windows l.more (hub_of l.fn.opened) (hub_of l.opened) l.reader (g.S.Source.left l.fn.source) (g.S.Source.left l.source);
+  went : StretchesWent k.keeps_of k.hint_of l.plan l.stretch.windows l.stretch.first l.more (hub_of l.fn.opened) (hub_of l.opened) l.reader (g.S.Source.left l.fn.source) (g.S.Source.left l.source);
   stretch : l.stretch.most ≡ l.plan.window;
   next : l.next.most ≡ l.plan.window;
   steady : g.S.Source.faults l.source ≡ g.S.Source.faults l.fn.source;

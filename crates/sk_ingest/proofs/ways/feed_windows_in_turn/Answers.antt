@@ -3,7 +3,7 @@ use Rattle.sk_ingest.specs.Hubs.{hub_of}
 use Rattle.sk_ingest.proofs.HubLaws.{hub_took}
 use Rattle.sk_ingest.proofs.Rooms.{room_at_place}
 use Rattle.sk_ingest.proofs.Between.{none_fed, fed_next}
-use Rattle.sk_ingest.proofs.ways.feed_first.Goals as goal
+use Rattle.sk_ingest.proofs.ways.feed_windows_in_turn.Goals as goal
 
 pub window-init : goal.window-init
 window-init g c = let k = g.C.Composable in none_fed k.keeps_of k.hint_of c.args.plan.now.kind (hub_of c.args.opened.now)

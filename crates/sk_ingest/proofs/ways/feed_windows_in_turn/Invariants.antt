@@ -1,7 +1,7 @@
 use Rattle.std.proofs.Common.{take, map}
 use Rattle.sk_ingest.specs.Hubs.{hub_of}
 use Rattle.sk_ingest.specs.Stretches.{FeedsWindows}
-use Rattle.sk_ingest.proofs.ways.feed_first.Given as goal
+use Rattle.sk_ingest.proofs.ways.feed_windows_in_turn.Given as goal
 
 abbrev pub invariant-window : goal.invariant-window
 invariant-window g l = let k = g.C.Composable in FeedsWindows k.keeps_of k.hint_of l.plan.kind (take l.next (map (λ w. w.lines) l.windows)) (hub_of l.initial.opened) (hub_of l.opened)

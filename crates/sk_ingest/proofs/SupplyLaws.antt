@@ -1,0 +1,271 @@
+-- Stretches that are read and given to all rings.
+use Rattle.std.proofs.Common.{◌≡◌, ◌≢◌, inl, inr, ⊎_elim, ℕ, ◌+◌, ◌<◌, ◌≤◌, Bool, true, List, [], ◌∷◌, ◌++◌, length, get_or, set, All, Option, Result, Ok, Err, OnOk, IsErrAnd, sym, ap, refl, ◌∙◌, subst, arith, append-nil, append_assoc, length-append}
+use Rattle.std.proofs.lemmas.List.{get_or-set_same, get_or-set_other, get_or_read, length-set}
+use Rattle.std.proofs.lemmas.List.Elements.{All-append}
+use Rattle.std.proofs.KnownBytes.{Consumes-trans}
+use Rattle.std.proofs.lemmas.Bool.{cases_lt}
+use Rattle.std.specs.Io.KnownBytes.{Consumes}
+use Rattle.rtrb.specs.Ring.{sent, SameProducer}
+use Rattle.rtrb.specs.declared.producer.Producer.{Producer}
+use Rattle.sk_model.specs.Limits.{most_kept}
+use Rattle.sk_read.specs.Items.{IsGood}
+use Rattle.sk_read.specs.Reading.{Reading, HasRead, remaining_of}
+use Rattle.sk_read.specs.declared.fault.Fault.{Fault}
+use Rattle.sk_read.specs.declared.fault.Fault.TheVariants as fault
+use Rattle.sk_read.specs.declared.kind.Kind.{Kind}
+use Rattle.sk_ingest.specs.Windows.{IsFullWindow, all_lines}
+use Rattle.sk_ingest.specs.Stretches.{StretchState, StretchGoes, ReadsStretch, FeedsAndReads}
+use Rattle.sk_ingest.specs.Deliveries.{windows_of, EndAt, IsNext, GaveEach, Supplies}
+use Rattle.sk_ingest.proofs.Rounds.{ok_then}
+use Rattle.sk_ingest.proofs.DeliveryLaws.{windows_append, windows_one, end_later, ends_once}
+use Rattle.sk_ingest.proofs.Updaters.{on_ok}
+use Rattle.sk_ingest.proofs.StretchLaws.{on_ok_at, both_joined, none_on_err, stretch_starts, stretch_passed, read_then_none, nothing_read}
+
+-- ---- members of a list, one after another
+
+-- what was done to the members before a place, and the others are as they were
+pub record DoneTo {A : Type 0} (R : ℕ → A → A → Type 0) (xs ys : List A) (i : ℕ) : Type 0 where
+  pub count : length ys ≡ length xs
+  pub done : (j : ℕ) (d : A) → j < i → j < length xs → R j (get_or xs j d) (get_or ys j d)
+  pub later : (j : ℕ) (d : A) → i ≤ j → get_or ys j d ≡ get_or xs j d
+
+module _ {A : Type 0} (R : ℕ → A → A → Type 0) (xs ys : List A) where
+  pub done_none : DoneTo R xs xs 0
+  done_none = record { count = refl; done = λ j d before. let no : ⊥ = omega arith in absurd no; later = λ j d behind. refl }
+
+  -- the member at the place
+  pub done_at : (i : ℕ) (x : A) → DoneTo R xs ys i → i < length xs → x ≡ get_or ys i x → (d : A) → x ≡ get_or xs i d
+  done_at i x to within is d = let inside : i < length ys = omega (arith, to.count) in get_or_read ys i x inside is d ∙ to.later i d (omega arith)
+
+  pub done_next : (i : ℕ) (x y : A) → DoneTo R xs ys i → i < length xs → x ≡ get_or ys i x → R i x y → DoneTo R xs (set ys i y) (i + 1)
+  done_next i x y to within is r = record {
+    count = length-set ys i y ∙ to.count;
+    done = λ j d below inside. ⊎_elim
+        (λ before. let other : j ≢ i = omega arith in subst (R j (get_or xs j d)) (sym (get_or-set_other ys i j y d other)) (to.done j d before inside))
+        (λ behind.
+        let same : i ≡ j = omega arith in
+        let there : i < length ys = omega (arith, to.count) in
+        subst (λ m. R m (get_or xs m d) (get_or (set ys i y) m d)) same
+        (subst (R i (get_or xs i d)) (sym (get_or-set_same ys i y d there)) (subst (λ z. R i z y) (done_at i x to within is d) r)))
+        (cases_lt j i);
+    later = λ j d behind. let other : j ≢ i = omega arith in get_or-set_other ys i j y d other ∙ to.later j d (omega arith);
+  }
+
+-- ---- rings
+
+module _ {A P : Type 0} where
+  -- a ring was given these stretches
+  abbrev pub Gave : List StretchState → ℕ → Producer StretchState A P → Producer StretchState A P → Type 0
+  Gave more i a b = SameProducer a b × (sent b ≡ sent a ++ more)
+
+  pub gave_all : (os os' : List (Producer StretchState A P)) (more : List StretchState) (n : ℕ) → n ≡ length os → DoneTo (Gave more) os os' n → GaveEach os os' more
+  gave_all os os' more n is done = record { count = done.count; each = λ i d within. done.done i d (omega arith) within }
+
+  pub gave_none : (os : List (Producer StretchState A P)) → GaveEach os os []
+  gave_none os = record { count = refl; each = λ i d within. (((refl, refl, refl, refl), refl), sym (append-nil (sent (get_or os i d)))) }
+
+  pub gave_both : (os ms ns : List (Producer StretchState A P)) (xs ys : List StretchState) → GaveEach os ms xs → GaveEach ms ns ys → GaveEach os ns (xs ++ ys)
+  gave_both os ms ns xs ys a b = record {
+    count = b.count ∙ a.count;
+    each = λ i d within.
+        let first = a.each i d within in
+        let then = b.each i d (omega (arith, a.count)) in (
+          ((then.0.0.0 ∙ first.0.0.0, then.0.0.1 ∙ first.0.0.1, then.0.0.2 ∙ first.0.0.2, then.0.0.3 ∙ first.0.0.3), then.0.1 ∙ first.0.1),
+          then.1 ∙ ap (λ l. l ++ ys) first.1 ∙ append_assoc (sent (get_or os i d)) xs ys,
+        );
+  }
+
+  -- all end later
+  pub all_end : (os os' : List (Producer StretchState A P)) (more : List StretchState) (n m : ℕ) → All (λ o. EndAt (sent o) n) os → GaveEach os os' more → m ≡ n + length (all_lines (windows_of more)) → All (λ o. EndAt (sent o) m) os'
+  all_end os os' more n m ends gave is = λ i d within.
+      let inside : i < length os = omega (arith, gave.count) in
+      subst (λ l. EndAt l m) (sym (gave.each i d inside).1) (end_later (sent (get_or os i d)) more n m (ends i d inside) is)
+
+  -- a stretch comes next where all end
+  pub all_next : (os : List (Producer StretchState A P)) (n : ℕ) (s : StretchState) → All (λ o. EndAt (sent o) n) os → s.first ≡ n → s.first + length (all_lines s.windows) ≤ most_kept → All (λ o. IsNext (sent o) s) os
+  all_next os n s ends first few = λ i d within. record { begins = λ m end. first ∙ ends_once (sent (get_or os i d)) n m (ends i d within) end; few = few }
+
+-- ---- what was read
+
+-- stretches were read and given, and no more so far
+pub record SupplyGoes {A P : Type 0} (kind : Kind) (most : ℕ) (os os' : List (Producer StretchState A P)) (r between : Reading) (old mid : Option (List ℕ)) : Type 0 where
+  pub given : List StretchState
+  pub gave : GaveEach os os' given
+  pub goes : StretchGoes kind most (windows_of given) r between old mid
+
+pub supply_starts : {A P : Type 0} (kind : Kind) (most : ℕ) (os : List (Producer StretchState A P)) (r : Reading) (old : Option (List ℕ)) → SupplyGoes kind most os os r r old old
+supply_starts kind most os r old = record { given = []; gave = gave_none os; goes = stretch_starts kind most [] r old refl }
+
+-- windows that were read behind others
+pub goes_both : (kind : Kind) (most : ℕ) (xs ys : List (List (List ℕ))) (r q s : Reading) (old mid new : Option (List ℕ)) → StretchGoes kind most xs r q old mid → StretchGoes kind most ys q s mid new → StretchGoes kind most (xs ++ ys) r s old new
+goes_both kind most xs ys r q s old mid new a b = record {
+  full = All-append (IsFullWindow most) xs ys a.full b.full;
+  good = subst (All (IsGood kind)) (sym (both_joined xs ys)) (All-append (IsGood kind) (all_lines xs) (all_lines ys) a.good b.good);
+  read = λ given taken has.
+      let before = a.read given taken has in
+      let now = b.read (given ++ all_lines xs) (taken ++ before.0) before.2 in (
+        before.0 ++ now.0,
+        Consumes-trans _ _ _ _ _ before.1 now.1,
+        subst (λ l. HasRead s new l (taken ++ (before.0 ++ now.0))) (append_assoc given (all_lines xs) (all_lines ys) ∙ ap (λ l. given ++ l) (sym (both_joined xs ys)))
+            (subst (λ bytes. HasRead s new ((given ++ all_lines xs) ++ all_lines ys) bytes) (append_assoc taken before.0 now.0) now.2),
+      );
+  bound = b.bound ∙ a.bound;
+  progress = omega (arith, a.progress, b.progress);
+}
+
+-- a full stretch
+pub goes_full : (kind : Kind) (most : ℕ) (windows : List (List (List ℕ))) (r r' : Reading) (old new : Option (List ℕ)) (result : Result Bool Fault) → ReadsStretch kind most windows r r' old new result → result ≡ Ok true → StretchGoes kind most windows r r' old new
+goes_full kind most windows r r' old new result reads was = record {
+  full = reads.full was;
+  good = on_ok_at result true _ was reads.good;
+  read = on_ok_at result true _ was reads.read;
+  bound = reads.bound;
+  progress = let later = reads.progress was in omega (arith, later);
+}
+
+-- a stretch that is given to all, behind those that were
+pub supply_goes : {A P : Type 0} (kind : Kind) (most : ℕ) (os ms ns : List (Producer StretchState A P)) (r q s : Reading) (old mid new : Option (List ℕ)) (next : StretchState) (result : Result Bool Fault) → SupplyGoes kind most os ms r q old mid → ReadsStretch kind most next.windows q s mid new result → result ≡ Ok true → GaveEach ms ns (next ∷ [])
+    → SupplyGoes kind most os ns r s old new
+supply_goes kind most os ms ns r q s old mid new next result before reads was gave = record {
+  given = before.given ++ next ∷ [];
+  gave = gave_both os ms ns before.given (next ∷ []) before.gave gave;
+  goes = subst (λ l. StretchGoes kind most l r s old new) (sym (windows_append before.given (next ∷ []) ∙ ap (λ l. windows_of before.given ++ l) (windows_one next)))
+      (goes_both kind most (windows_of before.given) next.windows r q s old mid new before.goes (goes_full kind most next.windows q s mid new result reads was));
+}
+
+-- it ends where a stretch was read that is not given
+pub supply_ends : {A P : Type 0} (kind : Kind) (most : ℕ) (os ms : List (Producer StretchState A P)) (next : StretchState) (r q s : Reading) (old mid new : Option (List ℕ)) (result : Result Bool Fault) → SupplyGoes kind most os ms r q old mid → ReadsStretch kind most next.windows q s mid new result → next.first ≡ q.cutter.number
+    → Supplies kind most os ms next r s old new result
+supply_ends kind most os ms next r q s old mid new result before reads first = record {
+  given = before.given;
+  gave = on_ok result before.gave;
+  between = q;
+  mid = mid;
+  goes = before.goes;
+  last = next.windows;
+  reads = reads;
+  is = on_ok result refl;
+  first = on_ok result first;
+}
+
+-- or where a fault came behind it
+pub supply_fails : {A P : Type 0} (kind : Kind) (most : ℕ) (os ms ns : List (Producer StretchState A P)) (next : StretchState) (last : List (List (List ℕ))) (r q s : Reading) (old mid new : Option (List ℕ)) (why : Fault) (result : Result Bool Fault) → SupplyGoes kind most os ms r q old mid → ReadsStretch kind most last q s mid new result → IsErrAnd result (λ e. e ≡ why)
+    → Supplies kind most os ns next r s old new result
+supply_fails kind most os ms ns next last r q s old mid new why result before reads is = record {
+  given = before.given;
+  gave = none_on_err _ result (λ e. e ≡ why) is;
+  between = q;
+  mid = mid;
+  goes = before.goes;
+  last = last;
+  reads = reads;
+  is = none_on_err _ result (λ e. e ≡ why) is;
+  first = none_on_err _ result (λ e. e ≡ why) is;
+}
+
+-- ---- what was read and fed
+
+module _ (Fed : List (List (List ℕ)) → Type 0) (kind : Kind) (most : ℕ) (s next : StretchState) (r : Reading) (old : Option (List ℕ)) where
+  -- no memory was found before anything was read
+  pub nothing_fed : (result : Result Bool Fault) → IsErrAnd result (λ e. e ≡ fault.OutOfMemory) → 1 ≤ most → FeedsAndReads Fed kind most s next r r old old result
+  nothing_fed result is least = record {
+    more = [];
+    between = r;
+    mid = old;
+    goes = stretch_starts kind most [] r old refl;
+    fed = none_on_err _ result (λ e. e ≡ fault.OutOfMemory) is;
+    last = [];
+    reads = nothing_read kind most r old result is least;
+    is = none_on_err _ result (λ e. e ≡ fault.OutOfMemory) is;
+    first = none_on_err _ result (λ e. e ≡ fault.OutOfMemory) is;
+  }
+
+  module _ {A P : Type 0} (os os' : List (Producer StretchState A P)) (r' : Reading) (new : Option (List ℕ)) (read : Result Bool Fault) (supplies : Supplies kind most os os' next r r' old new read) where
+    -- a fault of the reading is passed on
+    pub supplies_passed : (why : Fault) (result : Result Bool Fault) → read ≡ Err why → IsErrAnd result (λ e. e ≡ why) → FeedsAndReads Fed kind most s next r r' old new result
+    supplies_passed why result was is = record {
+      more = windows_of supplies.given;
+      between = supplies.between;
+      mid = supplies.mid;
+      goes = supplies.goes;
+      fed = none_on_err _ result (λ e. e ≡ why) is;
+      last = supplies.last;
+      reads = stretch_passed kind most supplies.last supplies.between r' supplies.mid new why read result supplies.reads was is;
+      is = none_on_err _ result (λ e. e ≡ why) is;
+      first = none_on_err _ result (λ e. e ≡ why) is;
+    }
+
+    -- no memory was found behind it
+    pub supplies_then_none : (full : Bool) (result : Result Bool Fault) → read ≡ Ok full → IsErrAnd result (λ e. e ≡ fault.OutOfMemory) → 1 ≤ most → FeedsAndReads Fed kind most s next r r' old new result
+    supplies_then_none full result was is least = record {
+      more = windows_of supplies.given;
+      between = supplies.between;
+      mid = supplies.mid;
+      goes = supplies.goes;
+      fed = none_on_err _ result (λ e. e ≡ fault.OutOfMemory) is;
+      last = supplies.last;
+      reads = read_then_none kind most supplies.last supplies.between r' supplies.mid new full read result least supplies.reads was is;
+      is = none_on_err _ result (λ e. e ≡ fault.OutOfMemory) is;
+      first = none_on_err _ result (λ e. e ≡ fault.OutOfMemory) is;
+    }
+
+    pub supplies_fed : (full : Bool) → read ≡ Ok full → Fed (s.windows ++ windows_of supplies.given) → FeedsAndReads Fed kind most s next r r' old new (Ok full)
+    supplies_fed full was fed = record {
+      more = windows_of supplies.given;
+      between = supplies.between;
+      mid = supplies.mid;
+      goes = supplies.goes;
+      fed = fed;
+      last = supplies.last;
+      reads = subst (ReadsStretch kind most supplies.last supplies.between r' supplies.mid new) was supplies.reads;
+      is = on_ok_at read full _ was supplies.is;
+      first = on_ok_at read full _ was supplies.first;
+    }
+
+-- where windows take at most so many lines
+pub supplies_at_most : (Fed : List (List (List ℕ)) → Type 0) (kind : Kind) (m most : ℕ) (s next : StretchState) (r : Reading) (old : Option (List ℕ)) {A P : Type 0} (os os' : List (Producer StretchState A P)) (r' : Reading) (new : Option (List ℕ)) (read : Result Bool Fault) (supplies : Supplies kind m os os' next r r' old new read) → m ≡ most → (full : Bool) → read ≡ Ok full
+    → Fed (s.windows ++ windows_of supplies.given) → FeedsAndReads Fed kind most s next r r' old new (Ok full)
+supplies_at_most Fed kind m most s next r old os os' r' new read supplies same full was fed = subst (λ n. FeedsAndReads Fed kind n s next r r' old new (Ok full)) same (supplies_fed Fed kind m s next r old os os' r' new read supplies full was fed)
+
+-- what was fed is told otherwise
+pub told_otherwise : (Fed Fed' : List (List (List ℕ)) → Type 0) (kind : Kind) (most : ℕ) (s next : StretchState) (r r' : Reading) (old new : Option (List ℕ)) (result : Result Bool Fault) → ((windows : List (List (List ℕ))) → Fed windows → Fed' windows) → FeedsAndReads Fed kind most s next r r' old new result → FeedsAndReads Fed' kind most s next r r' old new result
+told_otherwise Fed Fed' kind most s next r r' old new result f a = record {
+  more = a.more;
+  between = a.between;
+  mid = a.mid;
+  goes = a.goes;
+  fed = ok_then result a.fed (f (s.windows ++ a.more));
+  last = a.last;
+  reads = a.reads;
+  is = a.is;
+  first = a.first;
+}
+
+module _ (Fed : List (List (List ℕ)) → Type 0) (kind : Kind) (most : ℕ) (s : StretchState) where
+  -- a stretch was fed, and the next one was read, which stands in another place now
+  pub next_read : (next now : StretchState) (r r' : Reading) (old new : Option (List ℕ)) (full : Bool) → ReadsStretch kind most next.windows r r' old new (Ok full) → Fed s.windows → next.first ≡ r.cutter.number → now ≡ next → FeedsAndReads Fed kind most s now r r' old new (Ok full)
+  next_read next now r r' old new full reads fed first is = record {
+    more = [];
+    between = r;
+    mid = old;
+    goes = stretch_starts kind most [] r old refl;
+    fed = subst Fed (sym (append-nil s.windows)) fed;
+    last = next.windows;
+    reads = reads;
+    is = ap (λ z. z.windows) (sym is);
+    first = ap (λ z. z.first) is ∙ first;
+  }
+
+  -- or a fault came
+  pub next_refused : (now : StretchState) (r r' : Reading) (old new : Option (List ℕ)) (why : Fault) (result : Result Bool Fault) (windows : List (List (List ℕ))) → ReadsStretch kind most windows r r' old new result → IsErrAnd result (λ e. e ≡ why) → FeedsAndReads Fed kind most s now r r' old new result
+  next_refused now r r' old new why result windows reads is = record {
+    more = [];
+    between = r;
+    mid = old;
+    goes = stretch_starts kind most [] r old refl;
+    fed = none_on_err _ result (λ e. e ≡ why) is;
+    last = windows;
+    reads = reads;
+    is = none_on_err _ result (λ e. e ≡ why) is;
+    first = none_on_err _ result (λ e. e ≡ why) is;
+  }

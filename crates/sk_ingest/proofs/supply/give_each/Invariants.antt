@@ -1,0 +1,6 @@
+use Rattle.std.proofs.Common.{◌∷◌, []}
+use Rattle.sk_ingest.proofs.SupplyLaws.{DoneTo, Gave}
+use Rattle.sk_ingest.proofs.supply.give_each.Given as goal
+
+abbrev pub invariant-outlet : goal.invariant-outlet
+invariant-outlet g l = DoneTo (Gave (l.delivery ∷ [])) l.fn.outlets.items l.outlets.items l.i

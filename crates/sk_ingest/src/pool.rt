@@ -1,0 +1,113 @@
+//! Stretches that are read anew once nobody feeds from them.
+ghost use Rattle.std.specs.Prelude.{◌≡◌, ◌<◌, ◌≤◌, false, IfSome, OnOk};
+ghost use Rattle.sk_ingest.specs.Windows.{most_lines};
+
+use crate::crew::Crew;
+use crate::delivery::Delivery;
+use crate::stretch::Stretch;
+use sk_model::OutOfMemory;
+use std::alloc::Global;
+use std::marker::Model;
+use std::sync::Wait;
+
+// There are at least so many stretches, and at most so many.
+const LEAST: usize = 3;
+
+const MOST: usize = 8;
+
+// Beyond the least there are no more than have so many bytes.
+const FULL_BYTES: usize = 16_777_216;
+
+// The stretches that were given last.
+#[derive(Drop)]
+pub(crate) struct Pool {
+    // oldest first
+    given: Vec<Delivery>,
+    // how many bytes the last of them has
+    size: usize,
+    // how many lines a window takes at most
+    most: u32,
+    alloc: Global,
+}
+
+impl Model for Pool {
+    ghost use Rattle.std.specs.Prelude.{◌≡◌, ◌≤◌, All, vec_len};
+    ghost use Rattle.sk_ingest.specs.Windows.{most_lines};
+    ghost use Rattle.sk_ingest.specs.Deliveries.{PoolState};
+
+    ghost Value = { PoolState };
+
+    ghost view = { λ p. record { most = p.most; count = vec_len p.given } };
+
+    ghost invariant = { λ p. (1 ≤ p.most) × (p.most ≤ most_lines) × All (λ s. s.most ≡ p.most) p.given.items };
+}
+
+impl Pool {
+    // Of windows of at most so many lines. None was given.
+    pub(crate) fn new(alloc: Global, most: u32) -> Pool
+        requires least { 1 ≤ most }
+        requires highest { most ≤ most_lines }
+        ensures { result.most ≡ most }
+    {
+        Pool {
+            given: Vec::new(alloc),
+            size: 0,
+            most,
+            alloc,
+        }
+    }
+
+    // Keeps a stretch that is given.
+    pub(crate) fn keep(&mut self, delivery: Delivery, size: usize) -> Result<(), OutOfMemory>
+        requires { delivery.most ≡ self.old.most }
+        ensures { self.new.most ≡ self.old.most }
+    {
+        self.size = size;
+        self.given.push(delivery)?;
+        Ok(())
+    }
+
+    // A stretch from which nobody feeds, if there is one or may be one more.
+    fn take(&mut self) -> Option<Stretch>
+        ensures most { IfSome result (λ s. s.most ≡ self.new.most) }
+        ensures stays { self.new.most ≡ self.old.most }
+    {
+        if self.has_room() {
+            return Some(Stretch::new(self.alloc, self.most));
+        }
+        if self.given[0].is_shared() {
+            return None;
+        }
+        let oldest = self.given.remove(0);
+        match oldest.into_stretch() {
+            Some(stretch) => Some(stretch),
+            None => Some(Stretch::new(self.alloc, self.most)),
+        }
+    }
+
+    // Whether there may be one more.
+    fn has_room(&self) -> bool
+        ensures { result ≡ false → 0 < self.now.count }
+    {
+        let count = self.given.len();
+        count < LEAST || (count < MOST && self.size < FULL_BYTES / MOST)
+    }
+
+    // Waits for a stretch from which nobody feeds. None comes where feeders ended or do not begin.
+    pub(crate) fn wait_for_one<R: Wait>(&mut self, rt: &R, crew: &Crew) -> Option<Stretch>
+        ensures most { IfSome result (λ s. s.most ≡ self.new.most) }
+        ensures stays { self.new.most ≡ self.old.most }
+    {
+        let mut times = 0;
+        'wait: for _ in rt.forever() {
+            if let Some(stretch) = self.take() {
+                return Some(stretch);
+            }
+            if !crew.wait_for_feeders(rt, times) {
+                return None;
+            }
+            times = times.saturating_add(1);
+        }
+        unreachable!()
+    }
+}
