@@ -10,12 +10,10 @@ use std::alloc::Global;
 use std::marker::Model;
 use std::sync::Wait;
 
-// There are at least so many stretches, and at most so many.
-const LEAST: usize = 3;
-
+// At most so many stretches are given at a time.
 const MOST: usize = 8;
 
-// Beyond the least there are no more than have so many bytes.
+// Beyond the first there are no more than have so many bytes, about: a page that is touched for the first time is dear.
 const FULL_BYTES: usize = 16_777_216;
 
 // The stretches that were given last.
@@ -90,7 +88,7 @@ impl Pool {
         ensures { result ≡ false → 0 < self.now.count }
     {
         let count = self.given.len();
-        count < LEAST || (count < MOST && self.size < FULL_BYTES / MOST)
+        count == 0 || (count < MOST && self.size < FULL_BYTES / MOST)
     }
 
     // Waits for a stretch from which nobody feeds. None comes where feeders ended or do not begin.
