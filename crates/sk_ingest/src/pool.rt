@@ -1,5 +1,5 @@
 //! Stretches that are read anew once nobody feeds from them.
-ghost use Rattle.std.specs.Prelude.{◌≡◌, ◌<◌, ◌≤◌, false, IfSome, OnOk};
+ghost use Rattle.std.specs.Prelude.{◌≡◌, ◌<◌, ◌≤◌, true, IfSome, OnOk};
 ghost use Rattle.sk_ingest.specs.Windows.{most_lines};
 
 use crate::crew::Crew;
@@ -65,28 +65,34 @@ impl Pool {
         Ok(())
     }
 
-    // A stretch from which nobody feeds, if there is one or may be one more.
+    // A stretch from which nobody feeds, if there is one or may be one more. One that was read before is in a cache.
     fn take(&mut self) -> Option<Stretch>
         ensures most { IfSome result (λ s. s.most ≡ self.new.most) }
         ensures stays { self.new.most ≡ self.old.most }
     {
-        if self.has_room() {
-            return Some(Stretch::new(self.alloc, self.most));
-        }
-        if self.given[0].is_shared() {
+        if self.has_free() {
+            let oldest = self.given.remove(0);
+            if let Some(stretch) = oldest.into_stretch() {
+                return Some(stretch);
+            }
+        } else if !self.has_room() {
             return None;
         }
-        let oldest = self.given.remove(0);
-        match oldest.into_stretch() {
-            Some(stretch) => Some(stretch),
-            None => Some(Stretch::new(self.alloc, self.most)),
+        Some(Stretch::new(self.alloc, self.most))
+    }
+
+    // Whether nobody feeds from the oldest.
+    fn has_free(&self) -> bool
+        ensures { result ≡ true → 0 < self.now.count }
+    {
+        match self.given.first() {
+            Some(oldest) => !oldest.is_shared(),
+            None => false,
         }
     }
 
     // Whether there may be one more.
-    fn has_room(&self) -> bool
-        ensures { result ≡ false → 0 < self.now.count }
-    {
+    fn has_room(&self) -> bool {
         let count = self.given.len();
         count == 0 || (count < MOST && self.size < FULL_BYTES / MOST)
     }
