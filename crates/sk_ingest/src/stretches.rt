@@ -28,7 +28,7 @@ use std::sync::Wait;
 use std::thread::Threads;
 
 // A stretch that is fed to one updater after another has at most as many lines as this, or one window more.
-const LONG: usize = 262_144;
+const LONG: usize = 1_048_576;
 
 // Feeds the lines of a source to a hub of which nobody is told before the end. A stretch is fed while the next is read.
 pub(crate) fn ingest_stretches<S: Source, C: Composable + Send, R: Threads + Wait + Sync>(
