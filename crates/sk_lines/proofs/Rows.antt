@@ -49,26 +49,26 @@ more_rows mask rows count far meet r = record {
 }
 
 -- 15 bits in a row
-module _ (lfs rows : ℕ) (fits : lfs < 2 ^ 64) (r : AreRows (bit_not w64 lfs) rows 15) where
-  pub a_long_row : not (nat_eq rows 0) ≡ true → (i : ℕ) × (i + 15 ≤ 64) × ((k : ℕ) → k < 15 → bit_at lfs (i + k) ≡ 0)
+module _ (lfs starts : ℕ) (fits : lfs < 2 ^ 64) (r : AreRows (bit_not w64 lfs) starts 15) where
+  pub a_long_row : not (nat_eq starts 0) ≡ true → (i : ℕ) × (i + 15 ≤ 64) × ((k : ℕ) → k < 15 → bit_at lfs (i + k) ≡ 0)
   a_long_row some =
-      let not_none : 0 < rows = ⊎_elim
-      (λ (more : 0 < rows). more)
-      (λ (none : rows ≤ 0). absurd (true≢false (sym some ∙ ap not (eq-eqb rows 0 (omega arith)))))
-      (cases_lt 0 rows) in
-      let i : ℕ = trailing_zeros w64 rows in
-      let is = bit_at-trailing_zeros w64 rows not_none (omega (arith, r.fits)) in
+      let not_none : 0 < starts = ⊎_elim
+      (λ (more : 0 < starts). more)
+      (λ (none : starts ≤ 0). absurd (true≢false (sym some ∙ ap not (eq-eqb starts 0 (omega arith)))))
+      (cases_lt 0 starts) in
+      let i : ℕ = trailing_zeros w64 starts in
+      let is = bit_at-trailing_zeros w64 starts not_none (omega (arith, r.fits)) in
       let inside : i + 15 ≤ 64 = ⊎_elim
       (λ (below : i + 14 < 64). omega arith)
       (λ (past : 64 ≤ i + 14). absurd (omega (arith, r.set i is.1 14 (omega arith), bit_at_above (bit_not w64 lfs) 64 (i + 14) (omega arith) past)))
       (cases_lt (i + 14) 64) in
       (i, inside, λ k below. omega (arith, r.set i is.1 k below, bit_at_not w64 lfs (i + k) fits (omega arith), bit_at-lt lfs (i + k)))
 
-  pub no_long_row : not (nat_eq rows 0) ≡ false → (i : ℕ) → i + 15 ≤ 64 → ¬ ((k : ℕ) → k < 15 → bit_at lfs (i + k) ≡ 0)
+  pub no_long_row : not (nat_eq starts 0) ≡ false → (i : ℕ) → i + 15 ≤ 64 → ¬ ((k : ℕ) → k < 15 → bit_at lfs (i + k) ≡ 0)
   no_long_row none i inside each =
-      let is_none : rows ≡ 0 = ⊎_elim
-      (λ (more : 0 < rows). absurd (true≢false (sym (ap not (ne_eqb rows 0 (λ z. omega arith))) ∙ none)))
-      (λ (zero : rows ≤ 0). omega arith)
-      (cases_lt 0 rows) in
+      let is_none : starts ≡ 0 = ⊎_elim
+      (λ (more : 0 < starts). absurd (true≢false (sym (ap not (ne_eqb starts 0 (λ z. omega arith))) ∙ none)))
+      (λ (zero : starts ≤ 0). omega arith)
+      (cases_lt 0 starts) in
       let set = r.all i (λ k below. omega (arith, each k below, bit_at_not w64 lfs (i + k) fits (omega arith))) in
       omega (arith, set, ap (λ (n : ℕ). bit_at n i) is_none, bit_at-zero i)
