@@ -19,6 +19,10 @@ pub record HasRows (t : ColumnReader) (Gave : List (List ℕ) → Type 0) (rows 
   pub sound : AreSoundRows t.column rows
   pub gave : Gave (fields_in t.column rows)
 
+-- how many fields a record has, and the one in a column, where it has that
+abbrev pub IsFieldOf : ℕ → Row → ℕ → List ℕ → Type 0
+IsFieldOf column row width field = (width ≡ length row) × (column < length row → field ≡ field_of column row)
+
 -- the next record behind these is sound, and a taker stopped at its field, for this fault
 abbrev pub StopsBehind : ℕ → (Fault → List (List ℕ) → List ℕ → Type 0) → List Row → Row → Fault → Type 0
 StopsBehind column Stopped rows row fault = AreSoundRows column (rows ++ row ∷ []) × Stopped fault (fields_in column rows) (field_of column row)

@@ -1,10 +1,12 @@
 pub use Rattle.sk_model.specs.Causes
 pub use Rattle.sk_model.specs.Lines
 pub mod Columns
+pub mod Delimiters
 pub mod Faults
 pub mod Inside
 pub mod Items
 pub mod Parts
+pub mod PlainLines
 pub mod Reading
 pub mod Reads
 pub mod Records

@@ -6,7 +6,9 @@ ghost use Rattle.sk_read.specs.Reads.{Reads};
 ghost use Rattle.sk_read.specs.declared.units.Units.TheVariants as units;
 
 mod column;
+mod delimiters;
 mod parts;
+mod plain;
 mod scan;
 
 use crate::fault::Fault;

@@ -1,5 +1,5 @@
 // The records of a text, their lengths, and the fields in a column of them.
-ghost use Rattle.std.specs.Prelude.{◌≡◌, ◌↔◌, ◌≤◌, ◌<◌, ◌+◌, ℕ, List, [], ◌∷◌, ◌++◌, Ok, Some, None, IfErr, MatchResult, length, true, false};
+ghost use Rattle.std.specs.Prelude.{◌≡◌, ◌↔◌, ◌≤◌, ◌<◌, ◌+◌, ℕ, List, [], ◌∷◌, ◌++◌, Ok, Some, None, IfErr, MatchResult, All, length, true, false};
 ghost use Rattle.csv.specs.Machine.{Read, next_record};
 ghost use Rattle.csv.specs.Reading.{default_config, records, strip_bom};
 ghost use Rattle.csv.specs.Records.{fields_of};
@@ -8,9 +8,12 @@ ghost use Rattle.csv.specs.declared.parser.State.TheVariants as st;
 ghost use Rattle.sk_model.specs.Limits.{most_kept};
 ghost use Rattle.sk_read.specs.Records.{Row, field_of, width_of};
 ghost use Rattle.sk_read.specs.Rows.{StandsAt};
-ghost use Rattle.sk_read.specs.Columns.{first_width, HasRows, Refuses, Breaks};
+ghost use Rattle.sk_read.specs.PlainLines.{IsPlain};
+ghost use Rattle.sk_read.specs.Columns.{first_width, HasRows, IsFieldOf, Refuses, Breaks};
 
 use crate::fault::Fault;
+use crate::records::delimiters::Ahead;
+use crate::records::plain::{cut_line, is_plain};
 use crate::units::UnitTaker;
 use csv::{ByteRecord, Reader, ReaderBuilder};
 use sk_model::limits::LINE_LIMIT;
@@ -59,6 +62,55 @@ impl ColumnReader {
         ensures column { self.new.column ≡ self.old.column }
         ensures taker { T.stands_on taker.new ≡ T.stands_on taker.old }
     {
+        if is_plain(text) {
+            return self.give_lines(text, taker);
+        }
+        self.give_records(alloc, text, taker)
+    }
+
+    // The same, by its lines, where it has no quote and no CR.
+    fn give_lines<T: UnitTaker>(&mut self, text: &[u8], taker: &mut T) -> Result<(), Fault>
+        requires plain { All IsPlain text.now }
+        requires room { (start : _) × (rows : List Row) × (length rows + length (records default_config text.now) ≤ most_kept) × HasRows self.old (T.went start taker.old) rows }
+        ensures goes { (start : _) (rows : List Row) → length rows + length (records default_config text.now) ≤ most_kept → HasRows self.old (T.went start taker.old) rows
+            → MatchResult result (λ _. HasRows self.new (T.went start taker.new) (rows ++ records default_config text.now))
+            (λ fault. Breaks self.old.column (T.went start taker.new) (T.stopped start taker.new) rows (records default_config text.now) fault) }
+        ensures column { self.new.column ≡ self.old.column }
+        ensures taker { T.stands_on taker.new ≡ T.stands_on taker.old }
+    {
+        let mut start = 0;
+        let mut ahead = Ahead::NONE;
+        'line: while start < text.len() {
+            let line = cut_line(text, start, self.column, ahead);
+            if line.end > start {
+                let fields = line.fields;
+                self.give_field(
+                    &text[fields.field.from..fields.field.to],
+                    fields.width,
+                    taker,
+                )?;
+            }
+            start = line.end + 1;
+            ahead = line.ahead;
+        }
+        Ok(())
+    }
+
+    // The same, by a reader of records.
+    fn give_records<T: UnitTaker>(
+        &mut self,
+        alloc: Global,
+        text: &[u8],
+        taker: &mut T,
+    ) -> Result<(), Fault>
+        requires plain { strip_bom text.now ≡ text.now }
+        requires room { (start : _) × (rows : List Row) × (length rows + length (records default_config text.now) ≤ most_kept) × HasRows self.old (T.went start taker.old) rows }
+        ensures goes { (start : _) (rows : List Row) → length rows + length (records default_config text.now) ≤ most_kept → HasRows self.old (T.went start taker.old) rows
+            → MatchResult result (λ _. HasRows self.new (T.went start taker.new) (rows ++ records default_config text.now))
+            (λ fault. Breaks self.old.column (T.went start taker.new) (T.stopped start taker.new) rows (records default_config text.now) fault) }
+        ensures column { self.new.column ≡ self.old.column }
+        ensures taker { T.stands_on taker.new ≡ T.stands_on taker.old }
+    {
         let mut reader = reader_of(alloc, text);
         let mut row = ByteRecord::new(alloc);
         'row: while next_row(&mut reader, &mut row)? {
@@ -76,11 +128,27 @@ impl ColumnReader {
         ensures column { self.new.column ≡ self.old.column }
         ensures taker { T.stands_on taker.new ≡ T.stands_on taker.old }
     {
+        self.give_field(field_in(row, self.column), row.len(), taker)
+    }
+
+    // Gives a field to the taker, that of a record of so many fields.
+    fn give_field<T: UnitTaker>(
+        &mut self,
+        field: &[u8],
+        width: usize,
+        taker: &mut T,
+    ) -> Result<(), Fault>
+        requires room { (start : _) × (rows : List Row) × (length rows < most_kept) × HasRows self.old (T.went start taker.old) rows }
+        ensures goes { (start : _) (rows : List Row) (row : Row) → length rows < most_kept → HasRows self.old (T.went start taker.old) rows → IsFieldOf self.old.column row width field.now
+            → MatchResult result (λ _. HasRows self.new (T.went start taker.new) (rows ++ row ∷ []))
+            (λ fault. Refuses self.old.column (T.went start taker.new) (T.stopped start taker.new) rows row fault) }
+        ensures column { self.new.column ≡ self.old.column }
+        ensures taker { T.stands_on taker.new ≡ T.stands_on taker.old }
+    {
         self.number += 1;
-        if !fits(&mut self.width, self.column, row.len()) {
+        if !fits(&mut self.width, self.column, width) {
             return Err(Fault::BadCsv(self.number));
         }
-        let field = field_in(row, self.column);
         if field.len() > LINE_LIMIT {
             return Err(Fault::LongLine(self.number));
         }

@@ -9,7 +9,7 @@ use Rattle.sk_read.specs.Rows.{StandsAt}
 use Rattle.sk_read.specs.Columns.{HasRows}
 use Rattle.sk_read.proofs.Runs.{run}
 use Rattle.sk_read.proofs.ColumnLaws.{length_told}
-use Rattle.sk_read.proofs.records.column.ColumnReader.give.Given as goal
+use Rattle.sk_read.proofs.records.column.ColumnReader.give_records.Given as goal
 
 abbrev pub invariant-row : goal.invariant-row
 invariant-row g l = record {

@@ -10,9 +10,9 @@ use Rattle.sk_read.specs.Columns.{HasRows, Refuses, Breaks}
 use Rattle.sk_read.proofs.PartLaws.{at_err}
 use Rattle.sk_read.proofs.Runs.{run, records_are, read_is, none_is, read_between, takes_some}
 use Rattle.sk_read.proofs.ColumnLaws.{length_told, ends_at, one_more_row}
-use Rattle.sk_read.proofs.records.column.ColumnReader.give.Given.{Over}
-use Rattle.sk_read.proofs.records.column.ColumnReader.give.Goals.{In_ok-next_row}
-use Rattle.sk_read.proofs.records.column.ColumnReader.give.Goals as goal
+use Rattle.sk_read.proofs.records.column.ColumnReader.give_records.Given.{Over}
+use Rattle.sk_read.proofs.records.column.ColumnReader.give_records.Goals.{In_ok-next_row}
+use Rattle.sk_read.proofs.records.column.ColumnReader.give_records.Goals as goal
 
 pub row-init : goal.row-init
 row-init g c = record {

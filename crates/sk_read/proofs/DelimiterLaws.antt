@@ -1,0 +1,196 @@
+-- Marked LFs and commas.
+use Rattle.std.proofs.Common.{◌≡◌, ◌≢◌, ◌↔◌, ◌⊎◌, ℕ, ◌+◌, ◌-◌, ◌<◌, ◌≤◌, Bool, true, false, cond, eqb, List, length, map, drop, get_or, slice_index, refl, sym, ap, ◌∙◌, subst, inl, inr, arith, eqb-true, eq-eqb, ◌^◌, ◌%◌, replicate, w8, max, ◌==◌, length-drop}
+use Rattle.std.specs.Int.{bit_at}
+use Rattle.std.specs.Int.Bits.{bit_or}
+use Rattle.std.specs.Simd.Lanes.{zip2, mask_l, top, chunk}
+use Rattle.std.proofs.lemmas.Simd.{bit_mask_l, bitmask_splat, length-chunk, get_or-chunk}
+use Rattle.std.proofs.Math.ListN.{get_or-map}
+use Rattle.std.proofs.lemmas.List.{get_or_past}
+use Rattle.std.proofs.Math.Seq.{get_or-drop}
+use Rattle.memchr.specs.Find.{is_byte2, Passes, Nowhere, NoneBefore}
+use Rattle.std.proofs.lemmas.Bool.{cases_lt, cases_Bool, ne_eqb}
+use Rattle.std.proofs.lemmas.Nat.Bits.{bit_at-zero, bit_at-lt, bit_at_or}
+use Rattle.sk_read.specs.declared.records.delimiters.Ahead.{Ahead}
+use Rattle.sk_read.specs.Delimiters.{IsDelimiter, IsNextDelimiter, Knows}
+
+-- bit k of a mask says so of the byte at a place of a block
+abbrev pub IsMaskOf : (ℕ → Type 0) → List ℕ → ℕ → ℕ → Type 0
+IsMaskOf P bytes at marks = (k : ℕ) → (bit_at marks k ≡ 1) ↔ ((k < 64) × P (slice_index bytes (at + k)))
+
+told : (x byte : ℕ) (b : Bool) → eqb x byte ≡ b → (cond {A = ℕ} b 1 0 ≡ 1) ↔ (x ≡ byte)
+told x byte true e = (λ h. eqb-true x byte e, λ h. refl)
+told x byte false e = (λ h. absurd (omega arith), λ h. absurd (cc (e, eq-eqb x byte h)))
+
+-- a bit of the mask of a block's bytes of one kind
+byte_bit : (bytes : List ℕ) (at byte : ℕ) → at + 64 ≤ length bytes → 0 < byte → IsMaskOf (λ (x : ℕ). x ≡ byte) bytes at (mask_l (map (λ x. eqb x byte) (chunk at 64 bytes)))
+byte_bit bytes at byte within some k =
+    let block : List ℕ = chunk at 64 bytes in
+    let long : length block ≡ 64 = length-chunk at 64 bytes within in
+    let bits : List Bool = map (λ x. eqb x byte) block in
+    let none : eqb 0 byte ≡ false = ne_eqb 0 byte (λ is. omega (arith, is, some)) in
+    let here : get_or bits k false ≡ eqb (get_or block k 0) byte = ap (get_or bits k) (sym none) ∙ get_or-map (λ x. eqb x byte) block k 0 in
+    let bit : bit_at (mask_l bits) k ≡ cond (eqb (get_or block k 0) byte) 1 0 = bit_mask_l bits k ∙ ap (λ b. cond b 1 0) here in
+    let t = told (get_or block k 0) byte _ refl in (
+      λ set.
+          let is : get_or block k 0 ≡ byte = t.0 (sym bit ∙ set) in
+          elim (cases_lt k 64) [
+            | inl inside ↦ (inside, sym (get_or-chunk at 64 bytes k 0 inside) ∙ is)
+            | inr past ↦ absurd (omega (arith, is, some, get_or_past block k 0 (omega (arith, long, past))))
+          ],
+      λ at_place. bit ∙ t.1 (get_or-chunk at 64 bytes k 0 at_place.0 ∙ at_place.1),
+    )
+
+pub bytes_of_block : (bytes : List ℕ) (at byte : ℕ) → at + 64 ≤ length bytes → 0 < byte → byte < 256 →
+    IsMaskOf (λ (x : ℕ). x ≡ byte) bytes at (mask_l (map (top 7) (zip2 (λ a b. cond (eqb a b) 255 0) (chunk at 64 bytes) (replicate 64 byte))) % 2 ^ 64)
+bytes_of_block bytes at byte within some small =
+    subst (IsMaskOf (λ (x : ℕ). x ≡ byte) bytes at)
+    (sym (bitmask_splat w8 eqb (chunk at 64 bytes) 64 byte (length-chunk at 64 bytes within) (omega arith)))
+    (byte_bit bytes at byte within some)
+
+max_is : (a b : ℕ) → max a b ≡ 1 → (a ≡ 1) ⊎ (b ≡ 1)
+max_is a b is = elim (cases_lt a b) [
+  | inl less ↦ inr (omega (arith, is, less))
+  | inr most ↦ inl (omega (arith, is, most))
+]
+
+-- two masks in one
+pub both_masks : (bytes : List ℕ) (at lfs commas : ℕ) → IsMaskOf (λ (x : ℕ). x ≡ 10) bytes at lfs → IsMaskOf (λ (x : ℕ). x ≡ 44) bytes at commas → IsMaskOf IsDelimiter bytes at (bit_or lfs commas)
+both_masks bytes at lfs commas lf comma k = (
+  λ set. elim (max_is (bit_at lfs k) (bit_at commas k) (sym (bit_at_or lfs commas k) ∙ set)) [
+    | inl one ↦ let here = (lf k).0 one in (here.0, inl here.1)
+    | inr one ↦ let here = (comma k).0 one in (here.0, inr here.1)
+  ],
+  λ here. elim here.1 [
+    | inl is ↦ omega (arith, bit_at_or lfs commas k, (lf k).1 (here.0, is), bit_at-lt commas k)
+    | inr is ↦ omega (arith, bit_at_or lfs commas k, (comma k).1 (here.0, is), bit_at-lt lfs k)
+  ],
+)
+
+none_marked : (k : ℕ) → bit_at 0 k ≡ 1 → ⊥
+none_marked k set = omega (arith, bit_at-zero k)
+
+-- nothing is scanned from a place on
+pub knows_none : (text : List ℕ) (at : ℕ) → at ≤ length text → Knows text at (record { scanned = at; marks = 0 })
+knows_none text at within = record {
+  ordered = omega arith;
+  within = within;
+  marked = λ k set. absurd (none_marked k set);
+  seen = λ i from before is. absurd (omega (arith, from, before));
+}
+
+-- one block more
+pub knows_more : (text : List ℕ) (at scanned marks : ℕ) → scanned + 64 ≤ length text → Knows text at (record { scanned = scanned; marks = 0 }) → IsMaskOf IsDelimiter text scanned marks →
+    Knows text at (record { scanned = scanned + 64; marks = marks })
+knows_more text at scanned marks fits known block = record {
+  ordered = omega (arith, known.ordered);
+  within = fits;
+  marked = λ k set.
+      let here = (block k).0 set in
+      let place : scanned + 64 + k - 64 ≡ scanned + k = omega arith in
+      (here.0, omega (arith, known.ordered), subst (λ (n : ℕ). IsDelimiter (slice_index text n)) (sym place) here.1);
+  seen = λ i from before is. elim (cases_lt i scanned) [
+    | inl early ↦ absurd (none_marked _ (known.seen i from early is).1)
+    | inr late ↦
+        let place : i ≡ scanned + (i - scanned) = omega (arith, late) in
+        let bit : i + 64 - (scanned + 64) ≡ i - scanned = omega (arith, late) in
+        let set = (block (i - scanned)).1 (omega (arith, before, late), subst (λ (n : ℕ). IsDelimiter (slice_index text n)) place is) in
+        (omega (arith, late), ap (bit_at marks) bit ∙ set)
+  ];
+}
+
+-- the lowest mark is the first delimiter
+pub first_marked : (text : List ℕ) (at : ℕ) (ahead : Ahead) (k : ℕ) → Knows text at ahead → bit_at ahead.marks k ≡ 1 → ((j : ℕ) → j < k → bit_at ahead.marks j ≡ 0) →
+    IsNextDelimiter text at (ahead.scanned + k - 64)
+first_marked text at ahead k known set below =
+    let here = known.marked k set in
+    let high : at + 64 ≤ ahead.scanned + k = here.1 in
+    let small : k < 64 = here.0 in
+    record {
+      from = omega arith;
+      within = omega (arith, small, known.within);
+      none = λ i from before is.
+          let mark = known.seen i from (omega arith) is in
+          let low : ahead.scanned ≤ i + 64 = mark.0 in
+          omega (arith, mark.1, below (i + 64 - ahead.scanned) (omega arith));
+      here = λ _. here.2;
+    }
+
+-- without the lowest mark, the delimiters behind it are known
+pub knows_behind : (text : List ℕ) (at : ℕ) (ahead : Ahead) (rest k : ℕ) → Knows text at ahead → bit_at ahead.marks k ≡ 1 → ((j : ℕ) → j < k → bit_at ahead.marks j ≡ 0) →
+    ((j : ℕ) → j < 64 → j ≢ k → bit_at rest j ≡ bit_at ahead.marks j) → bit_at rest k ≡ 0 → ((j : ℕ) → bit_at rest j ≡ 1 → bit_at ahead.marks j ≡ 1) →
+    Knows text (ahead.scanned + k - 64 + 1) (record { scanned = ahead.scanned; marks = rest })
+knows_behind text at ahead rest k known set below kept cleared no_more =
+    let here = known.marked k set in
+    let high : at + 64 ≤ ahead.scanned + k = here.1 in
+    let small : k < 64 = here.0 in
+    record {
+      ordered = omega arith;
+      within = known.within;
+      marked = λ j later.
+          let old = known.marked j (no_more j later) in
+          let above : k < j = elim (cases_lt k j) [
+            | inl more ↦ more
+            | inr least ↦ elim (cases_lt j k) [
+              | inl less ↦ absurd (omega (arith, below j less, no_more j later))
+              | inr most ↦ let is : j ≡ k = omega arith in absurd (omega (arith, cleared, subst (λ (n : ℕ). bit_at rest n ≡ 1) is later))
+            ]
+          ] in
+          (old.0, omega (arith, above), old.2);
+      seen = λ i from before is.
+          let mark = known.seen i (omega arith) before is in
+          let low : ahead.scanned ≤ i + 64 = mark.0 in
+          let bit = kept (i + 64 - ahead.scanned) (omega arith) (λ same. omega arith) in
+          (low, bit ∙ mark.1);
+    }
+
+-- where no mark is left, the search goes on behind what was scanned
+pub next_behind : (text : List ℕ) (at scanned place : ℕ) → Knows text at (record { scanned = scanned; marks = 0 }) → IsNextDelimiter text scanned place → IsNextDelimiter text at place
+next_behind text at scanned place known next = record {
+  from = omega (arith, known.ordered, next.from);
+  within = next.within;
+  none = λ i from before is. elim (cases_lt i scanned) [
+    | inl early ↦ none_marked _ (known.seen i from early is).1
+    | inr late ↦ next.none i late before is
+  ];
+  here = next.here;
+}
+
+-- ---- what a search finds
+
+by_test : (x : ℕ) → is_byte2 10 44 x ≡ true → IsDelimiter x
+by_test x passes = elim (cases_Bool (x == 10)) [
+  | inl lf ↦ inl (eqb-true x 10 lf)
+  | inr no_lf ↦ inr (eqb-true x 44 (rw no_lf at passes))
+]
+
+to_test : (x : ℕ) → IsDelimiter x → is_byte2 10 44 x ≡ true
+to_test x (inl lf) = rw lf refl
+to_test x (inr comma) = rw comma refl
+
+module _ (text : List ℕ) (at : ℕ) (within : at ≤ length text) (hay : List ℕ) (rest : hay ≡ drop at text) where
+  size : length hay ≡ length text - at
+  size = ap length rest ∙ length-drop at text
+
+  byte_at : (i : ℕ) → get_or hay i 0 ≡ get_or text (at + i) 0
+  byte_at i = ap (λ (l : List ℕ). get_or l i 0) rest ∙ get_or-drop at text i 0
+
+  test_at : (i : ℕ) → at ≤ i → IsDelimiter (slice_index text i) → Passes (is_byte2 10 44) hay (i - at)
+  test_at i from is =
+      let place : at + (i - at) ≡ i = omega (arith, from) in
+      to_test (get_or hay (i - at) 0) (subst IsDelimiter (sym (byte_at (i - at) ∙ ap (λ (n : ℕ). get_or text n 0) place)) is)
+
+  pub found : (place : ℕ) → NoneBefore (Passes (is_byte2 10 44) hay) 0 (length hay) place → Passes (is_byte2 10 44) hay place → IsNextDelimiter text at (at + place)
+  found place first passes = record {
+    from = omega arith;
+    within = omega (arith, first.high, size);
+    none = λ i from before is. first.before (i - at) (omega arith) (omega (arith, from, before)) (test_at i from is);
+    here = λ _. subst IsDelimiter (byte_at place) (by_test (get_or hay place 0) passes);
+  }
+
+  pub not_found : Nowhere (Passes (is_byte2 10 44) hay) 0 (length hay) → IsNextDelimiter text at (length text)
+  not_found nowhere = record {
+    from = within;
+    within = omega arith;
+    none = λ i from before is. nowhere (i - at) (omega arith) (omega (arith, from, before, size)) (test_at i from is);
+    here = λ inside. absurd (omega (arith, inside));
+  }
