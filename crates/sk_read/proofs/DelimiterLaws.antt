@@ -1,4 +1,4 @@
--- Marked LFs and commas.
+-- Marked LFs, CRs and commas.
 use Rattle.std.proofs.Common.{◌≡◌, ◌≢◌, ◌↔◌, ◌⊎◌, ℕ, ◌+◌, ◌-◌, ◌<◌, ◌≤◌, Bool, true, false, cond, eqb, List, length, map, drop, get_or, slice_index, refl, sym, ap, ◌∙◌, subst, inl, inr, arith, eqb-true, eq-eqb, ◌^◌, ◌%◌, replicate, w8, max, ◌==◌, length-drop}
 use Rattle.std.specs.Int.{bit_at}
 use Rattle.std.specs.Int.Bits.{bit_or}
@@ -7,10 +7,11 @@ use Rattle.std.proofs.lemmas.Simd.{bit_mask_l, bitmask_splat, length-chunk, get_
 use Rattle.std.proofs.Math.ListN.{get_or-map}
 use Rattle.std.proofs.lemmas.List.{get_or_past}
 use Rattle.std.proofs.Math.Seq.{get_or-drop}
-use Rattle.memchr.specs.Find.{is_byte2, Passes, Nowhere, NoneBefore}
+use Rattle.memchr.specs.Find.{is_byte3, Passes, Nowhere, NoneBefore}
 use Rattle.std.proofs.lemmas.Bool.{cases_lt, cases_Bool, ne_eqb}
 use Rattle.std.proofs.lemmas.Nat.Bits.{bit_at-zero, bit_at-lt, bit_at_or}
 use Rattle.sk_read.specs.declared.records.delimiters.Ahead.{Ahead}
+use Rattle.sk_read.specs.Scan.{IsEnd}
 use Rattle.sk_read.specs.Delimiters.{IsDelimiter, IsNextDelimiter, Knows}
 
 -- bit k of a mask says so of the byte at a place of a block
@@ -54,17 +55,22 @@ max_is a b is = elim (cases_lt a b) [
 ]
 
 -- two masks in one
-pub both_masks : (bytes : List ℕ) (at lfs commas : ℕ) → IsMaskOf (λ (x : ℕ). x ≡ 10) bytes at lfs → IsMaskOf (λ (x : ℕ). x ≡ 44) bytes at commas → IsMaskOf IsDelimiter bytes at (bit_or lfs commas)
-both_masks bytes at lfs commas lf comma k = (
-  λ set. elim (max_is (bit_at lfs k) (bit_at commas k) (sym (bit_at_or lfs commas k) ∙ set)) [
-    | inl one ↦ let here = (lf k).0 one in (here.0, inl here.1)
-    | inr one ↦ let here = (comma k).0 one in (here.0, inr here.1)
+both_masks : (P Q : ℕ → Type 0) (bytes : List ℕ) (at a b : ℕ) → IsMaskOf P bytes at a → IsMaskOf Q bytes at b → IsMaskOf (λ (x : ℕ). P x ⊎ Q x) bytes at (bit_or a b)
+both_masks P Q bytes at a b p q k = (
+  λ set. elim (max_is (bit_at a k) (bit_at b k) (sym (bit_at_or a b k) ∙ set)) [
+    | inl one ↦ let here = (p k).0 one in (here.0, inl here.1)
+    | inr one ↦ let here = (q k).0 one in (here.0, inr here.1)
   ],
   λ here. elim here.1 [
-    | inl is ↦ omega (arith, bit_at_or lfs commas k, (lf k).1 (here.0, is), bit_at-lt commas k)
-    | inr is ↦ omega (arith, bit_at_or lfs commas k, (comma k).1 (here.0, is), bit_at-lt lfs k)
+    | inl is ↦ omega (arith, bit_at_or a b k, (p k).1 (here.0, is), bit_at-lt b k)
+    | inr is ↦ omega (arith, bit_at_or a b k, (q k).1 (here.0, is), bit_at-lt a k)
   ],
 )
+
+pub all_masks : (bytes : List ℕ) (at lfs crs commas : ℕ) → IsMaskOf (λ (x : ℕ). x ≡ 10) bytes at lfs → IsMaskOf (λ (x : ℕ). x ≡ 13) bytes at crs → IsMaskOf (λ (x : ℕ). x ≡ 44) bytes at commas →
+    IsMaskOf IsDelimiter bytes at (bit_or (bit_or lfs crs) commas)
+all_masks bytes at lfs crs commas lf cr comma =
+    both_masks IsEnd (λ (x : ℕ). x ≡ 44) bytes at (bit_or lfs crs) commas (both_masks (λ (x : ℕ). x ≡ 10) (λ (x : ℕ). x ≡ 13) bytes at lfs crs lf cr) comma
 
 none_marked : (k : ℕ) → bit_at 0 k ≡ 1 → ⊥
 none_marked k set = omega (arith, bit_at-zero k)
@@ -157,14 +163,18 @@ next_behind text at scanned place known next = record {
 
 -- ---- what a search finds
 
-by_test : (x : ℕ) → is_byte2 10 44 x ≡ true → IsDelimiter x
+by_test : (x : ℕ) → is_byte3 10 13 44 x ≡ true → IsDelimiter x
 by_test x passes = elim (cases_Bool (x == 10)) [
-  | inl lf ↦ inl (eqb-true x 10 lf)
-  | inr no_lf ↦ inr (eqb-true x 44 (rw no_lf at passes))
+  | inl lf ↦ inl (inl (eqb-true x 10 lf))
+  | inr no_lf ↦ elim (cases_Bool (x == 13)) [
+    | inl cr ↦ inl (inr (eqb-true x 13 cr))
+    | inr no_cr ↦ inr (eqb-true x 44 (rw (no_lf, no_cr) at passes))
+  ]
 ]
 
-to_test : (x : ℕ) → IsDelimiter x → is_byte2 10 44 x ≡ true
-to_test x (inl lf) = rw lf refl
+to_test : (x : ℕ) → IsDelimiter x → is_byte3 10 13 44 x ≡ true
+to_test x (inl (inl lf)) = rw lf refl
+to_test x (inl (inr cr)) = rw cr refl
 to_test x (inr comma) = rw comma refl
 
 module _ (text : List ℕ) (at : ℕ) (within : at ≤ length text) (hay : List ℕ) (rest : hay ≡ drop at text) where
@@ -174,12 +184,12 @@ module _ (text : List ℕ) (at : ℕ) (within : at ≤ length text) (hay : List 
   byte_at : (i : ℕ) → get_or hay i 0 ≡ get_or text (at + i) 0
   byte_at i = ap (λ (l : List ℕ). get_or l i 0) rest ∙ get_or-drop at text i 0
 
-  test_at : (i : ℕ) → at ≤ i → IsDelimiter (slice_index text i) → Passes (is_byte2 10 44) hay (i - at)
+  test_at : (i : ℕ) → at ≤ i → IsDelimiter (slice_index text i) → Passes (is_byte3 10 13 44) hay (i - at)
   test_at i from is =
       let place : at + (i - at) ≡ i = omega (arith, from) in
       to_test (get_or hay (i - at) 0) (subst IsDelimiter (sym (byte_at (i - at) ∙ ap (λ (n : ℕ). get_or text n 0) place)) is)
 
-  pub found : (place : ℕ) → NoneBefore (Passes (is_byte2 10 44) hay) 0 (length hay) place → Passes (is_byte2 10 44) hay place → IsNextDelimiter text at (at + place)
+  pub found : (place : ℕ) → NoneBefore (Passes (is_byte3 10 13 44) hay) 0 (length hay) place → Passes (is_byte3 10 13 44) hay place → IsNextDelimiter text at (at + place)
   found place first passes = record {
     from = omega arith;
     within = omega (arith, first.high, size);
@@ -187,7 +197,7 @@ module _ (text : List ℕ) (at : ℕ) (within : at ≤ length text) (hay : List 
     here = λ _. subst IsDelimiter (byte_at place) (by_test (get_or hay place 0) passes);
   }
 
-  pub not_found : Nowhere (Passes (is_byte2 10 44) hay) 0 (length hay) → IsNextDelimiter text at (length text)
+  pub not_found : Nowhere (Passes (is_byte3 10 13 44) hay) 0 (length hay) → IsNextDelimiter text at (length text)
   not_found nowhere = record {
     from = within;
     within = omega arith;

@@ -138,7 +138,7 @@ tidy_step s c fields field (inr between) going = elim (between_goes_on s c betwe
 ]
 
 -- between two records all states go on alike
-between_alike : (s : State) (xs : List ℕ) → settled s ≡ st.StartRecord → run s [] [] xs ≡ run st.StartRecord [] [] xs
+pub between_alike : (s : State) (xs : List ℕ) → settled s ≡ st.StartRecord → run s [] [] xs ≡ run st.StartRecord [] [] xs
 unfolding run
 between_alike st.StartRecord xs between = refl
 between_alike st.AfterCr [] between = refl

@@ -1,13 +1,14 @@
--- The LFs and commas of a text, and which of them are known.
+-- The LFs, CRs and commas of a text, and which of them are known.
 use Rattle.std.specs.Prelude.{◌≡◌, ◌⊎◌, ℕ, ◌+◌, ◌-◌, ◌<◌, ◌≤◌, List, length, slice_index}
 use Rattle.std.specs.Int.{bit_at}
+use Rattle.sk_read.specs.Scan.{IsEnd}
 use Rattle.sk_read.specs.declared.records.delimiters.Ahead.{Ahead}
 
--- LF or a comma
+-- LF, CR or a comma
 abbrev pub IsDelimiter : ℕ → Type 0
-IsDelimiter byte = (byte ≡ 10) ⊎ (byte ≡ 44)
+IsDelimiter byte = IsEnd byte ⊎ (byte ≡ 44)
 
--- the first LF or comma from a place on, or the end of the text
+-- the first of them from a place on, or the end of the text
 pub record IsNextDelimiter (text : List ℕ) (at place : ℕ) : Type 0 where
   pub from : at ≤ place
   pub within : place ≤ length text

@@ -1,5 +1,5 @@
 // The records of a text, their lengths, and the fields in a column of them.
-ghost use Rattle.std.specs.Prelude.{◌≡◌, ◌↔◌, ◌≤◌, ◌<◌, ◌+◌, ℕ, List, [], ◌∷◌, ◌++◌, Ok, Some, None, IfErr, MatchResult, All, length, true, false};
+ghost use Rattle.std.specs.Prelude.{◌≡◌, ◌≢◌, ◌↔◌, ◌≤◌, ◌<◌, ◌+◌, ℕ, List, [], ◌∷◌, ◌++◌, Ok, Some, None, IfErr, MatchResult, All, length, true, false};
 ghost use Rattle.csv.specs.Machine.{Read, next_record};
 ghost use Rattle.csv.specs.Reading.{default_config, records, strip_bom};
 ghost use Rattle.csv.specs.Records.{fields_of};
@@ -8,7 +8,6 @@ ghost use Rattle.csv.specs.declared.parser.State.TheVariants as st;
 ghost use Rattle.sk_model.specs.Limits.{most_kept};
 ghost use Rattle.sk_read.specs.Records.{Row, field_of, width_of};
 ghost use Rattle.sk_read.specs.Rows.{StandsAt};
-ghost use Rattle.sk_read.specs.PlainLines.{IsPlain};
 ghost use Rattle.sk_read.specs.Columns.{first_width, HasRows, IsFieldOf, Refuses, Breaks};
 
 use crate::fault::Fault;
@@ -68,9 +67,9 @@ impl ColumnReader {
         self.give_records(alloc, text, taker)
     }
 
-    // The same, by its lines, where it has no quote and no CR.
+    // The same, by its lines, where it has no quote.
     fn give_lines<T: UnitTaker>(&mut self, text: &[u8], taker: &mut T) -> Result<(), Fault>
-        requires plain { All IsPlain text.now }
+        requires plain { All (λ byte. byte ≢ 34) text.now }
         requires room { (start : _) × (rows : List Row) × (length rows + length (records default_config text.now) ≤ most_kept) × HasRows self.old (T.went start taker.old) rows }
         ensures goes { (start : _) (rows : List Row) → length rows + length (records default_config text.now) ≤ most_kept → HasRows self.old (T.went start taker.old) rows
             → MatchResult result (λ _. HasRows self.new (T.went start taker.new) (rows ++ records default_config text.now))

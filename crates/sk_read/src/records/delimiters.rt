@@ -1,9 +1,9 @@
-// Where the LFs and commas of a text lie, found 64 bytes at a time.
+// Where the LFs, CRs and commas of a text lie, found 64 bytes at a time.
 ghost use Rattle.std.specs.Prelude.{◌≡◌, ◌≢◌, ◌↔◌, ◌⊎◌, ℕ, List, ◌+◌, ◌-◌, ◌<◌, ◌≤◌, length, slice_index};
 ghost use Rattle.std.specs.Int.{bit_at};
 ghost use Rattle.sk_read.specs.Delimiters.{IsDelimiter, IsNextDelimiter, Knows};
 
-use memchr::memchr2;
+use memchr::memchr3;
 use std::simd::prelude::*;
 
 // How many places a mask has.
@@ -24,7 +24,7 @@ impl Ahead {
     };
 }
 
-// The place of the first LF or comma from a place on, or the end of the text.
+// The place of the first LF, CR or comma from a place on, or the end of the text.
 #[inline(always)]
 pub(crate) fn next_delimiter(text: &[u8], at: usize, ahead: Ahead) -> (usize, Ahead)
     requires { Knows text.now at ahead }
@@ -64,12 +64,12 @@ fn scan_blocks(text: &[u8], at: usize, from: usize) -> Ahead
     Ahead { scanned, marks: 0 }
 }
 
-// The first LF or comma from a place on, or the end of the text, byte by byte.
+// The same, by a search from that place on.
 fn last_delimiter(text: &[u8], at: usize) -> usize
     requires { at ≤ length text.now }
     ensures { IsNextDelimiter text.now at result }
 {
-    match memchr2(b'\n', b',', &text[at..]) {
+    match memchr3(b'\n', b'\r', b',', &text[at..]) {
         Some(place) => at + place,
         None => text.len(),
     }
@@ -91,13 +91,14 @@ fn take_mark(text: &[u8], at: usize, ahead: Ahead) -> (usize, Ahead)
     (ahead.scanned + mark - BLOCK, left)
 }
 
-// Bit k says whether the byte at place `at + k` is LF or a comma.
+// Bit k says whether the byte at place `at + k` is LF, CR or a comma.
 #[inline(always)]
 fn delimiters_of_block(bytes: &[u8], at: usize) -> u64
     requires { at + 64 ≤ length bytes.now }
     ensures { (k : ℕ) → (bit_at result k ≡ 1) ↔ ((k < 64) × IsDelimiter (slice_index bytes.now (at + k))) }
 {
-    marks_of_block(bytes, at, b'\n') | marks_of_block(bytes, at, b',')
+    let ends = marks_of_block(bytes, at, b'\n') | marks_of_block(bytes, at, b'\r');
+    ends | marks_of_block(bytes, at, b',')
 }
 
 // Bit k says whether the byte at place `at + k` is this one.

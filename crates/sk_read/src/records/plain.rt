@@ -1,11 +1,12 @@
-// The lines of a text with no quote and no CR: each that is not empty is a record, cut at its commas.
-ghost use Rattle.std.specs.Prelude.{◌≡◌, ◌↔◌, ◌<◌, ◌≤◌, ◌+◌, ◌++◌, ◌∷◌, ◌^◌, ℕ, List, [], All, length, true, slice_index, slice_range};
+// The lines of a text with no quote: each that is not empty is a record, cut at its commas. LF and CR end them
+// alike, so between CR and LF is an empty one.
+ghost use Rattle.std.specs.Prelude.{◌≡◌, ◌≢◌, ◌↔◌, ◌<◌, ◌≤◌, ◌+◌, ◌++◌, ◌∷◌, ◌^◌, ℕ, List, [], All, length, true, slice_index, slice_range};
 ghost use Rattle.sk_read.specs.Records.{Row};
 ghost use Rattle.sk_read.specs.Delimiters.{Knows};
-ghost use Rattle.sk_read.specs.PlainLines.{IsPlain, AreFields, IsLine};
+ghost use Rattle.sk_read.specs.PlainLines.{AreFields, IsLine};
 
 use crate::records::delimiters::{Ahead, next_delimiter};
-use memchr::memchr2;
+use memchr::memchr;
 use sk_lines::Span;
 
 // Fields of a record: how many, and where the one in a column lies, once there is one.
@@ -15,7 +16,7 @@ pub(crate) struct Fields {
     pub(crate) field: Span,
 }
 
-// A line: where its LF is or the text ends, its fields, and what is known of the text behind it.
+// A line: where its LF or CR is or the text ends, its fields, and what is known of the text behind it.
 #[derive(Clone, Copy)]
 pub(crate) struct Line {
     pub(crate) end: usize,
@@ -48,16 +49,16 @@ impl Fields {
     }
 }
 
-// Whether a text has no quote and no CR.
+// Whether a text has no quote.
 pub(crate) fn is_plain(text: &[u8]) -> bool
-    ensures { (result ≡ true) ↔ All IsPlain text.now }
+    ensures { (result ≡ true) ↔ All (λ byte. byte ≢ 34) text.now }
 {
-    memchr2(b'"', b'\r', text).is_none()
+    memchr(b'"', text).is_none()
 }
 
 // The line at a place, and its field in a column.
 pub(crate) fn cut_line(text: &[u8], start: usize, column: usize, ahead: Ahead) -> Line
-    requires plain { All IsPlain text.now }
+    requires plain { All (λ byte. byte ≢ 34) text.now }
     requires known { Knows text.now start ahead }
     ensures line { IsLine column text.now start result }
     ensures known { result.end < length text.now → Knows text.now (result.end + 1) result.ahead }

@@ -1,9 +1,14 @@
-use Rattle.std.proofs.Common.{◌≡◌, ◌≢◌, ◌<◌, ◌++◌, ℕ, [], ◌∷◌, length, get_or, ◌∙◌, ap, inl, inr, arith, length-append}
+use Rattle.std.proofs.Common.{◌≡◌, ◌≢◌, ◌<◌, ◌++◌, ℕ, [], ◌∷◌, length, get_or, ◌∙◌, subst, ap, inl, inr, arith, length-append}
 use Rattle.std.specs.Prelude.{slice_range}
 use Rattle.std.proofs.lemmas.Bool.{cases_lt}
-use Rattle.sk_read.proofs.PlainLaws.{joined_comma, joined_end}
+use Rattle.sk_read.specs.Scan.{IsEnd}
+use Rattle.sk_read.proofs.PlainLaws.{joined_comma, joined_end, end_here}
 use Rattle.sk_read.proofs.records.plain.cut_line.Goals.{then-comma-test+else-text-place-eq44, else-comma-test}
 use Rattle.sk_read.proofs.records.plain.cut_line.Goals as goal
+
+comma_is_no_end : IsEnd 44 → ⊥
+comma_is_no_end (inl lf) = cc
+comma_is_no_end (inr cr) = cc
 
 pub comma-preserved : goal.comma-preserved
 comma-preserved c =
@@ -21,13 +26,13 @@ comma-preserved c =
       known = c.next_delimiter.ensures.known;
       from = omega (arith, inv.from, inv.next.from);
       few = omega (arith, fields.width, inv.fields.width, length-append inv.row (piece ∷ []), inv.few, inv.next.from);
-      none = λ i from below lf. elim (cases_lt i c.comma.at) [
-        | inl early ↦ inv.none i from early lf
+      none = λ i from below end. elim (cases_lt i c.comma.at) [
+        | inl early ↦ inv.none i from early end
         | inr late ↦ elim (cases_lt i place) [
-          | inl before ↦ inv.next.none i late before (inl lf)
+          | inl before ↦ inv.next.none i late before (inl end)
           | inr behind ↦
               let here : i ≡ place = omega (arith, below, behind) in
-              omega (arith, is, lf, ap (λ (n : ℕ). get_or text n 0) here)
+              comma_is_no_end (subst IsEnd (ap (λ (n : ℕ). get_or text n 0) here ∙ is) end)
         ]
       ];
     }
@@ -41,18 +46,18 @@ returns-clause-line c =
       | then-comma-test+else-text-place-eq44 w ↦ λ inside. w.if-text-place-eq44.false
       | else-comma-test w ↦ λ inside. absurd (omega (arith, inside, w.comma-test.false))
     ] in
+    let end = joined_end text c.requires.plain c.comma.at place inv.row inv.next no_comma in
     record {
       row = inv.row ++ slice_range text c.comma.at place ∷ [];
-      read = inv.read ∙ joined_end text c.requires.plain c.comma.at place inv.row inv.next no_comma;
+      state = end.0;
+      between = end.1;
+      read = inv.read ∙ end.2;
       fields = c.and.ensures text inv.row inv.next.within inv.fields;
       from = omega (arith, inv.from, inv.next.from);
       within = inv.next.within;
-      none = λ i from before lf. elim (cases_lt i c.comma.at) [
-        | inl early ↦ inv.none i from early lf
-        | inr late ↦ inv.next.none i late before (inl lf)
+      none = λ i from before is. elim (cases_lt i c.comma.at) [
+        | inl early ↦ inv.none i from early is
+        | inr late ↦ inv.next.none i late before (inl is)
       ];
-      lf = λ inside. elim (inv.next.here inside) [
-        | inl lf ↦ lf
-        | inr comma ↦ absurd (no_comma inside comma)
-      ];
+      here = λ inside. end_here (get_or text place 0) (inv.next.here inside) (no_comma inside);
     }

@@ -2,6 +2,7 @@ use Rattle.std.proofs.Common.{◌≡◌, ◌≢◌, ◌+◌, ◌-◌, ◌<◌, �
 use Rattle.sk_read.specs.Records.{Row}
 use Rattle.sk_read.specs.Delimiters.{IsNextDelimiter, Knows}
 use Rattle.sk_read.specs.PlainLines.{AreFields}
+use Rattle.sk_read.specs.Scan.{IsEnd}
 use Rattle.sk_read.proofs.PlainLaws.{read_on}
 use Rattle.sk_read.proofs.records.plain.cut_line.Given as goal
 
@@ -14,7 +15,7 @@ invariant-comma l = record {
   known : l.place < length l.text → Knows l.text (l.place + 1) l.ahead;
   from : l.start ≤ l.at;
   few : l.fields.width ≤ l.at;
-  none : (i : ℕ) → l.start ≤ i → i < l.at → slice_index l.text i ≢ 10;
+  none : (i : ℕ) → l.start ≤ i → i < l.at → ¬ IsEnd (slice_index l.text i);
 }
 
 abbrev pub decreases-comma : goal.decreases-comma
