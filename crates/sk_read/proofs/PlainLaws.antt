@@ -17,7 +17,7 @@ use Rattle.sk_read.specs.Columns.{IsFieldOf}
 use Rattle.sk_read.specs.PlainLines.{AreFields, IsLine}
 use Rattle.sk_read.specs.Scan.{IsEnd, settled}
 use Rattle.sk_read.proofs.Plain.{IsNoQuote}
-use Rattle.sk_read.proofs.Runs.{run, records_are, records_led, read_is, none_is, between_alike}
+use Rattle.sk_read.proofs.Runs.{records_are, records_led, read_is, none_is, between_alike}
 use Rattle.sk_read.proofs.ColumnLaws.{one_more_row}
 
 -- what csv's machine reads next inside a field

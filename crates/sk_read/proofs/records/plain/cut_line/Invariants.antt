@@ -1,4 +1,4 @@
-use Rattle.std.proofs.Common.{◌≡◌, ◌≢◌, ◌+◌, ◌-◌, ◌<◌, ◌≤◌, ℕ, [], length, drop, slice_index}
+use Rattle.std.proofs.Common.{◌≡◌, ◌+◌, ◌-◌, ◌<◌, ◌≤◌, ℕ, [], length, drop, slice_index}
 use Rattle.sk_read.specs.Records.{Row}
 use Rattle.sk_read.specs.Delimiters.{IsNextDelimiter, Knows}
 use Rattle.sk_read.specs.PlainLines.{AreFields}
