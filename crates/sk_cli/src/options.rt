@@ -2,7 +2,7 @@
 
 ghost use Rattle.std.specs.Prelude.{◌+◌, ◌^◌, ◌≡◌, ◌↔◌, All, IsTrue, IfSome, IfNone, Some, None, ◌<◌, ◌≤◌, length, drop, option_copied, option_map, is_some, IsSome, ◌∷◌};
 ghost use Rattle.sk_model.specs.Limits.{IsFrom, most_size, most_updaters};
-ghost use Rattle.sk_ingest.specs.Windows.{most_lines};
+ghost use Rattle.sk_fill.specs.Windows.{most_lines};
 ghost use Rattle.sk_cli.specs.Beside.{board_places};
 ghost use Rattle.sk_cli.specs.Options.{name_of, takes_value, allows, options_of, texts_of, is_once, value_behind, given_in, spelled_by, is_given, number_in, required_in, is_yes_in, name_in, seed_by, updaters_by, sizes_by, window_by, eager_by, propagator_by, alarms_by};
 

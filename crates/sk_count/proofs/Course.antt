@@ -24,11 +24,11 @@ use Rattle.sk_watch.specs.Masks.{mask_of}
 use Rattle.sk_watch.specs.Places.{answers_at, told}
 use Rattle.sk_read.specs.declared.kind.Kind.{Kind}
 use Rattle.sk_read.specs.declared.items.Intake.{Intake}
-use Rattle.sk_ingest.specs.Windows.{items_in, all_lines}
-use Rattle.sk_ingest.specs.Rounds.{block_of}
-use Rattle.sk_ingest.specs.Feeds.{Takes}
-use Rattle.sk_ingest.specs.Shares.{share, TakeShares}
-use Rattle.sk_ingest.specs.Hubs.{Hub, FeedsWindow, LeavesHub, IsLeft, HeartGoesOn}
+use Rattle.sk_fill.specs.Windows.{items_in, all_lines}
+use Rattle.sk_fill.specs.Blocks.{block_of}
+use Rattle.sk_feed.specs.Feeds.{Takes}
+use Rattle.sk_feed.specs.Shares.{share, TakeShares}
+use Rattle.sk_feed.specs.Hubs.{Hub, FeedsWindow, LeavesHub, IsLeft, HeartGoesOn}
 use Rattle.sk_ingest.specs.Ingests.{Terms, Reported}
 use Rattle.sk_count.specs.declared.plan.Plan.{Plan}
 use Rattle.sk_count.specs.Plans.{size_at}

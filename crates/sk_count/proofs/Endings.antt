@@ -24,12 +24,12 @@ use Rattle.sk_read.specs.declared.fault.Fault.{Fault}
 use Rattle.sk_read.specs.declared.fault.Fault.TheVariants as fault
 use Rattle.sk_read.specs.declared.kind.Kind.{Kind}
 use Rattle.sk_watch.specs.Places.{Place}
-use Rattle.sk_ingest.specs.Windows.{items_in, all_lines}
-use Rattle.sk_ingest.specs.Rounds.{block_of}
-use Rattle.sk_ingest.specs.Shares.{share, HasAllOf}
-use Rattle.sk_ingest.specs.Hubs.{Hub}
-use Rattle.sk_ingest.proofs.Items.{items_below, good_items}
-use Rattle.sk_ingest.proofs.Shares.{all_items}
+use Rattle.sk_fill.specs.Windows.{items_in, all_lines}
+use Rattle.sk_fill.specs.Blocks.{block_of}
+use Rattle.sk_feed.specs.Shares.{share, HasAllOf}
+use Rattle.sk_feed.specs.Hubs.{Hub}
+use Rattle.sk_fill.proofs.Items.{items_below, good_items}
+use Rattle.sk_feed.proofs.Shares.{all_items}
 use Rattle.sk_count.specs.declared.plan.Plan.{Plan}
 use Rattle.sk_count.specs.Moments.{kept_by, AreKeptOver, AreMoments, start}
 use Rattle.sk_count.specs.Texts.{interim_text, places_after, armed_with}

@@ -4,8 +4,8 @@ use Rattle.sk_model.specs.Limits.{least_k}
 use Rattle.sk_model.proofs.Missing.{begins_nil}
 use Rattle.sk_compose.specs.Numbers.{k_of}
 use Rattle.sk_hub.specs.Updaters.{kept_of}
-use Rattle.sk_ingest.specs.Windows.{all_lines}
-use Rattle.sk_ingest.specs.Hubs.{Hub}
+use Rattle.sk_fill.specs.Windows.{all_lines}
+use Rattle.sk_feed.specs.Hubs.{Hub}
 use Rattle.sk_read.specs.Reads.{ReadsAll}
 use Rattle.sk_read.specs.Units.{units_by}
 use Rattle.sk_read.specs.declared.fault.Fault.{Fault}

@@ -11,9 +11,9 @@ use Rattle.sk_read.specs.declared.fault.Fault.{Fault}
 use Rattle.sk_read.specs.declared.fault.Fault.TheVariants as fault
 use Rattle.sk_read.specs.Units.{units_by}
 use Rattle.sk_watch.specs.Places.{Place}
-use Rattle.sk_ingest.specs.Hubs.{Hub}
-use Rattle.sk_ingest.proofs.Cutting.{no_units}
-use Rattle.sk_ingest.proofs.Ingestion.{nothing_came}
+use Rattle.sk_feed.specs.Hubs.{Hub}
+use Rattle.sk_fill.proofs.Cutting.{no_units}
+use Rattle.sk_fill.proofs.Readings.{nothing_came}
 use Rattle.sk_count.specs.declared.plan.Plan.{Plan}
 use Rattle.sk_count.specs.declared.remains.Remains.{Remains}
 use Rattle.sk_count.specs.Plans.{IsWithin, lines_of_window}

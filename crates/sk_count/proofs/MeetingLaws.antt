@@ -15,7 +15,7 @@ use Rattle.sk_gate.specs.Hands.{TokenState}
 use Rattle.sk_hub.specs.Updaters.{UpdaterState, handed_of, base_of}
 use Rattle.sk_hub.specs.Replies.{IsRelaxedReply, known_size}
 use Rattle.sk_hub.proofs.Kept.{met_lacks}
-use Rattle.sk_ingest.specs.Hubs.{Hub, IsHub, IsUpdaterAt, LeavesHub, IsLeft, HeartGoesOn, TokenGoesOn}
+use Rattle.sk_feed.specs.Hubs.{Hub, IsHub, IsUpdaterAt, LeavesHub, IsLeft, HeartGoesOn, TokenGoesOn}
 use Rattle.sk_count.specs.Hubs.{MeetsNotes, AsksHub}
 use Rattle.sk_count.specs.Meets.{noted, MayMeet, MayMeetAll, Meets, MeetsFirst, AreNoted}
 

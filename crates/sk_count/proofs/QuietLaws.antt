@@ -4,7 +4,7 @@ use Rattle.sk_read.specs.Reads.{ReadsAll, Ends}
 use Rattle.sk_read.specs.declared.fault.Fault.{Fault}
 use Rattle.sk_read.specs.declared.fault.Fault.TheVariants as fault
 use Rattle.sk_read.specs.declared.units.Units.{Units}
-use Rattle.sk_ingest.specs.Hubs.{Hub}
+use Rattle.sk_feed.specs.Hubs.{Hub}
 use Rattle.sk_ingest.specs.Ingests.{Terms, IsReported, Reported, Ingests, StopsAtReport, GoesSoFar, StopsAtUnit, EndsEarly}
 use Rattle.sk_ingest.specs.declared.report.Stop.{Stop}
 

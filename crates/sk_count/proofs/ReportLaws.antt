@@ -6,7 +6,7 @@ use Rattle.sk_model.specs.Sketch.{fraction_of, unpacked}
 use Rattle.sk_theta.specs.declared.reply.Reply.{Reply}
 use Rattle.sk_watch.specs.Masks.{mask_of}
 use Rattle.sk_watch.specs.Places.{Place, answers_at, told}
-use Rattle.sk_ingest.specs.Hubs.{Hub}
+use Rattle.sk_feed.specs.Hubs.{Hub}
 use Rattle.sk_count.specs.Texts.{interim_line, alarm_lines}
 use Rattle.sk_count.specs.Hubs.{AsksHub}
 use Rattle.sk_count.specs.Reports.{showing, Reports, Breaks, reply_in, reply_text}

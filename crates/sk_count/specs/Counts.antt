@@ -11,7 +11,7 @@ use Rattle.sk_read.specs.Units.{units_by}
 use Rattle.sk_read.specs.declared.fault.Fault.{Fault}
 use Rattle.sk_read.specs.declared.fault.Fault.TheVariants.{OutOfMemory, BadItem, WriteFault}
 use Rattle.sk_watch.specs.Places.{Place}
-use Rattle.sk_ingest.specs.Windows.{AreWindows}
+use Rattle.sk_fill.specs.Windows.{AreWindows}
 use Rattle.sk_count.specs.declared.plan.Plan.{Plan}
 use Rattle.sk_count.specs.declared.remains.Remains.{Remains}
 use Rattle.sk_count.specs.Plans.{lines_of_window}

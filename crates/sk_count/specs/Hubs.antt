@@ -12,8 +12,8 @@ use Rattle.sk_gate.specs.Views.{known_of}
 use Rattle.sk_gate.specs.Hands.{TokenState}
 use Rattle.sk_hub.specs.Hearts.{HeartState}
 use Rattle.sk_hub.specs.Updaters.{UpdaterState, base_of, kept_of}
-use Rattle.sk_ingest.specs.Hubs.{Hub}
-use Rattle.sk_ingest.specs.Shares.{share}
+use Rattle.sk_feed.specs.Hubs.{Hub}
+use Rattle.sk_feed.specs.Shares.{share}
 use Rattle.sk_count.specs.declared.plan.Plan.{Plan}
 use Rattle.sk_count.specs.Moments.{Moment, kept_by, AreKeptOver}
 

@@ -6,7 +6,7 @@ use Rattle.sk_machine.specs.declared.views.Move.TheVariants.{Join, Ask}
 use Rattle.sk_gate.specs.Views.{known_of, size_of, after_split}
 use Rattle.sk_gate.specs.Hands.{TokenState}
 use Rattle.sk_hub.specs.Updaters.{UpdaterState, base_of, handed_of}
-use Rattle.sk_ingest.specs.Hubs.{TokenGoesOn}
+use Rattle.sk_feed.specs.Hubs.{TokenGoesOn}
 use Rattle.sk_count.specs.Hubs.{MeetsNotes}
 
 -- the updater, of which a note was split off

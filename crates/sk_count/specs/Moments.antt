@@ -8,8 +8,8 @@ use Rattle.sk_model.specs.Missing.{Begins, LacksAtMost}
 use Rattle.sk_model.specs.Sketch.{theta_of}
 use Rattle.sk_compose.specs.Kept.{AreKept}
 use Rattle.sk_machine.specs.Coarse.{IsEntry}
-use Rattle.sk_ingest.specs.Windows.{all_lines}
-use Rattle.sk_ingest.specs.Shares.{share}
+use Rattle.sk_fill.specs.Windows.{all_lines}
+use Rattle.sk_feed.specs.Shares.{share}
 use Rattle.sk_count.specs.declared.plan.Plan.{Plan}
 use Rattle.sk_count.specs.Plans.{size_at}
 

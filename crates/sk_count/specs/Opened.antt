@@ -12,18 +12,17 @@ use Rattle.sk_read.specs.Reads.{ReadsAll, Ends}
 use Rattle.sk_read.specs.Units.{units_by}
 use Rattle.sk_read.specs.declared.fault.Fault.{Fault}
 use Rattle.sk_read.specs.declared.fault.Fault.TheVariants.{OutOfMemory, BadItem, WriteFault}
-use Rattle.sk_ingest.specs.Drained.{DrainsAll}
-use Rattle.sk_ingest.specs.Shares.{HasAllOf}
-use Rattle.sk_ingest.specs.Hubs.{Hub, IsHub, FeedsWindow}
+use Rattle.sk_feed.specs.Drained.{DrainsAll}
+use Rattle.sk_feed.specs.Shares.{HasAllOf}
+use Rattle.sk_feed.specs.Hubs.{Hub, IsHub, FeedsWindow}
 use Rattle.sk_count.specs.declared.plan.Plan.{Plan}
-use Rattle.sk_count.specs.Plans.{size_at}
+use Rattle.sk_count.specs.Plans.{size_at, lines_of_window}
 use Rattle.sk_count.specs.Moments.{Moment, AreMoments, start}
 use Rattle.sk_count.specs.Texts.{interim_text, places_after}
 use Rattle.sk_count.specs.Reports.{Showing}
 use Rattle.sk_count.specs.Steps.{keeps, hint_of, PassesUnits}
-use Rattle.sk_ingest.specs.Windows.{AreWindows}
+use Rattle.sk_fill.specs.Windows.{AreWindows}
 use Rattle.sk_read.specs.Items.{item_of, IsGood}
-use Rattle.sk_count.specs.Plans.{lines_of_window}
 
 -- one number for each updater, in order
 pub record AreSizes (plan : Plan) (sizes : List ℕ) : Type 0 where

@@ -1,7 +1,7 @@
 -- What a count is asked, and within which limits.
 use Rattle.std.specs.Prelude.{ℕ, ◌-◌, ◌≤◌, min, List, length, All, unwrap_or, slice_index}
 use Rattle.sk_model.specs.Limits.{least_k, most_k, most_size, most_updaters, IsFrom}
-use Rattle.sk_ingest.specs.Windows.{most_lines}
+use Rattle.sk_fill.specs.Windows.{most_lines}
 use Rattle.sk_count.specs.Limits.{usual_window}
 use Rattle.sk_count.specs.declared.plan.Plan.{Plan}
 

@@ -10,9 +10,9 @@ use Rattle.sk_hub.specs.Hearts.{HeartState}
 use Rattle.sk_hub.specs.Updaters.{UpdaterState, base_of, kept_of}
 use Rattle.sk_read.specs.declared.items.Intake.{Intake}
 use Rattle.sk_read.specs.Items.{IsGood}
-use Rattle.sk_ingest.specs.Hubs.{Hub}
-use Rattle.sk_ingest.specs.Windows.{AreWindows}
-use Rattle.sk_ingest.specs.Shares.{share}
+use Rattle.sk_feed.specs.Hubs.{Hub}
+use Rattle.sk_fill.specs.Windows.{AreWindows}
+use Rattle.sk_feed.specs.Shares.{share}
 use Rattle.sk_count.specs.declared.plan.Plan.{Plan}
 use Rattle.sk_count.specs.Plans.{lines_of_window, size_at}
 use Rattle.sk_count.specs.Moments.{Moment, kept_by, AreKeptOver, AreMomentsOf}

@@ -1,6 +1,6 @@
 //! How a token meets the updaters of a hub, and asks.
 ghost use Rattle.std.specs.Prelude.{◌≡◌, length};
-ghost use Rattle.sk_ingest.specs.Hubs.{hub_of, IsHub, LeavesHub};
+ghost use Rattle.sk_feed.specs.Hubs.{hub_of, IsHub, LeavesHub};
 ghost use Rattle.sk_count.specs.Hubs.{AsksHub};
 ghost use Rattle.sk_count.specs.Meets.{noted, MayMeet, MayMeetAll, Meets, MeetsFirst, AreNoted};
 

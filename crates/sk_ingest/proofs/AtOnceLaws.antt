@@ -1,7 +1,7 @@
 -- Units that go to one updater at once.
-use Rattle.std.proofs.Common.{◌≡◌, ◌≢◌, ◌==◌, inl, inr, ℕ, ◌+◌, ◌<◌, ◌≤◌, Bool, true, false, List, [], ◌∷◌, ◌++◌, length, get_or, set, take, drop, Option, Some, None, IsSome, Result, All, sym, ap, refl, ◌∙◌, subst, arith, append-nil, append_assoc}
+use Rattle.std.proofs.Common.{◌≡◌, ◌≢◌, inl, inr, ℕ, ◌+◌, ◌<◌, ◌≤◌, Bool, true, false, List, [], ◌∷◌, ◌++◌, length, get_or, set, take, drop, Option, Some, Result, All, sym, ap, refl, ◌∙◌, subst, arith, append-nil, append_assoc}
 use Rattle.std.specs.List.{filter}
-use Rattle.std.proofs.lemmas.Bool.{false≢true, eqb-false, eqb-true}
+use Rattle.std.proofs.lemmas.Bool.{false≢true}
 use Rattle.std.proofs.lemmas.List.{get_or_default, get_or-set_same, get_or_read, length-set, length-take-le, take_more, take-append-drop}
 use Rattle.std.proofs.lemmas.List.Elements.{All-nil, All-push, All-head, All-tail}
 use Rattle.sk_model.specs.Entries.{Entry}
@@ -15,23 +15,25 @@ use Rattle.sk_read.specs.Reads.{Reads, StopsAmong}
 use Rattle.sk_read.specs.declared.units.Units.{Units}
 use Rattle.sk_read.specs.declared.fault.Fault.{Fault}
 use Rattle.sk_read.specs.declared.fault.Fault.TheVariants as fault
-use Rattle.sk_ingest.specs.Windows.{fills, all_lines, item_in, items_in}
-use Rattle.sk_ingest.specs.Feeds.{Takes}
-use Rattle.sk_ingest.specs.Gathered.{IsBad}
-use Rattle.sk_ingest.specs.Rounds.{block_of, HaveFew}
-use Rattle.sk_ingest.specs.Shares.{share, TakeShares}
-use Rattle.sk_ingest.specs.Hubs.{Hub, IsHub, FeedsWindow, HeartGoesOn}
+use Rattle.sk_fill.specs.Windows.{fills, all_lines, items_in, IsBad}
+use Rattle.sk_feed.specs.Feeds.{Takes}
+use Rattle.sk_fill.specs.Blocks.{block_of}
+use Rattle.sk_feed.specs.Rounds.{HaveFew}
+use Rattle.sk_feed.specs.Shares.{share, TakeShares}
+use Rattle.sk_feed.specs.Hubs.{Hub, IsHub, FeedsWindow, HeartGoesOn}
 use Rattle.sk_ingest.specs.Ingests.{Terms, Feeds, IsReported, Reported, GoesThrough, Ingests, GoesSoFar, StopsAtUnit, EndsEarly}
 use Rattle.sk_ingest.specs.Takers.{UnitsWent, IsAlone, untold}
-use Rattle.sk_ingest.proofs.Joined.{blocks_joined}
-use Rattle.sk_ingest.proofs.Items.{items_append, one_item, no_item}
-use Rattle.sk_ingest.proofs.Gathering.{takes_all}
-use Rattle.sk_ingest.proofs.Shares.{share_one}
-use Rattle.sk_ingest.proofs.Updaters.{none_refl, takes_none, takes_trans}
-use Rattle.sk_ingest.proofs.Between.{parts_taken}
-use Rattle.sk_ingest.proofs.Cutting.{no_units, unit_left, unit_fills}
-use Rattle.sk_ingest.proofs.HubLaws.{heart_waits, heart_goes, hub_fed, few_left, few_fed, no_window}
-use Rattle.sk_ingest.proofs.Ingestion.{reads_by, ends_by, all_by, one_unit_more, no_windows, reported_next}
+use Rattle.sk_fill.proofs.Units.{item_is}
+use Rattle.sk_fill.proofs.Joined.{blocks_joined}
+use Rattle.sk_fill.proofs.Items.{items_append, one_item, no_item}
+use Rattle.sk_feed.proofs.Filtered.{takes_all}
+use Rattle.sk_feed.proofs.Shares.{share_one}
+use Rattle.sk_feed.proofs.Updaters.{none_refl, takes_none, takes_trans}
+use Rattle.sk_feed.proofs.Between.{parts_taken}
+use Rattle.sk_fill.proofs.Cutting.{no_units, unit_left, unit_fills}
+use Rattle.sk_feed.proofs.HubLaws.{heart_waits, heart_goes, hub_fed, few_left, few_fed, no_window}
+use Rattle.sk_fill.proofs.Readings.{reads_by, ends_by, all_by}
+use Rattle.sk_ingest.proofs.Ingestion.{one_unit_more, no_windows, reported_next}
 
 -- ---- one updater
 
@@ -192,10 +194,6 @@ lines_at_once {R} t units (line ∷ lines) a b x r s e went good least off one h
 
 -- ---- an item
 
-pub item_is : (kind : Kind) (unit : List ℕ) (item : ℕ) → 0 < length unit → item_of kind unit ≡ Some item → item_in kind unit ≡ Some item
-item_is kind [] item some is = let none : ⊥ = omega arith in absurd none
-item_is kind (byte ∷ rest) item some is = is
-
 -- the one updater took items
 lone_took : (keeps : ℕ → ℕ → Bool) (hint_of : List ℕ → List Entry → ℕ) (items : List ℕ) (us : List UpdaterState) (u u' : UpdaterState) → length us ≡ 1 → u ≡ get_or us 0 u → Takes keeps hint_of u items u'
     → (d : UpdaterState) → Takes keeps hint_of (get_or us 0 d) items (get_or (set us 0 u') 0 d)
@@ -213,24 +211,6 @@ one_took keeps hint_of kind unit item us u u' one read some is taken = λ d.
 pub none_took : (keeps : ℕ → ℕ → Bool) (hint_of : List ℕ → List Entry → ℕ) (kind : Kind) (unit : List ℕ) (us : List UpdaterState) → length unit ≡ 0 → (d : UpdaterState) → Takes keeps hint_of (get_or us 0 d) (items_in kind (unit ∷ [])) (get_or us 0 d)
 none_took keeps hint_of kind [] us none = λ d. let u = get_or us 0 d in subst (λ l. Takes keeps hint_of u l u) (sym (no_item kind [] refl)) (takes_none keeps hint_of u u (none_refl u))
 none_took keeps hint_of kind (byte ∷ rest) us none = let no : ⊥ = omega arith in absurd no
-
-pub empty_is : (kind : Kind) (unit : List ℕ) → length unit ≡ 0 → item_in kind unit ≡ None
-empty_is kind [] none = refl
-empty_is kind (byte ∷ rest) none = let no : ⊥ = omega arith in absurd no
-
--- a unit that is told not to be empty
-pub filled : (unit : List ℕ) (tells : Bool) → tells ≡ (length unit == 0) → tells ≡ false → 0 < length unit
-filled unit tells told not_empty = let some : length unit ≢ 0 = eqb-false (length unit) 0 (sym told ∙ not_empty) in omega arith
-
--- one that is told to be empty
-pub empty : (unit : List ℕ) (tells : Bool) → tells ≡ (length unit == 0) → tells ≡ true → length unit ≡ 0
-empty unit tells told is = eqb-true (length unit) 0 (sym told ∙ is)
-
-pub good_item : (kind : Kind) (unit : List ℕ) (item : ℕ) → item_of kind unit ≡ Some item → IsGood kind unit
-good_item kind unit item is = λ some. subst IsSome (sym is) refl
-
-pub good_empty : (kind : Kind) (unit : List ℕ) → length unit ≡ 0 → IsGood kind unit
-good_empty kind unit none = λ some. let no : ⊥ = omega arith in absurd no
 
 -- ---- lines of whose items those were left out that the hint of the updater filters
 

@@ -10,19 +10,20 @@ use Rattle.sk_model.specs.Limits.{most_kept}
 use Rattle.sk_hub.specs.Updaters.{UpdaterState, kept_of}
 use Rattle.sk_read.specs.Reading.{Reading, HasRead}
 use Rattle.sk_read.specs.declared.kind.Kind.{Kind}
-use Rattle.sk_ingest.specs.declared.lane.Lane.{Lane}
-use Rattle.sk_ingest.specs.Windows.{all_lines}
-use Rattle.sk_ingest.specs.Feeds.{Takes}
-use Rattle.sk_ingest.specs.Rounds.{HaveFew}
-use Rattle.sk_ingest.specs.Shares.{share, TakeShares}
-use Rattle.sk_ingest.specs.Stretches.{StretchState}
-use Rattle.sk_ingest.specs.Deliveries.{windows_of, EndAt, IsNext, IsUpTo, IsOpen, HasFed, RunsLane, GaveEach}
-use Rattle.sk_ingest.specs.Lanes.{Outlet, AreOpen, AreBehind, AreBehindIfFed, HaveRun, HaveFinished}
-use Rattle.sk_ingest.proofs.Filled.{read_few}
-use Rattle.sk_ingest.proofs.Rounds.{of_images, ok_then, ok_gives}
-use Rattle.sk_ingest.proofs.Shares.{share_append}
-use Rattle.sk_ingest.proofs.Updaters.{takes_trans}
-use Rattle.sk_ingest.proofs.DeliveryLaws.{windows_append, lines_one}
+use Rattle.sk_feed.specs.declared.lane.Lane.{Lane}
+use Rattle.sk_fill.specs.Windows.{all_lines}
+use Rattle.sk_feed.specs.Feeds.{Takes}
+use Rattle.sk_feed.specs.Rounds.{HaveFew}
+use Rattle.sk_feed.specs.Shares.{share, TakeShares}
+use Rattle.sk_fill.specs.Stretches.{StretchState}
+use Rattle.sk_feed.specs.Deliveries.{windows_of, EndAt, IsNext, IsUpTo, IsOpen, HasFed}
+use Rattle.sk_ingest.specs.Lanes.{RunsLane, Outlet, AreOpen, AreBehind, AreBehindIfFed, HaveRun, HaveFinished}
+use Rattle.sk_ingest.specs.Supplies.{GaveEach}
+use Rattle.sk_fill.proofs.Filled.{read_few}
+use Rattle.sk_feed.proofs.Rounds.{of_images, ok_then, ok_gives}
+use Rattle.sk_feed.proofs.Shares.{share_append}
+use Rattle.sk_feed.proofs.Updaters.{takes_trans}
+use Rattle.sk_feed.proofs.DeliveryLaws.{windows_append, lines_one}
 
 -- ---- the first stretch
 

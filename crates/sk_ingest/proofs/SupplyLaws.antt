@@ -13,13 +13,16 @@ use Rattle.sk_read.specs.Reading.{Reading, HasRead, remaining_of}
 use Rattle.sk_read.specs.declared.fault.Fault.{Fault}
 use Rattle.sk_read.specs.declared.fault.Fault.TheVariants as fault
 use Rattle.sk_read.specs.declared.kind.Kind.{Kind}
-use Rattle.sk_ingest.specs.Windows.{IsFullWindow, all_lines}
-use Rattle.sk_ingest.specs.Stretches.{StretchState, StretchGoes, ReadsStretch, FeedsAndReads}
-use Rattle.sk_ingest.specs.Deliveries.{windows_of, EndAt, IsNext, GaveEach, Supplies}
-use Rattle.sk_ingest.proofs.Rounds.{ok_then}
-use Rattle.sk_ingest.proofs.DeliveryLaws.{windows_append, windows_one, end_later, ends_once}
-use Rattle.sk_ingest.proofs.Updaters.{on_ok}
-use Rattle.sk_ingest.proofs.StretchLaws.{on_ok_at, both_joined, none_on_err, stretch_starts, stretch_passed, read_then_none, nothing_read}
+use Rattle.sk_fill.specs.Windows.{IsFullWindow, all_lines}
+use Rattle.sk_fill.specs.Stretches.{StretchState, StretchGoes, ReadsStretch}
+use Rattle.sk_ingest.specs.FedAndRead.{FeedsAndReads}
+use Rattle.sk_feed.specs.Deliveries.{windows_of, EndAt, IsNext}
+use Rattle.sk_ingest.specs.Supplies.{GaveEach, Supplies}
+use Rattle.sk_feed.proofs.Rounds.{ok_then}
+use Rattle.sk_feed.proofs.DeliveryLaws.{windows_append, windows_one, end_later, ends_once}
+use Rattle.sk_feed.proofs.Updaters.{on_ok}
+use Rattle.sk_fill.proofs.StretchLaws.{on_ok_at, none_on_err, stretch_starts, stretch_passed, read_then_none, nothing_read}
+use Rattle.sk_ingest.proofs.StretchLaws.{both_joined}
 
 -- ---- members of a list, one after another
 

@@ -6,11 +6,11 @@ use Rattle.sk_model.specs.Limits.{most_kept}
 use Rattle.sk_read.specs.Items.{IsGood}
 use Rattle.sk_read.specs.declared.fault.Fault.{Fault}
 use Rattle.sk_read.specs.declared.fault.Fault.TheVariants as fault
-use Rattle.sk_ingest.specs.Windows.{fills, FillsNone, IsFullWindow, all_lines}
-use Rattle.sk_ingest.specs.Rounds.{HaveRoom}
-use Rattle.sk_ingest.proofs.HubLaws.{few_room}
-use Rattle.sk_ingest.specs.Fills.{RefusesLine}
-use Rattle.sk_ingest.specs.Hubs.{Hub}
+use Rattle.sk_fill.specs.Windows.{fills, FillsNone, IsFullWindow, all_lines}
+use Rattle.sk_feed.specs.Rounds.{HaveRoom}
+use Rattle.sk_feed.proofs.HubLaws.{few_room}
+use Rattle.sk_fill.specs.Fills.{RefusesLine}
+use Rattle.sk_feed.specs.Hubs.{Hub}
 use Rattle.sk_ingest.specs.Ingests.{Terms, GoesThrough, GoesSoFar, StopsAtUnit}
 use Rattle.sk_ingest.specs.Takers.{WindowsWent, StopsPassing}
 use Rattle.sk_read.specs.Faults.{IsOfTaker}

@@ -9,8 +9,8 @@ use Rattle.sk_read.specs.declared.items.Intake.{Intake}
 use Rattle.sk_read.specs.declared.units.Units.{Units}
 use Rattle.sk_ingest.specs.declared.report.Stop.{Stop}
 use Rattle.sk_ingest.specs.declared.report.Stop.TheVariants as stop
-use Rattle.sk_ingest.specs.Windows.{AreWindows}
-use Rattle.sk_ingest.specs.Hubs.{Hub, IsHub, FeedsWindow, LeavesHub}
+use Rattle.sk_fill.specs.Windows.{AreWindows}
+use Rattle.sk_feed.specs.Hubs.{Hub, IsHub, FeedsWindow, LeavesHub}
 
 -- what a run goes by: how a kind of sketch filters, what a report meets where it is told of a line, and where it
 -- stops there, and the plan

@@ -8,9 +8,9 @@ use Rattle.sk_read.specs.declared.fault.Fault.TheVariants as fault
 use Rattle.sk_read.specs.declared.items.Intake.{Intake}
 use Rattle.sk_ingest.specs.declared.report.Stop.{Stop}
 use Rattle.sk_ingest.specs.declared.report.Stop.TheVariants as stop
-use Rattle.sk_ingest.specs.Windows.{WindowState}
-use Rattle.sk_ingest.specs.Rounds.{HaveFew}
-use Rattle.sk_ingest.specs.Hubs.{Hub, IsHub}
+use Rattle.sk_fill.specs.Windows.{WindowState}
+use Rattle.sk_feed.specs.Rounds.{HaveFew}
+use Rattle.sk_feed.specs.Hubs.{Hub, IsHub}
 use Rattle.sk_ingest.specs.Ingests.{Terms, terms_of, Feeds, GoesThrough, Ingests}
 
 -- the window is the plan's, and the report is of the hub's sketch

@@ -1,10 +1,9 @@
 //! Stretches that are read anew once nobody feeds from them.
 ghost use Rattle.std.specs.Prelude.{◌≡◌, ◌<◌, ◌≤◌, true, IfSome, OnOk};
-ghost use Rattle.sk_ingest.specs.Windows.{most_lines};
+ghost use Rattle.sk_fill.specs.Windows.{most_lines};
 
-use crate::crew::Crew;
-use crate::delivery::Delivery;
-use crate::stretch::Stretch;
+use sk_feed::{Crew, Delivery};
+use sk_fill::Stretch;
 use sk_model::OutOfMemory;
 use std::alloc::Global;
 use std::marker::Model;
@@ -30,8 +29,8 @@ pub(crate) struct Pool {
 
 impl Model for Pool {
     ghost use Rattle.std.specs.Prelude.{◌≡◌, ◌≤◌, All, vec_len};
-    ghost use Rattle.sk_ingest.specs.Windows.{most_lines};
-    ghost use Rattle.sk_ingest.specs.Deliveries.{PoolState};
+    ghost use Rattle.sk_fill.specs.Windows.{most_lines};
+    ghost use Rattle.sk_ingest.specs.Supplies.{PoolState};
 
     ghost Value = { PoolState };
 

@@ -1,7 +1,7 @@
 //! Who is told of a hub at each full window.
 ghost use Rattle.std.specs.Prelude.{◌≡◌, ℕ, List, Option, OnOk, IfErr, IfSome};
 ghost use Rattle.sk_model.specs.Causes.{HasCauseIn};
-ghost use Rattle.sk_ingest.specs.Hubs.{Hub, hub_of, IsHub, LeavesHub};
+ghost use Rattle.sk_feed.specs.Hubs.{Hub, hub_of, IsHub, LeavesHub};
 ghost use Rattle.sk_ingest.specs.declared.report.Stop.{Stop as Stops};
 
 use sk_compose::Composable;

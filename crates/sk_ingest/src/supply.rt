@@ -3,14 +3,14 @@ ghost use Rattle.std.specs.Prelude.{◌≡◌, ℕ, ◌<◌, ◌≤◌, ◌∷�
 ghost use Rattle.rtrb.specs.Ring.{sent, SameProducer};
 ghost use Rattle.sk_model.specs.Causes.{HasCauseIn};
 ghost use Rattle.sk_read.specs.Reading.{HasRead};
-ghost use Rattle.sk_ingest.specs.Stretches.{ReadsStretch};
-ghost use Rattle.sk_ingest.specs.Deliveries.{EndAt, IsNext, GaveEach, Supplies};
+ghost use Rattle.sk_fill.specs.Stretches.{ReadsStretch};
+ghost use Rattle.sk_feed.specs.Deliveries.{EndAt, IsNext};
+ghost use Rattle.sk_ingest.specs.Supplies.{GaveEach, Supplies};
 
-use crate::crew::Crew;
-use crate::delivery::{Delivery, Outlet};
 use crate::pool::Pool;
-use crate::stretch::{Stretch, fill_stretch};
 use rtrb::PushError;
+use sk_feed::{Crew, Delivery, Outlet};
+use sk_fill::{Stretch, fill_stretch};
 use sk_io::Source;
 use sk_model::OutOfMemory;
 use sk_read::{Fault, Kind, LineReader};

@@ -1,16 +1,12 @@
 //! A window that is fed to the updaters of a hub, in the way that a plan wants.
 ghost use Rattle.std.specs.Prelude.{◌≡◌, ◌<◌, ◌≤◌, length, map, take, OnOk, IfOk};
 ghost use Rattle.sk_model.specs.Limits.{most_updaters};
-ghost use Rattle.sk_ingest.specs.Rounds.{HaveRoom, HaveRoomFor};
-ghost use Rattle.sk_ingest.specs.Hubs.{hub_of, IsHub, FeedsWindow};
-ghost use Rattle.sk_ingest.specs.Stretches.{FeedsWindows};
+ghost use Rattle.sk_feed.specs.Rounds.{HaveRoom, HaveRoomFor};
+ghost use Rattle.sk_feed.specs.Hubs.{hub_of, IsHub, FeedsWindow, FeedsWindows};
 
-use crate::feeders::Feeders;
-use crate::propagation::Propagation;
-use crate::stretch::Stretch;
-use crate::turns::feed_in_turn;
-use crate::window::Window;
 use sk_compose::Composable;
+use sk_feed::{Feeders, Propagation, feed_in_turn};
+use sk_fill::{Stretch, Window};
 use sk_hub::{Opened, Updater};
 use sk_model::OutOfMemory;
 use sk_model::limits::MOST_UPDATERS;

@@ -4,15 +4,15 @@ ghost use Rattle.sk_model.specs.Causes.{HasCauseIn};
 ghost use Rattle.sk_model.specs.Limits.{line_limit, most_kept};
 ghost use Rattle.sk_read.specs.Faults.{IsOfTaker};
 ghost use Rattle.sk_read.specs.Items.{item_of, IsGood};
-ghost use Rattle.sk_ingest.specs.Hubs.{Hub, hub_of, IsHub, FeedsWindow};
-ghost use Rattle.sk_ingest.specs.Rounds.{HaveRoom};
+ghost use Rattle.sk_feed.specs.Hubs.{Hub, hub_of, IsHub, FeedsWindow};
+ghost use Rattle.sk_feed.specs.Rounds.{HaveRoom};
 ghost use Rattle.sk_ingest.specs.Ingests.{terms_of, IsReported, StopsAtUnit};
 ghost use Rattle.sk_ingest.specs.Takers.{IsSetUp, WindowsWent, SameReport, ReportStops, StopsPassing};
 
 use crate::report::{Report, Stop};
 use crate::ways::feed_window;
-use crate::window::Window;
 use sk_compose::Composable;
+use sk_fill::{Window, is_good};
 use sk_hub::Opened;
 use sk_lines::Span;
 use sk_read::{Fault, Intake, Kind, UnitTaker};
@@ -98,18 +98,6 @@ fn take_unit<C: Composable, P: Report<C>, R: Wait>(
         return Ok(());
     }
     pass_on(rt, plan, window, opened, report, number)
-}
-
-// Whether a unit is empty or an item.
-#[inline(always)]
-pub(crate) fn is_good(kind: Kind, unit: &[u8]) -> bool
-    ensures good { result ≡ true → IsGood kind unit.now }
-    ensures bad { result ≡ false → (0 < length unit.now) × IsNone (item_of kind unit.now) }
-{
-    match kind {
-        Kind::Hash(_) => true,
-        Kind::Raw => unit.is_empty() || kind.has_item(unit),
-    }
 }
 
 // Feeds and reports a window, and takes its lines out.

@@ -7,14 +7,14 @@ ghost use Rattle.sk_model.specs.Sketch.{packed_of};
 ghost use Rattle.sk_compose.specs.Numbers.{k_of};
 ghost use Rattle.sk_read.specs.Items.{items_by};
 ghost use Rattle.sk_read.specs.Units.{units_of, units_by};
-ghost use Rattle.sk_ingest.specs.Windows.{most_lines};
+ghost use Rattle.sk_fill.specs.Windows.{most_lines};
 
-use crate::drain::drain_all;
 use crate::ingesting::ingest;
-use crate::laws::ingests::ingested_units_are_kept;
-use crate::laws::shares::the_word_is_of_all_that_was_taken;
+use crate::laws::ingested_units_are_kept;
 use crate::report::Report;
 use sk_compose::ThetaKind;
+use sk_feed::drain_all;
+use sk_feed::laws::shares::the_word_is_of_all_that_was_taken;
 use sk_hub::{Opened, open};
 use sk_io::Source;
 use sk_read::{Fault, Intake};

@@ -16,8 +16,8 @@ use Rattle.sk_gate.specs.Hands.{is_empty}
 use Rattle.sk_hub.specs.Replies.{IsOwnReply}
 use Rattle.sk_hub.specs.Updaters.{UpdaterState, handed_of, base_of, kept_of, LooksInVain, Renews, HandsOver}
 use Rattle.sk_hub.proofs.Handing.{earlier_handed, told_trans}
-use Rattle.sk_ingest.specs.Feeds.{GoesOn, KeepsNone}
-use Rattle.sk_ingest.proofs.Updaters.{none_refl, none_trans, helped}
+use Rattle.sk_feed.specs.Feeds.{GoesOn, KeepsNone}
+use Rattle.sk_feed.proofs.Updaters.{none_refl, none_trans, helped}
 use Rattle.sk_theta.specs.Sizes.{Sizes}
 use Rattle.sk_line.specs.Pumps.{IsPumped}
 use Rattle.sk_line.specs.Serving.{DropsItem, Estimates, IsSynced, IsUnpublished, AnswersRequest, item_kept}

@@ -3,8 +3,7 @@ use Rattle.std.specs.Prelude.{◌≡◌, ℕ, ◌+◌, ◌*◌, ◌/◌, ◌%◌
 use Rattle.std.specs.List.Sorted.{IsNonDecreasing}
 use Rattle.sk_quant.specs.Coins.{coin_of}
 use Rattle.sk_quant.specs.Held.{Held, held_with, held_after}
-use Rattle.sk_quant.specs.Limits.{least_quantile_k, most_quantile_k, key_end, most_items}
-use Rattle.sk_quant.specs.Limits.{level_count}
+use Rattle.sk_quant.specs.Limits.{least_quantile_k, most_quantile_k, key_end, most_items, level_count}
 use Rattle.sk_quant.specs.Ranks.{compactions}
 
 -- its k and its key, how many items it was given, and what it holds of them

@@ -3,8 +3,7 @@ ghost use Rattle.std.specs.Prelude.{◌≡◌, ◌<◌, ◌≤◌, ℕ, List, []
 ghost use Rattle.std.specs.Prelude.{All, IfOk, vec_capacity};
 ghost use Rattle.std.specs.Int.{abs_diff};
 ghost use Rattle.sk_quant.specs.Held.{layers_of, ranked};
-ghost use Rattle.sk_quant.specs.Limits.{least_quantile_k, most_quantile_k, key_end, most_items};
-ghost use Rattle.sk_quant.specs.Limits.{level_count};
+ghost use Rattle.sk_quant.specs.Limits.{least_quantile_k, most_quantile_k, key_end, most_items, level_count};
 ghost use Rattle.sk_quant.specs.Quantiles.{Quantiles, updated, IsSketchOf, IsWholeQuantiles};
 ghost use Rattle.sk_quant.specs.Ranks.{rank_of, weighted_rank, rank_error};
 ghost use Rattle.sk_quant.specs.Stored.{lists_of};

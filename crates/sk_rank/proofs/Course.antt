@@ -14,9 +14,9 @@ use Rattle.sk_gate.specs.Hands.{is_empty}
 use Rattle.sk_hub.specs.Updaters.{UpdaterState, handed_of, kept_of, earlier_of, HoldsTold}
 use Rattle.sk_read.specs.declared.items.Intake.{Intake}
 use Rattle.sk_read.specs.declared.kind.Kind.TheVariants.{Raw}
-use Rattle.sk_ingest.specs.Windows.{all_lines}
-use Rattle.sk_ingest.specs.Feeds.{Takes}
-use Rattle.sk_ingest.specs.Hubs.{Hub, FeedsWindow, LeavesHub, IsLeft}
+use Rattle.sk_fill.specs.Windows.{all_lines}
+use Rattle.sk_feed.specs.Feeds.{Takes}
+use Rattle.sk_feed.specs.Hubs.{Hub, FeedsWindow, LeavesHub, IsLeft}
 use Rattle.sk_ingest.specs.Ingests.{Terms, Reported}
 use Rattle.sk_count.proofs.Course.{share_append, lines_one}
 use Rattle.sk_count.proofs.Fronts.{part_behind}

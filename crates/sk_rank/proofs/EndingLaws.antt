@@ -13,9 +13,9 @@ use Rattle.sk_hub.specs.Drains.{IsDrained}
 use Rattle.sk_hub.specs.Hearts.{HeartState, IsWholeHeart}
 use Rattle.sk_hub.specs.Replies.{IsRelaxedReply, HasDrained}
 use Rattle.sk_hub.specs.Updaters.{UpdaterState, kept_of, IsWholeUpdater}
-use Rattle.sk_ingest.specs.Drained.{DrainsAll}
-use Rattle.sk_ingest.specs.Shares.{HasAllOf}
-use Rattle.sk_ingest.proofs.Drained.{none_taken, one_more, asked, has_all}
+use Rattle.sk_feed.specs.Drained.{DrainsAll}
+use Rattle.sk_feed.specs.Shares.{HasAllOf}
+use Rattle.sk_feed.proofs.Drained.{none_taken, one_more, asked, has_all}
 use Rattle.sk_snap.specs.History.{Beginning, entries_in}
 use Rattle.sk_snap.specs.Versions.{Learnt, IsRank, items_in}
 use Rattle.sk_snap.specs.declared.version.Rank.{Rank}

@@ -15,12 +15,13 @@ use Rattle.sk_read.specs.declared.fault.Fault.{Fault}
 use Rattle.sk_read.specs.declared.fault.Fault.TheVariants as fault
 use Rattle.sk_read.specs.declared.items.Intake.{Intake}
 use Rattle.sk_read.specs.declared.kind.Kind.TheVariants.{Raw}
-use Rattle.sk_ingest.specs.Windows.{all_lines}
-use Rattle.sk_ingest.specs.Hubs.{Hub}
+use Rattle.sk_fill.specs.Windows.{all_lines}
+use Rattle.sk_feed.specs.Hubs.{Hub}
 use Rattle.sk_ingest.specs.Ingests.{GoesThrough, Ingests, StopsAtReport, GoesSoFar, StopsAtUnit, EndsEarly}
 use Rattle.sk_ingest.specs.declared.report.Stop.TheVariants as stop
-use Rattle.sk_ingest.proofs.Cutting.{no_units}
-use Rattle.sk_ingest.proofs.Ingestion.{heart_by_ingest, nothing_came}
+use Rattle.sk_fill.proofs.Cutting.{no_units}
+use Rattle.sk_ingest.proofs.Ingestion.{heart_by_ingest}
+use Rattle.sk_fill.proofs.Readings.{nothing_came}
 use Rattle.sk_count.proofs.Course.{share_none}
 use Rattle.sk_count.proofs.Endings.{ends_so, all_so}
 use Rattle.sk_count.proofs.QuietLaws.{quiet_early}

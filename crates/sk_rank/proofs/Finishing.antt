@@ -9,7 +9,7 @@ use Rattle.sk_hub.specs.Hearts.{HeartState}
 use Rattle.sk_quant.specs.Held.{ranked}
 use Rattle.sk_quant.specs.Ranks.{rank_error}
 use Rattle.sk_read.specs.declared.fault.Fault.{Fault}
-use Rattle.sk_ingest.specs.Hubs.{Hub}
+use Rattle.sk_feed.specs.Hubs.{Hub}
 use Rattle.sk_read.specs.Units.{units_by}
 use Rattle.sk_count.proofs.Endings.{all_so}
 use Rattle.sk_count.proofs.Fronts.{part_behind}

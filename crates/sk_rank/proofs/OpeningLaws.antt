@@ -8,9 +8,9 @@ use Rattle.sk_hub.specs.Hearts.{HeartState}
 use Rattle.sk_hub.specs.Starts.{IsNewHeart, IsNewToken, AreNew}
 use Rattle.sk_hub.specs.Drains.{IsNew}
 use Rattle.sk_hub.specs.Updaters.{UpdaterState}
-use Rattle.sk_ingest.specs.Hubs.{Hub}
-use Rattle.sk_ingest.specs.Shares.{HaveKeptNone}
-use Rattle.sk_ingest.proofs.New.{new_hub}
+use Rattle.sk_feed.specs.Hubs.{Hub}
+use Rattle.sk_feed.specs.Shares.{HaveKeptNone}
+use Rattle.sk_feed.proofs.New.{new_hub}
 use Rattle.sk_rank.specs.declared.plan.Plan.{Plan}
 use Rattle.sk_rank.specs.Feeding.{IsOpened}
 

@@ -16,11 +16,11 @@ use Rattle.sk_quant.proofs.Orders.{rank-permutation}
 use Rattle.sk_read.specs.Items.{items_by}
 use Rattle.sk_read.specs.declared.kind.Kind.{Kind}
 use Rattle.sk_read.specs.declared.kind.Kind.TheVariants.{Raw}
-use Rattle.sk_ingest.specs.Windows.{all_lines, items_in}
-use Rattle.sk_ingest.specs.Rounds.{block_of}
-use Rattle.sk_ingest.specs.Shares.{share}
-use Rattle.sk_ingest.proofs.Items.{items_append, no_items, good_items}
-use Rattle.sk_ingest.proofs.Joined.{items_joined}
+use Rattle.sk_fill.specs.Windows.{all_lines, items_in}
+use Rattle.sk_fill.specs.Blocks.{block_of}
+use Rattle.sk_feed.specs.Shares.{share}
+use Rattle.sk_fill.proofs.Items.{items_append, no_items, good_items}
+use Rattle.sk_fill.proofs.Joined.{items_joined}
 use Rattle.sk_count.proofs.Course.{lines_one}
 use Rattle.sk_rank.specs.declared.plan.Plan.{Plan}
 use Rattle.sk_rank.specs.Feeding.{Course}

@@ -6,7 +6,7 @@ use Rattle.sk_model.specs.Causes.{AppendsPart}
 use Rattle.sk_quant.specs.Held.{ranked}
 use Rattle.sk_quant.specs.Ranks.{rank_of, rank_error}
 use Rattle.sk_hub.specs.Updaters.{UpdaterState}
-use Rattle.sk_ingest.specs.Hubs.{Hub, IsHub, IsUpdaterAt}
+use Rattle.sk_feed.specs.Hubs.{Hub, IsHub, IsUpdaterAt}
 use Rattle.sk_snap.specs.Versions.{Learnt, IsRank, items_in}
 use Rattle.sk_snap.specs.declared.version.Rank.{Rank}
 use Rattle.sk_rank.specs.Learning.{ReaderGoesOn, LearnsFirst, AreAsked}

@@ -5,7 +5,7 @@ use Rattle.sk_model.specs.Missing.{Begins}
 use Rattle.sk_hub.specs.Drains.{IsDrained}
 use Rattle.sk_hub.specs.Hearts.{HeartState}
 use Rattle.sk_hub.specs.Updaters.{UpdaterState, kept_of}
-use Rattle.sk_ingest.specs.Drained.{DrainsAll}
+use Rattle.sk_feed.specs.Drained.{DrainsAll}
 use Rattle.sk_snap.specs.History.{entries_in}
 use Rattle.sk_snap.specs.Versions.{Learnt, IsRank, items_in}
 use Rattle.sk_snap.specs.declared.version.Rank.{Rank}

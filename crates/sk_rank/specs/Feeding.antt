@@ -5,8 +5,8 @@ use Rattle.sk_model.specs.Missing.{Begins}
 use Rattle.sk_hub.specs.Updaters.{UpdaterState, kept_of}
 use Rattle.sk_read.specs.Items.{IsGood}
 use Rattle.sk_read.specs.declared.kind.Kind.TheVariants.{Raw}
-use Rattle.sk_ingest.specs.Hubs.{Hub, IsHub}
-use Rattle.sk_ingest.specs.Windows.{AreWindows}
+use Rattle.sk_feed.specs.Hubs.{Hub, IsHub}
+use Rattle.sk_fill.specs.Windows.{AreWindows}
 use Rattle.sk_snap.specs.History.{entries_in, name_of}
 use Rattle.sk_snap.specs.Versions.{Learnt}
 use Rattle.sk_rank.specs.declared.plan.Plan.{Plan}

@@ -4,8 +4,8 @@ use Rattle.sk_model.specs.Limits.{most_size, most_updaters, IsFrom}
 use Rattle.sk_quant.specs.Limits.{least_quantile_k, most_quantile_k, key_end}
 use Rattle.sk_read.specs.declared.items.Intake.{Intake}
 use Rattle.sk_read.specs.declared.kind.Kind.TheVariants.{Raw}
-use Rattle.sk_ingest.specs.Shares.{share}
-use Rattle.sk_ingest.specs.Windows.{most_lines}
+use Rattle.sk_feed.specs.Shares.{share}
+use Rattle.sk_fill.specs.Windows.{most_lines}
 use Rattle.sk_rank.specs.Limits.{usual_window}
 use Rattle.sk_rank.specs.declared.plan.Plan.{Plan}
 

@@ -3,7 +3,7 @@ use Rattle.std.specs.Prelude.{◌≡◌, ℕ, ◌<◌, List, length, Option, sli
 use Rattle.std.specs.Io.KnownBytes.{Appends}
 use Rattle.sk_model.specs.Causes.{AppendsPart}
 use Rattle.sk_hub.specs.Updaters.{UpdaterState}
-use Rattle.sk_ingest.specs.Hubs.{Hub}
+use Rattle.sk_feed.specs.Hubs.{Hub}
 use Rattle.sk_ingest.specs.declared.report.Stop.{Stop}
 use Rattle.sk_ingest.specs.declared.report.Stop.TheVariants.{Failed, OutOfMemory}
 use Rattle.sk_snap.specs.Versions.{Learnt, items_in}

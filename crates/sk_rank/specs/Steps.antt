@@ -4,7 +4,7 @@ use Rattle.std.specs.Io.KnownBytes.{Appends}
 use Rattle.sk_model.specs.Entries.{Entry, entries_by}
 use Rattle.sk_model.specs.Missing.{Begins}
 use Rattle.sk_hub.specs.Updaters.{UpdaterState, kept_of, earlier_of}
-use Rattle.sk_ingest.specs.Hubs.{Hub}
+use Rattle.sk_feed.specs.Hubs.{Hub}
 use Rattle.sk_snap.specs.History.{entries_in}
 use Rattle.sk_rank.specs.declared.plan.Plan.{Plan}
 use Rattle.sk_rank.specs.Plans.{share_of}

@@ -1,7 +1,7 @@
 //! The end of a ranking: the heart takes in all updaters, and the reader learns all of it.
 ghost use Rattle.std.specs.Prelude.{◌≡◌, All, length, IfOk};
 ghost use Rattle.sk_hub.specs.Updaters.{UpdaterState};
-ghost use Rattle.sk_ingest.specs.Drained.{AreNumbered};
+ghost use Rattle.sk_feed.specs.Drained.{AreNumbered};
 ghost use Rattle.sk_snap.specs.History.{name_of};
 ghost use Rattle.sk_snap.specs.Versions.{IsRank, items_in};
 ghost use Rattle.sk_rank.specs.Learning.{ReaderGoesOn};

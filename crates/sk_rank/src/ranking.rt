@@ -3,7 +3,7 @@ ghost use Rattle.std.specs.Prelude.{◌≡◌, ◌≢◌, ◌≤◌, ◌++◌, [
 ghost use Rattle.std.specs.Io.KnownBytes.{Appends};
 ghost use Rattle.sk_model.specs.Causes.{AppendsPart, HasCause, HasCauseIn};
 ghost use Rattle.sk_model.specs.Limits.{source_limit};
-ghost use Rattle.sk_ingest.specs.Hubs.{hub_of};
+ghost use Rattle.sk_feed.specs.Hubs.{hub_of};
 ghost use Rattle.sk_snap.specs.History.{entries_in, name_of};
 ghost use Rattle.sk_rank.specs.Plans.{IsWithin, intake_by};
 ghost use Rattle.sk_rank.specs.Texts.{told_line};

@@ -16,7 +16,7 @@ use Rattle.sk_compose.proofs.Kept.{kept_longer}
 use Rattle.sk_compose.proofs.Smallest.{smallest_of_all}
 use Rattle.sk_hub.specs.Hearts.{HeartState}
 use Rattle.sk_hub.specs.Updaters.{UpdaterState, base_of, kept_of}
-use Rattle.sk_ingest.proofs.Updaters.{takes_then_none}
+use Rattle.sk_feed.proofs.Updaters.{takes_then_none}
 use Rattle.sk_io.specs.Traffic.{Traffic, Ended, Exchanges, SendsPart, IsUntouched}
 use Rattle.sk_theta.specs.Sizes.{Sizes}
 use Rattle.sk_line.specs.Requests.{client_request, added_item}

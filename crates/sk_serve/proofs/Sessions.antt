@@ -6,7 +6,7 @@ use Rattle.sk_model.specs.Causes.{Rose}
 use Rattle.sk_io.specs.Traffic.{Traffic, Ended}
 use Rattle.sk_theta.specs.Sizes.{Sizes}
 use Rattle.sk_hub.specs.Updaters.{UpdaterState}
-use Rattle.sk_ingest.specs.Feeds.{GoesOn}
+use Rattle.sk_feed.specs.Feeds.{GoesOn}
 use Rattle.sk_line.specs.Jobs.{IsJobDone}
 use Rattle.sk_line.specs.Sessions.{session_state, SessionEnds}
 use Rattle.sk_line.specs.declared.sessions.End.{End}

@@ -8,7 +8,7 @@ use Rattle.sk_hub.specs.Drains.{IsNew}
 use Rattle.sk_hub.specs.Hearts.{HeartState}
 use Rattle.sk_hub.specs.Starts.{AreNew}
 use Rattle.sk_hub.specs.Updaters.{UpdaterState, base_of, kept_of}
-use Rattle.sk_ingest.specs.Shares.{HasAllOf}
+use Rattle.sk_feed.specs.Shares.{HasAllOf}
 use Rattle.uses.specs.Fed.{Takes}
 use Rattle.uses.specs.Greatest.{greatest_of, greatest_in}
 use Rattle.uses.proofs.Maximum.{above, hint_in, greatest_of_all}

@@ -11,7 +11,7 @@ use Rattle.sk_hub.specs.Drains.{IsNew}
 use Rattle.sk_hub.specs.Hearts.{HeartState}
 use Rattle.sk_hub.specs.Starts.{AreNew}
 use Rattle.sk_hub.specs.Updaters.{UpdaterState, base_of, kept_of}
-use Rattle.sk_ingest.specs.Shares.{HasAllOf}
+use Rattle.sk_feed.specs.Shares.{HasAllOf}
 use Rattle.uses.specs.Fed.{Takes, TakeEach}
 
 -- a list with a place has some member

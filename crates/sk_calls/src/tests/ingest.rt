@@ -6,8 +6,11 @@ ghost use Rattle.sk_theta.specs.Kept.{StandsFor};
 mod sources;
 
 use sk_compose::Composable;
+use sk_feed::feed_block;
+use sk_fill::{Block, Window};
 use sk_hub::{Opened, Updater, open};
-use sk_ingest::*;
+use sk_model::OutOfMemory;
+use sk_read::Kind;
 use sk_theta::{Shape, Theta, unpack};
 use std::alloc::Global;
 use std::process::Abort;

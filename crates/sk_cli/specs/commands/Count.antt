@@ -8,7 +8,7 @@ use Rattle.sk_read.specs.declared.kind.Kind.TheVariants as kind
 use Rattle.sk_read.specs.Items.{items_by}
 use Rattle.sk_read.specs.Units.{units_by}
 use Rattle.sk_read.specs.declared.units.Units.{Units}
-use Rattle.sk_ingest.specs.Windows.{most_lines}
+use Rattle.sk_fill.specs.Windows.{most_lines}
 use Rattle.sk_count.specs.declared.plan.Plan.{Plan}
 use Rattle.sk_count.specs.Plans as plans
 use Rattle.sk_count.specs.Counts.{Course, armed_by, last_lines}

@@ -7,7 +7,7 @@ use Rattle.sk_model.specs.Width.{item_end}
 use Rattle.sk_hub.specs.Hearts.{HeartState}
 use Rattle.sk_quant.specs.Limits.{least_quantile_k, most_quantile_k, key_end}
 use Rattle.sk_quant.specs.Ranks.{rank_of, rank_error}
-use Rattle.sk_ingest.specs.Windows.{most_lines}
+use Rattle.sk_fill.specs.Windows.{most_lines}
 use Rattle.sk_read.specs.declared.kind.Kind.TheVariants.{Raw}
 use Rattle.sk_snap.specs.History.{entries_in}
 use Rattle.sk_snap.specs.Versions.{Learnt, items_in}

@@ -3,7 +3,7 @@ use Rattle.sk_model.specs.Sketch.{fraction_of, unpacked}
 use Rattle.sk_read.specs.Units.{units_by}
 use Rattle.sk_read.specs.declared.fault.Fault.{Fault}
 use Rattle.sk_read.specs.declared.fault.Fault.TheVariants as fault
-use Rattle.sk_ingest.specs.Hubs.{hub_of}
+use Rattle.sk_feed.specs.Hubs.{hub_of}
 use Rattle.sk_count.specs.Texts.{armed_with}
 use Rattle.sk_count.specs.Counts.{Setting, setting, TellsAll, TellsPartOfAll, EndsBefore, EndsBehind}
 use Rattle.sk_count.proofs.Endings.{early, all_so}

@@ -2,7 +2,7 @@ use Rattle.std.proofs.Common.{ℕ, List, ap, ◌∙◌}
 use Rattle.sk_model.specs.Entries.{Entry, items_of_entries}
 use Rattle.sk_model.specs.Sketch.{packed_of}
 use Rattle.sk_compose.specs.Numbers.{k_of}
-use Rattle.sk_ingest.proofs.Drained.{asked, has_all}
+use Rattle.sk_feed.proofs.Drained.{asked, has_all}
 use Rattle.sk_count.proofs.counting.drain_and_ask.Goals as goal
 
 pub returns : goal.returns

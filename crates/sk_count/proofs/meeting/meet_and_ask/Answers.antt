@@ -2,8 +2,8 @@ use Rattle.std.proofs.Common.{◌≡◌, List, length, sym, subst, ap, ◌∙◌
 use Rattle.std.specs.Vec.{with_items}
 use Rattle.std.proofs.lemmas.List.{with_items_is}
 use Rattle.sk_hub.specs.Updaters.{UpdaterState}
-use Rattle.sk_ingest.specs.Hubs.{Hub, hub_of, IsHub, LeavesHub}
-use Rattle.sk_ingest.proofs.HubLaws.{heart_waits}
+use Rattle.sk_feed.specs.Hubs.{Hub, hub_of, IsHub, LeavesHub}
+use Rattle.sk_feed.proofs.HubLaws.{heart_waits}
 use Rattle.sk_count.specs.Hubs.{AsksHub}
 use Rattle.sk_count.specs.Meets.{MayMeetAll, MeetsFirst, AreNoted}
 use Rattle.sk_count.proofs.MeetingLaws.{may_meet_hub, asks, leaves, still_hub}

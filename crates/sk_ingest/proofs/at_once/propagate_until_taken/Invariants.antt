@@ -1,5 +1,5 @@
-use Rattle.sk_ingest.specs.Feeds.{KeepsNone}
-use Rattle.sk_ingest.specs.Hubs.{HeartGoesOn}
+use Rattle.sk_feed.specs.Feeds.{KeepsNone}
+use Rattle.sk_feed.specs.Hubs.{HeartGoesOn}
 use Rattle.sk_ingest.proofs.at_once.propagate_until_taken.Given as goal
 
 abbrev pub invariant-again : goal.invariant-again

@@ -3,10 +3,10 @@ use Rattle.std.proofs.lemmas.List.{length-map, length-take, take_all}
 use Rattle.sk_lines.specs.Spans.{lines_at}
 use Rattle.sk_lines.specs.declared.spans.Span.{Span}
 use Rattle.sk_read.specs.declared.fault.Fault.TheVariants as fault
-use Rattle.sk_ingest.specs.Hubs.{hub_of}
+use Rattle.sk_feed.specs.Hubs.{hub_of}
 use Rattle.sk_ingest.specs.Takers.{UnitsWent, untold}
 use Rattle.sk_ingest.proofs.AtOnceLaws.{lines_taken, stops_at_bad, stops_for_memory}
-use Rattle.sk_ingest.proofs.Ingestion.{if_err_is}
+use Rattle.sk_fill.proofs.Readings.{if_err_is}
 use Rattle.sk_ingest.proofs.at_once.take_lines.Goals as goal
 
 count_lines : (spans : List Span) (text : List ℕ) → length (lines_at spans text) ≡ length spans

@@ -1,10 +1,11 @@
 use Rattle.std.proofs.Common.{◌≡◌, ◌<◌, length, Some, refl, sym, ◌∙◌, rules}
 use Rattle.std.proofs.lemmas.List.{length-set}
 use Rattle.sk_read.specs.Items.{item_of}
-use Rattle.sk_ingest.specs.Hubs.{hub_of}
+use Rattle.sk_feed.specs.Hubs.{hub_of}
 use Rattle.sk_ingest.specs.Takers.{untold}
-use Rattle.sk_ingest.proofs.HubLaws.{heart_waits}
-use Rattle.sk_ingest.proofs.AtOnceLaws.{unit_at_once, one_took, none_took, filled, good_item, good_empty}
+use Rattle.sk_feed.proofs.HubLaws.{heart_waits}
+use Rattle.sk_ingest.proofs.AtOnceLaws.{unit_at_once, one_took, none_took}
+use Rattle.sk_fill.proofs.Units.{filled, good_item, good_empty}
 use Rattle.sk_ingest.proofs.at_once.take_unit.Goals as goal
 
 pub returns-then-is_empty-clause-went : goal.returns-then-is_empty-clause-went

@@ -1,11 +1,11 @@
 use Rattle.std.proofs.Common.{inl}
 use Rattle.sk_read.specs.Units.{units_by}
 use Rattle.sk_read.specs.Reads.{ReadsAll, Ends}
-use Rattle.sk_ingest.specs.Hubs.{hub_of}
+use Rattle.sk_feed.specs.Hubs.{hub_of}
 use Rattle.sk_ingest.specs.Ingests.{terms_of, Ingests, GoesSoFar, StopsAtUnit, EndsEarly}
 use Rattle.sk_ingest.specs.Takers.{UnitsWent, untold}
-use Rattle.sk_ingest.proofs.HubLaws.{few_none}
-use Rattle.sk_ingest.proofs.Ingestion.{read_ok, read_err, all_by, if_ok_then, if_err_then}
+use Rattle.sk_feed.proofs.HubLaws.{few_none}
+use Rattle.sk_fill.proofs.Readings.{read_ok, read_err, all_by, if_ok_then, if_err_then}
 use Rattle.sk_ingest.proofs.AtOnceLaws.{at_once_start, ingests_untold, went_so_far, stops_untold, early_untold}
 use Rattle.sk_ingest.proofs.ingesting.ingest.Goals as goal
 

@@ -1,5 +1,5 @@
 use Rattle.std.proofs.Common.{rules}
-use Rattle.sk_ingest.specs.Hubs.{hub_of}
+use Rattle.sk_feed.specs.Hubs.{hub_of}
 use Rattle.sk_ingest.proofs.AtOnceLaws.{at_once_read}
 use Rattle.sk_ingest.proofs.ingesting.ingest_at_once.Goals as goal
 

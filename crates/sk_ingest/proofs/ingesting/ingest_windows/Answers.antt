@@ -1,11 +1,12 @@
 use Rattle.std.proofs.Common.{[], refl, inl, inr}
 use Rattle.sk_read.specs.declared.fault.Fault.TheVariants as fault
 use Rattle.sk_read.specs.Units.{units_by}
-use Rattle.sk_ingest.specs.Hubs.{hub_of}
+use Rattle.sk_feed.specs.Hubs.{hub_of}
 use Rattle.sk_ingest.specs.Ingests.{terms_of, Ingests, GoesSoFar, StopsAtUnit, EndsEarly}
 use Rattle.sk_ingest.specs.Takers.{WindowsWent}
-use Rattle.sk_ingest.proofs.HubLaws.{few_room}
-use Rattle.sk_ingest.proofs.Ingestion.{windows_start, rest_fed, nothing_came, if_err_is, all_by, ends_by}
+use Rattle.sk_feed.proofs.HubLaws.{few_room}
+use Rattle.sk_ingest.proofs.Ingestion.{windows_start, rest_fed}
+use Rattle.sk_fill.proofs.Readings.{nothing_came, if_err_is, all_by, ends_by}
 use Rattle.sk_ingest.proofs.ingesting.ingest_windows.Goals as goal
 
 pub returns-in_err-window-clause-refused : goal.returns-in_err-window-clause-refused

@@ -1,5 +1,5 @@
 use Rattle.std.proofs.Common.{rules}
-use Rattle.sk_ingest.specs.Hubs.{hub_of}
+use Rattle.sk_feed.specs.Hubs.{hub_of}
 use Rattle.sk_ingest.specs.Takers.{IsSetUp, SameReport, ReportStops}
 use Rattle.sk_ingest.proofs.Ingestion.{windows_read}
 use Rattle.sk_ingest.proofs.ingesting.read_field_windows.Goals as goal

@@ -1,5 +1,5 @@
 use Rattle.std.proofs.Common.{refl}
-use Rattle.sk_ingest.proofs.HubLaws.{heart_waits}
+use Rattle.sk_feed.proofs.HubLaws.{heart_waits}
 use Rattle.sk_ingest.proofs.SupplyLaws.{told_otherwise}
 use Rattle.sk_ingest.proofs.lanes.feed_in_lanes.Goals as goal
 

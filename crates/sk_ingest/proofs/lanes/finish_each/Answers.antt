@@ -1,6 +1,6 @@
 use Rattle.std.proofs.Common.{◌≡◌, ◌<◌, length, refl, sym, subst, arith}
 use Rattle.std.specs.Prelude.{IsOk}
-use Rattle.sk_ingest.specs.Deliveries.{HasFed}
+use Rattle.sk_feed.specs.Deliveries.{HasFed}
 use Rattle.sk_ingest.proofs.LaneLaws.{finishes_next, finishes_all}
 use Rattle.sk_ingest.proofs.lanes.finish_each.Goals as goal
 

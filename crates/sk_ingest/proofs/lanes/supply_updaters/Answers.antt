@@ -1,11 +1,13 @@
 use Rattle.std.proofs.Common.{◌≡◌, ◌+◌, [], ◌++◌, length, map, OnOk, refl, sym, ap, ◌∙◌, subst, arith}
 use Rattle.std.proofs.lemmas.List.{length-map}
 use Rattle.sk_read.specs.declared.fault.Fault.TheVariants as fault
-use Rattle.sk_ingest.specs.Windows.{all_lines}
-use Rattle.sk_ingest.specs.Shares.{TakeShares}
-use Rattle.sk_ingest.specs.Deliveries.{IsNext, Supplies, windows_of}
-use Rattle.sk_ingest.proofs.Ingestion.{steady_on_ok}
-use Rattle.sk_ingest.proofs.StretchLaws.{on_ok_at, cause_passed, none_caused}
+use Rattle.sk_fill.specs.Windows.{all_lines}
+use Rattle.sk_feed.specs.Shares.{TakeShares}
+use Rattle.sk_feed.specs.Deliveries.{IsNext, windows_of}
+use Rattle.sk_ingest.specs.Supplies.{Supplies}
+use Rattle.sk_fill.proofs.Readings.{steady_on_ok}
+use Rattle.sk_fill.proofs.StretchLaws.{on_ok_at}
+use Rattle.sk_ingest.proofs.StretchLaws.{cause_passed, none_caused}
 use Rattle.sk_ingest.proofs.SupplyLaws.{nothing_fed, supplies_passed, supplies_then_none, supplies_at_most}
 use Rattle.sk_ingest.proofs.LaneLaws.{first_next, open_behind, open_ends, run_behind, run_pairs, lanes_took}
 use Rattle.sk_ingest.proofs.lanes.supply_updaters.Goals as goal

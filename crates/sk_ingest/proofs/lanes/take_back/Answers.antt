@@ -1,6 +1,6 @@
 use Rattle.std.proofs.Common.{◌∷◌, [], ◌++◌, map, reverse, length, refl, ap, ◌∙◌, arith, length-append}
 use Rattle.std.proofs.lemmas.List.{map-append, reverse-reverse, length-reverse}
-use Rattle.sk_ingest.proofs.Moved.{map_reverse, moved_one}
+use Rattle.sk_feed.proofs.Moved.{map_reverse, moved_one}
 use Rattle.sk_ingest.proofs.lanes.take_back.Goals as goal
 
 pub back-init : goal.back-init

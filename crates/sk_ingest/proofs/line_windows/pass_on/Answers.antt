@@ -1,5 +1,5 @@
-use Rattle.sk_ingest.specs.Hubs.{hub_of}
-use Rattle.sk_ingest.proofs.HubLaws.{hub_fed}
+use Rattle.sk_feed.specs.Hubs.{hub_of}
+use Rattle.sk_feed.proofs.HubLaws.{hub_fed}
 use Rattle.sk_ingest.proofs.line_windows.pass_on.Goals as goal
 
 pub report_at-requires-clause-hub : goal.report_at-requires-clause-hub

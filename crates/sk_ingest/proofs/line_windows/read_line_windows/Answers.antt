@@ -9,13 +9,14 @@ use Rattle.sk_read.specs.declared.units.Units.TheVariants.{Lines}
 use Rattle.sk_read.proofs.LineEnds.{ends_read, line_missed, all_lines}
 use Rattle.sk_model.specs.Limits.{most_kept}
 use Rattle.sk_read.specs.declared.fault.Fault.{Fault}
-use Rattle.sk_ingest.specs.Windows.{FillsNone, IsFullWindow}
-use Rattle.sk_ingest.specs.Fills.{RefusesLine}
-use Rattle.sk_ingest.specs.Hubs.{hub_of, FeedsWindow}
+use Rattle.sk_fill.specs.Windows.{FillsNone, IsFullWindow}
+use Rattle.sk_fill.specs.Fills.{RefusesLine}
+use Rattle.sk_feed.specs.Hubs.{hub_of, FeedsWindow}
 use Rattle.sk_ingest.specs.Ingests.{terms_of, IsReported, StopsAtUnit}
 use Rattle.sk_ingest.specs.Takers.{WindowsWent, StopsPassing}
-use Rattle.sk_ingest.proofs.Filled.{read_few, line_number}
-use Rattle.sk_ingest.proofs.Ingestion.{unit_goes, pass_stops, nothing_came, ends_by, steady_on_ok}
+use Rattle.sk_fill.proofs.Filled.{read_few, line_number}
+use Rattle.sk_ingest.proofs.Ingestion.{unit_goes, pass_stops}
+use Rattle.sk_fill.proofs.Readings.{nothing_came, ends_by, steady_on_ok}
 use Rattle.sk_ingest.proofs.WindowLaws.{lines_wait, front_waits, window_room, filling_stops, passing_is_of_a_taker}
 use Rattle.sk_ingest.proofs.line_windows.read_line_windows.Goals as goal
 

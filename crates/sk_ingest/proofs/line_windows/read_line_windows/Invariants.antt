@@ -1,7 +1,7 @@
 use Rattle.std.proofs.Common.{◌≡◌, List, [], ℕ}
 use Rattle.std.specs.Io.KnownBytes.{Consumes}
 use Rattle.sk_read.specs.Reading.{HasRead, remaining_of}
-use Rattle.sk_ingest.specs.Hubs.{hub_of}
+use Rattle.sk_feed.specs.Hubs.{hub_of}
 use Rattle.sk_ingest.specs.Ingests.{terms_of}
 use Rattle.sk_ingest.specs.Takers.{IsSetUp, WindowsWent, SameReport}
 use Rattle.sk_ingest.proofs.line_windows.read_line_windows.Given as goal

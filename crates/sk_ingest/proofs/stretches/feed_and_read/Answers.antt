@@ -1,6 +1,6 @@
 use Rattle.std.proofs.Common.{subst}
-use Rattle.sk_ingest.specs.Stretches.{ReadsStretch}
-use Rattle.sk_ingest.proofs.StretchLaws.{stretch_passed, read_then_none}
+use Rattle.sk_fill.specs.Stretches.{ReadsStretch}
+use Rattle.sk_fill.proofs.StretchLaws.{stretch_passed, read_then_none}
 use Rattle.sk_ingest.proofs.stretches.feed_and_read.Goals as goal
 
 pub returns-in_err-more-clause-reads : goal.returns-in_err-more-clause-reads

@@ -1,10 +1,10 @@
 use Rattle.std.proofs.Common.{◌≡◌, ◌≤◌, ◌+◌, length, refl, sym, ap, ◌∙◌, subst, arith}
 use Rattle.sk_model.specs.Limits.{most_kept}
-use Rattle.sk_ingest.specs.Windows.{all_lines}
-use Rattle.sk_ingest.specs.Stretches.{ReadsStretch}
-use Rattle.sk_ingest.proofs.Filled.{read_few}
-use Rattle.sk_ingest.proofs.Rooms.{room_for}
-use Rattle.sk_ingest.proofs.StretchLaws.{stretch_passed}
+use Rattle.sk_fill.specs.Windows.{all_lines}
+use Rattle.sk_fill.specs.Stretches.{ReadsStretch}
+use Rattle.sk_fill.proofs.Filled.{read_few}
+use Rattle.sk_feed.proofs.Rooms.{room_for}
+use Rattle.sk_fill.proofs.StretchLaws.{stretch_passed}
 use Rattle.sk_ingest.proofs.SupplyLaws.{next_read, next_refused}
 use Rattle.sk_ingest.proofs.stretches.feed_in_turn_and_read.Goals as goal
 

@@ -4,15 +4,17 @@ use Rattle.sk_read.specs.Items.{IsGood}
 use Rattle.sk_read.specs.Reads.{ReadsAll}
 use Rattle.sk_read.specs.Units.{units_by}
 use Rattle.sk_read.specs.declared.fault.Fault.TheVariants as fault
-use Rattle.sk_ingest.specs.Windows.{most_lines, all_lines}
-use Rattle.sk_ingest.specs.Hubs.{hub_of}
+use Rattle.sk_fill.specs.Windows.{most_lines, all_lines}
+use Rattle.sk_feed.specs.Hubs.{hub_of, FeedsWindows}
 use Rattle.sk_ingest.specs.Ingests.{Ingests, GoesSoFar, StopsAtUnit, EndsEarly}
 use Rattle.sk_ingest.specs.Takers.{untold}
-use Rattle.sk_ingest.specs.Stretches.{ReadsStretch, FeedsWindows, FeedsAndReads}
-use Rattle.sk_ingest.proofs.Cutting.{no_units}
-use Rattle.sk_ingest.proofs.Between.{none_fed, cut_so_far}
+use Rattle.sk_fill.specs.Stretches.{ReadsStretch}
+use Rattle.sk_ingest.specs.FedAndRead.{FeedsAndReads}
+use Rattle.sk_fill.proofs.Cutting.{no_units}
+use Rattle.sk_feed.proofs.Between.{none_fed}
+use Rattle.sk_ingest.proofs.Untold.{cut_so_far}
 use Rattle.sk_ingest.proofs.StretchLaws.{StretchesWent, none_went, stretches_go, stretches_hub, stretches_few, stretches_lines, stretches_room, stretches_fail, stretches_end, stretches_out, feeds_on, feeds_fail, cause_passed}
-use Rattle.sk_ingest.proofs.Ingestion.{nothing_came, if_err_is, steady_on_ok}
+use Rattle.sk_fill.proofs.Readings.{nothing_came, if_err_is, steady_on_ok}
 use Rattle.sk_ingest.proofs.stretches.ingest_stretches.Goals as goal
 
 pub returns-in_err-reader-clause-refused : goal.returns-in_err-reader-clause-refused

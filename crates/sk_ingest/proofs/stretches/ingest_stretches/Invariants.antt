@@ -1,6 +1,6 @@
 use Rattle.std.proofs.Common.{◌≡◌, ◌+◌, cond}
 use Rattle.sk_read.specs.Reading.{remaining_of}
-use Rattle.sk_ingest.specs.Hubs.{hub_of}
+use Rattle.sk_feed.specs.Hubs.{hub_of}
 use Rattle.sk_ingest.proofs.StretchLaws.{StretchesWent}
 use Rattle.sk_ingest.proofs.stretches.ingest_stretches.Given as goal
 

@@ -1,6 +1,6 @@
 use Rattle.std.proofs.Common.{slice_index_or, sym, subst}
 use Rattle.rtrb.specs.Ring.{sent}
-use Rattle.sk_ingest.specs.Deliveries.{IsNext}
+use Rattle.sk_feed.specs.Deliveries.{IsNext}
 use Rattle.sk_ingest.proofs.supply.give.Goals as goal
 
 pub give_each-requires : goal.give_each-requires

@@ -2,12 +2,13 @@ use Rattle.std.proofs.Common.{◌≡◌, ◌≤◌, ◌+◌, ◌∷◌, [], ◌+
 use Rattle.rtrb.specs.Ring.{sent}
 use Rattle.sk_model.specs.Limits.{most_kept}
 use Rattle.sk_read.specs.declared.fault.Fault.TheVariants as fault
-use Rattle.sk_ingest.specs.Windows.{all_lines}
-use Rattle.sk_ingest.specs.Stretches.{ReadsStretch}
-use Rattle.sk_ingest.specs.Deliveries.{windows_of, IsNext, GaveEach}
-use Rattle.sk_ingest.proofs.Filled.{read_few, read_number}
-use Rattle.sk_ingest.proofs.Ingestion.{steady_on_ok}
-use Rattle.sk_ingest.proofs.StretchLaws.{on_ok_at, read_then_none}
+use Rattle.sk_fill.specs.Windows.{all_lines}
+use Rattle.sk_fill.specs.Stretches.{ReadsStretch}
+use Rattle.sk_feed.specs.Deliveries.{windows_of, IsNext}
+use Rattle.sk_ingest.specs.Supplies.{GaveEach}
+use Rattle.sk_fill.proofs.Filled.{read_few, read_number}
+use Rattle.sk_fill.proofs.Readings.{steady_on_ok}
+use Rattle.sk_fill.proofs.StretchLaws.{on_ok_at, read_then_none}
 use Rattle.sk_ingest.proofs.SupplyLaws.{all_end, all_next, supply_starts, supply_goes, supply_fails}
 use Rattle.sk_ingest.proofs.supply.supply.Goals as goal
 

@@ -1,8 +1,8 @@
 use Rattle.std.proofs.Common.{map, take}
-use Rattle.sk_ingest.specs.Hubs.{hub_of}
-use Rattle.sk_ingest.proofs.HubLaws.{hub_took}
-use Rattle.sk_ingest.proofs.Rooms.{room_at_place}
-use Rattle.sk_ingest.proofs.Between.{none_fed, fed_next}
+use Rattle.sk_feed.specs.Hubs.{hub_of}
+use Rattle.sk_feed.proofs.HubLaws.{hub_took}
+use Rattle.sk_feed.proofs.Rooms.{room_at_place}
+use Rattle.sk_feed.proofs.Between.{none_fed, fed_next}
 use Rattle.sk_ingest.proofs.ways.feed_windows_in_turn.Goals as goal
 
 pub window-init : goal.window-init

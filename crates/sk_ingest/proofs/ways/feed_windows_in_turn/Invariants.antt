@@ -1,6 +1,5 @@
 use Rattle.std.proofs.Common.{take, map}
-use Rattle.sk_ingest.specs.Hubs.{hub_of}
-use Rattle.sk_ingest.specs.Stretches.{FeedsWindows}
+use Rattle.sk_feed.specs.Hubs.{hub_of, FeedsWindows}
 use Rattle.sk_ingest.proofs.ways.feed_windows_in_turn.Given as goal
 
 abbrev pub invariant-window : goal.invariant-window

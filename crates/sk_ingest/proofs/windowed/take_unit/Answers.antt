@@ -1,10 +1,11 @@
 use Rattle.std.proofs.Common.{◌≤◌, ◌+◌, ◌++◌, ◌∷◌, [], length, sym, subst, arith}
 use Rattle.sk_model.specs.Limits.{most_kept}
 use Rattle.sk_read.specs.Items.{IsGood}
-use Rattle.sk_ingest.specs.Hubs.{hub_of, FeedsWindow}
+use Rattle.sk_feed.specs.Hubs.{hub_of, FeedsWindow}
 use Rattle.sk_ingest.specs.Ingests.{terms_of, IsReported}
 use Rattle.sk_ingest.specs.Takers.{WindowsWent, StopsPassing}
-use Rattle.sk_ingest.proofs.Ingestion.{not_full, full_is, unit_waits, unit_goes, pass_stops, if_err_then, ok_two}
+use Rattle.sk_ingest.proofs.Ingestion.{not_full, full_is, unit_waits, unit_goes, pass_stops}
+use Rattle.sk_fill.proofs.Readings.{if_err_then, ok_two}
 use Rattle.sk_ingest.proofs.windowed.take_unit.Goals as goal
 
 pub push-requires-clause-room : goal.push-requires-clause-room

@@ -3,10 +3,10 @@ use Rattle.sk_model.specs.Sketch.{packed_of}
 use Rattle.sk_compose.specs.Numbers.{k_of}
 use Rattle.sk_read.specs.Items.{items_by}
 use Rattle.sk_read.specs.Units.{units_by, units_of}
-use Rattle.sk_ingest.specs.Windows.{all_lines, items_in}
-use Rattle.sk_ingest.specs.Hubs.{hub_of}
-use Rattle.sk_ingest.proofs.Items.{good_items}
-use Rattle.sk_ingest.proofs.New.{new_hub, new_have_kept_none, named_so}
+use Rattle.sk_fill.specs.Windows.{all_lines, items_in}
+use Rattle.sk_feed.specs.Hubs.{hub_of}
+use Rattle.sk_fill.proofs.Items.{good_items}
+use Rattle.sk_feed.proofs.New.{new_hub, new_have_kept_none, named_so}
 use Rattle.sk_ingest.proofs.word.word_of_source.Goals as goal
 
 pub ingest-requires-clause-hub : goal.ingest-requires-clause-hub

@@ -1,5 +1,5 @@
 use Rattle.std.proofs.Common.{◌≡◌, ◌++◌, ◌∷◌, [], sym, ap, ◌∙◌, append_assoc}
-use Rattle.sk_ingest.proofs.Drained.{next_has}
+use Rattle.sk_feed.proofs.Drained.{next_has}
 use Rattle.sk_snap.specs.History.{name_of}
 use Rattle.sk_rank.proofs.EndingLaws.{next_in}
 use Rattle.sk_rank.proofs.ending.take_in_all.Goals as goal

@@ -1,6 +1,6 @@
 use Rattle.std.proofs.Common.{inl, inr, sym, subst}
 use Rattle.sk_read.specs.declared.fault.Fault.TheVariants as fault
-use Rattle.sk_ingest.specs.Hubs.{hub_of}
+use Rattle.sk_feed.specs.Hubs.{hub_of}
 use Rattle.sk_count.proofs.Results.{if_err_is}
 use Rattle.sk_rank.specs.Feeding.{Fed}
 use Rattle.sk_rank.specs.Ranks.{setting, TellsSoFar, TellsAll, TellsPartOfAll, EndsAt}

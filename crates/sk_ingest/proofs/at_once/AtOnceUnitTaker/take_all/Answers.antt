@@ -1,6 +1,6 @@
 use Rattle.std.proofs.lemmas.Result.{IfErr-weaker}
-use Rattle.sk_ingest.specs.Hubs.{hub_of}
-use Rattle.sk_ingest.proofs.Rounds.{ok_then}
+use Rattle.sk_feed.specs.Hubs.{hub_of}
+use Rattle.sk_feed.proofs.Rounds.{ok_then}
 use Rattle.sk_ingest.proofs.at_once.AtOnceUnitTaker.take_all.Goals as goal
 
 pub returns-clause-went : goal.returns-clause-went

@@ -1,7 +1,7 @@
 use Rattle.std.proofs.Common.{◌∙◌}
 use Rattle.sk_read.specs.declared.fault.Fault.TheVariants as fault
-use Rattle.sk_ingest.specs.Hubs.{hub_of}
-use Rattle.sk_ingest.proofs.Ingestion.{ok_three, steady_on_ok}
+use Rattle.sk_feed.specs.Hubs.{hub_of}
+use Rattle.sk_fill.proofs.Readings.{ok_three, steady_on_ok}
 use Rattle.sk_ingest.proofs.windowed.WindowedUnitTaker.take.Goals as goal
 
 pub returns-clause-went : goal.returns-clause-went

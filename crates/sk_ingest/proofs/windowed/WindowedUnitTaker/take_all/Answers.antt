@@ -6,7 +6,7 @@ use Rattle.sk_lines.specs.Spans.{lines_at}
 use Rattle.sk_read.specs.declared.fault.Fault.{Fault}
 use Rattle.sk_read.specs.Reads.{StopsAmong}
 use Rattle.sk_read.proofs.GroupLaws.{nth_line, short_line, given_before, stops_at, with_fault}
-use Rattle.sk_ingest.specs.Hubs.{hub_of}
+use Rattle.sk_feed.specs.Hubs.{hub_of}
 use Rattle.sk_ingest.specs.Ingests.{terms_of, StopsAtUnit}
 use Rattle.sk_ingest.specs.Takers.{ReportStops}
 use Rattle.sk_ingest.proofs.windowed.WindowedUnitTaker.take_all.Given.{Over}

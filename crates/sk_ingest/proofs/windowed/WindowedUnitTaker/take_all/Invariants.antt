@@ -1,7 +1,7 @@
 use Rattle.std.proofs.Common.{◌≡◌, ◌+◌, ℕ, List, [], ◌∷◌, ◌++◌, Some, length, take}
 use Rattle.sk_lines.specs.Spans.{lines_at}
 use Rattle.sk_read.specs.Standing.{Standing}
-use Rattle.sk_ingest.specs.Hubs.{hub_of}
+use Rattle.sk_feed.specs.Hubs.{hub_of}
 use Rattle.sk_ingest.specs.Ingests.{terms_of}
 use Rattle.sk_ingest.specs.Takers.{IsSetUp, WindowsWent, SameReport}
 use Rattle.sk_ingest.specs.declared.windowed.Windowed.{Windowed}

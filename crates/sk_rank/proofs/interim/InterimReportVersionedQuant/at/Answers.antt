@@ -2,7 +2,7 @@ use Rattle.std.proofs.Common.{◌≡◌, List, length, refl, sym, subst, ◌∙�
 use Rattle.std.specs.Vec.{with_items}
 use Rattle.std.proofs.lemmas.List.{with_items_is}
 use Rattle.sk_hub.specs.Updaters.{UpdaterState}
-use Rattle.sk_ingest.specs.Hubs.{Hub, hub_of, IsHub}
+use Rattle.sk_feed.specs.Hubs.{Hub, hub_of, IsHub}
 use Rattle.sk_ingest.specs.declared.report.Stop.TheVariants as stop
 use Rattle.sk_count.proofs.Results.{on_ok_then, if_err_then}
 use Rattle.sk_rank.specs.Learning.{ReaderGoesOn, LearnsFirst, AreAsked}

@@ -1,6 +1,6 @@
 use Rattle.std.proofs.Common.{refl}
-use Rattle.sk_ingest.specs.Hubs.{hub_of}
-use Rattle.sk_ingest.proofs.HubLaws.{asked_hub}
+use Rattle.sk_feed.specs.Hubs.{hub_of}
+use Rattle.sk_feed.proofs.HubLaws.{asked_hub}
 use Rattle.sk_calls.proofs.tests.ingest.sources.CountsReport.at.Goals as goal
 
 pub returns-then-len-self-clause-hub : goal.returns-then-len-self-clause-hub

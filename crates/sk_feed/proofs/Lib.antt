@@ -1,0 +1,14 @@
+pub mod Updaters
+pub mod Shares
+pub mod Feeding
+pub mod Rounds
+pub mod Calls
+pub mod Drained
+pub mod Moved
+pub mod New
+pub mod HubLaws
+pub mod Rooms
+pub mod Between
+pub mod Filtered
+pub mod OnItsWay
+pub mod DeliveryLaws

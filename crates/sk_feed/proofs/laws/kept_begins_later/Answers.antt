@@ -1,0 +1,5 @@
+use Rattle.sk_feed.proofs.Updaters as lemmas
+use Rattle.sk_feed.proofs.laws.kept_begins_later.Goals as goal
+
+pub returns : goal.returns
+returns c = lemmas.kept_begins

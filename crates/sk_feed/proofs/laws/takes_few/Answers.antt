@@ -1,0 +1,5 @@
+use Rattle.sk_feed.proofs.Updaters as lemmas
+use Rattle.sk_feed.proofs.laws.takes_few.Goals as goal
+
+pub returns : goal.returns
+returns c = lemmas.takes_few

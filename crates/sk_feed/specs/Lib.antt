@@ -1,0 +1,8 @@
+pub mod Feeds
+pub mod Calls
+pub mod Rounds
+pub mod Shares
+pub mod Drained
+pub mod Hubs
+pub mod OnItsWay
+pub mod Deliveries

@@ -1,0 +1,24 @@
+//! Blocks of windows, fed to the updaters of a hub: one after another, or at once in threads.
+#![tactic(auto)]
+
+mod beside;
+mod block_items;
+mod crew;
+mod delivery;
+mod drain;
+mod feed;
+mod feeder;
+mod feeders;
+mod lane;
+pub mod laws;
+mod propagation;
+mod turns;
+
+pub use crew::Crew;
+pub use delivery::{Delivery, InOrder, Inlet, Outlet};
+pub use drain::drain_all;
+pub use feed::{feed_block, offer};
+pub use feeders::{Feeders, turn};
+pub use lane::Lane;
+pub use propagation::{Propagation, propagate};
+pub use turns::feed_in_turn;

@@ -1,0 +1,78 @@
+//! Who propagates what updaters hand over.
+ghost use Rattle.sk_feed.specs.Feeds.{KeepsNone};
+ghost use Rattle.sk_feed.specs.Hubs.{HeartGoesOn};
+ghost use Rattle.std.specs.Prelude.{OnErr, IsTrue};
+
+use crate::feed::help_until_served;
+use sk_compose::Composable;
+use sk_hub::{Heart, Sweep, Updater};
+use sk_model::OutOfMemory;
+use sk_read::Intake;
+use std::sync::Wait;
+
+/// Who propagates, and where.
+#[derive(Clone, Copy)]
+pub enum Propagation {
+    /// The heart, where an updater is busy.
+    ByHeart,
+    /// The updater that is busy.
+    WhereBusy,
+    /// The updater that is busy or eager: the hub may be asked before it is busy.
+    AtOnce,
+}
+
+impl Propagation {
+    /// The way of a plan. An eager updater need not propagate where nobody asks in between.
+    pub fn of(plan: &Intake) -> Propagation {
+        if plan.propagator {
+            Propagation::ByHeart
+        } else if plan.interim {
+            Propagation::AtOnce
+        } else {
+            Propagation::WhereBusy
+        }
+    }
+
+    pub(crate) fn is_by_heart(self) -> bool {
+        match self {
+            Propagation::ByHeart => true,
+            Propagation::WhereBusy | Propagation::AtOnce => false,
+        }
+    }
+
+    // Whether an updater helps with each item that it is fed.
+    pub(crate) fn helps(self) -> bool {
+        match self {
+            Propagation::AtOnce => true,
+            Propagation::ByHeart | Propagation::WhereBusy => false,
+        }
+    }
+}
+
+/// Propagates where an updater is busy. An error comes only for want of memory, where the sketch takes some.
+pub fn propagate<C: Composable, R: Wait>(
+    rt: &R,
+    heart: &mut Heart<C>,
+    u: &mut Updater<C>,
+    by: Propagation,
+) -> Result<(), OutOfMemory>
+    ensures none { KeepsNone u.old u.new }
+    ensures heart { HeartGoesOn heart.old heart.new }
+    ensures cause { OnErr result (IsTrue C.TAKES_MEMORY) }
+{
+    match by {
+        Propagation::ByHeart => sweep(rt, heart),
+        Propagation::WhereBusy | Propagation::AtOnce => help_until_served(rt, u),
+    }
+}
+
+// The heart propagates once for all.
+fn sweep<C: Composable, R: Wait>(rt: &R, heart: &mut Heart<C>) -> Result<(), OutOfMemory>
+    ensures heart { HeartGoesOn heart.old heart.new }
+    ensures cause { OnErr result (IsTrue C.TAKES_MEMORY) }
+{
+    match heart.sweep(rt) {
+        Sweep::Swept(_) | Sweep::Elsewhere(_) => Ok(()),
+        Sweep::OutOfMemory => Err(OutOfMemory),
+    }
+}

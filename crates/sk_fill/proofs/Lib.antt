@@ -1,0 +1,12 @@
+pub mod Readings
+pub mod Units
+pub mod Blocks
+pub mod Items
+pub mod Joined
+pub mod Cutting
+pub mod Filled
+pub mod ManyLines
+pub mod HeldLines
+pub mod Gathering
+pub mod Pages
+pub mod StretchLaws

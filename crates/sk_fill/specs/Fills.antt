@@ -1,0 +1,66 @@
+-- What it means that a window was filled with the lines of a source, and that it was not.
+use Rattle.std.specs.Prelude.{◌≡◌, ◌≢◌, ℕ, ◌+◌, ◌-◌, ◌<◌, ◌≤◌, Bool, true, false, List, [], ◌∷◌, ◌++◌, length, take, drop, slice_index_or, All, Option, IsNone, Result, Ok, OnOk, IfErr}
+use Rattle.std.specs.Io.KnownBytes.{Consumes}
+use Rattle.sk_read.specs.Reading.{Reading, HasRead, HoldsNone}
+use Rattle.sk_read.specs.Reads.{IsInTime, Ends}
+use Rattle.sk_read.specs.declared.units.Units.TheVariants.{Lines}
+use Rattle.sk_read.specs.Items.{item_of, IsGood}
+use Rattle.sk_model.specs.Limits.{most_kept}
+use Rattle.sk_model.specs.Missing.{Begins}
+use Rattle.sk_fill.specs.Windows.{IsBad, fills, FillsNone, IsFullWindow}
+use Rattle.sk_read.specs.declared.kind.Kind.{Kind}
+use Rattle.sk_read.specs.declared.fault.Fault.{Fault}
+use Rattle.sk_read.specs.declared.fault.Fault.TheVariants.{OutOfMemory, BadItem}
+
+-- behind these lines comes one that is no item, or for which no memory was found
+abbrev pub RefusesLine : Kind → List (List ℕ) → Fault → List (List ℕ) → List ℕ → Type 0
+RefusesLine kind lines (BadItem n) given line = (given ≡ lines) × (0 < length line) × IsNone (item_of kind line)
+RefusesLine kind lines OutOfMemory given line = given ≡ lines
+RefusesLine kind lines _ given line = ⊥
+
+-- behind these lines of these bytes one more was given, of as many bytes more
+pub record ReadsLine (r : Reading) (old new : Option (List ℕ)) (given : List (List ℕ)) (line taken : List ℕ) : Type 0 where
+  pub more : List ℕ
+  pub consumed : Consumes old new more
+  pub read : HasRead r new (given ++ line ∷ []) (taken ++ more)
+  pub in_time : IsInTime Lines given (taken ++ more)
+
+-- of lines that went on, the last came now
+abbrev pub EndsWithLine : List (List ℕ) → List (List ℕ) → Type 0
+EndsWithLine old new = (front : List (List ℕ)) × (line : List ℕ) × (new ≡ front ++ line ∷ []) × Begins old front
+
+-- the lines of a window went on by those that a reader held, until it was full, or none was left, or one refused
+pub record TakesHeld (kind : Kind) (most : ℕ) (old new : List (List ℕ)) (r r' : Reading) (result : Result Bool Fault) : Type 0 where
+  pub full : result ≡ Ok true → IsFullWindow most new
+  pub unfilled : result ≢ Ok true → FillsNone most new
+  pub good : All (IsGood kind) new
+  pub last : result ≡ Ok true → EndsWithLine old new
+  pub read : OnOk result ((left : Option (List ℕ)) (given : List (List ℕ)) (taken : List ℕ) → HasRead r left (given ++ old) taken → HasRead r' left (given ++ new) taken)
+  pub none : result ≡ Ok false → (left : Option (List ℕ)) (given : List (List ℕ)) (taken : List ℕ) → HasRead r left (given ++ old) taken → HoldsNone r' (given ++ new) taken
+  pub few : (left : Option (List ℕ)) (given : List (List ℕ)) (taken : List ℕ) → HasRead r left (given ++ old) taken → length (given ++ new) ≤ most_kept
+  pub stopped : IfErr result (λ why. (first left : Option (List ℕ)) (given : List (List ℕ)) (taken : List ℕ) → Consumes first left taken → HasRead r left (given ++ old) taken
+      → Ends Lines r.most (λ lines. lines ≡ given ++ new) (RefusesLine kind (given ++ new)) first left why)
+
+-- the lines of a window went on by those that a reader held, and it stays unfilled
+pub record TakesMore (kind : Kind) (most : ℕ) (old new : List (List ℕ)) (r r' : Reading) : Type 0 where
+  pub begins : Begins old new
+  pub unfilled : FillsNone most new
+  pub good : All (IsGood kind) new
+  pub read : (left : Option (List ℕ)) (given : List (List ℕ)) (taken : List ℕ) → HasRead r left (given ++ old) taken → HasRead r' left (given ++ new) taken
+
+-- some lines that a reader held went to the end of a window's: no beginning of these fills it, unless all do
+pub record TakesSome (kind : Kind) (most : ℕ) (old new : List (List ℕ)) (r r' : Reading) : Type 0 where
+  pub last : EndsWithLine old new
+  pub unfilled : (n : ℕ) → n < length new → fills most (take n new) ≡ false
+  pub good : All (IsGood kind) new
+  pub read : (left : Option (List ℕ)) (given : List (List ℕ)) (taken : List ℕ) → HasRead r left (given ++ old) taken → HasRead r' left (given ++ new) taken
+
+-- of lines that come from a place on behind so many, those before the first that is no item stay
+pub record RefusesFrom (kind : Kind) (before : ℕ) (why : Fault) (first : ℕ) (old new : List (List ℕ)) : Type 0 where
+  pub place : ℕ
+  pub after : first ≤ place
+  pub within : place < length old
+  pub kept : new ≡ take place old
+  pub good : All (IsGood kind) (drop first new)
+  pub fault : why ≡ BadItem (before + (place - first) + 1)
+  pub refused : IsBad kind (slice_index_or old place [])

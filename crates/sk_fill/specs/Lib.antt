@@ -1,0 +1,4 @@
+pub mod Windows
+pub mod Blocks
+pub mod Fills
+pub mod Stretches

@@ -1,5 +1,0 @@
-use Rattle.sk_ingest.specs.Hubs.{HeartGoesOn}
-use Rattle.sk_ingest.proofs.beside.HeartPropagates.propagate_on.Given as goal
-
-abbrev pub invariant-sweep : goal.invariant-sweep
-invariant-sweep g l = HeartGoesOn l.initial.self l.self

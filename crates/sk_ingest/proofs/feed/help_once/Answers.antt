@@ -1,5 +1,0 @@
-use Rattle.sk_ingest.proofs.Updaters.{helped}
-use Rattle.sk_ingest.proofs.feed.help_once.Goals as goal
-
-pub returns-in-Elsewhere-clause-none : goal.returns-in-Elsewhere-clause-none
-returns-in-Elsewhere-clause-none g c = helped c.args.u.now c.help.new.self c.help.ensures.stays c.help.ensures.knows

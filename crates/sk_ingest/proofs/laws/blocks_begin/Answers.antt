@@ -1,5 +1,0 @@
-use Rattle.sk_ingest.proofs.Blocks as lemmas
-use Rattle.sk_ingest.proofs.laws.blocks_begin.Goals as goal
-
-pub returns : goal.returns
-returns c = lemmas.first_place

@@ -1,5 +1,0 @@
-use Rattle.sk_ingest.proofs.Items as lemmas
-use Rattle.sk_ingest.proofs.laws.items_are_few.Goals as goal
-
-pub returns : goal.returns
-returns c = lemmas.few_items

@@ -1,5 +1,0 @@
-use Rattle.sk_ingest.proofs.Items as lemmas
-use Rattle.sk_ingest.proofs.laws.items_of_good_lines.Goals as goal
-
-pub returns : goal.returns
-returns c = lemmas.good_items

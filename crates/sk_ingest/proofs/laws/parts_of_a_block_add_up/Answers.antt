@@ -1,5 +1,0 @@
-use Rattle.sk_ingest.proofs.Feeding as lemmas
-use Rattle.sk_ingest.proofs.laws.parts_of_a_block_add_up.Goals as goal
-
-pub returns : goal.returns
-returns c = lemmas.parts_add_up

@@ -1,5 +1,0 @@
-use Rattle.sk_ingest.proofs.Shares as lemmas
-use Rattle.sk_ingest.proofs.laws.shares.a_window_is_taken.Goals as goal
-
-pub returns : goal.returns
-returns c = lemmas.one_window

@@ -1,5 +1,0 @@
-use Rattle.sk_ingest.proofs.Shares as lemmas
-use Rattle.sk_ingest.proofs.laws.shares.no_shares.Goals as goal
-
-pub returns : goal.returns
-returns c = lemmas.no_shares

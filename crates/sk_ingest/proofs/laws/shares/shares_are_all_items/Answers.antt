@@ -1,5 +1,0 @@
-use Rattle.sk_ingest.proofs.Shares as lemmas
-use Rattle.sk_ingest.proofs.laws.shares.shares_are_all_items.Goals as goal
-
-pub returns : goal.returns
-returns c = lemmas.all_items

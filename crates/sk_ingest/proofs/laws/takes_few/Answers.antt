@@ -1,5 +1,0 @@
-use Rattle.sk_ingest.proofs.Updaters as lemmas
-use Rattle.sk_ingest.proofs.laws.takes_few.Goals as goal
-
-pub returns : goal.returns
-returns c = lemmas.takes_few
