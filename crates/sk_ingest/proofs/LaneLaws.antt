@@ -48,7 +48,7 @@ module _ {C T : Type 0} where
 
 -- ---- once nothing more is given
 
-same_pair : {A P : Type 0} (p p' : Producer StretchState A P) (c c' : Consumer StretchState A P) → IsPair p c → SameProducer p p' → SameConsumer c c' → IsPair p' c'
+pub same_pair : {A P : Type 0} (p p' : Producer StretchState A P) (c c' : Consumer StretchState A P) → IsPair p c → SameProducer p p' → SameConsumer c c' → IsPair p' c'
 same_pair p p' c c' pair producer consumer = (consumer.0.0 ∙ pair.0 ∙ sym producer.0.0, consumer.0.1 ∙ pair.1 ∙ sym producer.0.1, consumer.0.2 ∙ pair.2 ∙ sym producer.0.2, consumer.0.3 ∙ pair.3 ∙ sym producer.0.3)
 
 -- those for which memory was found were fed what came

@@ -26,3 +26,4 @@ pub mod Pages
 pub mod DeliveryLaws
 pub mod SupplyLaws
 pub mod LaneLaws
+pub mod TurnLaneLaws

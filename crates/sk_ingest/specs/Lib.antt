@@ -14,3 +14,4 @@ pub mod Stretches
 pub mod Gathered
 pub mod Deliveries
 pub mod Lanes
+pub mod TurnLanes

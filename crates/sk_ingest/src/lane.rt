@@ -22,7 +22,7 @@ use std::alloc::Global;
 use std::sync::Wait;
 
 // As many stretches may wait in a ring.
-const RING: usize = 8;
+pub(crate) const RING: usize = 8;
 
 // An updater, and the ring through which stretches come for it.
 #[derive(Drop)]

@@ -25,6 +25,7 @@ mod report;
 mod stretch;
 mod stretches;
 mod supply;
+mod turn_lane;
 mod turns;
 mod ways;
 mod window;
