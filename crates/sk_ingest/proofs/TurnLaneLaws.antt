@@ -1,5 +1,5 @@
 -- A hub that is fed through one ring.
-use Rattle.std.proofs.Common.{◌≡◌, ℕ, ◌+◌, ◌<◌, ◌≤◌, Bool, true, false, List, [], ◌∷◌, ◌++◌, length, get_or, All, sym, ap, refl, ◌∙◌, subst, arith, append-nil, append_assoc}
+use Rattle.std.proofs.Common.{◌≡◌, ℕ, ◌+◌, ◌<◌, Bool, true, false, List, [], ◌∷◌, ◌++◌, length, get_or, All, sym, ap, refl, ◌∙◌, subst, arith, append-nil, append_assoc}
 use Rattle.std.proofs.lemmas.List.Elements.{All-nil, All-cons}
 use mathlib.Core.List.{IsPrefix}
 use Rattle.rtrb.specs.Ring.{sent, received, known_items, IsPair, SameProducer, SameConsumer}

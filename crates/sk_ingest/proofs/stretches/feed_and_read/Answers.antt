@@ -1,4 +1,4 @@
-use Rattle.std.proofs.Common.{◌≡◌, ◌≤◌, ◌+◌, length, arith}
+use Rattle.std.proofs.Common.{arith}
 use Rattle.sk_ingest.proofs.Filled.{read_few}
 use Rattle.sk_ingest.proofs.Rooms.{room_for}
 use Rattle.sk_ingest.proofs.SupplyLaws.{nothing_fed, next_read}

@@ -32,7 +32,7 @@ returns-in_err-more-clause-refused g c =
     let t = untold k.keeps_of k.hint_of plan in let old = g.S.Source.left c.args.source.now in
     let new = g.S.Source.left c.fill_stretch.new.source in let r = c.in_ok-reader.reader in let r' = c.fill_stretch.new.reader in
     let windows = c.fill_stretch.new.stretch.windows in let why = c.in_err-more.field-0.0 in
-    let reads = subst (λ m. ReadsStretch plan.kind m windows r r' old new c.fill_stretch.result) c.new.ensures.most c.fill_stretch.ensures.reads in
+    let reads = subst (λ m. ReadsStretch plan.kind m windows r r' old new c.fill_stretch.result) c.new-stretch.ensures.most c.fill_stretch.ensures.reads in
     let start = none_went k.keeps_of k.hint_of plan hub r old c.in_ok-reader.ensures.most (c.in_ok-reader.ensures.read old) in
     if_err_is c.from_residual-in_err-more.result why (EndsEarly t (units_by plan.column) old new hub tt tt) c.from_residual-in_err-more.ensures.1
     (subst (λ u. EndsEarly t u old new hub tt tt why) (sym (ap units_by c.requires.lines))
@@ -44,10 +44,10 @@ stretch-init g c =
     let t = untold k.keeps_of k.hint_of plan in let old = g.S.Source.left c.args.source.now in
     let new = g.S.Source.left c.fill_stretch.new.source in let r = c.in_ok-reader.reader in let r' = c.fill_stretch.new.reader in
     let windows = c.fill_stretch.new.stretch.windows in let more = c.in_ok-more.more in
-    let reads = subst (λ m. ReadsStretch plan.kind m windows r r' old new c.fill_stretch.result) c.new.ensures.most c.fill_stretch.ensures.reads in
+    let reads = subst (λ m. ReadsStretch plan.kind m windows r r' old new c.fill_stretch.result) c.new-stretch.ensures.most c.fill_stretch.ensures.reads in
     let start = none_went k.keeps_of k.hint_of plan hub r old c.in_ok-reader.ensures.most (c.in_ok-reader.ensures.read old) in record {
       went = stretches_go k.keeps_of k.hint_of plan [] 0 true hub hub r old old start windows c.fill_stretch.new.stretch.first c.fill_stretch.result more hub r' new refl (none_fed k.keeps_of k.hint_of plan.kind hub) reads c.in_ok-more.was c.fill_stretch.ensures.first;
-      stretch = c.fill_stretch.ensures.most ∙ c.new.ensures.most;
+      stretch = c.fill_stretch.ensures.most ∙ c.new-stretch.ensures.most;
       steady = subst (λ x. OnOk x (g.S.Source.faults c.fill_stretch.new.source ≡ g.S.Source.faults c.args.source.now)) c.in_ok-more.was
           (steady_on_ok _ (g.S.Source.faults c.args.source.now) (g.S.Source.faults c.fill_stretch.new.source) c.fill_stretch.result c.fill_stretch.ensures.cause);
       stays = c.fill_stretch.ensures.stays;
