@@ -21,8 +21,8 @@ use sk_read::Kind;
 use std::alloc::Global;
 use std::sync::Wait;
 
-// As many stretches may wait in a ring.
-const RING: usize = 8;
+/// As many stretches may wait in a ring.
+pub const RING: usize = 8;
 
 /// An updater, and the ring through which stretches come for it.
 #[derive(Drop)]

@@ -19,6 +19,6 @@ pub use delivery::{Delivery, InOrder, Inlet, Outlet};
 pub use drain::drain_all;
 pub use feed::{feed_block, offer};
 pub use feeders::{Feeders, turn};
-pub use lane::Lane;
+pub use lane::{Lane, RING};
 pub use propagation::{Propagation, propagate};
 pub use turns::feed_in_turn;

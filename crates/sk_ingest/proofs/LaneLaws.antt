@@ -6,7 +6,6 @@ use Rattle.rtrb.specs.Ring.{sent, received, IsPair, SameProducer, SameConsumer}
 use Rattle.rtrb.specs.declared.consumer.Consumer.{Consumer}
 use Rattle.rtrb.specs.declared.producer.Producer.{Producer}
 use Rattle.sk_model.specs.Entries.{Entry}
-use Rattle.sk_model.specs.Limits.{most_kept}
 use Rattle.sk_hub.specs.Updaters.{UpdaterState, kept_of}
 use Rattle.sk_read.specs.Reading.{Reading, HasRead}
 use Rattle.sk_read.specs.declared.kind.Kind.{Kind}
@@ -16,8 +15,8 @@ use Rattle.sk_feed.specs.Feeds.{Takes}
 use Rattle.sk_feed.specs.Rounds.{HaveFew}
 use Rattle.sk_feed.specs.Shares.{share, TakeShares}
 use Rattle.sk_fill.specs.Stretches.{StretchState}
-use Rattle.sk_feed.specs.Deliveries.{windows_of, EndAt, IsNext, IsUpTo, IsOpen, HasFed}
-use Rattle.sk_ingest.specs.Lanes.{RunsLane, Outlet, AreOpen, AreBehind, AreBehindIfFed, HaveRun, HaveFinished}
+use Rattle.sk_feed.specs.Deliveries.{windows_of, EndAt, IsNext, IsOpen, HasFed}
+use Rattle.sk_ingest.specs.Lanes.{Outlet, AreOpen, AreBehind, AreBehindIfFed, HaveRun, HaveFinished}
 use Rattle.sk_ingest.specs.Supplies.{GaveEach}
 use Rattle.sk_fill.proofs.Filled.{read_few}
 use Rattle.sk_feed.proofs.Rounds.{of_images, ok_then, ok_gives}
@@ -49,7 +48,7 @@ module _ {C T : Type 0} where
 
 -- ---- once nothing more is given
 
-same_pair : {A P : Type 0} (p p' : Producer StretchState A P) (c c' : Consumer StretchState A P) → IsPair p c → SameProducer p p' → SameConsumer c c' → IsPair p' c'
+pub same_pair : {A P : Type 0} (p p' : Producer StretchState A P) (c c' : Consumer StretchState A P) → IsPair p c → SameProducer p p' → SameConsumer c c' → IsPair p' c'
 same_pair p p' c c' pair producer consumer = (consumer.0.0 ∙ pair.0 ∙ sym producer.0.0, consumer.0.1 ∙ pair.1 ∙ sym producer.0.1, consumer.0.2 ∙ pair.2 ∙ sym producer.0.2, consumer.0.3 ∙ pair.3 ∙ sym producer.0.3)
 
 -- those for which memory was found were fed what came

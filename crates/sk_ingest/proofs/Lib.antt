@@ -5,3 +5,4 @@ pub mod WindowLaws
 pub mod AtOnceLaws
 pub mod SupplyLaws
 pub mod LaneLaws
+pub mod TurnLaneLaws

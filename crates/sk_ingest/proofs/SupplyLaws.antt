@@ -1,15 +1,14 @@
 -- Stretches that are read and given to all rings.
-use Rattle.std.proofs.Common.{◌≡◌, ◌≢◌, inl, inr, ⊎_elim, ℕ, ◌+◌, ◌<◌, ◌≤◌, Bool, true, List, [], ◌∷◌, ◌++◌, length, get_or, set, All, Option, Result, Ok, Err, OnOk, IsErrAnd, sym, ap, refl, ◌∙◌, subst, arith, append-nil, append_assoc, length-append}
+use Rattle.std.proofs.Common.{◌≡◌, ◌≢◌, ⊎_elim, ℕ, ◌+◌, ◌<◌, ◌≤◌, Bool, true, List, [], ◌∷◌, ◌++◌, length, get_or, set, All, Option, Result, Ok, Err, IsErrAnd, sym, ap, refl, ◌∙◌, subst, arith, append-nil, append_assoc}
 use Rattle.std.proofs.lemmas.List.{get_or-set_same, get_or-set_other, get_or_read, length-set}
 use Rattle.std.proofs.lemmas.List.Elements.{All-append}
 use Rattle.std.proofs.KnownBytes.{Consumes-trans}
 use Rattle.std.proofs.lemmas.Bool.{cases_lt}
-use Rattle.std.specs.Io.KnownBytes.{Consumes}
 use Rattle.rtrb.specs.Ring.{sent, SameProducer}
 use Rattle.rtrb.specs.declared.producer.Producer.{Producer}
 use Rattle.sk_model.specs.Limits.{most_kept}
 use Rattle.sk_read.specs.Items.{IsGood}
-use Rattle.sk_read.specs.Reading.{Reading, HasRead, remaining_of}
+use Rattle.sk_read.specs.Reading.{Reading, HasRead}
 use Rattle.sk_read.specs.declared.fault.Fault.{Fault}
 use Rattle.sk_read.specs.declared.fault.Fault.TheVariants as fault
 use Rattle.sk_read.specs.declared.kind.Kind.{Kind}
@@ -244,31 +243,16 @@ told_otherwise Fed Fed' kind most s next r r' old new result f a = record {
   first = a.first;
 }
 
-module _ (Fed : List (List (List ℕ)) → Type 0) (kind : Kind) (most : ℕ) (s : StretchState) where
-  -- a stretch was fed, and the next one was read, which stands in another place now
-  pub next_read : (next now : StretchState) (r r' : Reading) (old new : Option (List ℕ)) (full : Bool) → ReadsStretch kind most next.windows r r' old new (Ok full) → Fed s.windows → next.first ≡ r.cutter.number → now ≡ next → FeedsAndReads Fed kind most s now r r' old new (Ok full)
-  next_read next now r r' old new full reads fed first is = record {
-    more = [];
-    between = r;
-    mid = old;
-    goes = stretch_starts kind most [] r old refl;
-    fed = subst Fed (sym (append-nil s.windows)) fed;
-    last = next.windows;
-    reads = reads;
-    is = ap (λ z. z.windows) (sym is);
-    first = ap (λ z. z.first) is ∙ first;
-  }
-
-  -- or a fault came
-  pub next_refused : (now : StretchState) (r r' : Reading) (old new : Option (List ℕ)) (why : Fault) (result : Result Bool Fault) (windows : List (List (List ℕ))) → ReadsStretch kind most windows r r' old new result → IsErrAnd result (λ e. e ≡ why) → FeedsAndReads Fed kind most s now r r' old new result
-  next_refused now r r' old new why result windows reads is = record {
-    more = [];
-    between = r;
-    mid = old;
-    goes = stretch_starts kind most [] r old refl;
-    fed = none_on_err _ result (λ e. e ≡ why) is;
-    last = windows;
-    reads = reads;
-    is = none_on_err _ result (λ e. e ≡ why) is;
-    first = none_on_err _ result (λ e. e ≡ why) is;
-  }
+-- a stretch was fed, and then the next one was read into its place
+pub next_read : (Fed : List (List (List ℕ)) → Type 0) (kind : Kind) (most : ℕ) (s next : StretchState) (r r' : Reading) (old new : Option (List ℕ)) (result : Result Bool Fault) → ReadsStretch kind most next.windows r r' old new result → Fed s.windows → next.first ≡ r.cutter.number → FeedsAndReads Fed kind most s next r r' old new result
+next_read Fed kind most s next r r' old new result reads fed first = record {
+  more = [];
+  between = r;
+  mid = old;
+  goes = stretch_starts kind most [] r old refl;
+  fed = on_ok result (subst Fed (sym (append-nil s.windows)) fed);
+  last = next.windows;
+  reads = reads;
+  is = on_ok result refl;
+  first = on_ok result first;
+}

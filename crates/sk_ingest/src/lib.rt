@@ -2,7 +2,6 @@
 #![tactic(auto)]
 
 mod at_once;
-mod beside;
 mod ingesting;
 mod lanes;
 pub mod laws;
@@ -11,6 +10,7 @@ mod pool;
 mod report;
 mod stretches;
 mod supply;
+mod turn_lane;
 mod ways;
 mod windowed;
 mod word;

@@ -160,7 +160,7 @@ pub(crate) fn feed_stretch<C: Composable, R: Wait>(
 }
 
 // Feeds windows to all updaters, one after another.
-fn feed_windows_in_turn<C: Composable, R: Wait>(
+pub(crate) fn feed_windows_in_turn<C: Composable, R: Wait>(
     rt: &R,
     opened: &mut Opened<C>,
     windows: &[Window],

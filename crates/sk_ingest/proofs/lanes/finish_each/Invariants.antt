@@ -1,4 +1,3 @@
-use Rattle.std.proofs.Common.{◌≡◌, length}
 use Rattle.sk_ingest.proofs.LaneLaws.{FinishesTo}
 use Rattle.sk_ingest.proofs.lanes.finish_each.Given as goal
 

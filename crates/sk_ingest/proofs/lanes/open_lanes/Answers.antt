@@ -1,8 +1,5 @@
-use Rattle.std.proofs.Common.{◌≡◌, ◌≤◌, ◌+◌, ◌∷◌, [], ◌++◌, length, map, reverse, All, sym, ap, refl, ◌∙◌, subst, arith}
+use Rattle.std.proofs.Common.{◌∷◌, [], ◌++◌, map, reverse, sym, ap, ◌∙◌, subst}
 use Rattle.std.proofs.lemmas.List.{map-append, reverse-reverse}
-use Rattle.std.proofs.lemmas.List.Elements.{All-pop}
-use Rattle.sk_hub.specs.Updaters.{kept_of}
-use Rattle.sk_feed.specs.Deliveries.{IsOpen}
 use Rattle.sk_ingest.specs.Lanes.{AreOpen}
 use Rattle.sk_feed.proofs.Moved.{moved_one}
 use Rattle.sk_ingest.proofs.LaneLaws.{no_rings, rings_more, few_turned, few_left}

@@ -1,4 +1,4 @@
-use Rattle.std.proofs.Common.{◌≡◌, length, drop, sym, ap, subst, arith}
+use Rattle.std.proofs.Common.{◌≡◌, length, drop, sym, subst, arith}
 use Rattle.std.proofs.lemmas.List.{take_at}
 use Rattle.sk_ingest.specs.Lanes.{HaveRun}
 use Rattle.sk_ingest.proofs.lanes.run_all.Goals as goal

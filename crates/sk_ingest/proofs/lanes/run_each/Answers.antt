@@ -1,4 +1,4 @@
-use Rattle.std.proofs.Common.{◌≡◌, length, arith}
+use Rattle.std.proofs.Common.{arith}
 use Rattle.sk_ingest.proofs.lanes.run_each.Goals as goal
 
 pub returns : goal.returns

@@ -1,6 +1,5 @@
 use Rattle.std.proofs.Common.{◌≡◌, ◌+◌, [], ◌++◌, length, map, OnOk, refl, sym, ap, ◌∙◌, subst, arith}
 use Rattle.std.proofs.lemmas.List.{length-map}
-use Rattle.sk_read.specs.declared.fault.Fault.TheVariants as fault
 use Rattle.sk_fill.specs.Windows.{all_lines}
 use Rattle.sk_feed.specs.Shares.{TakeShares}
 use Rattle.sk_feed.specs.Deliveries.{IsNext, windows_of}

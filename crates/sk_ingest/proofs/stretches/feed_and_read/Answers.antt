@@ -1,19 +1,19 @@
-use Rattle.std.proofs.Common.{subst}
-use Rattle.sk_fill.specs.Stretches.{ReadsStretch}
-use Rattle.sk_fill.proofs.StretchLaws.{stretch_passed, read_then_none}
+use Rattle.std.proofs.Common.{arith}
+use Rattle.sk_fill.proofs.Filled.{read_few}
+use Rattle.sk_feed.proofs.Rooms.{room_for}
+use Rattle.sk_ingest.proofs.SupplyLaws.{nothing_fed, next_read}
 use Rattle.sk_ingest.proofs.stretches.feed_and_read.Goals as goal
 
-pub returns-in_err-more-clause-reads : goal.returns-in_err-more-clause-reads
-returns-in_err-more-clause-reads g c =
-    stretch_passed c.args.plan.now.kind c.args.next.now.most c.feed_reading-fed.new.next.windows c.args.reader.now c.feed_reading-fed.new.reader (g.S.Source.left c.args.source.now) (g.S.Source.left c.feed_reading-fed.new.source) c.in_err-more.field-0.0
-    c.feed_reading-fed.result.1 c.from_residual.result c.feed_reading-fed.ensures.reads c.in_err-more.was c.from_residual.ensures.1
+pub feed_stretch-requires-clause-room : goal.feed_stretch-requires-clause-room
+feed_stretch-requires-clause-room g c =
+    let start = c.requires.started in let s = c.args.stretch.now in
+    room_for s.windows s.first c.args.opened.now.updaters.items c.requires.few
+    (omega (arith, start.3, read_few c.args.reader.now (g.S.Source.left c.args.source.now) start.0 start.1 start.2))
 
-pub returns-in_err-fed-clause-reads : goal.returns-in_err-fed-clause-reads
-returns-in_err-fed-clause-reads g c =
-    read_then_none c.args.plan.now.kind c.args.next.now.most c.feed_reading-fed.new.next.windows c.args.reader.now c.feed_reading-fed.new.reader (g.S.Source.left c.args.source.now) (g.S.Source.left c.feed_reading-fed.new.source) c.in_ok-more.more
-    c.feed_reading-fed.result.1 c.from_residual-in_err-fed.result c.requires.least c.feed_reading-fed.ensures.reads c.in_ok-more.was c.from_residual-in_err-fed.ensures.1
+pub returns-in_err-feed_stretch-clause-goes : goal.returns-in_err-feed_stretch-clause-goes
+returns-in_err-feed_stretch-clause-goes g c = nothing_fed _ c.args.plan.now.kind c.args.stretch.now.most c.args.stretch.now _ c.args.reader.now (g.S.Source.left c.args.source.now) c.from_residual.result c.from_residual.ensures.1 c.requires.least
 
-pub returns-clause-reads : goal.returns-clause-reads
-returns-clause-reads g c =
-    subst (ReadsStretch c.args.plan.now.kind c.args.next.now.most c.feed_reading-fed.new.next.windows c.args.reader.now c.feed_reading-fed.new.reader (g.S.Source.left c.args.source.now) (g.S.Source.left c.feed_reading-fed.new.source)) c.in_ok-more.was
-    c.feed_reading-fed.ensures.reads
+pub returns-clause-goes : goal.returns-clause-goes
+returns-clause-goes g c =
+    next_read _ c.args.plan.now.kind c.args.stretch.now.most c.args.stretch.now c.fill_stretch.new.stretch c.args.reader.now c.fill_stretch.new.reader (g.S.Source.left c.args.source.now) (g.S.Source.left c.fill_stretch.new.source) c.fill_stretch.result
+    c.fill_stretch.ensures.reads c.in_ok-feed_stretch.ensures.fed c.fill_stretch.ensures.first

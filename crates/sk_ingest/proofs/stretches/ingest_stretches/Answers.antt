@@ -1,4 +1,4 @@
-use Rattle.std.proofs.Common.{◌≡◌, ◌+◌, ◌≤◌, [], ◌++◌, length, true, OnOk, inl, refl, sym, ap, ◌∙◌, subst, length-append}
+use Rattle.std.proofs.Common.{◌≡◌, ◌≤◌, [], ◌++◌, true, OnOk, inl, refl, sym, ap, ◌∙◌, subst}
 use Rattle.std.proofs.lemmas.List.Elements.{All-nil}
 use Rattle.sk_read.specs.Items.{IsGood}
 use Rattle.sk_read.specs.Reads.{ReadsAll}
@@ -50,7 +50,6 @@ stretch-init g c =
     let start = none_went k.keeps_of k.hint_of plan hub r old c.in_ok-reader.ensures.most (c.in_ok-reader.ensures.read old) in record {
       went = stretches_go k.keeps_of k.hint_of plan [] 0 true hub hub r old old start windows c.fill_stretch.new.stretch.first c.fill_stretch.result more hub r' new refl (none_fed k.keeps_of k.hint_of plan.kind hub) reads c.in_ok-more.was c.fill_stretch.ensures.first;
       stretch = c.fill_stretch.ensures.most ∙ c.new-stretch.ensures.most;
-      next = c.new-next.ensures.most;
       steady = subst (λ x. OnOk x (g.S.Source.faults c.fill_stretch.new.source ≡ g.S.Source.faults c.args.source.now)) c.in_ok-more.was
           (steady_on_ok _ (g.S.Source.faults c.args.source.now) (g.S.Source.faults c.fill_stretch.new.source) c.fill_stretch.result c.fill_stretch.ensures.cause);
       stays = c.fill_stretch.ensures.stays;
@@ -71,9 +70,6 @@ feed_on-requires-clause-least g c κs within = subst (λ m. 1 ≤ m) (sym c.stre
 
 pub feed_on-requires-clause-highest : goal.feed_on-requires-clause-highest
 feed_on-requires-clause-highest g c κs within = subst (λ m. m ≤ most_lines) (sym c.stretch.invariant.stretch) c.requires.window.1
-
-pub feed_on-requires-clause-same : goal.feed_on-requires-clause-same
-feed_on-requires-clause-same g c κs within = c.stretch.invariant.next ∙ sym c.stretch.invariant.stretch
 
 pub feed_on-requires-clause-started : goal.feed_on-requires-clause-started
 feed_on-requires-clause-started g c κs within =
@@ -109,8 +105,7 @@ stretch-preserved g c =
     let on = subst (λ m. FeedsAndReads (λ windows. FeedsWindows k.keeps_of k.hint_of plan.kind windows b x) plan.kind m s next c.stretch.reader r' mid new c.feed_on.result) c.stretch.invariant.stretch c.feed_on.ensures.goes in
     let now = feeds_on k.keeps_of k.hint_of plan s next hub b x c.stretch.reader r' old mid new c.feed_on.result went on more c.in_ok-more-2.was in record {
       went = now;
-      stretch = c.in_ok-more-2.ensures.most.0 ∙ c.stretch.invariant.stretch;
-      next = c.in_ok-more-2.ensures.most.1 ∙ c.stretch.invariant.next;
+      stretch = c.in_ok-more-2.ensures.most ∙ c.stretch.invariant.stretch;
       steady = subst (λ z. OnOk z (g.S.Source.faults c.feed_on.new.source ≡ g.S.Source.faults c.stretch.source)) c.in_ok-more-2.was
           (steady_on_ok _ (g.S.Source.faults c.stretch.source) (g.S.Source.faults c.feed_on.new.source) c.feed_on.result c.feed_on.ensures.cause) ∙ c.stretch.invariant.steady;
       stays = c.feed_on.ensures.stays ∙ c.stretch.invariant.stays;
