@@ -1,20 +1,18 @@
 -- Stretches that are given to feeders through rings.
-use Rattle.std.proofs.Common.{◌≡◌, ◌≢◌, ℕ, ◌+◌, ◌<◌, ◌≤◌, Bool, List, [], ◌∷◌, ◌++◌, length, get_or, All, Result, Ok, OnOk, sym, ap, refl, ◌∙◌, subst, arith, append-nil, append_assoc, length-append}
+use Rattle.std.proofs.Common.{◌≡◌, ℕ, ◌+◌, ◌<◌, ◌≤◌, Bool, List, [], ◌∷◌, ◌++◌, length, get_or, sym, ap, refl, ◌∙◌, subst, arith, append-nil, append_assoc, length-append}
 use Rattle.std.proofs.lemmas.Grind.{flat_map-append}
 use mathlib.Core.List.{IsPrefix}
-use Rattle.rtrb.specs.Ring.{sent, received, known_items, IsPair, SameProducer, SameConsumer}
+use Rattle.rtrb.specs.Ring.{received, known_items, SameConsumer}
 use Rattle.rtrb.specs.declared.consumer.Consumer.{Consumer}
-use Rattle.rtrb.specs.declared.producer.Producer.{Producer}
 use Rattle.sk_model.specs.Entries.{Entry}
 use Rattle.sk_model.specs.Limits.{most_kept}
 use Rattle.sk_hub.specs.Updaters.{UpdaterState, kept_of}
 use Rattle.sk_read.specs.declared.kind.Kind.{Kind}
 use Rattle.sk_fill.specs.Windows.{all_lines}
 use Rattle.sk_feed.specs.Feeds.{Takes}
-use Rattle.sk_fill.specs.Blocks.{blocks_of}
 use Rattle.sk_feed.specs.Shares.{share}
 use Rattle.sk_fill.specs.Stretches.{StretchState}
-use Rattle.sk_feed.specs.Deliveries.{windows_of, EndAt, IsNext, IsUpTo, HasFed, IsOpen}
+use Rattle.sk_feed.specs.Deliveries.{windows_of, EndAt, IsNext, IsUpTo, HasFed}
 use Rattle.sk_feed.proofs.Rooms.{few_shares, few_blocks}
 use Rattle.sk_feed.proofs.Shares.{share_none, share_append}
 use Rattle.sk_feed.proofs.Updaters.{none_refl, takes_none, takes_trans, takes_few}

@@ -1,4 +1,4 @@
-use Rattle.std.proofs.Common.{◌≡◌, ◌-◌, ◌<◌, ℕ, List, length, All, true, sym, subst, arith, refl, inl}
+use Rattle.std.proofs.Common.{◌-◌, ℕ, List, All, sym, subst, arith, refl, inl}
 use Rattle.std.specs.Prelude.{IsSome}
 use Rattle.sk_model.specs.Lines.{lines_of}
 use Rattle.sk_model.specs.Width.{item_end}

@@ -2,7 +2,7 @@ use Rattle.std.proofs.Common.{◌≡◌, ◌≤◌, ◌<◌, ◌++◌, [], ℕ, 
 use Rattle.std.proofs.lemmas.Bool.{false≢true}
 use Rattle.std.specs.Io.KnownBytes.{Consumes, IsAtEnd}
 use Rattle.std.proofs.KnownBytes.{Consumes-nil, Consumes-trans, Consumes-kept}
-use Rattle.sk_read.specs.Reading.{Reading, HasRead}
+use Rattle.sk_read.specs.Reading.{HasRead}
 use Rattle.sk_read.specs.declared.reader.LineFault.{LineFault}
 use Rattle.sk_read.proofs.CauseLaws.{steady_ok}
 use Rattle.sk_read.proofs.Readings.{read_on, in_time_more, have_ended, fed_in_time, goes_long, goes_err, goes_end}

@@ -1,4 +1,4 @@
-use Rattle.std.proofs.Common.{◌≡◌, ◌++◌, ℕ, refl, sym, ap, ◌∙◌, subst, arith}
+use Rattle.std.proofs.Common.{◌++◌, refl, sym, ap, ◌∙◌, subst, arith}
 use Rattle.sk_model.specs.Lines.{lines_of}
 use Rattle.sk_lines.specs.Cutter.{Cutter}
 use Rattle.sk_lines.specs.Runs.{run_between}
