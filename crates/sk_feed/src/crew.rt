@@ -63,6 +63,11 @@ impl Crew {
         self.ended.load(Ordering::SeqCst)
     }
 
+    /// Whether a feeder has ended before the reader.
+    pub fn has_failed(&self) -> bool {
+        self.failed.load(Ordering::SeqCst)
+    }
+
     /// Wakes the reader if it sleeps.
     pub fn wake_reader(&self) {
         self.reader.unpark();
@@ -90,7 +95,7 @@ impl Crew {
     /// The reader waits for feeders, the so manieth time, or answers `false` where it should end: one has ended, or
     /// they do not begin.
     pub fn wait_for_feeders<R: Wait>(&self, rt: &R, times: u32) -> bool {
-        if self.failed.load(Ordering::SeqCst) {
+        if self.has_failed() {
             return false;
         }
         if self.begun.load(Ordering::SeqCst) == self.feeders.len() as u64 {

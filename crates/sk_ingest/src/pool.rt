@@ -103,6 +103,10 @@ impl Pool {
     {
         let mut times = 0;
         'wait: for _ in rt.forever() {
+            // What is read for a feeder that has ended is fed by one thread alone.
+            if crew.has_failed() {
+                return None;
+            }
             if let Some(stretch) = self.take() {
                 return Some(stretch);
             }
