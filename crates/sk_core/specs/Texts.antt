@@ -1,5 +1,5 @@
 -- How schedules are written: fields parted by one space, a word first and then numbers.
-use Rattle.std.specs.Prelude.{ℕ, ◌++◌, ◌==◌, ◌&&◌, nat_le, if◌then◌else◌, List, [], ◌∷◌, codes, decimal, Option, Some, None, option_and_then}
+use Rattle.std.specs.Prelude.{ℕ, ◌++◌, ◌==◌, ◌&&◌, nat_le, nat_lt, if◌then◌else◌, List, [], ◌∷◌, codes, decimal, Option, Some, None, option_and_then}
 use Rattle.std.specs.Str.{bytes_eq}
 use Rattle.sk_model.specs.Numbers.{number_of}
 use Rattle.sk_lines.specs.Fractions.{estimate_text}
@@ -38,10 +38,10 @@ event_of_one word n =
     else (if bytes_eq word (codes "yield") then Some (YieldTurn n)
     else None))))))))))))
 
--- the event that a word and two numbers name
+-- the event that a word and two numbers name; none offers 0
 unfoldable pub event_of_two : List ℕ → ℕ → ℕ → Option Event
 event_of_two word n m =
-    if bytes_eq word (codes "offer") then Some (Offer n m)
+    if bytes_eq word (codes "offer") && nat_lt 0 m then Some (Offer n m)
     else (if bytes_eq word (codes "join") then Some (Join n m)
     else (if bytes_eq word (codes "admit") then Some (Admit n m)
     else None))

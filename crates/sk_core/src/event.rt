@@ -4,7 +4,7 @@
 /// the updaters.
 #[derive(Clone, Copy, Debug, PartialEq, Eq)]
 pub enum Event {
-    /// The updater is offered the item.
+    /// The updater is offered the item. An offer of 0 is never enabled.
     Offer(u64, u64),
     Look(u64),
     Swap(u64),
@@ -47,7 +47,7 @@ pub enum Answer {
     /// With the hint given back.
     Returned(u64),
     /// As a numerator and a denominator, not reduced.
-    Estimate(u64, u64),
+    Estimate(u128, u64),
     /// The number of the new token.
     Token(u64),
     Joined,

@@ -8,7 +8,7 @@ use sk_lines::read_number;
 use sk_model::limits::{LEAST_K, MOST_K, MOST_SIZE, MOST_UPDATERS};
 use sk_theta::ITEM_END;
 
-/// The event that a line names: a word and one or two numbers, parted by one space.
+/// The event that a line names: a word and one or two numbers, parted by one space. No line offers 0.
 pub fn read_event(line: &[u8]) -> Option<Event>
     ensures { result ≡ event_of line.now }
 {
@@ -109,7 +109,7 @@ fn event_of_two(word: &[u8], n: u64, m: u64) -> Option<Event>
     ensures { result ≡ event_of_two word.now n m }
 {
     match word {
-        b"offer" => Some(Event::Offer(n, m)),
+        b"offer" if m > 0 => Some(Event::Offer(n, m)),
         b"join" => Some(Event::Join(n, m)),
         b"admit" => Some(Event::Admit(n, m)),
         _ => None,

@@ -1,8 +1,8 @@
-//! MurmurHash3_x64_128, and the 48 bits of it that stand for an item.
+//! MurmurHash3_x64_128, and the 63 bits of it that stand for an item.
 #![tactic(auto)]
 
 ghost use Rattle.std.specs.Prelude.{◌≡◌, ◌+◌, ◌<◌, ◌≤◌, ◌^◌, length};
-ghost use Rattle.sk_model.specs.Murmur.{word_at, scrambled_first, scrambled_second, after_block, with_tail, finished_word, finished, murmur128_of, hash_of};
+ghost use Rattle.sk_model.specs.Murmur.{word_at, scrambled_first, scrambled_second, after_block, with_tail, finished_word, finished, murmur128_of, hash_of, hash48_of};
 ghost use Rattle.sk_model.specs.Width.{IsItem};
 
 #[cfg(test)]
@@ -166,15 +166,15 @@ pub fn murmur128(seed: u32, bytes: &[u8]) -> (u64, u64)
     finish(h, bytes.len() as u64)
 }
 
-/// An item's hash: the upper 48 bits of the first half.
+/// An item's hash: the upper 63 bits of the first half, or 1 if they are 0.
 #[inline(always)]
 #[tactic(auto, unfolding(sk_model::specs::Murmur::hash_of))]
-pub fn hash48(seed: u32, bytes: &[u8]) -> u64
+pub fn hash63(seed: u32, bytes: &[u8]) -> u64
     ensures value { result ≡ hash_of seed bytes.now }
     ensures item { IsItem result }
 {
     if bytes.len() == BLOCK_LEN {
-        return hash_block(seed, bytes).0 >> 16;
+        return (hash_block(seed, bytes).0 >> 1).max(1);
     }
     hash_other(seed, bytes)
 }
@@ -185,6 +185,15 @@ pub fn hash48(seed: u32, bytes: &[u8]) -> u64
 fn hash_other(seed: u32, bytes: &[u8]) -> u64
     ensures value { result ≡ hash_of seed bytes.now }
     ensures item { IsItem result }
+{
+    (murmur128(seed, bytes).0 >> 1).max(1)
+}
+
+/// The upper 48 bits of the first half: the hash by which images of version 1 were made.
+#[tactic(auto, unfolding(sk_model::specs::Murmur::hash48_of))]
+pub fn hash48(seed: u32, bytes: &[u8]) -> u64
+    ensures value { result ≡ hash48_of seed bytes.now }
+    ensures below { result < 2 ^ 48 }
 {
     murmur128(seed, bytes).0 >> 16
 }

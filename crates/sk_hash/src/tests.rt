@@ -2,19 +2,31 @@ use super::*;
 
 #[test]
 fn known_hashes(rt: HostRuntime) {
-    let cases: [(&str, u64, u64); 4] = [
-        ("", 0, 0),
-        ("hello", 0xcbd8_a7b3_41bd_9b02, 0xcbd8_a7b3_41bd),
-        ("hello, world", 0x342f_ac62_3a5e_bc8e, 0x342f_ac62_3a5e),
+    let cases: [(&str, u64, u64, u64); 4] = [
+        ("", 0, 1, 0),
+        (
+            "hello",
+            0xcbd8_a7b3_41bd_9b02,
+            0x65ec_53d9_a0de_cd81,
+            0xcbd8_a7b3_41bd,
+        ),
+        (
+            "hello, world",
+            0x342f_ac62_3a5e_bc8e,
+            0x1a17_d631_1d2f_5e47,
+            0x342f_ac62_3a5e,
+        ),
         (
             "The quick brown fox jumps over the lazy dog.",
             0xcd99_481f_9ee9_02c9,
+            0x66cc_a40f_cf74_8164,
             0xcd99_481f_9ee9,
         ),
     ];
-    for (text, first, item) in cases {
+    for (text, first, item, item48) in cases {
         assert_eq!(rt; murmur128(0, text.as_bytes()).0, first, "of {text}");
-        assert_eq!(rt; hash48(0, text.as_bytes()), item, "of {text}");
+        assert_eq!(rt; hash63(0, text.as_bytes()), item, "of {text}");
+        assert_eq!(rt; hash48(0, text.as_bytes()), item48, "of {text}");
     }
 }
 

@@ -20,10 +20,19 @@ fn a_worked_sketch_shows_its_heap_and_table(rt: HostRuntime) -> Result<(), Fail>
     assert_eq!(rt; sketch.heap(), [4, 3].as_slice());
     assert_eq!(rt; sketch.table(), [5, 0, 0, 4].as_slice());
     assert!(rt; !sketch.update(8));
-    assert_eq!(rt; sketch.fraction(), (281_474_976_710_656, 4));
+    assert_eq!(rt; sketch.fraction(), (9_223_372_036_854_775_808, 4));
     assert_eq!(rt; sketch.list()?.as_slice(), [3, 4].as_slice());
-    assert_eq!(rt; unpack(sketch.packed()), Reply { count: 2, theta: 4 });
+    assert_eq!(rt; unpack(sketch.packed(), 2), Reply { count: 2, theta: 4 });
     assert_eq!(rt; sketch.k(), 2);
+    Ok(())
+}
+
+#[test]
+fn the_least_theta_is_k(rt: HostRuntime) -> Result<(), Fail> {
+    let mut sketch = HeapTheta::new(rt.alloc(), 3)?;
+    sketch.merge(&[3, 1, 2]);
+    assert_eq!(rt; sketch.packed(), 3);
+    assert_eq!(rt; unpack(sketch.packed(), 3), Reply { count: 3, theta: 3 });
     Ok(())
 }
 
@@ -62,7 +71,7 @@ fn a_repeat_in_a_batch_counts_once(rt: HostRuntime) -> Result<(), Fail> {
     batch.push(3);
     Composable::merge(&mut sketch, &rt, 0, &batch)?;
     assert_eq!(rt;
-        unpack(Composable::packed(&sketch)),
+        unpack(Composable::packed(&sketch), 2),
         Reply { count: 2, theta: 5 }
     );
     assert_eq!(rt; sketch.hint(), 5);
@@ -72,17 +81,17 @@ fn a_repeat_in_a_batch_counts_once(rt: HostRuntime) -> Result<(), Fail> {
     Ok(())
 }
 
-// The next of a fixed sequence (Knuth's MMIX constants), below a bound and below the end of the items.
+// The next of a fixed sequence (Knuth's MMIX constants), an item from 1 to a bound.
 fn draw(state: &mut u64, bound: u64) -> u64
     ensures { IsItem result }
 {
     *state = state
         .wrapping_mul(6_364_136_223_846_793_005)
         .wrapping_add(1_442_695_040_888_963_407);
-    (*state >> 16) % bound.max(1).min(ITEM_END)
+    (*state ^ *state >> 32) % bound.clamp(1, ITEM_END - 1) + 1
 }
 
-// Whether both forms, over so many numbers below the bound, are the plain form of them.
+// Whether both forms, over random numbers up to the bound, are the plain form of them.
 fn agrees(alloc: Global, k: u32, bound: u64, count: u32, state: &mut u64) -> Result<bool, Fail>
     requires least { least_k ≤ k }
     requires most { k ≤ most_k }
@@ -103,7 +112,7 @@ fn agrees(alloc: Global, k: u32, bound: u64, count: u32, state: &mut u64) -> Res
     Ok(
         heap.list()?.as_slice() == kept.as_slice()
             && array.list()?.as_slice() == kept.as_slice()
-            && (u128::from(fraction.0), fraction.1) == (numerator, theta)
+            && fraction == (numerator, theta)
             && heap.packed() == array.packed(),
     )
 }

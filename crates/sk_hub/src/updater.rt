@@ -48,7 +48,7 @@ impl<C: Composable> Model for Updater<C> {
 }
 
 impl<C: Composable> Updater<C> {
-    /// Keeps an item below 2^48, unless no later reply would change by it. At most 2^40 items are kept.
+    /// Keeps an item, from 1 to 2^63 - 1, unless no later reply would change by it. At most 2^40 items are kept.
     #[inline(always)]
     pub fn update(&mut self, item: u64) -> Update
         requires item { IsItem item }

@@ -1,13 +1,12 @@
 -- The laws of the k smallest.
-use Rattle.std.proofs.Common.{◌≡◌, ℕ, zero, suc, ◌+◌, ◌-◌, ◌*◌, ◌/◌, ◌%◌, ◌^◌, ◌<◌, ◌≤◌, Bool, true, false, List, [], ◌∷◌, ◌++◌, length, take, get_or, min, eqb, ltb, cond, ◌==◌, if◌then◌else◌, ◌≢◌, All, Contains, ◌⊎◌, inl, inr, ⊎_elim, refl, sym, ap, ap₂, ◌∙◌, arith, length-take, append_assoc, get_or-take}
+use Rattle.std.proofs.Common.{◌≡◌, ℕ, zero, suc, ◌+◌, ◌-◌, ◌^◌, ◌<◌, ◌≤◌, Bool, true, false, List, [], ◌∷◌, ◌++◌, length, take, get_or, min, ltb, cond, All, Contains, ◌⊎◌, inl, inr, ⊎_elim, refl, sym, ap, ◌∙◌, arith, length-take, append_assoc, get_or-take}
 use Rattle.std.specs.List.Sorted.{IsStrictlyIncreasing}
 use Rattle.std.proofs.lemmas.Bool.Decides.{nat_tests}
 use Rattle.std.proofs.lemmas.List.Elements.{All-contains, Contains-get_or}
 use Rattle.std.proofs.lemmas.List.{take_more}
 use Rattle.std.proofs.lemmas.List.Sums.{fold-append}
-use Rattle.std.proofs.lemmas.Nat.{div-mul-add, mod-mul-add}
-use Rattle.sk_model.specs.Width.{item_end, AreItems}
-use Rattle.sk_model.specs.Sketch.{placed, rising, k_smallest, count_of, theta_of, IsIdle, packed, packed_of, unpacked}
+use Rattle.sk_model.specs.Width.{item_end, IsItem, AreItems}
+use Rattle.sk_model.specs.Sketch.{placed, rising, k_smallest, count_of, theta_to, theta_of, IsIdle, packed_of, unpacked}
 use Rattle.sk_model.proofs.Rising.{RisesFrom, Has, Has-from_Contains, Contains-from_Has, Has-take, RisesFrom-take, RisesFrom-at, RisesFrom-increasing, increasing_from_RisesFrom, same_rising, among_the_least, take_is_least, all_to_last, take-placed, placed-idle, all_placed, RisesFrom-all_placed, Has-all_placed, all_placed-has, length-all_placed, all_placed-at_most, take-all_placed}
 
 -- ---- the distinct members, rising
@@ -72,7 +71,7 @@ k_smallest_has_the_least k hashes x c =
 
 pub k_smallest_are_items : (k : ℕ) (hashes : List ℕ) → AreItems hashes → AreItems (k_smallest k hashes)
 k_smallest_are_items k hashes items i d inside =
-    All-contains (λ x. x < item_end) hashes (get_or (k_smallest k hashes) i d) items
+    All-contains IsItem hashes (get_or (k_smallest k hashes) i d) items
     (k_smallest_has_members k hashes (get_or (k_smallest k hashes) i d) (Contains-get_or (k_smallest k hashes) i d inside))
 
 pub k_smallest-nil : (k : ℕ) → k_smallest k [] ≡ []
@@ -103,24 +102,38 @@ k_smallest_is k xs hashes up most to from =
 
 -- ---- theta
 
--- theta is the end where there are fewer than k, and otherwise the last of the k
-pub theta_cases : (k : ℕ) (hashes : List ℕ) → ((count_of k hashes < k) × (theta_of k hashes ≡ item_end)) ⊎ ((count_of k hashes ≡ k) × (theta_of k hashes ≡ get_or (k_smallest k hashes) (k - 1) 0))
-theta_cases k hashes = by_test (ltb (count_of k hashes) k) (λ is. grind (arith, nat_tests)) (λ is. grind (arith, nat_tests, count_within k hashes))
+-- theta is the end if there are fewer than k, and otherwise the last of the k
+theta_to_cases : (end k : ℕ) (hashes : List ℕ) → ((count_of k hashes < k) × (theta_to end k hashes ≡ end)) ⊎ ((count_of k hashes ≡ k) × (theta_to end k hashes ≡ get_or (k_smallest k hashes) (k - 1) 0))
+theta_to_cases end k hashes = by_test (ltb (count_of k hashes) k) (λ is. grind (arith, nat_tests)) (λ is. grind (arith, nat_tests, count_within k hashes))
   where
-    by_test : (b : Bool) → (b ≡ true → count_of k hashes < k) → (b ≡ false → count_of k hashes ≡ k) → ((count_of k hashes < k) × (cond b item_end (get_or (k_smallest k hashes) (k - 1) 0) ≡ item_end)) ⊎ ((count_of k hashes ≡ k) × (cond b item_end (get_or (k_smallest k hashes) (k - 1) 0) ≡ get_or (k_smallest k hashes) (k - 1) 0))
+    by_test : (b : Bool) → (b ≡ true → count_of k hashes < k) → (b ≡ false → count_of k hashes ≡ k) → ((count_of k hashes < k) × (cond b end (get_or (k_smallest k hashes) (k - 1) 0) ≡ end)) ⊎ ((count_of k hashes ≡ k) × (cond b end (get_or (k_smallest k hashes) (k - 1) 0) ≡ get_or (k_smallest k hashes) (k - 1) 0))
     by_test true less full = inl (less refl, refl)
     by_test false less full = inr (full refl, refl)
 
-pub theta_of_full : (k : ℕ) (hashes : List ℕ) → count_of k hashes ≡ k → k - 1 ≤ theta_of k hashes
-theta_of_full k hashes full = from_cases (theta_cases k hashes)
-  where
-    at_last : (k : ℕ) → count_of k hashes ≡ k → k - 1 ≤ get_or (k_smallest k hashes) (k - 1) 0
-    at_last zero e = omega arith
-    at_last (suc i) e = omega (arith, RisesFrom-at 0 (k_smallest (suc i) hashes) (suc i - 1) (RisesFrom-k_smallest (suc i) hashes) (omega arith))
+theta_cases : (k : ℕ) (hashes : List ℕ) → ((count_of k hashes < k) × (theta_of k hashes ≡ item_end)) ⊎ ((count_of k hashes ≡ k) × (theta_of k hashes ≡ get_or (k_smallest k hashes) (k - 1) 0))
+theta_cases k hashes = theta_to_cases item_end k hashes
 
-    from_cases : ((count_of k hashes < k) × (theta_of k hashes ≡ item_end)) ⊎ ((count_of k hashes ≡ k) × (theta_of k hashes ≡ get_or (k_smallest k hashes) (k - 1) 0)) → k - 1 ≤ theta_of k hashes
-    from_cases (inl p) = absurd (omega (arith, p.0))
-    from_cases (inr p) = rw (p.1) (at_last k full)
+-- the i + 1 smallest rise from b, so the last of them is at least b + i
+last_at_least : (b end i : ℕ) (hashes : List ℕ) → RisesFrom b (k_smallest (suc i) hashes) → count_of (suc i) hashes ≡ suc i → b + i ≤ theta_to end (suc i) hashes
+last_at_least b end i hashes up full =
+    ⊎_elim (λ p. absurd (omega (arith, p.0)))
+    (λ p. omega (arith, p.1, RisesFrom-at b (k_smallest (suc i) hashes) (suc i - 1) up (omega arith)))
+    (theta_to_cases end (suc i) hashes)
+
+pub theta_of_full : (end k : ℕ) (hashes : List ℕ) → count_of k hashes ≡ k → k - 1 ≤ theta_to end k hashes
+theta_of_full end zero hashes full = omega arith
+theta_of_full end (suc i) hashes full = omega (arith, last_at_least 0 end i hashes (RisesFrom-k_smallest (suc i) hashes) full)
+
+-- items rise from 1, so the last of k is at least k
+pub rise_from_1 : (xs : List ℕ) → RisesFrom 0 xs → AreItems xs → RisesFrom 1 xs
+rise_from_1 [] up items = tt
+rise_from_1 (x ∷ xs) up items = (omega (arith, items 0 0 (omega arith)), up.1)
+
+pub theta_of_items : (k : ℕ) (hashes : List ℕ) → AreItems hashes → count_of k hashes ≡ k → k ≤ theta_of k hashes
+theta_of_items zero hashes items full = omega arith
+theta_of_items (suc i) hashes items full =
+    let kept = k_smallest (suc i) hashes in
+    omega (arith, last_at_least 1 item_end i hashes (rise_from_1 kept (RisesFrom-k_smallest (suc i) hashes) (k_smallest_are_items (suc i) hashes items)) full)
 
 pub theta_within : (k : ℕ) (hashes : List ℕ) → AreItems hashes → theta_of k hashes ≤ item_end
 theta_within k hashes items = ⊎_elim (λ p. omega (arith, p.1)) (λ p. rw (p.1) (last_within k p.0)) (theta_cases k hashes)
@@ -133,8 +146,11 @@ theta_within k hashes items = ⊎_elim (λ p. omega (arith, p.1)) (λ p. rw (p.1
         nothing i (x ∷ xs) e = absurd (omega arith)
     last_within (suc i) e = omega (arith, k_smallest_are_items (suc i) hashes items (suc i - 1) 0 (omega arith))
 
+pub theta_to_positive : (end k : ℕ) (hashes : List ℕ) → 1 ≤ end → 2 ≤ k → 1 ≤ theta_to end k hashes
+theta_to_positive end k hashes one two = ⊎_elim (λ p. omega (arith, p.1)) (λ p. omega (arith, theta_of_full end k hashes p.0)) (theta_to_cases end k hashes)
+
 pub theta_positive : (k : ℕ) (hashes : List ℕ) → 2 ≤ k → 1 ≤ theta_of k hashes
-theta_positive k hashes two = ⊎_elim (λ p. omega (arith, p.1)) (λ p. omega (arith, theta_of_full k hashes p.0)) (theta_cases k hashes)
+theta_positive k hashes two = theta_to_positive item_end k hashes (omega arith) two
 
 -- ---- items that can no longer change a sketch
 
@@ -142,7 +158,7 @@ below_last : (k h : ℕ) (xs : List ℕ) → RisesFrom 0 xs → length xs ≡ k 
 below_last zero h xs up e le = λ i d inside. absurd (omega arith)
 below_last (suc i) h xs up e le = let same : suc i - 1 ≡ i = omega arith in all_to_last 0 h i xs up (sym e) (rw same at le)
 
-idle_all : (k h : ℕ) (hashes : List ℕ) → h < item_end → IsIdle k h hashes → (count_of k hashes ≡ k) × All (λ y. y ≤ h) (k_smallest k hashes)
+idle_all : (k h : ℕ) (hashes : List ℕ) → IsItem h → IsIdle k h hashes → (count_of k hashes ≡ k) × All (λ y. y ≤ h) (k_smallest k hashes)
 idle_all k h hashes small idle =
     ⊎_elim (λ p. absurd (omega (arith, p.1)))
     (λ p. (p.0, below_last k h (k_smallest k hashes) (RisesFrom-k_smallest k hashes) p.0 (omega (arith, p.1))))
@@ -172,20 +188,20 @@ theta_falls k hashes more items =
     (λ p. ⊎_elim (λ q. absurd (omega (arith, q.0, stays_full k hashes more p.0))) (λ q. omega (arith, p.1, q.1, last_falls k hashes more p.0)) (theta_cases k (hashes ++ more)))
     (theta_cases k hashes)
 
-pub idle_stays : (k h : ℕ) (hashes more : List ℕ) → h < item_end → IsIdle k h hashes → IsIdle k h (hashes ++ more)
+pub idle_stays : (k h : ℕ) (hashes more : List ℕ) → IsItem h → IsIdle k h hashes → IsIdle k h (hashes ++ more)
 idle_stays k h hashes more small idle =
     ⊎_elim (λ p. absurd (omega (arith, p.1)))
     (λ p. ⊎_elim (λ q. absurd (omega (arith, q.0, stays_full k hashes more p.0))) (λ q. omega (arith, p.1, q.1, last_falls k hashes more p.0)) (theta_cases k (hashes ++ more)))
     (theta_cases k hashes)
 
 -- an idle item at the end of the list
-pub idle_once : (k h : ℕ) (hashes : List ℕ) → h < item_end → IsIdle k h hashes → k_smallest k (hashes ++ h ∷ []) ≡ k_smallest k hashes
+pub idle_once : (k h : ℕ) (hashes : List ℕ) → IsItem h → IsIdle k h hashes → k_smallest k (hashes ++ h ∷ []) ≡ k_smallest k hashes
 idle_once k h hashes small idle =
     let kept = k_smallest k hashes in
     let all = idle_all k h hashes small idle in
     one_more k h hashes ∙ ap (λ (n : ℕ). take n (placed h kept)) (sym (all.0)) ∙ placed-idle h kept (all.1)
 
-pub idle_changes_nothing : (k h : ℕ) (hashes more rest : List ℕ) → h < item_end → IsIdle k h hashes → k_smallest k ((hashes ++ more) ++ h ∷ rest) ≡ k_smallest k ((hashes ++ more) ++ rest)
+pub idle_changes_nothing : (k h : ℕ) (hashes more rest : List ℕ) → IsItem h → IsIdle k h hashes → k_smallest k ((hashes ++ more) ++ h ∷ rest) ≡ k_smallest k ((hashes ++ more) ++ rest)
 idle_changes_nothing k h hashes more rest small idle =
     let so_far = hashes ++ more in
     ap (λ (l : List ℕ). k_smallest k l) (sym (append_assoc so_far (h ∷ []) rest))
@@ -195,29 +211,9 @@ idle_changes_nothing k h hashes more rest small idle =
 
 -- ---- both numbers in a word
 
-low_part : (theta : ℕ) → 1 ≤ theta → theta ≤ item_end → (if theta % item_end == 0 then item_end else theta % item_end) ≡ theta
-low_part theta one most = by_test (eqb (theta % item_end) 0) (λ is. ends (grind (arith, nat_tests))) (λ is. inside (grind (arith, nat_tests)))
-  where
-    ends : theta % item_end ≡ 0 → item_end ≡ theta
-    ends e = omega arith
+-- a full list's word is its theta, which is not below k
+pub packed_reads_back : (k : ℕ) (hashes : List ℕ) → AreItems hashes → unpacked k (packed_of k hashes) ≡ (count_of k hashes, theta_of k hashes)
+packed_reads_back k hashes items = ⊎_elim (λ p. grind (arith, nat_tests, p.0, p.1)) (λ p. grind (arith, nat_tests, p.0, theta_of_items k hashes items p.0)) (theta_cases k hashes)
 
-    inside : theta % item_end ≢ 0 → theta % item_end ≡ theta
-    inside e = omega arith
-
-    by_test : (b : Bool) → (b ≡ true → item_end ≡ theta) → (b ≡ false → theta % item_end ≡ theta) → cond b item_end (theta % item_end) ≡ theta
-    by_test true first second = first refl
-    by_test false first second = second refl
-
-pub unpacked_of_packed : (count theta : ℕ) → 1 ≤ theta → theta ≤ item_end → unpacked (packed count theta) ≡ (count, theta)
-unpacked_of_packed count theta one most =
-    let low : theta % item_end < item_end = omega arith in
-    let upper : (count * item_end + theta % item_end) / item_end ≡ count = div-mul-add count item_end (theta % item_end) low in
-    let lower : (count * item_end + theta % item_end) % item_end ≡ theta % item_end = mod-mul-add count item_end (theta % item_end) low in
-    let part : (n : ℕ) → ℕ = λ n. if n == 0 then item_end else n in
-    ap₂ (λ (a b : ℕ). (a, b)) upper (ap part lower ∙ low_part theta one most)
-
-pub packed_reads_back : (k : ℕ) (hashes : List ℕ) → 2 ≤ k → AreItems hashes → unpacked (packed_of k hashes) ≡ (count_of k hashes, theta_of k hashes)
-packed_reads_back k hashes two items = unpacked_of_packed (count_of k hashes) (theta_of k hashes) (theta_positive k hashes two) (theta_within k hashes items)
-
-pub packed_fits : (k : ℕ) (hashes : List ℕ) → k ≤ 32768 → packed_of k hashes < 2 ^ 64
-packed_fits k hashes most = omega (arith, count_within k hashes)
+pub packed_fits : (k : ℕ) (hashes : List ℕ) → k ≤ 2 ^ 63 → AreItems hashes → packed_of k hashes < 2 ^ 64
+packed_fits k hashes most items = grind (arith, nat_tests, count_within k hashes, theta_within k hashes items)

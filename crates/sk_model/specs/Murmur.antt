@@ -1,6 +1,6 @@
 -- MurmurHash3_x64_128, after its public reference code (Appleby, SMHasher), as a function on lists. A word is a number
 -- below 2 ^ 64, a text is a list of bytes, and a pair of words is the state (h1, h2).
-use Rattle.std.specs.Prelude.{ℕ, zero, suc, ◌+◌, ◌*◌, ◌/◌, ◌%◌, ◌^◌, List, [], ◌∷◌, length, drop, slice_index, bit_xor}
+use Rattle.std.specs.Prelude.{ℕ, zero, suc, ◌+◌, ◌*◌, ◌/◌, ◌%◌, ◌^◌, List, [], ◌∷◌, length, drop, slice_index, bit_xor, max}
 use Rattle.std.specs.Int.{w64, rotate_left, from_le_bytes}
 use Rattle.sk_model.specs.Width.{hash_cut}
 
@@ -70,6 +70,10 @@ murmur128_of seed bytes =
     let blocks = length bytes / 16 in
     finished (with_tail (after_blocks seed bytes blocks) (drop (16 * blocks) bytes)) (length bytes)
 
--- the hash by which items are told apart: the upper bits of the first half
+-- the hash by which items are told apart: the upper bits of the first half, or 1 if they are 0
 unfoldable pub hash_of : ℕ → List ℕ → ℕ
-hash_of seed bytes = (murmur128_of seed bytes).0 / hash_cut
+hash_of seed bytes = max 1 ((murmur128_of seed bytes).0 / hash_cut)
+
+-- the upper 48 bits of the first half
+unfoldable pub hash48_of : ℕ → List ℕ → ℕ
+hash48_of seed bytes = (murmur128_of seed bytes).0 / 2 ^ 16

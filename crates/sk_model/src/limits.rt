@@ -1,16 +1,19 @@
 //! The width of items and the limits that a run keeps to, as the code has them.
 
-/// 2^48: items and hashes are below it, and as theta it stands for 1.
-pub const ITEM_END: u64 = 1 << 48;
+/// 2^63: items and hashes are from 1 and below it, and as theta it stands for 1.
+pub const ITEM_END: u64 = 1 << 63;
 
 /// How many digits base 16 takes for an item.
-pub const ITEM_DIGITS: usize = 12;
+pub const ITEM_DIGITS: usize = 16;
+
+/// Numbers that are read as items are below it: number n is item n + 1.
+pub const NUMBER_END: u64 = ITEM_END - 1;
 
 /// The fewest hashes that a sketch is made to keep.
 pub const LEAST_K: u32 = 2;
 
 /// The most hashes that a sketch keeps.
-pub const MOST_K: u32 = 32_768;
+pub const MOST_K: u32 = 1_048_576;
 
 /// The most items that an updater's buffers have room for.
 pub const MOST_SIZE: u32 = 4_096;

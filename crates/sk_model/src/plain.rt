@@ -71,8 +71,14 @@ mod tests {
     #[test]
     fn estimates_are_those_worked_by_hand(rt: HostRuntime) -> Result<(), Fail> {
         let alloc = rt.alloc();
-        assert_eq!(rt; estimate(alloc, 2, &[0, 1])?, (281_474_976_710_656, 1));
-        assert_eq!(rt; estimate(alloc, 2, &[5, 3])?, (281_474_976_710_656, 5));
+        assert_eq!(rt;
+            estimate(alloc, 2, &[1, 2])?,
+            (9_223_372_036_854_775_808, 2)
+        );
+        assert_eq!(rt;
+            estimate(alloc, 2, &[5, 3])?,
+            (9_223_372_036_854_775_808, 5)
+        );
         assert_eq!(rt; estimate(alloc, 4, &[])?, (0, 1));
         Ok(())
     }

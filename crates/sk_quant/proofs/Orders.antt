@@ -1,6 +1,7 @@
 -- Lemmas on items in order and on ranks: rising lists_of with the same ranks are one list.
-use Rattle.std.proofs.Common.{◌≡◌, ℕ, zero, suc, ◌+◌, ◌<◌, ◌≤◌, Bool, true, false, ltb, cond, List, [], ◌∷◌, ◌++◌, length, get_or, All, IsPermutation, ⊎_elim, refl, sym, ap, ◌∙◌, arith}
+use Rattle.std.proofs.Common.{◌≡◌, ℕ, zero, suc, ◌+◌, ◌<◌, ◌≤◌, Bool, true, false, ltb, cond, List, [], ◌∷◌, ◌++◌, length, get_or, map, All, IsPermutation, ⊎_elim, refl, sym, ap, ◌∙◌, arith}
 use Rattle.std.specs.List.Sorted.{IsNonDecreasing}
+use Rattle.std.proofs.lemmas.Bool.Decides.{nat_tests}
 use Rattle.std.proofs.lemmas.Bool.{cases_order, lt-ltb, le-ltb, ltb-true, ltb-false, cond-true, cond-false}
 use Rattle.std.proofs.lemmas.List.Elements.{All-append, All-head, All-tail}
 use Rattle.std.proofs.lemmas.List.Sorted.{IsPermutation-refl, IsPermutation-cons, IsPermutation-trans, IsPermutation-middle, length_permutation, All-permutation, sum_by-IsPermutation}
@@ -22,6 +23,14 @@ one_below-le t x le = cond-false (ltb x t) 1 0 (le-ltb x t le)
 
 pub rank-cons : (t x : ℕ) (xs : List ℕ) → rank_of t (x ∷ xs) ≡ one_below t x + rank_of t xs
 rank-cons t x xs = sum_by-cons (one_below t) x xs
+
+pub ranks_rise_by_one : (x : ℕ) (numbers : List ℕ) → rank_of (x + 1) (map (λ (n : ℕ). n + 1) numbers) ≡ rank_of x numbers
+ranks_rise_by_one x [] = refl
+ranks_rise_by_one x (n ∷ rest) =
+    omega (arith, rank-cons x n rest, rank-cons (x + 1) (n + 1) (map (λ (m : ℕ). m + 1) rest), one_more n, ranks_rise_by_one x rest)
+  where
+    one_more : (n : ℕ) → one_below (x + 1) (n + 1) ≡ one_below x n
+    one_more n = grind (arith, nat_tests)
 
 pub rank-append : (t : ℕ) (xs ys : List ℕ) → rank_of t (xs ++ ys) ≡ rank_of t xs + rank_of t ys
 rank-append t xs ys = sum_by-append (one_below t) xs ys

@@ -1,6 +1,6 @@
 //! Laws of the definitions. Each function is empty: its contract is the law.
 
-ghost use Rattle.std.specs.Prelude.{◌≡◌, ◌*◌, ◌≤◌, ℕ, List, [], ◌∷◌, ◌++◌, length, IsPermutation};
+ghost use Rattle.std.specs.Prelude.{◌≡◌, ◌+◌, ◌*◌, ◌≤◌, ℕ, List, [], ◌∷◌, ◌++◌, length, map, IsPermutation};
 ghost use Rattle.std.specs.Int.{abs_diff};
 ghost use Rattle.std.specs.List.Sorted.{IsNonDecreasing};
 ghost use Rattle.sk_quant.specs.Held.{halved, held_with, held_after, layers_of};
@@ -17,6 +17,11 @@ pub fn in_order_is()
     ensures rises { (items : List ℕ) → IsNonDecreasing (in_order items) }
     ensures one { (items rising : List ℕ) → IsPermutation items rising → IsNonDecreasing rising
         → in_order items ≡ rising }
+{}
+
+/// Of numbers that are one more each, as many are below x + 1 as were below x.
+pub fn ranks_rise_by_one()
+    ensures { (x : ℕ) (numbers : List ℕ) → rank_of (x + 1) (map (λ n. n + 1) numbers) ≡ rank_of x numbers }
 {}
 
 /// Whichever half of rising items a coin takes, twice the rank of x in it is at most one off.

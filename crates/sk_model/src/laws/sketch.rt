@@ -1,7 +1,7 @@
 //! Laws of the k smallest hashes.
 ghost use Rattle.std.specs.Prelude.{◌≡◌, ◌+◌, ◌-◌, ◌^◌, ◌<◌, ◌≤◌, ◌⊎◌, ℕ, List, [], ◌∷◌, ◌++◌, length, take, All, Contains};
 ghost use Rattle.std.specs.List.Sorted.{IsStrictlyIncreasing};
-ghost use Rattle.sk_model.specs.Sketch.{placed, rising, k_smallest, count_of, theta_of, IsIdle, packed_of, unpacked};
+ghost use Rattle.sk_model.specs.Sketch.{placed, rising, k_smallest, count_of, theta_to, theta_of, IsIdle, packed_of, unpacked};
 ghost use Rattle.sk_model.specs.Limits.{most_k};
 ghost use Rattle.sk_model.specs.Width.{item_end, IsItem, AreItems};
 
@@ -56,14 +56,15 @@ pub fn a_batch_more()
     ensures { (k : ℕ) (hashes more : List ℕ) → k_smallest k (hashes ++ more) ≡ k_smallest k (k_smallest k hashes ++ more) }
 {}
 
-/// A sketch that keeps k has a theta of at least k - 1.
+/// The theta of a full list is at least k - 1, and at least k if its hashes are items.
 pub fn theta_of_full()
-    ensures { (k : ℕ) (hashes : List ℕ) → count_of k hashes ≡ k → k - 1 ≤ theta_of k hashes }
+    ensures any { (end k : ℕ) (hashes : List ℕ) → count_of k hashes ≡ k → k - 1 ≤ theta_to end k hashes }
+    ensures items { (k : ℕ) (hashes : List ℕ) → AreItems hashes → count_of k hashes ≡ k → k ≤ theta_of k hashes }
 {}
 
-/// Theta is from 1 to the end of the items.
+/// Theta is at least 1, whatever its end and even if a hash is 0, and of items at most their end.
 pub fn theta_within()
-    ensures lower { (k : ℕ) (hashes : List ℕ) → 2 ≤ k → 1 ≤ theta_of k hashes }
+    ensures lower { (end k : ℕ) (hashes : List ℕ) → 1 ≤ end → 2 ≤ k → 1 ≤ theta_to end k hashes }
     ensures upper { (k : ℕ) (hashes : List ℕ) → AreItems hashes → theta_of k hashes ≤ item_end }
 {}
 
@@ -83,9 +84,9 @@ pub fn idle_changes_nothing()
         → k_smallest k ((hashes ++ more) ++ h ∷ rest) ≡ k_smallest k ((hashes ++ more) ++ rest) }
 {}
 
-/// A count and a theta read back from their word, which has 64 bits.
+/// The count and the theta of items read back from their word, which has 64 bits.
 pub fn packed_reads_back()
-    ensures same { (k : ℕ) (hashes : List ℕ) → 2 ≤ k → AreItems hashes
-        → unpacked (packed_of k hashes) ≡ (count_of k hashes, theta_of k hashes) }
-    ensures fits { (k : ℕ) (hashes : List ℕ) → k ≤ most_k → packed_of k hashes < 2 ^ 64 }
+    ensures same { (k : ℕ) (hashes : List ℕ) → AreItems hashes
+        → unpacked k (packed_of k hashes) ≡ (count_of k hashes, theta_of k hashes) }
+    ensures fits { (k : ℕ) (hashes : List ℕ) → k ≤ most_k → AreItems hashes → packed_of k hashes < 2 ^ 64 }
 {}

@@ -16,17 +16,19 @@ pub fn repeats_count_once()
 pub fn worked_estimates()
     ensures none { estimate_of 4 [] ≡ (0, 1) }
     ensures one { estimate_of 4 (3 ∷ 3 ∷ []) ≡ (1, 1) }
-    ensures two { estimate_of 2 (5 ∷ 3 ∷ []) ≡ (281474976710656, 5) }
-    ensures least { estimate_of 2 (0 ∷ 1 ∷ []) ≡ (281474976710656, 1) }
-    ensures greatest { estimate_of 2 (7 ∷ 281474976710655 ∷ []) ≡ (281474976710656, 281474976710655) }
-    ensures merged { estimate_of 2 (3 ∷ 5 ∷ 3 ∷ []) ≡ (281474976710656, 5) }
+    ensures two { estimate_of 2 (5 ∷ 3 ∷ []) ≡ (9223372036854775808, 5) }
+    ensures least { estimate_of 2 (1 ∷ 2 ∷ []) ≡ (9223372036854775808, 2) }
+    ensures greatest { estimate_of 2 (7 ∷ 9223372036854775807 ∷ []) ≡ (9223372036854775808, 9223372036854775807) }
+    ensures merged { estimate_of 2 (3 ∷ 5 ∷ 3 ∷ []) ≡ (9223372036854775808, 5) }
 {}
 
 /// A word, and what is read from it.
 pub fn worked_word()
-    ensures packed { packed_of 2 (0 ∷ 1 ∷ []) ≡ 562949953421313 }
-    ensures unpacked { unpacked 562949953421313 ≡ (2, 1) }
-    ensures empty { unpacked (packed_of 2 []) ≡ (0, 281474976710656) }
+    ensures packed { packed_of 2 (1 ∷ 2 ∷ []) ≡ 2 }
+    ensures unpacked { unpacked 2 2 ≡ (2, 2) }
+    ensures fewer { unpacked 2 (packed_of 2 (9 ∷ [])) ≡ (1, 9223372036854775808) }
+    ensures least { unpacked 3 (packed_of 3 (3 ∷ 1 ∷ 2 ∷ [])) ≡ (3, 3) }
+    ensures empty { unpacked 2 (packed_of 2 []) ≡ (0, 9223372036854775808) }
 {}
 
 /// A list that is behind another by its last member, and by no fewer.
