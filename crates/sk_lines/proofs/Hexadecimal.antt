@@ -1,10 +1,11 @@
 -- Lemmas on hashes as hexadecimal digits.
-use Rattle.std.proofs.Common.{◌≡◌, ℕ, zero, suc, ◌+◌, ◌-◌, ◌*◌, ◌^◌, ◌<◌, ◌≤◌, ◌/◌, ◌%◌, nat_lt, cond, inl, inr, List, [], ◌∷◌, ◌++◌, length, take, drop, set, get_or, All, refl, sym, ap, ◌∙◌, arith, append_assoc, length-append, pow-suc}
+use Rattle.std.proofs.Common.{◌≡◌, ℕ, zero, suc, ◌+◌, ◌*◌, ◌^◌, ◌<◌, ◌≤◌, ◌/◌, ◌%◌, nat_lt, cond, inl, inr, List, [], ◌∷◌, ◌++◌, length, take, drop, set, get_or, All, refl, sym, ap, ◌∙◌, arith, append_assoc, length-append, pow-suc}
 use Rattle.std.proofs.Math.Nat.{pow-le-pow_right}
+use Rattle.std.specs.Prelude.{codes}
 use Rattle.std.proofs.lemmas.Bool.{cases_lt, cond_both, ltb-true, lt-ltb, le-ltb}
-use Rattle.std.proofs.lemmas.List.{get_or_append_left, get_or_at, same_from_push, take_more}
+use Rattle.std.proofs.lemmas.List.{drop_all, drop-append-le, get_or_append_left, get_or_at, same_from_push, take_more}
 use Rattle.std.proofs.lemmas.List.Elements.{All-nil, All-push}
-use Rattle.sk_lines.specs.Hashes.{hex, hex_digit, hash_digits}
+use Rattle.sk_lines.specs.Hashes.{hex, hex_digit, hash_digits, hash_line}
 use Rattle.sk_model.specs.Width.{item_digits, IsItem}
 
 pub hex_more : (width n : ℕ) → hex (width + 1) n ≡ hex width (n / 16) ++ hex_digit (n % 16) ∷ []
@@ -57,9 +58,9 @@ hex_push line i n digit below small front here =
     take_more line i 0 below ∙ ap (λ (l : List ℕ). l ++ get_or line i 0 ∷ []) front ∙ ap (λ (d : ℕ). hex i n ++ d ∷ []) here
     ∙ sym (hex_more i (n * 16 + digit) ∙ ap (λ (m : ℕ). hex i m ++ hex_digit ((n * 16 + digit) % 16) ∷ []) high ∙ ap (λ (d : ℕ). hex i n ++ hex_digit d ∷ []) low)
 
--- a number of fewer digits than an item has room for one more
-pub room_for_digit : (i n : ℕ) → i < item_digits → n < 16 ^ i → n < 16 ^ (item_digits - 1)
-room_for_digit i n below small = omega (arith, small, pow-le-pow_right {n = 16} (omega arith) {i = i} {j = item_digits - 1} (omega (arith, below)))
+-- a number of fewer than 16 digits has room for one more: before it is multiplied
+pub room_for_digit : (i n : ℕ) → i < 16 → n < 16 ^ i → n < 16 ^ 15
+room_for_digit i n below small = omega (arith, small, pow-le-pow_right {n = 16} (omega arith) {i = i} {j = 15} (omega (arith, below)))
 
 pow-suc-16 : (i : ℕ) → 16 ^ suc i ≡ 16 * 16 ^ i
 pow-suc-16 i = omega (arith, pow-suc 16 i)
@@ -68,6 +69,11 @@ pub more_digits_small : (i n digit : ℕ) → digit < 16 → n < 16 ^ i → n * 
 more_digits_small i n digit small few =
     let up : 16 ^ (i + 1) ≡ 16 * 16 ^ i = let e : i + 1 ≡ suc i = omega arith in ap (λ (j : ℕ). 16 ^ j) e ∙ pow-suc-16 i in
     omega (arith, small, few, up)
+
+-- and once it is added
+pub room_for_last : (i n digit : ℕ) → i < 16 → digit < 16 → n < 16 ^ i → n * 16 + digit < 2 ^ 64
+room_for_last i n digit below small few =
+    omega (arith, more_digits_small i n digit small few, pow-le-pow_right {n = 16} (omega arith) {i = i + 1} {j = 16} (omega (arith, below)))
 
 -- between the least digit and the greatest, so neither LF nor a blank nor `n`
 pub digit_from : (d : ℕ) → 48 ≤ hex_digit d
@@ -112,3 +118,19 @@ hex_injective (suc width) a b sa sb e =
 
 pub hash_injective : (a b : ℕ) → IsItem a → IsItem b → hash_digits a ≡ hash_digits b → a ≡ b
 hash_injective a b sa sb e = hex_injective item_digits a b (omega (arith, sa)) (omega (arith, sb)) e
+
+-- without the first of a number's digits, its last ones are left
+pub hex_last : (width more n : ℕ) → drop more (hex (more + width) n) ≡ hex width n
+unfolding hex
+hex_last zero more n = drop_all more (hex (more + 0) n) (omega (arith, length_hex (more + 0) n))
+hex_last (suc width) more n =
+    let next : more + suc width ≡ suc (more + width) = omega arith in
+    ap (λ (w : ℕ). drop more (hex w n)) next
+    ∙ drop-append-le more (hex (more + width) (n / 16)) (hex_digit (n % 16) ∷ []) (omega (arith, length_hex (more + width) (n / 16)))
+    ∙ ap (λ (l : List ℕ). l ++ hex_digit (n % 16) ∷ []) (hex_last width more (n / 16))
+
+pub hash_line_last : (width more hash : ℕ) → more + width ≡ item_digits → drop more (hash_line hash) ≡ hex width hash ++ codes "\n"
+hash_line_last width more hash whole =
+    drop-append-le more (hash_digits hash) (codes "\n") (omega (arith, length_hex item_digits hash, whole))
+    ∙ ap (λ (w : ℕ). drop more (hex w hash) ++ codes "\n") (sym whole)
+    ∙ ap (λ (l : List ℕ). l ++ codes "\n") (hex_last width more hash)

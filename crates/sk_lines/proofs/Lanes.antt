@@ -1,18 +1,18 @@
 -- Lemmas on the lanes of a block: what stands before a line is 0, and then come its bytes less the first digit.
-use Rattle.std.proofs.Common.{◌≡◌, ℕ, zero, suc, ◌+◌, ◌-◌, ◌*◌, ◌%◌, ◌^◌, ◌<◌, ◌≤◌, ◌&&◌, not, Bool, true, false, cond, List, [], ◌∷◌, length, take, map, replicate, get_or, slice_index, sym, refl, ap, ◌∙◌, arith, nat_eq, nat_lt, nat_le, ⊎_elim, take_all, true≢false, eqb-true, eq-eqb, lt-ltb, le-ltb, le-leb}
+use Rattle.std.proofs.Common.{◌≡◌, ℕ, zero, suc, ◌+◌, ◌-◌, ◌*◌, ◌%◌, ◌^◌, ◌<◌, ◌≤◌, ◌&&◌, not, Bool, true, false, cond, List, [], ◌∷◌, ◌++◌, length, take, drop, take-add, map, replicate, get_or, slice_index, sym, refl, ap, ◌∙◌, arith, nat_eq, nat_lt, nat_le, ⊎_elim, take_all, Some, None, true≢false, eqb-true, eq-eqb, lt-ltb, le-ltb, le-leb}
 use borrow.Author.Tests.{lt-leb, ne_eqb}
 use Rattle.std.proofs.Math.ListN.{get_or-map}
 use Rattle.std.specs.List.{list_all, slice_range}
 use Rattle.std.specs.Char.{is_ascii_digit}
 use Rattle.std.specs.Simd.Lanes.{mask_l, top, zip2, sel_l, chunk}
 use Rattle.std.proofs.lemmas.Simd.{mask_l-mod, zip2_splat, zip2_splat_left, length-chunk, get_or-chunk, get_or-sel_l, length-sel_l}
-use Rattle.std.proofs.lemmas.Bool.{cases_Bool, cases_lt, leb-true}
-use Rattle.std.proofs.lemmas.List.{length-map, get_or_past, get_or_default, length-replicate, get_or-replicate}
-use Rattle.std.proofs.lemmas.List.Folds.{list_all_at}
+use Rattle.std.proofs.lemmas.Bool.{cases_Bool, cases_lt, leb-true, and_parts}
+use Rattle.std.proofs.lemmas.List.{drop-drop, length-map, get_or_past, get_or_default, length-replicate, get_or-replicate}
+use Rattle.std.proofs.lemmas.List.Folds.{list_all_at, list_all-append}
 use Rattle.std.proofs.lemmas.List.Sums.{fold_more}
 use Rattle.sk_model.specs.Numbers.{value_of}
-use Rattle.sk_lines.specs.Wide.{EndIn, joined}
-use Rattle.sk_lines.proofs.Digits.{value_of_none, value_of_more, digit_at, digit_is_high}
+use Rattle.sk_lines.specs.Wide.{EndIn, joined, spelled}
+use Rattle.sk_lines.proofs.Digits.{value_of_none, value_of_more, value_of_parts, value_below, ten_power_rises, digit_at, digit_is_high, spelled_by_digits, spelled_by_other}
 
 -- ---- whether all lanes are digits
 
@@ -93,6 +93,15 @@ module _ (text lanes : List ℕ) (from to : ℕ) (some : from < to) (few : to �
       omega (arith, ap (λ (j : ℕ). get_or lanes j 0) is, lane))
       (cases_lt (k + (to - from)) 16)))
 
+  pub are_digits : list_all is_small lanes ≡ list_all is_ascii_digit (slice_range text from to)
+  are_digits = ⊎_elim
+      (λ (digits : list_all is_ascii_digit (slice_range text from to) ≡ true). lanes_by_digits digits ∙ sym digits)
+      (λ (other : list_all is_ascii_digit (slice_range text from to) ≡ false). ⊎_elim
+      (λ (small : list_all is_small lanes ≡ true). absurd (true≢false (sym (digits_by_lanes small) ∙ other)))
+      (λ (large : list_all is_small lanes ≡ false). large ∙ sym other)
+      (cases_Bool (list_all is_small lanes)))
+      (cases_Bool (list_all is_ascii_digit (slice_range text from to)))
+
   zeros_joined : (z : ℕ) → z + (to - from) ≤ 16 → joined 10 (take z lanes) ≡ 0
   unfolding joined
   zeros_joined zero fits = refl
@@ -118,6 +127,90 @@ module _ (text lanes : List ℕ) (from to : ℕ) (some : from < to) (few : to �
       let whole : 16 - (to - from) + (to - from) ≡ 16 = omega arith in
       ap (joined 10) (sym (take_all 16 lanes (omega (arith, ends.wide)))) ∙ ap (λ (n : ℕ). joined 10 (take n lanes)) (sym whole)
       ∙ line_joined digits (to - from) (omega arith) ∙ ap value_of (take_all (to - from) (slice_range text from to) (omega (arith, long)))
+
+-- ---- lanes of which only the last are above 0
+
+module _ (lanes : List ℕ) (wide : length lanes ≡ 16) (few : (k : ℕ) → k < 13 → slice_index lanes k ≡ 0) where
+  joined_more : (i : ℕ) → i < 16 → joined 10 (take (i + 1) lanes) ≡ 10 * joined 10 (take i lanes) + slice_index lanes i
+  unfolding joined
+  joined_more i below = fold_more (λ (value : ℕ) (number : ℕ). 10 * value + number) 0 lanes i 0 (omega (arith, wide))
+
+  none_joined : (z : ℕ) → z ≤ 13 → joined 10 (take z lanes) ≡ 0
+  unfolding joined
+  none_joined zero fits = refl
+  none_joined (suc z) fits =
+      let next : suc z ≡ z + 1 = omega arith in
+      ap (λ (n : ℕ). joined 10 (take n lanes)) next ∙ omega (arith, joined_more z (omega arith), few z (omega arith), none_joined z (omega arith))
+
+  pub joined_by_last : slice_index lanes 13 * 100 + slice_index lanes 14 * 10 + slice_index lanes 15 ≡ joined 10 lanes
+  joined_by_last =
+      omega (arith, joined_more 15 (omega arith), joined_more 14 (omega arith), joined_more 13 (omega arith), none_joined 13 (omega arith))
+      ∙ ap (joined 10) (take_all 16 lanes (omega (arith, wide)))
+
+-- ---- a line in two parts, the last 16 bytes and those before
+
+pub range_in_parts : (text : List ℕ) (from middle to : ℕ) → from ≤ middle → middle ≤ to → slice_range text from to ≡ slice_range text from middle ++ slice_range text middle to
+range_in_parts text from middle to front back =
+    let whole : to - from ≡ (middle - from) + (to - middle) = omega arith in
+    let place : from + (middle - from) ≡ middle = omega arith in
+    ap (λ (n : ℕ). take n (drop from text)) whole ∙ take-add (middle - from) (to - middle) (drop from text)
+    ∙ ap (λ (l : List ℕ). slice_range text from middle ++ take (to - middle) l) (drop-drop (middle - from) from text)
+    ∙ ap (λ (i : ℕ). slice_range text from middle ++ take (to - middle) (drop i text)) place
+
+module _ (text high low : List ℕ) (from to : ℕ) (many : from + 16 < to) (few : to ≤ from + 19) (within : to ≤ length text) (bytes : (i : ℕ) → slice_index text i < 256)
+    (front : EndIn high text from (to - 16)) (back : EndIn low text (to - 16) to) where
+  parts : slice_range text from to ≡ slice_range text from (to - 16) ++ slice_range text (to - 16) to
+  parts = range_in_parts text from (to - 16) to (omega arith) (omega arith)
+
+  digits_in_parts : list_all is_ascii_digit (slice_range text from to) ≡ (list_all is_ascii_digit (slice_range text from (to - 16)) && list_all is_ascii_digit (slice_range text (to - 16) to))
+  digits_in_parts = ap (list_all is_ascii_digit) parts ∙ list_all-append is_ascii_digit (slice_range text from (to - 16)) (slice_range text (to - 16) to)
+
+  both_are_digits : (list_all is_small high && list_all is_small low) ≡ list_all is_ascii_digit (slice_range text from to)
+  both_are_digits =
+      ap (λ (b : Bool). b && list_all is_small low) (are_digits text high from (to - 16) (omega arith) (omega arith) (omega arith) bytes front)
+      ∙ ap (λ (b : Bool). list_all is_ascii_digit (slice_range text from (to - 16)) && b) (are_digits text low (to - 16) to (omega arith) (omega arith) within bytes back)
+      ∙ sym digits_in_parts
+
+  pub both_refused : (list_all is_small high && list_all is_small low) ≡ false → None ≡ spelled (slice_range text from to)
+  both_refused other = spelled_by_other (slice_range text from to) (sym both_are_digits ∙ other)
+
+  module _ (small : (list_all is_small high && list_all is_small low) ≡ true) where
+    digits : list_all is_ascii_digit (slice_range text from to) ≡ true
+    digits = sym both_are_digits ∙ small
+
+    each : (list_all is_ascii_digit (slice_range text from (to - 16)) ≡ true) × (list_all is_ascii_digit (slice_range text (to - 16) to) ≡ true)
+    each = and_parts (list_all is_ascii_digit (slice_range text from (to - 16))) (list_all is_ascii_digit (slice_range text (to - 16) to)) (sym digits_in_parts ∙ digits)
+
+    high_is : joined 10 high ≡ value_of (slice_range text from (to - 16))
+    high_is = value_by_lanes text high from (to - 16) (omega arith) (omega arith) (omega arith) bytes front each.0
+
+    low_is : joined 10 low ≡ value_of (slice_range text (to - 16) to)
+    low_is = value_by_lanes text low (to - 16) to (omega arith) (omega arith) within bytes back each.1
+
+    low_long : length (slice_range text (to - 16) to) ≡ 16
+    low_long = let size : to - (to - 16) ≡ 16 = omega arith in length-chunk (to - 16) (to - (to - 16)) text (omega arith) ∙ size
+
+    pub high_below : joined 10 high < 1000
+    high_below =
+        let line = slice_range text from (to - 16) in
+        let long : length line ≡ to - 16 - from = length-chunk from (to - 16 - from) text (omega arith) in
+        let less : value_of (take (length line) line) < 10 ^ length line = value_below line (length line) (omega arith) each.0 in
+        let whole : value_of (take (length line) line) ≡ value_of line = ap value_of (take_all (length line) line (omega arith)) in
+        let most : length line + (3 - length line) ≡ 3 = omega (arith, long) in
+        omega (arith, high_is, less, whole, ten_power_rises (length line) (3 - length line), ap (λ (n : ℕ). 10 ^ n) most)
+
+    pub low_below : joined 10 low < 10000000000000000
+    low_below =
+        let line = slice_range text (to - 16) to in
+        omega (arith, low_is, value_below line 16 (omega (arith, low_long)) each.1, ap value_of (take_all 16 line (omega (arith, low_long))))
+
+    pub both_spelled : Some (joined 10 high * 10000000000000000 + joined 10 low) ≡ spelled (slice_range text from to)
+    both_spelled =
+        let before = slice_range text from (to - 16) in
+        let behind = slice_range text (to - 16) to in
+        let is : joined 10 high * 10000000000000000 + joined 10 low ≡ value_of (slice_range text from to) =
+        omega (arith, high_is, low_is, value_of_parts before behind, ap value_of parts, ap (λ (n : ℕ). value_of before * 10 ^ n) low_long) in
+        ap (λ (n : ℕ). Some n) is ∙ spelled_by_digits (slice_range text from to) digits
 
 -- ---- the lanes that are kept
 

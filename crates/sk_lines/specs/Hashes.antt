@@ -6,7 +6,7 @@ use Rattle.sk_model.specs.Width.{item_digits}
 abbrev pub hex_digit : ℕ → ℕ
 hex_digit digit = if nat_lt digit 10 then 48 + digit else 87 + digit
 
--- the last digits of a number in base 16, so many
+-- the last digits of a number in base 16, as many as the width
 unfoldable pub hex : ℕ → ℕ → List ℕ
 hex zero n = []
 hex (suc width) n = hex width (n / 16) ++ hex_digit (n % 16) ∷ []

@@ -1,5 +1,5 @@
 -- Whole lines of a text, in the bytes that they came in.
-use Rattle.std.specs.Prelude.{◌≡◌, ◌⊎◌, ℕ, ◌+◌, ◌<◌, ◌≤◌, List, [], ◌++◌, length, drop, All}
+use Rattle.std.specs.Prelude.{◌≡◌, ◌⊎◌, ℕ, ◌+◌, ◌<◌, List, ◌++◌, length, drop}
 use Rattle.sk_model.specs.Lines.{lines_of}
 use Rattle.sk_lines.specs.Cutter.{Cutter, Follows, IsOfWholeLines, HasNoLf, counted}
 

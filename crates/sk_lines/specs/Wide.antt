@@ -1,5 +1,12 @@
 -- Numbers below a base as the digits of another.
-use Rattle.std.specs.Prelude.{◌≡◌, ℕ, ◌+◌, ◌-◌, ◌*◌, ◌%◌, ◌<◌, List, [], ◌∷◌, fold, length, slice_index}
+use Rattle.std.specs.Prelude.{◌≡◌, ℕ, ◌+◌, ◌-◌, ◌*◌, ◌%◌, ◌<◌, if◌then◌else◌, List, [], ◌∷◌, fold, length, slice_index, Option, Some, None}
+use Rattle.std.specs.List.{list_all}
+use Rattle.std.specs.Char.{is_ascii_digit}
+use Rattle.sk_model.specs.Numbers.{value_of}
+
+-- the number that bytes spell if they are digits
+abbrev pub spelled : List ℕ → Option ℕ
+spelled bytes = if list_all is_ascii_digit bytes then Some (value_of bytes) else None
 
 -- numbers below a base, two and two as one
 unfoldable pub pairs : ℕ → List ℕ → List ℕ

@@ -9,6 +9,9 @@ use sk_model::OutOfMemory;
 
 const ZERO: u64 = 48;
 
+/// The most bytes that the line of an estimate has: a numerator of 39 digits and a denominator of 20.
+pub const ESTIMATE_LINE_LEN: usize = 70;
+
 // How many digits are read at once.
 const WIDE: usize = 8;
 
@@ -70,13 +73,14 @@ pub fn are_digits(bytes: &[u8]) -> bool
     ensures { result ≡ list_all is_ascii_digit bytes.now }
 {
     match bytes.len() {
+        17..=32 => ends_are_digits(bytes, 2 * WIDE),
         8..=16 => ends_are_digits(bytes, WIDE),
         4..=7 => ends_are_digits(bytes, WIDE / 2),
         _ => each_is_digit(bytes),
     }
 }
 
-// Whether all bytes are digits: so many at the front and as many at the back, which meet.
+// Whether all bytes are digits: the first n and the last n, which meet.
 #[inline(always)]
 fn ends_are_digits(bytes: &[u8], n: usize) -> bool
     requires within { n ≤ length bytes.now }
@@ -98,8 +102,8 @@ fn each_is_digit(bytes: &[u8]) -> bool
     digits
 }
 
-/// Appends `n/d`. Where there is no memory, the text stays.
-pub fn push_fraction(text: &mut Vec<u8>, n: u64, d: u64) -> Result<(), OutOfMemory>
+/// Appends `n/d`. When out of memory, the text stays.
+pub fn push_fraction(text: &mut Vec<u8>, n: u128, d: u64) -> Result<(), OutOfMemory>
     ensures ok { OnOk result (text.new.items ≡ text.old.items ++ fraction_text n d) }
     ensures err { OnErr result (text.new.items ≡ text.old.items) }
 {
@@ -109,34 +113,34 @@ pub fn push_fraction(text: &mut Vec<u8>, n: u64, d: u64) -> Result<(), OutOfMemo
     Ok(())
 }
 
-/// Writes `n/d` to the front of `into`, and answers its length.
-pub fn put_fraction(into: &mut [u8; 64], n: u64, d: u64) -> usize
+/// Writes `n/d` to the start of `into`, and returns its length, at most 60.
+pub fn put_fraction(into: &mut [u8; 64], n: u128, d: u64) -> usize
     ensures text { take result into.new ≡ fraction_text n d }
     ensures length { result ≡ length (fraction_text n d) }
 {
     put_parts(into, n, d)
 }
 
-/// Writes `estimate n/d` to the front of `into`, and answers its length.
-pub fn put_estimate(into: &mut [u8; 64], n: u64, d: u64) -> usize
+/// Writes `estimate n/d` to the start of `into`, and returns its length.
+pub fn put_estimate(into: &mut [u8; ESTIMATE_LINE_LEN], n: u128, d: u64) -> usize
     ensures text { take result into.new ≡ estimate_text n d }
-    ensures most { result ≤ 50 }
+    ensures most { result ≤ 69 }
 {
     let at = put_text(into, b"estimate ");
     at + put_parts(&mut into[at..], n, d)
 }
 
-/// Writes `estimate n/d` and LF to the front of `into`, and answers their length.
-pub fn put_estimate_line(into: &mut [u8; 64], n: u64, d: u64) -> usize
+/// Writes `estimate n/d` and LF to the start of `into`, and returns their length.
+pub fn put_estimate_line(into: &mut [u8; ESTIMATE_LINE_LEN], n: u128, d: u64) -> usize
     ensures text { take result into.new ≡ estimate_line (n, d) }
-    ensures most { result ≤ 51 }
+    ensures most { result ≤ 70 }
 {
     let end = put_estimate(into, n, d);
     into[end] = b'\n';
     end + 1
 }
 
-/// Writes a text to the front of `into`, and answers its length.
+/// Writes a text to the start of `into`, and returns its length.
 pub fn put_text(into: &mut [u8], text: &[u8]) -> usize
     requires { length text.now ≤ length into.old }
     ensures text { take result into.new ≡ text.now }
@@ -146,7 +150,7 @@ pub fn put_text(into: &mut [u8], text: &[u8]) -> usize
     text.len()
 }
 
-/// Writes the digits of a number to the front of `into`, and answers how many they are.
+/// Writes the digits of a number to the start of `into`, and returns how many they are.
 pub fn put_decimal(into: &mut [u8], n: u64) -> usize
     requires { length (decimal n) ≤ length into.old }
     ensures text { take result into.new ≡ decimal n }
@@ -162,14 +166,24 @@ pub fn put_decimal(into: &mut [u8], n: u64) -> usize
     at + 1
 }
 
-// Writes `n/d` to the front of `into`, and answers its length.
-fn put_parts(into: &mut [u8], n: u64, d: u64) -> usize
-    requires { 41 ≤ length into.old }
+// The same for a number of up to 128 bits.
+fn put_wide_decimal(into: &mut [u8], n: u128) -> usize
+    requires { 39 ≤ length into.old }
+    ensures text { take result into.new ≡ decimal n }
+    ensures length { result ≡ length (decimal n) }
+    ensures most { result ≤ 39 }
+{
+    put_text(into, itoa::Buffer::new().format(n).as_bytes())
+}
+
+// Writes `n/d` to the start of `into`, and returns its length.
+fn put_parts(into: &mut [u8], n: u128, d: u64) -> usize
+    requires { 60 ≤ length into.old }
     ensures text { take result into.new ≡ fraction_text n d }
     ensures length { result ≡ length (fraction_text n d) }
-    ensures most { result ≤ 41 }
+    ensures most { result ≤ 60 }
 {
-    let slash = put_decimal(into, n);
+    let slash = put_wide_decimal(into, n);
     into[slash] = b'/';
     slash + 1 + put_decimal(&mut into[slash + 1..], d)
 }

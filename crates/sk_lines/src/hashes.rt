@@ -1,14 +1,14 @@
 // Hashes as hexadecimal text.
-ghost use Rattle.std.specs.Prelude.{◌≡◌, ◌↔◌, ◌<◌, ℕ, Some, IfSome};
-ghost use Rattle.sk_model.specs.Width.{IsItem};
-ghost use Rattle.sk_lines.specs.Hashes.{hex_digit, hash_digits, hash_line};
+ghost use Rattle.std.specs.Prelude.{◌≡◌, ◌↔◌, ◌^◌, ◌<◌, ◌≤◌, ℕ, Some, IfSome};
+ghost use Rattle.sk_lines.specs.Hashes.{hex, hex_digit, hash_line};
 
 use sk_model::limits::ITEM_DIGITS;
 
 /// How many bytes the line of a hash has: its digits, and LF.
 pub const HASH_LINE_LEN: usize = ITEM_DIGITS + 1;
 
-/// The line of a hash: its digits in base 16, lower case, and LF.
+/// The line of a hash: its 16 digits in base 16, lower case, and LF. For a hash below 2^48 the digits after the
+/// first four are its 12 digits.
 pub fn hash_line(hash: u64) -> [u8; HASH_LINE_LEN]
     ensures { result ≡ hash_line hash }
 {
@@ -23,12 +23,13 @@ pub fn hash_line(hash: u64) -> [u8; HASH_LINE_LEN]
     line
 }
 
-/// The hash that the bytes spell: as many digits in base 16, lower case, as an item has.
-pub fn read_hash(digits: &[u8]) -> Option<u64>
-    ensures limit { IfSome result IsItem }
-    ensures exact { (hash : ℕ) → IsItem hash → (result ≡ Some hash ↔ digits.now ≡ hash_digits hash) }
+/// The number that the bytes spell in base 16: exactly `width` digits, lower case.
+pub fn read_hash(digits: &[u8], width: usize) -> Option<u64>
+    requires { width ≤ 16 }
+    ensures limit { IfSome result (λ hash. hash < 16 ^ width) }
+    ensures exact { (hash : ℕ) → hash < 16 ^ width → (result ≡ Some hash ↔ digits.now ≡ hex width hash) }
 {
-    if digits.len() != ITEM_DIGITS {
+    if digits.len() != width {
         return None;
     }
     let mut hash = 0;

@@ -17,8 +17,8 @@ mod wide;
 
 pub use cutter::{Ending, Lines, MOST_LIMIT, MOST_PIECE, Next};
 pub use decimals::{
-    are_digits, push_fraction, put_decimal, put_estimate, put_estimate_line, put_fraction,
-    put_text, read_number,
+    ESTIMATE_LINE_LEN, are_digits, push_fraction, put_decimal, put_estimate, put_estimate_line,
+    put_fraction, put_text, read_number,
 };
 pub use hashes::{HASH_LINE_LEN, hash_line, read_hash};
 pub use page::{Page, PageLines};

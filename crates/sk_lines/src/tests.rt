@@ -219,6 +219,9 @@ fn numbers_at_their_limits(rt: HostRuntime) -> Result<(), Fail> {
     }
     assert_eq!(rt; read_number(b"0", 1), Some(0));
     assert_eq!(rt; read_number(b"1", 1), None);
+    let end = 9_223_372_036_854_775_807;
+    assert_eq!(rt; read_number(b"9223372036854775806", end), Some(end - 1));
+    assert_eq!(rt; read_number(b"9223372036854775807", end), None);
     let largest = b"18446744073709551614";
     assert_eq!(rt; read_number(largest, u64::MAX), Some(u64::MAX - 1));
     assert_eq!(rt; read_number(b"99999999999999999999", u64::MAX), None);
@@ -226,33 +229,40 @@ fn numbers_at_their_limits(rt: HostRuntime) -> Result<(), Fail> {
 }
 
 // Digits, and the numbers that the first of them spell.
-const DIGITS: &[u8; 15] = b"281474976710655";
+const DIGITS: &[u8; 19] = b"9223372036854775806";
 
-const SPELLED: [u64; 15] = [
-    2,
-    28,
-    281,
-    2_814,
-    28_147,
-    281_474,
-    2_814_749,
-    28_147_497,
-    281_474_976,
-    2_814_749_767,
-    28_147_497_671,
-    281_474_976_710,
-    2_814_749_767_106,
-    28_147_497_671_065,
-    281_474_976_710_655,
+const SPELLED: [u64; 19] = [
+    9,
+    92,
+    922,
+    9_223,
+    92_233,
+    922_337,
+    9_223_372,
+    92_233_720,
+    922_337_203,
+    9_223_372_036,
+    92_233_720_368,
+    922_337_203_685,
+    9_223_372_036_854,
+    92_233_720_368_547,
+    922_337_203_685_477,
+    9_223_372_036_854_775,
+    92_233_720_368_547_758,
+    922_337_203_685_477_580,
+    9_223_372_036_854_775_806,
 ];
+
+// The numbers that are read as items are below it.
+const END: u64 = 9_223_372_036_854_775_807;
 
 #[test]
 fn numbers_at_places_of_a_text(rt: HostRuntime) {
-    for place in 0..21usize {
-        for len in 1..16usize {
-            let mut text = [b'7'; 40];
+    for place in 0..37usize {
+        for len in 1..20usize {
+            let mut text = [b'7'; 60];
             text[place..place + len].copy_from_slice(&DIGITS[..len]);
-            let number = read_number_at(&text, place, place + len, 281_474_976_710_656);
+            let number = read_number_at(&text, place, place + len, END);
             assert_eq!(rt; number, Some(SPELLED[len - 1]), "at {place}");
         }
     }
@@ -260,13 +270,13 @@ fn numbers_at_places_of_a_text(rt: HostRuntime) {
 
 #[test]
 fn one_byte_that_is_no_digit(rt: HostRuntime) {
-    for place in 0..21usize {
-        for other in 0..15usize {
-            let mut text = [b'7'; 40];
-            text[place..place + 15].copy_from_slice(DIGITS);
+    for place in 0..37usize {
+        for other in 0..19usize {
+            let mut text = [b'7'; 60];
+            text[place..place + 19].copy_from_slice(DIGITS);
             for byte in *b"/:\n\xb7" {
                 text[place + other] = byte;
-                let number = read_number_at(&text, place, place + 15, 281_474_976_710_656);
+                let number = read_number_at(&text, place, place + 19, END);
                 assert_eq!(rt; number, None, "at {place}, {other}");
             }
         }
@@ -275,23 +285,37 @@ fn one_byte_that_is_no_digit(rt: HostRuntime) {
 
 #[test]
 fn numbers_of_a_text_at_their_limits(rt: HostRuntime) {
-    let text = b"0000000000281474976710656 18446744073709551615";
-    let below = 281_474_976_710_656;
-    assert_eq!(rt; read_number_at(text, 10, 25, below), None);
-    assert_eq!(rt; read_number_at(text, 10, 25, below + 1), Some(below));
+    let text = b"--------------------------------0009223372036854775807 18446744073709551615";
+    assert_eq!(rt; read_number_at(text, 35, 54, END), None);
+    assert_eq!(rt; read_number_at(text, 35, 54, END + 1), Some(END));
     assert_eq!(rt;
-        read_number_at(text, 9, 24, below),
-        Some(28_147_497_671_065)
+        read_number_at(text, 34, 53, END),
+        Some(922_337_203_685_477_580)
     );
-    assert_eq!(rt; read_number_at(text, 8, 24, below), None);
-    assert_eq!(rt; read_number_at(text, 9, 25, u64::MAX), Some(below));
-    assert_eq!(rt; read_number_at(text, 8, 25, u64::MAX), Some(below));
-    assert_eq!(rt; read_number_at(text, 20, 20, below), None);
+    assert_eq!(rt; read_number_at(text, 33, 53, END), None);
     assert_eq!(rt;
-        read_number_at(text, 26, 42, u64::MAX),
-        Some(1_844_674_407_370_955)
+        read_number_at(text, 33, 53, u64::MAX),
+        Some(922_337_203_685_477_580)
     );
-    assert_eq!(rt; read_number_at(text, 26, 46, u64::MAX), None);
+    assert_eq!(rt;
+        read_number_at(text, 33, 52, END),
+        Some(92_233_720_368_547_758)
+    );
+    assert_eq!(rt;
+        read_number_at(text, 37, 54, END),
+        Some(23_372_036_854_775_807)
+    );
+    assert_eq!(rt; read_number_at(text, 39, 54, 281_474_976_710_656), None);
+    assert_eq!(rt;
+        read_number_at(text, 40, 54, 281_474_976_710_656),
+        Some(72_036_854_775_807)
+    );
+    assert_eq!(rt; read_number_at(text, 54, 54, END), None);
+    assert_eq!(rt;
+        read_number_at(text, 55, 74, u64::MAX),
+        Some(1_844_674_407_370_955_161)
+    );
+    assert_eq!(rt; read_number_at(text, 55, 75, u64::MAX), None);
 }
 
 // How the last line ended, told behind one more piece.
@@ -340,38 +364,38 @@ fn a_piece_more_keeps_the_ending(rt: HostRuntime) -> Result<(), Fail> {
 #[test]
 fn hashes_as_text(rt: HostRuntime) {
     let rows: [(u64, &[u8]); 3] = [
-        (0, b"000000000000\n"),
-        (224_131_386_917_309, b"cbd8a7b341bd\n"),
-        (281_474_976_710_655, b"ffffffffffff\n"),
+        (1, b"0000000000000001\n"),
+        (224_131_386_917_309, b"0000cbd8a7b341bd\n"),
+        (9_223_372_036_854_775_807, b"7fffffffffffffff\n"),
     ];
     for (hash, want) in rows {
         assert_eq!(rt; hash_line(hash).as_slice(), want);
-        assert_eq!(rt; read_hash(want), None);
-        assert_eq!(rt; read_hash(&want[..ITEM_DIGITS]), Some(hash));
+        assert_eq!(rt; read_hash(want, ITEM_DIGITS), None);
+        assert_eq!(rt; read_hash(&want[..ITEM_DIGITS], ITEM_DIGITS), Some(hash));
     }
     let others: [&[u8]; 4] = [b"", b"00000000000", b"CBD8A7B341BD", b"00000000000g"];
     for digits in others {
-        assert_eq!(rt; read_hash(digits), None);
+        assert_eq!(rt; read_hash(digits, 12), None);
     }
 }
 
 #[test]
 fn estimates_as_lines(rt: HostRuntime) {
-    let rows: [(u64, u64, &[u8]); 3] = [
+    let rows: [(u128, u64, &[u8]); 3] = [
         (0, 1, b"estimate 0/1\n"),
         (
-            281_474_976_710_656,
-            224_131_386_917_309,
-            b"estimate 281474976710656/224131386917309\n",
+            37_769_708_490_920_306_933_760,
+            4_097,
+            b"estimate 37769708490920306933760/4097\n",
         ),
         (
+            u128::MAX,
             u64::MAX,
-            u64::MAX,
-            b"estimate 18446744073709551615/18446744073709551615\n",
+            b"estimate 340282366920938463463374607431768211455/18446744073709551615\n",
         ),
     ];
     for (n, d, want) in rows {
-        let mut line = [0; 64];
+        let mut line = [0; ESTIMATE_LINE_LEN];
         let len = put_estimate_line(&mut line, n, d);
         assert_eq!(rt; &line[..len], want);
     }
@@ -379,17 +403,17 @@ fn estimates_as_lines(rt: HostRuntime) {
 
 #[test]
 fn fractions_as_text(rt: HostRuntime) -> Result<(), Fail> {
-    let rows: [(u64, u64, &[u8]); 3] = [
+    let rows: [(u128, u64, &[u8]); 3] = [
         (
-            281_474_976_710_656,
-            224_131_386_917_309,
-            b"281474976710656/224131386917309",
+            9_223_372_036_854_775_808,
+            7_344_337_286_506_401_153,
+            b"9223372036854775808/7344337286506401153",
         ),
         (0, 1, b"0/1"),
         (
+            u128::MAX,
             u64::MAX,
-            u64::MAX,
-            b"18446744073709551615/18446744073709551615",
+            b"340282366920938463463374607431768211455/18446744073709551615",
         ),
     ];
     for (n, d, want) in rows {

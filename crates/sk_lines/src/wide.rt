@@ -1,17 +1,23 @@
-// Numbers out of the 16 bytes before a place: no loop, and whatever is in front of the number.
+// Numbers out of the bytes before a place, 16 at a time: no loop, and whatever stands before the number.
 ghost use Rattle.std.specs.Prelude.{◌≡◌, ℕ, ◌+◌, ◌<◌, ◌≤◌, length, slice_index, nat_le};
 ghost use Rattle.std.specs.List.{list_all, slice_range};
 ghost use Rattle.sk_model.specs.Numbers.{number_of};
-ghost use Rattle.sk_lines.specs.Wide.{EndIn, pairs, joined};
+ghost use Rattle.sk_lines.specs.Wide.{EndIn, pairs, joined, spelled};
 
 use crate::decimals::{decimal_len, read_number};
 use std::simd::prelude::*;
 
-// How many bytes are looked at.
+// How many bytes are read at once.
 const WIDE: usize = 16;
 
 // How far each of them is from the end.
 const TO_END: [u8; WIDE] = [16, 15, 14, 13, 12, 11, 10, 9, 8, 7, 6, 5, 4, 3, 2, 1];
+
+// What a 1 before 16 digits counts.
+const WEIGHT: u64 = 10_000_000_000_000_000;
+
+// Any 19 digits spell a number of 64 bits.
+const MOST_DIGITS: usize = 19;
 
 /// The number below `below` that the bytes of a text from one place up to another spell, as
 /// `read_number` reads it.
@@ -22,21 +28,67 @@ pub fn read_number_at(text: &[u8], from: usize, to: usize, below: u64) -> Option
     requires end { 1 ≤ below }
     ensures { result ≡ number_of below (slice_range text.now from to) }
 {
-    if to < WIDE || to - from > WIDE {
+    if to < 2 * WIDE || to - from > MOST_DIGITS {
         return read_number(&text[from..to], below);
     }
     if from == to || to - from > decimal_len(below - 1) {
         return None;
     }
+    let value = digits_at(text, from, to)?;
+    if value < below { Some(value) } else { None }
+}
+
+// The number that 1 to 19 digits spell.
+#[inline(always)]
+fn digits_at(text: &[u8], from: usize, to: usize) -> Option<u64>
+    requires some { from < to }
+    requires few { to ≤ from + 19 }
+    requires room { 32 ≤ to }
+    requires within { to ≤ length text.now }
+    ensures { result ≡ spelled (slice_range text.now from to) }
+{
+    if to - from <= WIDE {
+        few_digits_at(text, from, to)
+    } else {
+        many_digits_at(text, from, to)
+    }
+}
+
+// The number that 1 to 16 digits spell.
+#[inline(always)]
+fn few_digits_at(text: &[u8], from: usize, to: usize) -> Option<u64>
+    requires some { from < to }
+    requires few { to ≤ from + 16 }
+    requires room { 16 ≤ to }
+    requires within { to ≤ length text.now }
+    ensures { result ≡ spelled (slice_range text.now from to) }
+{
     let lanes = lanes_before(text, from, to);
     if !are_digits(lanes) {
         return None;
     }
-    let value = value_of_lanes(lanes);
-    if value < below { Some(value) } else { None }
+    Some(value_of_lanes(lanes))
 }
 
-// The bytes of a short line less the first digit, behind lanes of 0. Whatever is before the line goes.
+// The number that 17 to 19 digits spell: the last 16, and those before them.
+#[inline(always)]
+fn many_digits_at(text: &[u8], from: usize, to: usize) -> Option<u64>
+    requires many { from + 16 < to }
+    requires few { to ≤ from + 19 }
+    requires room { 32 ≤ to }
+    requires within { to ≤ length text.now }
+    ensures { result ≡ spelled (slice_range text.now from to) }
+{
+    let middle = to - WIDE;
+    let high = lanes_before(text, from, middle);
+    let low = lanes_before(text, middle, to);
+    if !(are_digits(high) & are_digits(low)) {
+        return None;
+    }
+    Some(value_of_last_lanes(high) * WEIGHT + value_of_lanes(low))
+}
+
+// The bytes of a short line, each less the digit 0, after lanes of 0. Whatever stands before the line goes.
 #[inline(always)]
 fn lanes_before(text: &[u8], from: usize, to: usize) -> u8x16
     requires some { from < to }
@@ -67,6 +119,16 @@ fn value_of_lanes(lanes: u8x16) -> u64
 {
     let [a, b, c, d] = fours(twos(lanes)).to_array();
     (u64::from(a) * 10_000 + u64::from(b)) * 100_000_000 + (u64::from(c) * 10_000 + u64::from(d))
+}
+
+// The number that 16 digits spell of which the first 13 are 0.
+#[inline(always)]
+fn value_of_last_lanes(lanes: u8x16) -> u64
+    requires { (k : ℕ) → k < 13 → slice_index lanes k ≡ 0 }
+    ensures { result ≡ joined 10 lanes }
+{
+    let digits = lanes.to_array();
+    u64::from(digits[13]) * 100 + u64::from(digits[14]) * 10 + u64::from(digits[15])
 }
 
 // The numbers that each two of 16 digits spell.

@@ -1,18 +1,18 @@
 -- How lines become items.
-use Rattle.std.specs.Prelude.{◌≡◌, ℕ, ◌+◌, ◌-◌, ◌<◌, List, length, take, All, Option, Some, IsSome, IsNone, unwrap_or}
+use Rattle.std.specs.Prelude.{◌≡◌, ℕ, ◌+◌, ◌-◌, ◌<◌, List, length, take, All, Option, Some, IsSome, IsNone, option_map, unwrap_or}
 use Rattle.sk_model.specs.Murmur.{hash_of}
 use Rattle.sk_model.specs.Numbers.{number_of}
 use Rattle.sk_model.specs.Lines.{open_lines_of, items_of}
 use Rattle.sk_read.specs.declared.kind.Kind.{Kind}
 use Rattle.sk_read.specs.declared.kind.Kind.TheVariants.{Hash, Raw}
-use Rattle.sk_model.specs.Width.{item_end}
+use Rattle.sk_model.specs.Width.{number_end}
 use Rattle.sk_read.specs.declared.fault.Fault.{Fault}
 use Rattle.sk_read.specs.declared.fault.Fault.TheVariants.{BadItem}
 
--- the item of a line that is not empty, where it is one
+-- the item of a line that is not empty, if it has one: number n is item n + 1
 abbrev pub item_of : Kind → List ℕ → Option ℕ
 item_of (Hash seed) line = Some (hash_of seed line)
-item_of Raw line = number_of item_end line
+item_of Raw line = option_map (λ n. n + 1) (number_of number_end line)
 
 -- the items of lines, each empty or an item
 unfoldable pub items_by : Kind → List (List ℕ) → List ℕ

@@ -1,37 +1,34 @@
 // How a line becomes an item.
-ghost use Rattle.std.specs.Prelude.{◌≡◌, ◌<◌, ◌≤◌, ℕ, length, slice_range, All, Some, is_some, IfSome, true};
+ghost use Rattle.std.specs.Prelude.{◌≡◌, ◌+◌, ◌<◌, ◌≤◌, ℕ, length, slice_range, All, Some, is_some, option_map, IfSome, true};
 ghost use Rattle.sk_model.specs.Numbers.{number_of};
 ghost use Rattle.sk_model.specs.Lines.{lines_of};
 ghost use Rattle.sk_lines.specs.Cutter.{IsOfWholeLines};
 ghost use Rattle.sk_read.specs.Items.{item_of, IsGood};
-ghost use Rattle.sk_model.specs.Width.{IsItem, item_end};
+ghost use Rattle.sk_model.specs.Width.{IsItem, number_end};
 
-use sk_hash::hash48;
+use sk_hash::hash63;
 use sk_lines::{Span, are_digits, are_short_numbers, read_number, read_number_at};
-use sk_theta::ITEM_END;
-
-// Any so many digits spell a number below the end of the items.
-const FEW_DIGITS: usize = 14;
+use sk_model::limits::NUMBER_END;
 
 /// How a line that is not empty becomes an item.
 #[derive(Clone, Copy, Debug, PartialEq, Eq)]
 pub enum Kind {
     /// By its hash under this seed.
     Hash(u32),
-    /// By the number that it spells: digits only, below the end of the items.
+    /// By the number that it spells, digits only and below 2^63 - 1: the item is one more.
     Raw,
 }
 
 impl Kind {
-    /// The item of a line, or `None` where it has to spell a number and does not.
+    /// The item of a line, from 1 to 2^63 - 1, or `None` if it has to spell such a number and does not.
     #[inline(always)]
     pub fn item(self, line: &[u8]) -> Option<u64>
         ensures value { result ≡ item_of self line.now }
         ensures below { IfSome result IsItem }
     {
         match self {
-            Kind::Hash(seed) => Some(hash48(seed, line)),
-            Kind::Raw => read_number(line, ITEM_END),
+            Kind::Hash(seed) => Some(hash63(seed, line)),
+            Kind::Raw => item_of_number(read_number(line, NUMBER_END)),
         }
     }
 
@@ -44,8 +41,8 @@ impl Kind {
         ensures below { IfSome result IsItem }
     {
         match self {
-            Kind::Hash(seed) => Some(hash48(seed, &text[span.from..span.to])),
-            Kind::Raw => read_number_at(text, span.from, span.to, ITEM_END),
+            Kind::Hash(seed) => Some(hash63(seed, &text[span.from..span.to])),
+            Kind::Raw => item_of_number(read_number_at(text, span.from, span.to, NUMBER_END)),
         }
     }
 
@@ -60,8 +57,8 @@ impl Kind {
         }
     }
 
-    /// Whether each line of a text of whole lines is empty or has an item. Where it answers `false` some line may
-    /// have none.
+    /// Whether each line of a text of whole lines is empty or has an item. After `false` each may have one all the
+    /// same.
     pub fn are_items(self, run: &[u8]) -> bool
         requires { IsOfWholeLines run.now }
         ensures { result ≡ true → All (IsGood self) (lines_of run.now) }
@@ -73,13 +70,27 @@ impl Kind {
     }
 }
 
-// Whether a line is of so few digits that they spell an item.
+// The item of a number: one more.
+#[inline(always)]
+fn item_of_number(number: Option<u64>) -> Option<u64>
+    requires { IfSome number (λ n. n < number_end) }
+    ensures value { result ≡ option_map (λ n. n + 1) number }
+    ensures item { IfSome result IsItem }
+{
+    match number {
+        Some(n) => Some(n + 1),
+        None => None,
+    }
+}
+
+// Whether a line is of digits that spell an item whatever they are: at most 18, or 19 of which the first is below 9.
 #[inline(always)]
 fn is_short_number(line: &[u8]) -> bool
-    ensures { result ≡ true → (n : ℕ) × (number_of item_end line.now ≡ Some n) }
+    ensures { result ≡ true → (n : ℕ) × (number_of number_end line.now ≡ Some n) }
 {
-    if line.is_empty() || line.len() > FEW_DIGITS {
-        return false;
+    match line.len() {
+        1..=18 => are_digits(line),
+        19 => line[0] < b'9' && are_digits(line),
+        _ => false,
     }
-    are_digits(line)
 }

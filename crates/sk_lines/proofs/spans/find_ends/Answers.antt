@@ -1,4 +1,4 @@
-use Rattle.std.proofs.Common.{◌≡◌, ℕ, ◌+◌, ap, arith, le_refl}
+use Rattle.std.proofs.Common.{ℕ, ◌+◌, ap, arith, le_refl}
 use Rattle.sk_lines.proofs.Places.{known_none, known_more, no_lf_known}
 use Rattle.sk_lines.proofs.Ends.{no_ends, none_known, none_passed}
 use Rattle.sk_lines.specs.Spans.{ends_of}

@@ -1,11 +1,18 @@
-use Rattle.std.proofs.Common.{◌≢◌, ◌-◌, ◌∙◌, length, true≢false, sym, arith, eq-eqb, refl, inl}
+use Rattle.std.proofs.Common.{◌-◌, ◌+◌, ◌≡◌, ◌∙◌, length, decimal, sym, arith, refl, inl}
 use Rattle.sk_model.specs.Numbers.{value_of}
-use Rattle.sk_model.specs.Width.{item_end}
-use Rattle.sk_lines.proofs.Digits.{few_digits, length_decimal}
+use Rattle.sk_model.specs.Width.{number_end}
+use Rattle.sk_lines.proofs.Digits.{few_digits, nineteen_digits, length_decimal}
 use Rattle.sk_read.proofs.kind.is_short_number.Goals as goal
 
-pub returns : goal.returns
-returns c = λ digits.
+long : 18 + 1 ≡ length (decimal (number_end - 1))
+long = length_decimal 18 (number_end - 1) (number_end - 1) (omega arith) (inl refl) (omega arith) (omega arith)
+
+pub returns-then-line-lt57 : goal.returns-then-line-lt57
+returns-then-line-lt57 c = λ digits.
     let line = c.args.line.now in
-    let some : length line ≢ 0 = λ none. true≢false (sym (eq-eqb _ 0 none) ∙ sym c.is_empty.ensures ∙ c.if-is_empty.false) in
-    (value_of line, sym (few_digits item_end 14 line (omega arith) (omega (arith, length_decimal 14 (item_end - 1) (item_end - 1) (omega arith) (inl refl) (omega arith) (omega arith))) (omega (arith, some)) (omega (arith, c.if-line-gt-FEW_DIGITS.false)) (sym c.are_digits.ensures ∙ digits)))
+    (value_of line, sym (nineteen_digits number_end line (omega arith) (omega (arith, long)) (omega (arith, c.in-19.is)) (omega (arith, c.if-line-lt57.true)) (sym c.are_digits.ensures ∙ digits)))
+
+pub returns-in-1-to-18 : goal.returns-in-1-to-18
+returns-in-1-to-18 c = λ digits.
+    let line = c.args.line.now in
+    (value_of line, sym (few_digits number_end 18 line (omega arith) (omega (arith, long)) (omega (arith, c.in-1-to-18)) (omega (arith, c.in-1-to-18)) (sym c.are_digits-in-1-to-18.ensures ∙ digits)))
