@@ -14,8 +14,8 @@ use Rattle.sk_image.proofs.Texts.{bad_line, long_line, bad_end}
 
 pub holds_begins : (part : Part) (lines : List (List ℕ)) → Holds part lines → BeginAnImage lines
 holds_begins Nothing lines e = subst BeginAnImage (sym e) nothing_begins
-holds_begins (Open image) lines e = subst BeginAnImage (sym e) (open_begins image.k image.seed image.hashes.items image.whole)
-holds_begins (Whole image) lines e = subst BeginAnImage (sym e) (whole_begins image.k image.seed image.hashes.items image.whole)
+holds_begins (Open image) lines e = subst BeginAnImage (sym e) (open_begins image.version image.k image.seed image.hashes.items image.whole)
+holds_begins (Whole image) lines e = subst BeginAnImage (sym e) (whole_begins image.version image.k image.seed image.hashes.items image.whole)
 
 pub good_so_far : (draft : Draft) (text : List ℕ) → HasTaken draft text → IsGoodSoFar text
 good_so_far draft text has = record {
@@ -43,7 +43,7 @@ module _ (draft : Draft) (text : List ℕ) (has : HasTaken draft text) (n : ℕ)
       subst (λ (m : ℕ). IsBadFrom m (text ++ byte ∷ [])) (sym number)
       (long_line has.lines draft.line.items text has.split (holds_begins draft.part has.lines has.holds) has.no_lf byte other full)
 
-  pub bad_at_end : ((k seed : ℕ) (hashes : List ℕ) → lines_of_image k seed hashes ≡ has.lines → draft.line.items ≡ [] → ⊥) → IsBadAt n text
+  pub bad_at_end : ((version k seed : ℕ) (hashes : List ℕ) → lines_of_image version k seed hashes ≡ has.lines → draft.line.items ≡ [] → ⊥) → IsBadAt n text
   bad_at_end not_whole =
       subst (λ (m : ℕ). IsBadAt m text) (sym number)
       (bad_end has.lines draft.line.items text has.split (holds_begins draft.part has.lines has.holds) has.no_lf not_whole)

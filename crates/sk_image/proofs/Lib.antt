@@ -5,3 +5,5 @@ pub mod Numbers
 pub mod Splits
 pub mod Texts
 pub mod Unions
+pub mod Versions
+pub mod Walks

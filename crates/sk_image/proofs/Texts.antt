@@ -3,8 +3,7 @@ use Rattle.std.proofs.Common.{◌≡◌, ◌≢◌, ℕ, ◌+◌, ◌≤◌, ◌
 use Rattle.std.proofs.lemmas.List.Elements.{All-nil, All-head, All-tail, All-push}
 use Rattle.std.proofs.lemmas.List.{length-map}
 use Rattle.sk_lines.specs.Cutter.{HasNoLf}
-use Rattle.sk_image.specs.Images.{IsImage, first_line, lines_of_image, joined, text_of}
-use Rattle.sk_lines.specs.Hashes.{hash_digits}
+use Rattle.sk_image.specs.Images.{IsImage, first_line, hash_text, lines_of_image, joined, text_of}
 use Rattle.sk_image.specs.Reading.{most_line, BeginAnImage, IsBadAt, IsGoodSoFar}
 use Rattle.sk_image.specs.Inside.{IsBadFrom}
 use Rattle.sk_image.proofs.Splits.{conses, no_cons_behind, lines_split, joined_first, joined_none, cut, no_cut, cut_late}
@@ -22,19 +21,20 @@ none_joined : (zs : List (List ℕ)) → joined zs ++ [] ≡ [] → zs ≡ []
 none_joined [] e = refl
 none_joined (z ∷ zs) e = absurd (no_cons_behind z 10 (joined zs ++ []) (sym (joined_first z zs []) ∙ e))
 
-pub same_text : (k k' seed seed' : ℕ) (hashes hashes' : List ℕ) → IsImage k seed hashes → IsImage k' seed' hashes' → text_of k seed hashes ≡ text_of k' seed' hashes' →
-    (k ≡ k') × (seed ≡ seed') × (hashes ≡ hashes')
-same_text k k' seed seed' hashes hashes' whole whole' e =
-    let xs = lines_of_image k seed hashes in
-    let ys = lines_of_image k' seed' hashes' in
-    let split = front_of xs ys [] [] (whole_begins k seed hashes whole) (whole_begins k' seed' hashes' whole') no_lf_in_none (append-nil (joined xs) ∙ e ∙ sym (append-nil (joined ys))) in
-    same_lines k k' seed seed' hashes hashes' whole whole' (sym (split.1 ∙ ap (λ (zs : List (List ℕ)). xs ++ zs) (none_joined split.0 (sym split.2)) ∙ append-nil xs))
+pub same_text : (version version' k k' seed seed' : ℕ) (hashes hashes' : List ℕ) → IsImage version k seed hashes → IsImage version' k' seed' hashes' → text_of version k seed hashes ≡ text_of version' k' seed' hashes' →
+    (version ≡ version') × (k ≡ k') × (seed ≡ seed') × (hashes ≡ hashes')
+same_text version version' k k' seed seed' hashes hashes' whole whole' e =
+    let xs = lines_of_image version k seed hashes in
+    let ys = lines_of_image version' k' seed' hashes' in
+    let split = front_of xs ys [] [] (whole_begins version k seed hashes whole) (whole_begins version' k' seed' hashes' whole') no_lf_in_none (append-nil (joined xs) ∙ e ∙ sym (append-nil (joined ys))) in
+    same_lines version version' k k' seed seed' hashes hashes' whole whole' (sym (split.1 ∙ ap (λ (zs : List (List ℕ)). xs ++ zs) (none_joined split.0 (sym split.2)) ∙ append-nil xs))
 
 none_joined_with : (p : List ℕ) → joined [] ++ p ≡ p
 none_joined_with p = ap (λ (l : List ℕ). l ++ p) joined_none
 
 begins_less : (xs ys : List (List ℕ)) → BeginAnImage (xs ++ ys) → BeginAnImage xs
 begins_less xs ys b = record {
+  version = b.version;
   k = b.k;
   seed = b.seed;
   hashes = b.hashes;
@@ -63,7 +63,7 @@ module _ (lines : List (List ℕ)) (rest : List ℕ) (ends : Ends lines rest) wh
       absurd (ends z (joined zs ++ p) (is ∙ joined_first z zs p) (begins_less (lines ++ z ∷ []) zs (subst BeginAnImage (sym (append_assoc lines (z ∷ []) zs)) b)))
 
   module _ (text : List ℕ) (split : text ≡ joined lines ++ rest) (before : BeginAnImage lines) where
-    is_bad : ((k seed : ℕ) (hashes : List ℕ) → lines_of_image k seed hashes ≡ lines → rest ≡ [] → ⊥) → IsBadAt (length lines + 1) text
+    is_bad : ((version k seed : ℕ) (hashes : List ℕ) → lines_of_image version k seed hashes ≡ lines → rest ≡ [] → ⊥) → IsBadAt (length lines + 1) text
     unfolding Ends
     is_bad not_whole = record {
       lines = lines;
@@ -73,11 +73,11 @@ module _ (lines : List (List ℕ)) (rest : List ℕ) (ends : Ends lines rest) wh
       before = before;
       next = ends;
       none = λ image.
-          let all = lines_of_image image.k image.seed image.hashes in
-          let begins = whole_begins image.k image.seed image.hashes image.whole in
+          let all = lines_of_image image.version image.k image.seed image.hashes in
+          let begins = whole_begins image.version image.k image.seed image.hashes image.whole in
           let parts = front_of lines all rest [] before begins no_lf_in_none (sym split ∙ image.is ∙ sym (append-nil (joined all))) in
           let no_more = goes_no_further parts.0 [] (subst BeginAnImage parts.1 begins) parts.2 in
-          not_whole image.k image.seed image.hashes (parts.1 ∙ ap (λ (zs : List (List ℕ)). lines ++ zs) no_more.0 ∙ append-nil lines) no_more.1;
+          not_whole image.version image.k image.seed image.hashes (parts.1 ∙ ap (λ (zs : List (List ℕ)). lines ++ zs) no_more.0 ∙ append-nil lines) no_more.1;
     }
 
     is_not_good : ((piece : List ℕ) → HasNoLf piece → length piece ≤ most_line → rest ≡ piece → ⊥) → ¬ IsGoodSoFar text
@@ -100,7 +100,7 @@ module _ (lines : List (List ℕ)) (line text : List ℕ) (split : text ≡ join
       let all : (more : List ℕ) → (text ++ 10 ∷ []) ++ more ≡ joined lines ++ (line ++ 10 ∷ more) = λ more.
       append_assoc text (10 ∷ []) more ∙ with_rest (10 ∷ more) in
       record {
-        bad = λ more. is_bad lines (line ++ 10 ∷ more) (ends more) _ (all more) before (λ k seed hashes whole none. no_cons_behind line 10 more none);
+        bad = λ more. is_bad lines (line ++ 10 ∷ more) (ends more) _ (all more) before (λ version k seed hashes whole none. no_cons_behind line 10 more none);
         not_good = λ more. is_not_good lines (line ++ 10 ∷ more) (ends more) _ (all more) before (λ piece none within e. no_cut 10 line more piece none e);
       }
 
@@ -117,13 +117,13 @@ module _ (lines : List (List ℕ)) (line text : List ℕ) (split : text ≡ join
       append_assoc text (byte ∷ []) more ∙ with_rest (byte ∷ more) ∙ ap (λ (l : List ℕ). joined lines ++ l) (sym (append_assoc line (byte ∷ []) more)) in
       record {
         bad = λ more. is_bad lines (long ++ more) (ends more) _ (all more) before
-            (λ k seed hashes whole none. absurd (omega (arith, size, ap length none, length-append long more)));
+            (λ version k seed hashes whole none. absurd (omega (arith, size, ap length none, length-append long more)));
         not_good = λ more. is_not_good lines (long ++ more) (ends more) _ (all more) before
             (λ piece none within e. absurd (omega (arith, size, within, ap length e, length-append long more)));
       }
 
   -- the end of a text that is not whole
-  pub bad_end : ((k seed : ℕ) (hashes : List ℕ) → lines_of_image k seed hashes ≡ lines → line ≡ [] → ⊥) → IsBadAt (length lines + 1) text
+  pub bad_end : ((version k seed : ℕ) (hashes : List ℕ) → lines_of_image version k seed hashes ≡ lines → line ≡ [] → ⊥) → IsBadAt (length lines + 1) text
   unfolding Ends
   bad_end not_whole = is_bad lines line (λ line' more e b. no_cut 10 line' more line no_lf (sym e)) text split before not_whole
 
@@ -162,10 +162,10 @@ one_bad_line m n text a b =
     ]
 
 -- the text of an image without its last line
-pub without_last : (k seed : ℕ) (hashes : List ℕ) → IsImage k seed hashes → IsBadAt (length hashes + 2) (joined (first_line k seed ∷ map hash_digits hashes))
-without_last k seed hashes whole =
-    let lines = first_line k seed ∷ map hash_digits hashes in
-    let number : length lines + 1 ≡ length hashes + 2 = omega (arith, length-map hashes hash_digits) in
+pub without_last : (version k seed : ℕ) (hashes : List ℕ) → IsImage version k seed hashes → IsBadAt (length hashes + 2) (joined (first_line version k seed ∷ map (hash_text version) hashes))
+without_last version k seed hashes whole =
+    let lines = first_line version k seed ∷ map (hash_text version) hashes in
+    let number : length lines + 1 ≡ length hashes + 2 = omega (arith, length-map hashes (hash_text version)) in
     subst (λ (n : ℕ). IsBadAt n (joined lines)) number
-    (bad_end lines [] (joined lines) (sym (append-nil (joined lines))) (open_begins k seed hashes whole) no_lf_in_none
-    (λ k' seed' hashes' is none. open_is_not_whole k seed k' seed' hashes hashes' is))
+    (bad_end lines [] (joined lines) (sym (append-nil (joined lines))) (open_begins version k seed hashes whole) no_lf_in_none
+    (λ version' k' seed' hashes' is none. open_is_not_whole version k seed version' k' seed' hashes hashes' is))

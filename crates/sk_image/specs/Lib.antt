@@ -8,3 +8,5 @@ pub mod Inside
 pub mod Reading
 pub mod Written
 pub mod Stops
+pub mod Union
+pub mod Versions

@@ -9,25 +9,27 @@ use Rattle.sk_image.specs.Images.{IsImage, lines_of_image, joined, text_of}
 abbrev pub most_line : ℕ
 most_line = 64
 
--- one read is asked for at most so many bytes
+-- one read is asked for at most this many bytes
 abbrev pub most_piece : ℕ
 most_piece = 8192
 
 -- the text of some image
 pub record IsImageText (text : List ℕ) : Type 0 where
+  pub version : ℕ
   pub k : ℕ
   pub seed : ℕ
   pub hashes : List ℕ
-  pub whole : IsImage k seed hashes
-  pub is : text ≡ text_of k seed hashes
+  pub whole : IsImage version k seed hashes
+  pub is : text ≡ text_of version k seed hashes
 
 -- some image has these lines in front
 pub record BeginAnImage (lines : List (List ℕ)) : Type 0 where
+  pub version : ℕ
   pub k : ℕ
   pub seed : ℕ
   pub hashes : List ℕ
-  pub whole : IsImage k seed hashes
-  pub begins : Begins lines (lines_of_image k seed hashes)
+  pub whole : IsImage version k seed hashes
+  pub begins : Begins lines (lines_of_image version k seed hashes)
 
 -- a text is no image's, and line n, counted from 1, is the first that is not as its place requires: no
 -- image has the lines up to it in front, or it is a piece that LF does not end, or it is missing
@@ -50,7 +52,7 @@ pub record IsGoodSoFar (text : List ℕ) : Type 0 where
   pub no_lf : HasNoLf piece
   pub within : length piece ≤ most_line
 
--- at most so many bytes were taken, and those before the last read, or all, are good so far
+-- at most `most` bytes were taken, and those before the last read, or all, are good so far
 pub record TakesInTime (old new : Option (List ℕ)) (most : ℕ) : Type 0 where
   pub front : List ℕ
   pub piece : List ℕ

@@ -5,4 +5,4 @@ use Rattle.sk_image.specs.declared.image.Image.{Image}
 
 -- its text
 abbrev pub image_text : Image → List ℕ
-image_text image = text_of image.k image.seed image.hashes.items
+image_text image = text_of image.version image.k image.seed image.hashes.items

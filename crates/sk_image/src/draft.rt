@@ -2,12 +2,10 @@
 ghost use Rattle.std.specs.Prelude.{◌≡◌, ◌≢◌, ℕ, List, [], ◌∷◌, ◌++◌, Err, IfOk, IfErr};
 
 use crate::image::Image;
+use crate::lines::MOST_LINE;
 use crate::part::Part;
 use crate::stop::ReadStop;
 use std::alloc::Global;
-
-// No line of an image has more bytes.
-const MOST_LINE: usize = 64;
 
 /// The lines taken so far, and a piece of the next.
 #[derive(Drop)]
@@ -62,7 +60,7 @@ impl Draft {
         Ok(Draft { part, line })
     }
 
-    /// The image, where the text ends here.
+    /// The image, if the text ends here.
     pub fn end(self) -> Result<Image, ReadStop>
         ensures ok { IfOk result (λ image. (text : List ℕ) → HasTaken self text → text ≡ image_text image) }
         ensures bad { IfErr result (λ stop. (n : ℕ) × (stop ≡ ReadStop.BadImage n)

@@ -9,11 +9,14 @@ mod merge;
 mod part;
 mod reader;
 mod stop;
+mod version;
 mod writer;
 
 pub use image::Image;
+pub use lines::MOST_LINE;
 pub use merge::{JoinStop, join};
 pub use reader::read;
 pub use sk_model::OutOfMemory;
 pub use stop::ReadStop;
-pub use writer::{WriteStop, write};
+pub use version::NEWEST_VERSION;
+pub use writer::{WriteStop, put_first_line, write};

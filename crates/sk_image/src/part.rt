@@ -1,12 +1,10 @@
 // What the lines taken so far hold of an image.
-ghost use Rattle.sk_image.specs.Images.{IsImage};
-ghost use Rattle.sk_lines.specs.Hashes.{hash_digits};
+ghost use Rattle.sk_image.specs.Images.{IsImage, hash_text};
 ghost use Rattle.std.specs.Prelude.{◌≡◌, ◌≢◌, ◌↔◌, ◌+◌, ℕ, List, [], ◌∷◌, ◌++◌, Some, Err, IfOk, IfErr, length};
 
 use crate::image::Image;
-use crate::lines::{is_last, read_first};
+use crate::lines::{is_last, read_first, read_hash_text};
 use crate::stop::ReadStop;
-use sk_lines::read_hash;
 use std::alloc::Global;
 
 /// The lines taken so far.
@@ -23,7 +21,7 @@ pub enum Part {
 impl Part {
     ghost use Rattle.sk_image.specs.Inside.{Holds, Adds, Refuses};
 
-    /// The number of the line that is due, counted from 1.
+    /// The number of the next line, counted from 1.
     pub fn next_line(&self) -> u64
         ensures { (lines : List (List ℕ)) → Holds self.now lines → result ≡ length lines + 1 }
     {
@@ -43,9 +41,10 @@ impl Part {
         let number = self.next_line();
         match self {
             Part::Nothing => match read_first(line) {
-                Some((k, seed)) => Ok(Part::Open(Image {
-                    k,
-                    seed,
+                Some(first) => Ok(Part::Open(Image {
+                    version: first.version,
+                    k: first.k,
+                    seed: first.seed,
                     hashes: Vec::new(alloc),
                 })),
                 None => Err(ReadStop::BadImage(number)),
@@ -55,7 +54,7 @@ impl Part {
         }
     }
 
-    // The lines with one more behind the first and those of hashes.
+    // The lines with one more, after the first and those of hashes.
     fn of_next(image: Image, line: &[u8]) -> Result<Part, ReadStop>
         ensures ok { IfOk result (λ part. Adds (Part.Open image) part line.now) }
         ensures bad { (n : ℕ) → result ≡ Err (ReadStop.BadImage n) → Refuses (Part.Open image) line.now n }
@@ -71,12 +70,12 @@ impl Part {
     }
 }
 
-// The hash that a line puts behind those of an image.
+// The hash that a line adds to those of an image.
 fn next_hash(image: &Image, line: &[u8]) -> Option<u64>
-    ensures { (hash : ℕ) → (result ≡ Some hash ↔ (line.now ≡ hash_digits hash)
-        × IsImage image.now.k image.now.seed (image.now.hashes.items ++ hash ∷ [])) }
+    ensures { (hash : ℕ) → (result ≡ Some hash ↔ (line.now ≡ hash_text image.now.version hash)
+        × IsImage image.now.version image.now.k image.now.seed (image.now.hashes.items ++ hash ∷ [])) }
 {
-    let hash = read_hash(line)?;
+    let hash = read_hash_text(image.version, line)?;
     let rises = match image.hashes.last() {
         Some(last) => *last < hash,
         None => true,
@@ -90,17 +89,24 @@ fn next_hash(image: &Image, line: &[u8]) -> Option<u64>
 
 // An image with one more hash.
 fn with_hash(image: Image, hash: u64) -> Result<Image, ReadStop>
-    requires { IsImage image.k image.seed (image.hashes.items ++ hash ∷ []) }
+    requires { IsImage image.version image.k image.seed (image.hashes.items ++ hash ∷ []) }
+    ensures version { IfOk result (λ more. more.version ≡ image.version) }
     ensures k { IfOk result (λ more. more.k ≡ image.k) }
     ensures seed { IfOk result (λ more. more.seed ≡ image.seed) }
     ensures hashes { IfOk result (λ more. more.hashes.items ≡ image.hashes.items ++ hash ∷ []) }
     ensures err { IfErr result (λ stop. stop ≡ ReadStop.OutOfMemory) }
 {
     let Image {
+        version,
         k,
         seed,
         mut hashes,
     } = image;
     hashes.push(hash)?;
-    Ok(Image { k, seed, hashes })
+    Ok(Image {
+        version,
+        k,
+        seed,
+        hashes,
+    })
 }

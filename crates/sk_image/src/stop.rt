@@ -12,7 +12,7 @@ pub enum ReadStop {
     /// The line of this number, counted from 1, is the first that is not as its place requires.
     BadImage(u64),
     /// As many bytes were taken as are too much, and each line that LF ended in them is as its place
-    /// requires. A piece of a line may stand behind them, also behind a whole image.
+    /// requires. A piece of a line may follow them, also after a whole image.
     TooMuch,
     /// No memory was left.
     OutOfMemory,

@@ -43,7 +43,7 @@ returns-then-n-eq0-clause-text g c =
     let taken : Consumes (g.S.Source.left c.args.source.now) (g.S.Source.left c.read_within.new.source) (seen.0 ++ []) = Consumes-trans _ _ _ _ _ seen.1 more in
     let over : IsAtEnd (g.S.Source.left c.read_within.new.source) = read.1 c.if-n-eq0.true (search rules) in
     IfOk-weaker c.end.result _ _ (λ (image : Image) is.
-    all_told _ _ _ taken over (λ text. text ≡ text_of image.k image.seed image.hashes.items) (append-nil seen.0 ∙ is seen.0 seen.2)) c.end.ensures.ok
+    all_told _ _ _ taken over (λ text. text ≡ text_of image.version image.k image.seed image.hashes.items) (append-nil seen.0 ∙ is seen.0 seen.2)) c.end.ensures.ok
 
 pub returns-then-n-eq0-clause-taken : goal.returns-then-n-eq0-clause-taken
 returns-then-n-eq0-clause-taken g c =

@@ -11,7 +11,7 @@ returns-in-None-clause-bad c = λ n e lines holds.
     let line : List ℕ = c.args.line.now in
     let none : lines ≡ [] = subst (λ (p : Part). Holds p lines) c.in-Nothing.is holds in
     let number : c.next_line-number.result ≡ n = cc in
-    let bad = bad_first line (λ k seed least most fits is. let no = (c.in-None.ensures.exact k seed (least, most) fits).1 is in absurd cc) in (
+    let bad = bad_first line (λ version k seed is_version least most fits is. let no = (c.in-None.ensures.exact version k seed is_version (least, most) fits).1 is in absurd cc) in (
       omega (arith, number, c.next_line-number.ensures lines holds),
       subst (λ (ls : List (List ℕ)). ¬ BeginAnImage (ls ++ line ∷ [])) (sym none) bad,
     )
@@ -20,9 +20,9 @@ pub returns-in-Whole-clause-bad : goal.returns-in-Whole-clause-bad
 returns-in-Whole-clause-bad c = λ n e lines holds.
     let line : List ℕ = c.args.line.now in
     let image = c.in-Whole._image in
-    let are : lines ≡ lines_of_image image.k image.seed image.hashes.items = subst (λ (p : Part). Holds p lines) c.in-Whole.is holds in
+    let are : lines ≡ lines_of_image image.version image.k image.seed image.hashes.items = subst (λ (p : Part). Holds p lines) c.in-Whole.is holds in
     let number : c.next_line-number.result ≡ n = cc in
-    let bad = bad_behind_whole image.k image.seed image.hashes.items image.whole line in (
+    let bad = bad_behind_whole image.version image.k image.seed image.hashes.items image.whole line in (
       omega (arith, number, c.next_line-number.ensures lines holds),
       subst (λ (ls : List (List ℕ)). ¬ BeginAnImage (ls ++ line ∷ [])) (sym are) bad,
     )
