@@ -1,5 +1,5 @@
 -- What told files decide of a join.
-use Rattle.std.proofs.Common.{◌≡◌, ◌≢◌, ◌⊎◌, inl, inr, ℕ, ◌<◌, List, length, Option, Some, refl, sym, ap, ◌∙◌, subst, arith}
+use Rattle.std.proofs.Common.{◌≡◌, ◌⊎◌, inl, inr, ℕ, ◌<◌, List, length, Option, Some, refl, sym, ◌∙◌, subst, arith}
 use Rattle.std.specs.Option.{IfSome}
 use Rattle.std.specs.Io.KnownBytes.{Consumes}
 use Rattle.sk_io.specs.Files.{told_file}
@@ -8,12 +8,13 @@ use Rattle.sk_image.specs.Written.{image_text}
 use Rattle.sk_image.specs.declared.image.Image.{Image}
 use Rattle.sk_image.proofs.Texts.{same_text}
 use Rattle.sk_cli.specs.Fault.{status_of}
-use Rattle.sk_cli.specs.commands.Join.{TwoImages, Files, IsFileOf, StopsIn, EndsFile, ReadsBoth, Fit, Differ, EndsAtOne, EndsJoin, IsToldImage, IsToldBad, AreToldImages, AreFineFiles, AreMixed, IsBadOne, AreRefused}
+use Rattle.sk_cli.specs.commands.Join.{TwoImages, Files, IsFileOf, StopsIn, EndsFile, ReadsBoth, stamp_of, stamp_in, Fit, Differ, EndsAtOne, EndsJoin, IsToldImage, IsToldBad, AreToldImages, AreFineFiles, AreMixed, IsBadOne, AreRefused}
 use Rattle.sk_cli.specs.Run.{IsOfReads, IsOfCalls}
 use Rattle.sk_cli.specs.declared.fault.Stamp.{Stamp}
 use Rattle.sk_cli.specs.declared.fault.Fault.{Fault}
 use Rattle.sk_cli.specs.declared.fault.Fault.TheVariants as fault
 use Rattle.sk_cli.proofs.Completing.{no_more_told}
+use Rattle.sk_cli.proofs.Joining.{same_stamps}
 
 -- ---- one file
 
@@ -22,7 +23,7 @@ told_so P told text is holds = subst (λ (o : Option (List ℕ)). IfSome o P) is
 
 -- the text of an image that was read is one
 text_is_image : (text : List ℕ) (image : Image) → text ≡ image_text image → IsImageText text
-text_is_image text image is = record { k = image.k; seed = image.seed; hashes = image.hashes.items; whole = image.whole; is = is }
+text_is_image text image is = record { version = image.version; k = image.k; seed = image.seed; hashes = image.hashes.items; whole = image.whole; is = is }
 
 module _ (most : ℕ) (told left : Option (List ℕ)) where
   -- a file that was read as an image has no bad line
@@ -30,11 +31,12 @@ module _ (most : ℕ) (told left : Option (List ℕ)) where
   read_or_bad n image bad read = bad.bad.none (text_is_image bad.text image (told_so (λ text. (text ≡ image_text image) × (length text < most)) told bad.text bad.is read).0)
 
   -- the numbers of an image that was read are those of its text
-  pub same_numbers : (fine : IsToldImage most told) (image : Image) → IsFileOf most image told → (fine.image.k ≡ image.k) × (fine.image.seed ≡ image.seed)
+  pub same_numbers : (fine : IsToldImage most told) (image : Image) → IsFileOf most image told → stamp_in fine.text fine.image ≡ stamp_of image
   same_numbers fine image read =
       let text : fine.text ≡ image_text image = (told_so (λ text. (text ≡ image_text image) × (length text < most)) told fine.text fine.is read).0 in
-      let same = same_text fine.image.k image.k fine.image.seed image.seed fine.image.hashes image.hashes.items fine.image.whole image.whole (sym fine.image.is ∙ text) in
-      (same.0, same.1)
+      let f = fine.image in
+      let same = same_text f.version image.version f.k image.k f.seed image.seed f.hashes image.hashes.items f.whole image.whole (sym f.is ∙ text) in
+      same_stamps f.version f.k f.seed image.version image.k image.seed same.0 same.1 same.2
 
   too_many : (text : List ℕ) → told ≡ Some text → length text < most → StopsIn (λ size. size ≡ most) told left → ⊥
   too_many text is size stop =
@@ -73,33 +75,19 @@ module _ (two : TwoImages) (most : ℕ) (files : Files) (now old new : Option (L
   abbrev right : Option (List ℕ)
   right = told_file files two.right
 
-  -- told images of one k and one seed do not differ
+  -- told images with the same numbers do not differ
   fit_or_differ : (a b : Stamp) → AreFineFiles two most files → (P : Type 0) → ReadsBoth two most files now (λ x y. Differ x y a b × P) → ⊥
-  fit_or_differ a b fine P read = by read.so.0.2
-    where
-      one : (fine.told.left.image.k ≡ read.left.k) × (fine.told.left.image.seed ≡ read.left.seed)
-      one = same_numbers most left now fine.told.left read.left read.left_file
-
-      other : (fine.told.right.image.k ≡ read.right.k) × (fine.told.right.image.seed ≡ read.right.seed)
-      other = same_numbers most right now fine.told.right read.right read.right_file
-
-      by : (a.k ≢ b.k) ⊎ (a.seed ≢ b.seed) → ⊥
-      by (inl k) = k (ap (λ (s : Stamp). s.k) read.so.0.0 ∙ sym one.0 ∙ fine.k ∙ other.0 ∙ sym (ap (λ (s : Stamp). s.k) read.so.0.1))
-      by (inr seed) = seed (ap (λ (s : Stamp). s.seed) read.so.0.0 ∙ sym one.1 ∙ fine.seed ∙ other.1 ∙ sym (ap (λ (s : Stamp). s.seed) read.so.0.1))
+  fit_or_differ a b fine P read =
+      let one = same_numbers most left now fine.told.left read.left read.left_file in
+      let other = same_numbers most right now fine.told.right read.right read.right_file in
+      read.so.0.2 (read.so.0.0 ∙ sym one ∙ fine.same ∙ other ∙ sym read.so.0.1)
 
   -- images that differ do not fit
   mixed_or_fit : (a b : Stamp) (P : Type 0) → AreMixed two most files a b → ReadsBoth two most files now (λ x y. Fit x y × P) → ⊥
-  mixed_or_fit a b P mixed read = by mixed.differ
-    where
-      one : (mixed.told.left.image.k ≡ read.left.k) × (mixed.told.left.image.seed ≡ read.left.seed)
-      one = same_numbers most left now mixed.told.left read.left read.left_file
-
-      other : (mixed.told.right.image.k ≡ read.right.k) × (mixed.told.right.image.seed ≡ read.right.seed)
-      other = same_numbers most right now mixed.told.right read.right read.right_file
-
-      by : (a.k ≢ b.k) ⊎ (a.seed ≢ b.seed) → ⊥
-      by (inl k) = k (ap (λ (s : Stamp). s.k) mixed.left_stamp ∙ one.0 ∙ read.so.0.0 ∙ sym other.0 ∙ sym (ap (λ (s : Stamp). s.k) mixed.right_stamp))
-      by (inr seed) = seed (ap (λ (s : Stamp). s.seed) mixed.left_stamp ∙ one.1 ∙ read.so.0.1 ∙ sym other.1 ∙ sym (ap (λ (s : Stamp). s.seed) mixed.right_stamp))
+  mixed_or_fit a b P mixed read =
+      let one = same_numbers most left now mixed.told.left read.left read.left_file in
+      let other = same_numbers most right now mixed.told.right read.right read.right_file in
+      mixed.differ (mixed.left_stamp ∙ one ∙ read.so.0 ∙ sym other ∙ sym mixed.right_stamp)
 
   fine_one : AreToldImages two most files → (f : Fault) → EndsAtOne two most files now f → IsOfCalls (status_of f)
   fine_one fine f (inl ends) = of_calls (status_of f) (fine_file most left now 1 fine.left f ends)

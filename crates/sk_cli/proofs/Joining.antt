@@ -6,10 +6,11 @@ use Rattle.std.specs.Io.KnownBytes.{Appends, Consumes, IsAtEnd}
 use Rattle.std.proofs.lemmas.Bool.{false≢true}
 use Rattle.std.proofs.lemmas.Bool.Decides.{Decides-eqb}
 use Rattle.sk_model.specs.Causes.{AppendsPart}
-use Rattle.sk_model.specs.Sketch.{k_smallest, estimate_of}
+use Rattle.sk_model.specs.Sketch.{k_smallest, estimate_to}
 use Rattle.sk_lines.specs.Fractions.{estimate_line}
 use Rattle.sk_io.specs.Files.{told_file}
 use Rattle.sk_image.specs.Images.{text_of}
+use Rattle.sk_image.specs.Versions.{end_of}
 use Rattle.sk_image.specs.Reading.{IsBadAt, IsGoodSoFar}
 use Rattle.sk_image.specs.declared.image.Image.{Image}
 use Rattle.sk_image.specs.declared.stop.ReadStop.{ReadStop}
@@ -17,6 +18,7 @@ use Rattle.sk_image.specs.declared.stop.ReadStop.TheVariants as stop
 use Rattle.sk_image.proofs.Unions.{kept_estimates}
 use Rattle.sk_cli.specs.Fault.{fault_by_image}
 use Rattle.sk_cli.specs.commands.Join.{TwoImages, Files, IsFileOf, EndsFile, Fit, WritesBoth, EndsBoth, EndsJoin, JoinsSo, joined_text, image_or_line}
+use Rattle.sk_cli.specs.declared.fault.Stamp.{Stamp}
 use Rattle.sk_cli.specs.declared.fault.Fault.{Fault}
 use Rattle.sk_cli.specs.declared.fault.Fault.TheVariants as fault
 
@@ -43,17 +45,29 @@ same_number a b not = by (a == b) refl
     by true is = (Decides-eqb a b).0 is
     by false is = absurd (not (λ same. false≢true (sym is ∙ (Decides-eqb a b).1 same)))
 
-pub fit_of : (left right : Image) (P : Type 0) → (P ↔ ((left.k ≢ right.k) ⊎ (left.seed ≢ right.seed))) → (P → ⊥) → Fit left right
-fit_of left right P mixed not = (same_number left.k right.k (λ k. not (mixed.1 (inl k))), same_number left.seed right.seed (λ seed. not (mixed.1 (inr seed))))
+pub same_stamps : (version k seed version' k' seed' : ℕ) → version ≡ version' → k ≡ k' → seed ≡ seed' → ◌≡◌ {A = Stamp} (record { version = version; k = k; seed = seed }) (record { version = version'; k = k'; seed = seed' })
+same_stamps version k seed version' k' seed' v n s =
+    ap (λ (x : ℕ). record { version = x; k = k; seed = seed }) v ∙ ap (λ (x : ℕ). record { version = version'; k = x; seed = seed }) n
+    ∙ ap (λ (x : ℕ). record { version = version'; k = k'; seed = x }) s
 
--- what is told of the joined image is what is due for both
-pub joined_is : (as_image : Bool) (joined left right : Image) → joined.k ≡ left.k → joined.seed ≡ left.seed → joined.hashes.items ≡ k_smallest left.k (left.hashes.items ++ right.hashes.items) →
+pub fit_of : (left right : Image) (P : Type 0) → (P ↔ ((left.version ≢ right.version) ⊎ (left.k ≢ right.k) ⊎ (left.seed ≢ right.seed))) → (P → ⊥) → Fit left right
+fit_of left right P mixed not =
+    same_stamps left.version left.k left.seed right.version right.k right.seed
+    (same_number left.version right.version (λ version. not (mixed.1 (inl version))))
+    (same_number left.k right.k (λ k. not (mixed.1 (inr (inl k)))))
+    (same_number left.seed right.seed (λ seed. not (mixed.1 (inr (inr seed)))))
+
+-- what is written of the joined image is what is due for both
+pub joined_is : (as_image : Bool) (joined left right : Image) → joined.version ≡ left.version → joined.k ≡ left.k → joined.seed ≡ left.seed → joined.hashes.items ≡ k_smallest left.k (left.hashes.items ++ right.hashes.items) →
     image_or_line as_image joined ≡ joined_text as_image left right
-joined_is true joined left right k seed hashes =
-    ap (λ (n : ℕ). text_of n joined.seed joined.hashes.items) k ∙ ap (λ (s : ℕ). text_of left.k s joined.hashes.items) seed ∙ ap (λ (l : List ℕ). text_of left.k left.seed l) hashes
-joined_is false joined left right k seed hashes =
-    ap (λ (n : ℕ). estimate_line (estimate_of n joined.hashes.items)) k ∙ ap (λ (l : List ℕ). estimate_line (estimate_of left.k l)) hashes
-    ∙ ap (λ (e : ℕ × ℕ). estimate_line e) (kept_estimates left.k (left.hashes.items ++ right.hashes.items))
+joined_is true joined left right version k seed hashes =
+    ap (λ (v : ℕ). text_of v joined.k joined.seed joined.hashes.items) version ∙ ap (λ (n : ℕ). text_of left.version n joined.seed joined.hashes.items) k
+    ∙ ap (λ (s : ℕ). text_of left.version left.k s joined.hashes.items) seed ∙ ap (λ (l : List ℕ). text_of left.version left.k left.seed l) hashes
+joined_is false joined left right version k seed hashes =
+    ap (λ (v : ℕ). estimate_line (estimate_to (end_of v) joined.k joined.hashes.items)) version
+    ∙ ap (λ (n : ℕ). estimate_line (estimate_to (end_of left.version) n joined.hashes.items)) k
+    ∙ ap (λ (l : List ℕ). estimate_line (estimate_to (end_of left.version) left.k l)) hashes
+    ∙ ap (λ (e : ℕ × ℕ). estimate_line e) (kept_estimates (end_of left.version) left.k (left.hashes.items ++ right.hashes.items))
 
 pub wrote_both : (as_image : Bool) (old new : Option (List ℕ)) (left right : Image) (text : List ℕ) (r : Result (Unit {0}) Fault) → text ≡ joined_text as_image left right → Fit left right → OnOk r (Appends old new text) →
     (IsErrOf r fault.WriteFault → AppendsPart old new text) → (IsErrOf r fault.OutOfMemory → new ≡ old) → IfErr r (λ (f : Fault). (f ≡ fault.WriteFault) ⊎ (f ≡ fault.OutOfMemory)) →

@@ -13,6 +13,7 @@ pub mod Joining
 pub mod MadeRuns
 pub mod Making
 pub mod Moves
+pub mod Numbers
 pub mod OnTheWay
 pub mod OptionLaws
 pub mod Performing

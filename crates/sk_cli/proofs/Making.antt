@@ -6,7 +6,7 @@ use Rattle.sk_model.specs.Causes.{AppendsPart, Rose}
 use Rattle.sk_model.specs.Limits.{source_limit, most_size, IsFrom}
 use Rattle.sk_model.specs.Lines.{lines_of}
 use Rattle.sk_model.specs.Sketch.{estimate_of}
-use Rattle.sk_make.specs.Made.{made_numbers}
+use Rattle.sk_make.specs.Made.{made_items}
 use Rattle.sk_make.proofs.Texts.{size_is, lines_are_short, lines_are_read, items_are}
 use Rattle.sk_read.specs.Items.{items_by}
 use Rattle.sk_read.specs.declared.kind.Kind.TheVariants.{Raw}
@@ -48,8 +48,8 @@ text_is_readable plan = (
   λ k d below some. lines_are_read plan.n plan.key k d below,
 )
 
--- its items are the numbers
-text_items : (plan : MakePlan) → items_by Raw (lines_of (text_by plan)) ≡ made_numbers plan.n plan.key
+-- its items are those of the numbers
+text_items : (plan : MakePlan) → items_by Raw (lines_of (text_by plan)) ≡ made_items plan.n plan.key
 unfolding items_by
 text_items plan = items_are plan.n plan.key
 

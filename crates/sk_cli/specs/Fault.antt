@@ -4,6 +4,7 @@ use Rattle.sk_read.specs.declared.fault.Fault.{Fault as ReadingFault}
 use Rattle.sk_read.specs.declared.fault.Fault.TheVariants as reading
 use Rattle.sk_read.specs.declared.reader.LineFault.{LineFault}
 use Rattle.sk_read.specs.declared.reader.LineFault.TheVariants as stop
+use Rattle.sk_image.specs.Images.{first_line}
 use Rattle.sk_image.specs.declared.stop.ReadStop.{ReadStop}
 use Rattle.sk_image.specs.declared.stop.ReadStop.TheVariants as image
 use Rattle.sk_serve.specs.declared.fault.ServeFault.{ServeFault}
@@ -36,11 +37,11 @@ unit_message unit number what = unit ++ (decimal number ++ what)
 abbrev pub bad_image_message : ℕ → ℕ → List ℕ
 bad_image_message file line = unit_message (codes "file ") file (codes " ") ++ unit_message (codes "line ") line (codes ": bad image\n")
 
--- the k and the seed of an image, and what stands behind them
+-- the first line of an image, and what follows it
 abbrev pub stamp_message : Stamp → List ℕ → List ℕ
-stamp_message stamp what = unit_message (codes "k=") stamp.k (codes " ") ++ unit_message (codes "seed=") stamp.seed what
+stamp_message stamp what = first_line stamp.version stamp.k stamp.seed ++ what
 
--- the numbers of two images that do not fit together
+-- the first lines of two images that do not fit together
 abbrev pub mixed_message : Stamp → Stamp → List ℕ
 mixed_message left right = codes "mixed: " ++ (stamp_message left (codes " and ") ++ stamp_message right (codes "\n"))
 

@@ -216,9 +216,13 @@ eager_by given = is_yes_in (value_behind Eager given)
 abbrev pub propagator_by : List Given → Option Bool
 propagator_by given = is_yes_in (value_behind Propagator given)
 
+-- the greatest mark of an alarm
+abbrev pub most_mark : ℕ
+most_mark = 2 ^ 48 - 1
+
 -- at which estimates an alarm is written, each once
 abbrev pub alarms_by : List Given → Option (List ℕ)
-alarms_by given = numbers_in board_places 0 (2 ^ 48 - 1) [] (value_behind Alarm given)
+alarms_by given = numbers_in board_places 0 most_mark [] (value_behind Alarm given)
 
 -- a name of a file is any word that is not empty
 abbrev pub name_by : Option Word → Option (Option Word)

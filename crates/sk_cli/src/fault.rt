@@ -4,7 +4,7 @@ ghost use Rattle.std.specs.Io.KnownBytes.{Appends};
 ghost use Rattle.sk_model.specs.Causes.{HasCause, AppendsPart};
 ghost use Rattle.sk_cli.specs.Fault.{status_of, message_of, unit_message, bad_image_message, stamp_message, mixed_message, fault_by, fault_by_image, fault_by_serve};
 
-use sk_image::ReadStop;
+use sk_image::{MOST_LINE, ReadStop, put_first_line};
 use sk_io::{Failed, Sink, write_all};
 use sk_lines::put_decimal;
 use sk_model::OutOfMemory;
@@ -12,11 +12,12 @@ use sk_read::{Fault as ReadingFault, LineFault};
 use sk_serve::ServeFault;
 use std::alloc::AllocError;
 
-/// The numbers that an image has beside its hashes.
+/// The numbers of an image's first line.
 #[derive(Clone, Copy, Debug, PartialEq, Eq)]
 pub struct Stamp {
-    pub k: u64,
-    pub seed: u64,
+    pub version: u32,
+    pub k: u32,
+    pub seed: u32,
 }
 
 /// Why the program ends by a status other than 0. Lines and records are counted from 1.
@@ -40,7 +41,7 @@ pub enum Fault {
     BadImage(u64, u64),
     /// A listen or an accept failed.
     NetFault,
-    /// The k or the seeds of two images differ, the left one first.
+    /// Two images differ in version, k or seed, the left one first.
     Mixed(Stamp, Stamp),
     /// A record has not as many fields as the first, or no such column.
     BadCsv(u64),
@@ -195,17 +196,19 @@ fn tell_bad_image<E: Sink>(err: &mut E, file: u64, line: u64) -> Result<(), Fail
     tell_unit(err, b"line ", line, b": bad image\n")
 }
 
-// Writes the k and the seed of an image, and what stands behind them.
+// Writes the first line of an image, and what follows it.
 fn tell_stamp<E: Sink>(err: &mut E, stamp: Stamp, what: &[u8]) -> Result<(), Failed>
     ensures ok { OnOk result (Appends (E.written err.old) (E.written err.new) (stamp_message stamp what.now)) }
     ensures part { OnErr result (AppendsPart (E.written err.old) (E.written err.new) (stamp_message stamp what.now)) }
     ensures cause { HasCause (E.faults err.old) (E.faults err.new) result }
 {
-    tell_unit(err, b"k=", stamp.k, b" ")?;
-    tell_unit(err, b"seed=", stamp.seed, what)
+    let mut line = [0u8; MOST_LINE];
+    let len = put_first_line(&mut line, stamp.version, stamp.k, stamp.seed);
+    write_all(err, &line[..len])?;
+    write_all(err, what)
 }
 
-// Writes the numbers of two images that do not fit together.
+// Writes the first lines of two images that do not fit together.
 fn tell_mixed<E: Sink>(err: &mut E, left: Stamp, right: Stamp) -> Result<(), Failed>
     ensures ok { OnOk result (Appends (E.written err.old) (E.written err.new) (mixed_message left right)) }
     ensures part { OnErr result (AppendsPart (E.written err.old) (E.written err.new) (mixed_message left right)) }

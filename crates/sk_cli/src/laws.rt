@@ -1,11 +1,11 @@
 //! Laws of what is due and what is refused.
-ghost use Rattle.std.specs.Prelude.{◌≡◌, ℕ, ◌<◌, None, List, ◌∷◌, ◌++◌};
+ghost use Rattle.std.specs.Prelude.{◌≡◌, ℕ, ◌+◌, ◌<◌, None, All, List, ◌∷◌, ◌++◌};
 ghost use Rattle.sk_cli.specs.Behaviour.{IsDecided, WritesOneText};
 ghost use Rattle.sk_cli.specs.commands.Count.{counting};
 ghost use Rattle.sk_cli.specs.commands.Hash.{hashing};
 ghost use Rattle.sk_cli.specs.commands.Image.{imaging};
 ghost use Rattle.sk_cli.specs.commands.Make.{making};
-ghost use Rattle.sk_cli.specs.commands.Quantile.{ranking, TellsNear};
+ghost use Rattle.sk_cli.specs.commands.Quantile.{ranking, numbers_in, TellsNear};
 ghost use Rattle.sk_cli.specs.commands.Replay.{IsAnswered, IsNoMore, replaying};
 ghost use Rattle.sk_count.specs.declared.plan.Plan.{Plan};
 ghost use Rattle.sk_cli.specs.declared.commands.hash.HashPlan.{HashPlan};
@@ -14,7 +14,8 @@ ghost use Rattle.sk_cli.specs.declared.commands.make.MakePlan.{MakePlan};
 ghost use Rattle.sk_rank.specs.declared.plan.Plan.{Plan as RankPlan};
 ghost use Rattle.sk_rank.specs.Texts.{rank_line};
 ghost use Rattle.sk_model.specs.Lines.{lines_of};
-ghost use Rattle.sk_read.specs.Items.{items_by};
+ghost use Rattle.sk_quant.specs.Ranks.{rank_of};
+ghost use Rattle.sk_read.specs.Items.{items_by, IsGood};
 ghost use Rattle.sk_read.specs.declared.kind.Kind.TheVariants.{Raw};
 ghost use Rattle.sk_cli.specs.Beside.{Beside};
 
@@ -56,11 +57,16 @@ pub fn quantile_decides()
         → (from : Beside) (text due : List ℕ) → (ranking plan).IsDue from text due → due ≡ rank_line plan (items_by Raw (lines_of text)) }
 {}
 
-/// However many updaters there are, the last line tells the number of all items, and how many of them lie below the
-/// plan's number, up to the error that it tells.
+/// However many updaters there are, the last line tells the number of all items, and how many of them are below the
+/// plan's, up to the error that it tells.
 pub fn quantile_is_near()
     ensures { (plan : RankPlan) → 0 < plan.updaters → (from : Beside) (text due : List ℕ) → (ranking plan).IsDue from text due
         → TellsNear plan (items_by Raw (lines_of text)) due }
+{}
+
+/// As many items of lines are below x + 1 as of the numbers that these lines spell are below x.
+pub fn ranks_are_of_numbers()
+    ensures { (lines : List (List ℕ)) (x : ℕ) → All (IsGood Raw) lines → rank_of (x + 1) (items_by Raw lines) ≡ rank_of x (numbers_in lines) }
 {}
 
 /// No text is refused by a count of made lines, and one report is due.

@@ -1,5 +1,5 @@
 -- Windows that were fed and reported, one after another.
-use Rattle.std.proofs.Common.{◌≡◌, ℕ, ◌+◌, ◌*◌, ◌<◌, ◌≤◌, Bool, true, false, List, [], ◌∷◌, ◌++◌, length, map, get_or, All, refl, sym, ap, subst, ◌∙◌, arith, append-nil, append_assoc, length-append}
+use Rattle.std.proofs.Common.{◌≡◌, ℕ, ◌+◌, ◌*◌, ◌<◌, Bool, true, false, List, [], ◌∷◌, ◌++◌, length, map, get_or, All, refl, sym, ap, subst, ◌∙◌, arith, append-nil, append_assoc, length-append}
 use Rattle.std.specs.Io.KnownBytes.{Appends}
 use Rattle.std.proofs.KnownBytes.{Appends-nil, Appends-trans}
 use Rattle.std.proofs.lemmas.Grind.{flat_map-append}
@@ -8,7 +8,6 @@ use Rattle.std.proofs.lemmas.List.Elements.{All-nil, All-cons, All-map}
 use Rattle.sk_model.specs.Entries.{Entry, items_of_entries, entries_by}
 use Rattle.sk_model.specs.Causes.{AppendsPart}
 use Rattle.sk_model.specs.Missing.{Begins, LacksAtMost}
-use Rattle.sk_model.specs.Limits.{least_k}
 use Rattle.sk_model.specs.Sketch.{theta_of, packed_of, unpacked, count_of, fraction_of}
 use Rattle.sk_model.specs.Width.{IsItem, AreItems}
 use Rattle.sk_model.proofs.Missing.{begins_refl, begins_trans}
@@ -152,11 +151,11 @@ items_of n l all = All-map IsItem (λ (e : Entry). e.1) l (λ i d inside. (all i
 pub word_asked : (plan : Plan) (x y : Hub) (word : ℕ) → k_of x.token.view.numbers ≡ plan.k → AsksHub x word y → word ≡ packed_of plan.k (items_of_entries y.token.view.seen)
 word_asked plan x y word k asks = asks.word_is ∙ ap (λ m. packed_of m (items_of_entries y.token.view.seen)) k
 
-pub reply_asked : (plan : Plan) (x y : Hub) (word : ℕ) → least_k ≤ plan.k → k_of x.token.view.numbers ≡ plan.k → AsksHub x word y → reply_in word ≡ reply_of plan.k y.token.view.seen
-reply_asked plan x y word least k asks =
-    let is : unpacked word ≡ (count_of plan.k (items_of_entries y.token.view.seen), theta_of plan.k (items_of_entries y.token.view.seen)) =
-    ap unpacked (word_asked plan x y word k asks) ∙ packed_reads_back plan.k (items_of_entries y.token.view.seen) least (items_of (length x.updaters) y.token.view.seen asks.entries) in
-    λ i. record { count = (is i).0; theta = (is i).1 }
+pub reply_asked : (plan : Plan) (r : Showing) (x y : Hub) (word : ℕ) → r.k ≡ plan.k → k_of x.token.view.numbers ≡ plan.k → AsksHub x word y → reply_in r.k word ≡ reply_of plan.k y.token.view.seen
+reply_asked plan r x y word shows k asks =
+    let is : unpacked plan.k word ≡ (count_of plan.k (items_of_entries y.token.view.seen), theta_of plan.k (items_of_entries y.token.view.seen)) =
+    ap (unpacked plan.k) (word_asked plan x y word k asks) ∙ packed_reads_back plan.k (items_of_entries y.token.view.seen) (items_of (length x.updaters) y.token.view.seen asks.entries) in
+    subst (λ m. reply_in m word ≡ reply_of plan.k y.token.view.seen) (sym shows) (λ i. record { count = (is i).0; theta = (is i).1 })
 
 -- the moment at which a hub was asked
 abbrev pub moment_at : ℕ → Hub → Hub → Moment
@@ -166,9 +165,9 @@ pub kept_at : (lines : ℕ) (x y : Hub) (i : ℕ) (d : UpdaterState) → i < len
 kept_at lines x y i d within = get_or-map kept_of x.updaters i d [] within
 
 -- what is due for it
-pub text_asked : (plan : Plan) (r : Showing) (lines : ℕ) (x y : Hub) (word : ℕ) → least_k ≤ plan.k → r.k ≡ plan.k → k_of x.token.view.numbers ≡ plan.k → AsksHub x word y → reply_text r lines (reply_in word) ≡ moment_text plan.k r.places (moment_at lines x y)
-text_asked plan r lines x y word least shows k asks =
-    ap (λ reply. reply_text r lines reply) (reply_asked plan x y word least k asks)
+pub text_asked : (plan : Plan) (r : Showing) (lines : ℕ) (x y : Hub) (word : ℕ) → r.k ≡ plan.k → k_of x.token.view.numbers ≡ plan.k → AsksHub x word y → reply_text r lines (reply_in r.k word) ≡ moment_text plan.k r.places (moment_at lines x y)
+text_asked plan r lines x y word shows k asks =
+    ap (λ reply. reply_text r lines reply) (reply_asked plan r x y word shows k asks)
     ∙ ap (λ m. interim_line lines (fraction_of m (count_of plan.k (items_of_entries y.token.view.seen)) (theta_of plan.k (items_of_entries y.token.view.seen)))
     ++ alarm_lines (mask_of (map (answers_at (reply_of plan.k y.token.view.seen)) r.places))) shows
 
@@ -227,7 +226,7 @@ passes_none plan all before last a r b s is same_hub same_report stands = record
 }
 
 -- one window was fed and reported, and then others
-module _ (plan : Plan) (before : List (List (List ℕ))) (count : ℕ) (last : Moment) (lines : List (List ℕ)) (a x y : Hub) (r p : Showing) (least : least_k ≤ plan.k) (is : count ≡ length (all_lines before))
+module _ (plan : Plan) (before : List (List (List ℕ))) (count : ℕ) (last : Moment) (lines : List (List ℕ)) (a x y : Hub) (r p : Showing) (is : count ≡ length (all_lines before))
     (stands : Stands plan before last a r) (fed : FeedsWindow keeps hint_of plan.kind lines a x) where
   at_x : Stands plan (before ++ lines ∷ []) last x r
   at_x = stands_fed plan before last lines a x r stands fed
@@ -246,14 +245,14 @@ module _ (plan : Plan) (before : List (List (List ℕ))) (count : ℕ) (last : M
     m = moment_at (count + length lines) x y
 
     placed : p.places ≡ places_behind plan.k r.places (moment_at (count + length lines) x y)
-    placed = report.places ∙ ap (λ reply. map (told reply) r.places) (reply_asked plan x y report.word least at_x.token report.asks)
+    placed = report.places ∙ ap (λ reply. map (told reply) r.places) (reply_asked plan r x y report.word stands.k at_x.token report.asks)
 
     pub passes_more : Passes plan windows a r b s
     unfolding interim_text places_after AsksAtEach m
     passes_more = record {
       moments = m ∷ rest.moments;
       written = Appends-trans r.written p.written s.written (moment_text plan.k r.places m) (interim_text plan.k (places_behind plan.k r.places m) rest.moments)
-          (subst (Appends r.written p.written) (text_asked plan r (count + length lines) x y report.word least stands.k at_x.token report.asks) report.written)
+          (subst (Appends r.written p.written) (text_asked plan r (count + length lines) x y report.word stands.k at_x.token report.asks) report.written)
           (subst (λ places. Appends p.written s.written (interim_text plan.k places rest.moments)) placed rest.written);
       places = rest.places ∙ ap (λ places. places_after plan.k places rest.moments) placed;
       steps = (
@@ -292,7 +291,7 @@ terms_at shown intake = record {
   plan = intake;
 }
 
-module _ {R : Type 0} (shown : R → Showing) (plan : Plan) (most : ℕ) (least : least_k ≤ plan.k) where
+module _ {R : Type 0} (shown : R → Showing) (plan : Plan) (most : ℕ) where
   -- with reports or without
   abbrev pub terms_with : Bool → Terms R
   terms_with interim = terms_at shown (intake_with plan most interim)
@@ -306,9 +305,9 @@ module _ {R : Type 0} (shown : R → Showing) (plan : Plan) (most : ℕ) (least 
       let at = stands_fed plan before last lines a x (shown r) stands fed in
       let at_y = stands_reported plan (before ++ lines ∷ []) last (count + length lines) x y (shown r) (shown p) at leaves report.k in
       let rest = reported windows (before ++ lines ∷ []) all (count + length lines) (moment_at (count + length lines) x y) y p b s (append_assoc before (lines ∷ []) windows ∙ joined)
-      (counted plan before count last lines a x y (shown r) (shown p) least is stands fed) at_y later in
-      let next = is_next plan before count last lines a x y (shown r) (shown p) least is stands fed report.word report.asks in
-      (passes_more plan before count last lines a x y (shown r) (shown p) least is stands fed all b (shown s) leaves report rest.0, (next.0, next.1, rest.1))
+      (counted plan before count last lines a x y (shown r) (shown p) is stands fed) at_y later in
+      let next = is_next plan before count last lines a x y (shown r) (shown p) is stands fed report.word report.asks in
+      (passes_more plan before count last lines a x y (shown r) (shown p) is stands fed all b (shown s) leaves report rest.0, (next.0, next.1, rest.1))
 
   -- without reports the token waits
   pub waited : (windows before all : List (List (List ℕ))) (count : ℕ) (last : Moment) (a : Hub) (r : R) (b : Hub) (s : R) → before ++ windows ≡ all → Stands plan before last a (shown r)
@@ -354,25 +353,25 @@ module _ {R : Type 0} (shown : R → Showing) (plan : Plan) (most : ℕ) (least 
       let feeds : FeedsWindow keeps hint_of plan.kind lines a x = subst (λ z. FeedsWindow keeps hint_of plan.kind lines z x) done.0 fed in
       let at = stands_fed plan before last lines a x (shown r) stands feeds in
       let counted_as : length (all_lines (before ++ lines ∷ [])) ≡ count + length lines = omega (arith, is, length-append (all_lines before) lines, ap length (lines_one before lines)) in
-      let next = is_next plan before count last lines a x y (shown r) (shown r) least is stands feeds breaks.word breaks.asks in
-      let text = text_asked plan (shown r) (count + length lines) x y breaks.word least stands.k at.token breaks.asks in
-      let part : AppendsPart (shown r).written (shown s).written (reply_text (shown r) (count + length lines) (reply_in breaks.word)) =
-      subst (λ z. AppendsPart (shown z).written (shown s).written (reply_text (shown z) (count + length lines) (reply_in breaks.word))) done.1
-      (subst (λ n. AppendsPart (shown p).written (shown s).written (reply_text (shown p) n (reply_in breaks.word))) counted_as breaks.written) in (
+      let next = is_next plan before count last lines a x y (shown r) (shown r) is stands feeds breaks.word breaks.asks in
+      let text = text_asked plan (shown r) (count + length lines) x y breaks.word stands.k at.token breaks.asks in
+      let part : AppendsPart (shown r).written (shown s).written (reply_text (shown r) (count + length lines) (reply_in (shown r).k breaks.word)) =
+      subst (λ z. AppendsPart (shown z).written (shown s).written (reply_text (shown z) (count + length lines) (reply_in (shown z).k breaks.word))) done.1
+      (subst (λ n. AppendsPart (shown p).written (shown s).written (reply_text (shown p) n (reply_in (shown p).k breaks.word))) counted_as breaks.written) in (
         moment_at (count + length lines) x y ∷ [],
         (next.0, next.1, tt),
         subst (AppendsPart (shown r).written (shown s).written) (text ∙ sym (append-nil (moment_text plan.k (shown r).places (moment_at (count + length lines) x y)))) part,
-        breaks.places ∙ ap (λ z. map (told (reply_in breaks.word)) (shown z).places) done.1 ∙ ap (λ reply. map (told reply) (shown r).places) (reply_asked plan x y breaks.word least at.token breaks.asks),
+        breaks.places ∙ ap (λ z. map (told (reply_in (shown z).k breaks.word)) (shown z).places) done.1 ∙ ap (λ reply. map (told reply) (shown r).places) (reply_asked plan (shown r) x y breaks.word stands.k at.token breaks.asks),
       )
   broke (w ∷ windows) before count last lines a r b p x y s is stands (x1, y1, p1, fed1, (hub, leaves, still, report), later) fed breaks =
       let at = stands_fed plan before last w a x1 (shown r) stands fed1 in
       let at_y = stands_reported plan (before ++ w ∷ []) last (count + length w) x1 y1 (shown r) (shown p1) at leaves report.k in
       let m = moment_at (count + length w) x1 y1 in
-      let next = is_next plan before count last w a x1 y1 (shown r) (shown p1) least is stands fed1 report.word report.asks in
-      let rest = broke windows (before ++ w ∷ []) (count + length w) m lines y1 p1 b p x y s (counted plan before count last w a x1 y1 (shown r) (shown p1) least is stands fed1) at_y later fed
+      let next = is_next plan before count last w a x1 y1 (shown r) (shown p1) is stands fed1 report.word report.asks in
+      let rest = broke windows (before ++ w ∷ []) (count + length w) m lines y1 p1 b p x y s (counted plan before count last w a x1 y1 (shown r) (shown p1) is stands fed1) at_y later fed
       (subst (λ l. Breaks (shown p) (length (all_lines l)) x y (shown s)) (sym (append_assoc before (w ∷ []) (windows ++ lines ∷ []))) breaks) in
-      let text = text_asked plan (shown r) (count + length w) x1 y1 report.word least stands.k at.token report.asks in
-      let placed : (shown p1).places ≡ places_behind plan.k (shown r).places m = report.places ∙ ap (λ reply. map (told reply) (shown r).places) (reply_asked plan x1 y1 report.word least at.token report.asks) in (
+      let text = text_asked plan (shown r) (count + length w) x1 y1 report.word stands.k at.token report.asks in
+      let placed : (shown p1).places ≡ places_behind plan.k (shown r).places m = report.places ∙ ap (λ reply. map (told reply) (shown r).places) (reply_asked plan (shown r) x1 y1 report.word stands.k at.token report.asks) in (
         m ∷ rest.0,
         (next.0, next.1, rest.1),
         part_behind (shown r).written (shown p1).written (shown s).written (moment_text plan.k (shown r).places m) (interim_text plan.k (places_behind plan.k (shown r).places m) rest.0)

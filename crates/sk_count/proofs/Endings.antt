@@ -1,11 +1,10 @@
 -- Where a count ends, concluded from where its feeding ended.
-use Rattle.std.proofs.Common.{◌≡◌, ◌⊎◌, inl, inr, ℕ, ◌+◌, ◌<◌, ◌≤◌, List, [], ◌∷◌, ◌++◌, length, get_or, flat_map, All, Option, MatchBool, refl, sym, ap, subst, ◌∙◌, arith}
+use Rattle.std.proofs.Common.{◌≡◌, ◌⊎◌, inl, inr, ℕ, ◌+◌, ◌<◌, List, [], ◌∷◌, ◌++◌, length, get_or, flat_map, All, Option, MatchBool, refl, sym, ap, subst, ◌∙◌, arith}
 use Rattle.std.specs.List.{range_with_len}
 use Rattle.std.specs.Io.KnownBytes.{Appends}
 use Rattle.std.proofs.lemmas.List.Elements.{All-nil, All-append}
 use Rattle.sk_model.specs.Causes.{AppendsPart}
 use Rattle.sk_model.specs.Entries.{Entry, items_of_entries}
-use Rattle.sk_model.specs.Limits.{least_k}
 use Rattle.sk_model.specs.Missing.{Begins}
 use Rattle.sk_model.specs.Sketch.{theta_of, packed_of, unpacked, count_of, estimate_of, fraction_of}
 use Rattle.sk_model.specs.Width.{IsItem, AreItems}
@@ -137,7 +136,7 @@ word_of_all plan windows us list some took has = same_word plan.k (items_of_entr
 
 -- ---- a count that ended well
 
-module _ (plan : Plan) (a : Hub) (opened : IsOpened plan a) (least : least_k ≤ plan.k) (some : 0 < plan.updaters) (units : List (List ℕ)) (r s : Showing) (b : Hub) (fed : FeedsAll plan units a r b s) (word : ℕ) (h : HeartState) (d : DrainsAndAsks b.heart b.updaters word h) where
+module _ (plan : Plan) (a : Hub) (opened : IsOpened plan a) (some : 0 < plan.updaters) (units : List (List ℕ)) (r s : Showing) (b : Hub) (fed : FeedsAll plan units a r b s) (word : ℕ) (h : HeartState) (d : DrainsAndAsks b.heart b.updaters word h) where
   windows : List (List (List ℕ))
   windows = fed.passes.windows ++ fed.rest ∷ []
 
@@ -156,10 +155,10 @@ module _ (plan : Plan) (a : Hub) (opened : IsOpened plan a) (least : least_k ≤
   pub the_word : word ≡ packed_of plan.k (items_by plan.kind units)
   the_word = d.word_is ∙ ap (λ k. packed_of k (items_of_entries h.view.seen)) numbers ∙ word_of_all plan (fed.passes.windows ++ fed.rest ∷ []) b.updaters h.view.seen some took d.has ∙ ap (packed_of plan.k) items_are
 
-  pub the_estimate : fraction_of plan.k (unpacked word).0 (unpacked word).1 ≡ estimate_of plan.k (items_by plan.kind units)
+  pub the_estimate : fraction_of plan.k (unpacked plan.k word).0 (unpacked plan.k word).1 ≡ estimate_of plan.k (items_by plan.kind units)
   the_estimate =
       let items : AreItems (items_by plan.kind units) = subst AreItems items_are (items_below plan.kind (all_lines (fed.passes.windows ++ fed.rest ∷ []))) in
-      let is : unpacked word ≡ (count_of plan.k (items_by plan.kind units), theta_of plan.k (items_by plan.kind units)) = ap unpacked the_word ∙ packed_reads_back plan.k (items_by plan.kind units) least items in
+      let is : unpacked plan.k word ≡ (count_of plan.k (items_by plan.kind units), theta_of plan.k (items_by plan.kind units)) = ap (unpacked plan.k) the_word ∙ packed_reads_back plan.k (items_by plan.kind units) items in
       ap (λ z. fraction_of plan.k z.0 z.1) is
 
   pub shows_all : ShowsAll plan (items_by plan.kind units) (fed.passes.windows ++ fed.rest ∷ []) fed.passes.passes.moments h

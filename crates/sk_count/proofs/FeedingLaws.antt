@@ -1,6 +1,5 @@
 -- What a count concludes of the units that were fed.
-use Rattle.std.proofs.Common.{◌≡◌, inl, inr, ℕ, ◌≤◌, Bool, true, false, List, [], ◌∷◌, ◌++◌, length, get_or, MatchBool, Option, is_some, refl, sym, ap, subst, ◌∙◌, append-nil}
-use Rattle.sk_model.specs.Limits.{least_k}
+use Rattle.std.proofs.Common.{◌≡◌, inl, inr, ℕ, Bool, true, false, List, [], ◌∷◌, ◌++◌, length, get_or, MatchBool, Option, is_some, refl, sym, ap, subst, ◌∙◌, append-nil}
 use Rattle.sk_model.proofs.Missing.{begins_nil}
 use Rattle.sk_compose.specs.Numbers.{k_of}
 use Rattle.sk_hub.specs.Updaters.{kept_of}
@@ -34,19 +33,19 @@ stands_start plan a r opened k = record {
   kept = λ i d within. begins_nil (kept_of (get_or a.updaters i d));
 }
 
-module _ {R : Type 0} (shown : R → Showing) (plan : Plan) (most : ℕ) (least : least_k ≤ plan.k) (a : Hub) (r : R) (opened : IsOpened plan a) (k : (shown r).k ≡ plan.k) where
+module _ {R : Type 0} (shown : R → Showing) (plan : Plan) (most : ℕ) (a : Hub) (r : R) (opened : IsOpened plan a) (k : (shown r).k ≡ plan.k) where
   stands : Stands plan [] start a (shown r)
   stands = stands_start plan a (shown r) opened k
 
-  pub passed : (interim : Bool) → is_some plan.window ≡ interim → (units rest : List (List ℕ)) (b : Hub) (s : R) → GoesThrough (terms_with shown plan most least interim) units a r rest b s → PassesUnits plan units a (shown r) rest b (shown s)
+  pub passed : (interim : Bool) → is_some plan.window ≡ interim → (units rest : List (List ℕ)) (b : Hub) (s : R) → GoesThrough (terms_with shown plan most interim) units a r rest b s → PassesUnits plan units a (shown r) rest b (shown s)
   passed true is units rest b s goes =
-      let went = reported shown plan most least goes.windows [] goes.windows 0 start a r b s refl refl stands goes.reported in
+      let went = reported shown plan most goes.windows [] goes.windows 0 start a r b s refl refl stands goes.reported in
       record { windows = goes.windows; cut = goes.cut; good = goes.good; passes = went.0; asks = subst (λ c. MatchBool c (AreMoments plan [] start goes.windows went.0.moments) (went.0.moments ≡ [])) (sym is) went.1 }
   passed false is units rest b s goes =
-      let went = waited shown plan most least goes.windows [] goes.windows 0 start a r b s refl stands goes.reported in
+      let went = waited shown plan most goes.windows [] goes.windows 0 start a r b s refl stands goes.reported in
       record { windows = goes.windows; cut = goes.cut; good = goes.good; passes = went.0; asks = subst (λ c. MatchBool c (AreMoments plan [] start goes.windows went.0.moments) (went.0.moments ≡ [])) (sym is) went.1 }
 
-  pub fed_all : (interim : Bool) → is_some plan.window ≡ interim → (units : List (List ℕ)) (b : Hub) (s : R) → Ingests (terms_with shown plan most least interim) units a r b s → FeedsAll plan units a (shown r) b (shown s)
+  pub fed_all : (interim : Bool) → is_some plan.window ≡ interim → (units : List (List ℕ)) (b : Hub) (s : R) → Ingests (terms_with shown plan most interim) units a r b s → FeedsAll plan units a (shown r) b (shown s)
   fed_all interim is units b s ingests = record {
     rest = ingests.rest;
     between = ingests.between;
@@ -55,16 +54,16 @@ module _ {R : Type 0} (shown : R → Showing) (plan : Plan) (most : ℕ) (least 
     hub = ingests.hub;
   }
 
-  pub fed_part : (interim : Bool) → is_some plan.window ≡ interim → (units : List (List ℕ)) (s : R) → StopsAtReport (terms_with shown plan most least interim) stop.Failed units a r s → FeedsPart plan units (shown r) (shown s)
+  pub fed_part : (interim : Bool) → is_some plan.window ≡ interim → (units : List (List ℕ)) (s : R) → StopsAtReport (terms_with shown plan most interim) stop.Failed units a r s → FeedsPart plan units (shown r) (shown s)
   fed_part false is units s stops = let never : false ≡ true = stops.interim in absurd (cc)
   fed_part true is units s stops =
       let whole : length units ≡ length (all_lines ([] ++ (stops.windows ++ stops.lines ∷ []))) = ap length (stops.cut.joined ∙ append-nil (all_lines (stops.windows ++ stops.lines ∷ []))) in
-      let went = broke shown plan most least stops.windows [] 0 start stops.lines a r stops.before stops.report stops.fed stops.left s refl stands stops.reported stops.feeds (subst (λ n. Breaks (shown stops.report) n stops.fed stops.left (shown s)) whole stops.stops) in
+      let went = broke shown plan most stops.windows [] 0 start stops.lines a r stops.before stops.report stops.fed stops.left s refl stands stops.reported stops.feeds (subst (λ n. Breaks (shown stops.report) n stops.fed stops.left (shown s)) whole stops.stops) in
       record { windows = stops.windows ++ stops.lines ∷ []; moments = went.0; cut = stops.cut; good = stops.good; interim = is; are = went.1; written = went.2; places = went.3 }
 
 -- ---- a source that was read
 
-module _ {R : Type 0} (r s : R) (shown : R → Showing) (plan : Plan) (most : ℕ) (least : least_k ≤ plan.k) (a : Hub) (opened : IsOpened plan a) (k : (shown r).k ≡ plan.k) (left left' : Option (List ℕ)) (intake : Intake) (is : intake ≡ intake_by plan most) where
+module _ {R : Type 0} (r s : R) (shown : R → Showing) (plan : Plan) (most : ℕ) (a : Hub) (opened : IsOpened plan a) (k : (shown r).k ≡ plan.k) (left left' : Option (List ℕ)) (intake : Intake) (is : intake ≡ intake_by plan most) where
   first : Showing
   first = showing plan.k (shown r).written (shown r).places
 
@@ -76,14 +75,14 @@ module _ {R : Type 0} (r s : R) (shown : R → Showing) (plan : Plan) (most : �
 
   some_fed : (units : List (List ℕ)) → GoesSoFar (terms_at shown (intake_by plan most)) a r s units → FeedsSome plan a (showing plan.k (shown r).written (shown r).places) (showing plan.k (shown s).written (shown s).places) units
   some_fed units (rest, b, goes) =
-      let p = passed shown plan most least a r opened k (is_some plan.window) refl units rest b s goes in
+      let p = passed shown plan most a r opened k (is_some plan.window) refl units rest b s goes in
       let p1 = subst (λ z. PassesUnits plan units a z rest b (shown s)) from p in
       (rest, b, subst (λ z. PassesUnits plan units a (showing plan.k (shown r).written (shown r).places) rest b (showing z (shown s).written (shown s).places)) p.passes.stands.k p1)
 
   stopped : (f : Fault) (units : List (List ℕ)) (unit : List ℕ) → StopsAtUnit (terms_at shown (intake_by plan most)) a r s f units unit → FeedStops plan a (showing plan.k (shown r).written (shown r).places) (showing plan.k (shown s).written (shown s).places) f units unit
   stopped (fault.BadItem n) units unit t = (some_fed units t.0, t.1, t.2)
   stopped fault.WriteFault units unit t =
-      let p = fed_part shown plan most least a r opened k (is_some plan.window) refl (units ++ unit ∷ []) s t in
+      let p = fed_part shown plan most a r opened k (is_some plan.window) refl (units ++ unit ∷ []) s t in
       record { windows = p.windows; moments = p.moments; cut = p.cut; good = p.good; interim = p.interim; are = p.are; written = p.written; places = p.places }
   stopped fault.OutOfMemory units unit (inl t) = some_fed units t
   stopped fault.OutOfMemory units unit (inr t) = absurd t.stops
@@ -109,6 +108,6 @@ module _ {R : Type 0} (r s : R) (shown : R → Showing) (plan : Plan) (most : �
     where
       whole : (units : List (List ℕ)) → Ingests (terms_at shown (intake_by plan most)) units a r b s → FeedsAll plan units a (showing plan.k (shown r).written (shown r).places) b (showing plan.k (shown s).written (shown s).places)
       whole units i =
-          let p = fed_all shown plan most least a r opened k (is_some plan.window) refl units b s i in
+          let p = fed_all shown plan most a r opened k (is_some plan.window) refl units b s i in
           let p1 = subst (λ z. FeedsAll plan units a z b (shown s)) from p in
           subst (λ z. FeedsAll plan units a (showing plan.k (shown r).written (shown r).places) b (showing z (shown s).written (shown s).places)) p.passes.passes.stands.k p1

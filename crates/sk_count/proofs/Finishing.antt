@@ -54,10 +54,10 @@ nothing_read plan most left w places armed within is_armed =
 -- ---- behind it
 
 module _ (plan : Plan) (a : Hub) (opened : IsOpened plan a) (within : IsWithin plan) (left left' w w' w'' : Option (List ℕ)) (places armed places' : List Place) (is_armed : armed ≡ armed_with plan.k plan.alarms places)
-    (b : Hub) (word : ℕ) (h : HeartState) (d : DrainsAndAsks b.heart b.updaters word h) (estimate : ℕ × ℕ) (estimated : estimate ≡ fraction_of plan.k (unpacked word).0 (unpacked word).1)
+    (b : Hub) (word : ℕ) (h : HeartState) (d : DrainsAndAsks b.heart b.updaters word h) (estimate : ℕ × ℕ) (estimated : estimate ≡ fraction_of plan.k (unpacked plan.k word).0 (unpacked plan.k word).1)
     (units : List (List ℕ)) (fed : FeedsAll plan units a (showing plan.k w armed) b (showing plan.k w' places')) where
   line_is : last_text plan.made estimate ≡ last_lines plan units
-  line_is = ap (last_text plan.made) (estimated ∙ the_estimate plan a opened within.k.0 within.updaters.0 units (showing plan.k w armed) (showing plan.k w' places') b fed word h d)
+  line_is = ap (last_text plan.made) (estimated ∙ the_estimate plan a opened within.updaters.0 units (showing plan.k w armed) (showing plan.k w' places') b fed word h d)
 
   so_far : Appends w w' (interim_text plan.k (armed_with plan.k plan.alarms places) fed.passes.passes.moments)
   so_far = subst (λ z. Appends w w' (interim_text plan.k z fed.passes.passes.moments)) is_armed fed.passes.passes.written
@@ -70,9 +70,9 @@ module _ (plan : Plan) (a : Hub) (opened : IsOpened plan a) (within : IsWithin p
     heart = h;
     token = b.token;
     left = refl;
-    hub = same_hub plan a opened within.k.0 within.updaters.0 units (showing plan.k w armed) (showing plan.k w' places') b fed word h d;
-    shows = shows_all plan a opened within.k.0 within.updaters.0 units (showing plan.k w armed) (showing plan.k w' places') b fed word h d;
-    asked = shows_moments plan a opened within.k.0 within.updaters.0 units (showing plan.k w armed) (showing plan.k w' places') b fed word h d;
+    hub = same_hub plan a opened within.updaters.0 units (showing plan.k w armed) (showing plan.k w' places') b fed word h d;
+    shows = shows_all plan a opened within.updaters.0 units (showing plan.k w armed) (showing plan.k w' places') b fed word h d;
+    asked = shows_moments plan a opened within.updaters.0 units (showing plan.k w armed) (showing plan.k w' places') b fed word h d;
   }
 
   pub part_told : AppendsPart w' w'' (last_text plan.made estimate) → TellsPartOfAll plan (setting left w places) (setting left' w'' places') units

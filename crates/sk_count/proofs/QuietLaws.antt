@@ -1,11 +1,11 @@
 -- Where no window is asked for the report stays as it was.
-use Rattle.std.proofs.Common.{◌≡◌, ◌⊎◌, inl, inr, ℕ, ◌+◌, Bool, true, false, List, [], ◌∷◌, ◌++◌, length, Option, sym, subst, ◌∙◌}
-use Rattle.sk_read.specs.Reads.{ReadsAll, Ends}
+use Rattle.std.proofs.Common.{◌≡◌, inl, inr, ℕ, ◌+◌, Bool, true, false, List, [], ◌∷◌, ◌++◌, length, Option, subst, ◌∙◌}
+use Rattle.sk_read.specs.Reads.{Ends}
 use Rattle.sk_read.specs.declared.fault.Fault.{Fault}
 use Rattle.sk_read.specs.declared.fault.Fault.TheVariants as fault
 use Rattle.sk_read.specs.declared.units.Units.{Units}
 use Rattle.sk_feed.specs.Hubs.{Hub}
-use Rattle.sk_ingest.specs.Ingests.{Terms, IsReported, Reported, Ingests, StopsAtReport, GoesSoFar, StopsAtUnit, EndsEarly}
+use Rattle.sk_ingest.specs.Ingests.{Terms, IsReported, Reported, StopsAtReport, GoesSoFar, StopsAtUnit, EndsEarly}
 use Rattle.sk_ingest.specs.declared.report.Stop.{Stop}
 
 not_both : (b : Bool) → b ≡ false → b ≡ true → ⊥

@@ -129,12 +129,12 @@ unfolding items_of_entries
 items_of n l all = All-map IsItem (λ (e : Entry). e.1) l (λ i d inside. (all i d inside).1)
 
 pub estimates : (packed : List ℕ → List Entry → ℕ) → ((numbers : List ℕ) (list : List Entry) → packed numbers list ≡ packed_of (k_of numbers) (items_of_entries list)) →
-    (k n d count theta word : ℕ) (u u' : UpdaterState) → k_of u.view.numbers ≡ k → 2 ≤ k → IsOwnReply packed u word u' → (count, theta) ≡ unpacked word → (n, d) ≡ fraction_of k count theta → Estimates k n d u u'
-estimates packed packed_is k n d count theta word u u' k_is two r read is =
+    (k n d count theta word : ℕ) (u u' : UpdaterState) → k_of u.view.numbers ≡ k → IsOwnReply packed u word u' → (count, theta) ≡ unpacked k word → (n, d) ≡ fraction_of k count theta → Estimates k n d u u'
+estimates packed packed_is k n d count theta word u u' k_is r read is =
     let items = items_of_entries u'.view.seen in
     let value : word ≡ packed_of (k_of u.view.numbers) items = r.value ∙ packed_is u.view.numbers u'.view.seen in
     let both : (count, theta) ≡ (count_of k items, theta_of k items) =
-    read ∙ ap unpacked (value ∙ ap (λ (m : ℕ). packed_of m items) k_is) ∙ packed_reads_back k items two (items_of (length u.view.sizes) u'.view.seen r.entries) in
+    read ∙ ap (unpacked k) (value ∙ ap (λ (m : ℕ). packed_of m items) k_is) ∙ packed_reads_back k items (items_of (length u.view.sizes) u'.view.seen r.entries) in
     record {
       word = word;
       reply = record { grows = r.grows; entries = r.entries; own = r.own; value = value; lacks_handed = r.lacks_handed; lacks_kept = r.lacks_kept; stays = r.stays };

@@ -5,7 +5,7 @@ ghost use Rattle.sk_io.specs.Traffic.{Exchanges, SendsPart};
 ghost use Rattle.sk_line.specs.Replies.{reply_line};
 
 use sk_io::{Failed, Link, send_all};
-use sk_lines::{put_estimate_line, put_text};
+use sk_lines::{ESTIMATE_LINE_LEN, put_estimate_line, put_text};
 
 /// The answer to a request.
 #[derive(Clone, Copy, Debug, PartialEq, Eq)]
@@ -17,7 +17,7 @@ pub enum Answer {
     /// What was handed over last is not published yet. Nothing was done.
     Busy,
     /// As a numerator and a denominator, not reduced.
-    Estimate(u64, u64),
+    Estimate(u128, u64),
     /// All that was kept is published.
     Synced,
     /// It was no request.
@@ -30,16 +30,16 @@ pub(crate) fn send_reply<L: Link>(link: &mut L, answer: Answer) -> Result<(), Fa
     ensures err { OnErr result (SendsPart (L.traffic link.old) (L.traffic link.new) (reply_line answer)) }
     ensures cause { HasCause (L.faults link.old) (L.faults link.new) result }
 {
-    let mut reply = [0; 64];
+    let mut reply = [0; ESTIMATE_LINE_LEN];
     let len = put_reply(&mut reply, answer);
     send_all(link, &reply[..len])
 }
 
 // Writes the reply to the front of `into`, and answers its length.
 #[tactic(auto, unfolding(crate::specs::Replies::reply_line))]
-fn put_reply(into: &mut [u8; 64], answer: Answer) -> usize
+fn put_reply(into: &mut [u8; ESTIMATE_LINE_LEN], answer: Answer) -> usize
     ensures text { take result into.new ≡ reply_line answer }
-    ensures most { result ≤ 64 }
+    ensures most { result ≤ 70 }
 {
     match answer {
         Answer::Kept => put_text(into, b"kept\n"),

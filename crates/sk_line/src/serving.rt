@@ -6,7 +6,6 @@ ghost use Rattle.sk_hub.specs.Updaters.{kept_of, LooksInVain};
 ghost use Rattle.sk_feed.specs.Feeds.{KeepsNone};
 ghost use Rattle.sk_model.specs.Limits.{least_k, most_k, most_kept};
 ghost use Rattle.sk_model.specs.Murmur.{hash_of};
-ghost use Rattle.sk_model.specs.Sketch.{fraction_of};
 ghost use Rattle.sk_line.specs.Pumps.{HasRisen};
 ghost use Rattle.sk_line.specs.Requests.{client_request};
 ghost use Rattle.sk_line.specs.Serving.{AnswersAdd, AnswersAsk, AnswersSync, AnswersRequest};
@@ -15,9 +14,9 @@ use crate::answers::Answer;
 use crate::pumps::Pump;
 use crate::requests::Request;
 use sk_compose::ThetaKind;
-use sk_hash::hash48;
+use sk_hash::hash63;
 use sk_hub::{Flush, Settle, Update, Updater};
-use sk_theta::{ITEM_END, Reply, Shape, unpack};
+use sk_theta::{Shape, unpack};
 use std::sync::Wait;
 
 /// Does what a line asks for. The line that ends the session has no answer.
@@ -53,35 +52,22 @@ fn add<C: ThetaKind>(u: &mut Updater<C>, seed: u32, bytes: &[u8], k: u32) -> Ans
 {
     // It tells the proof what is true of every updater.
     let _number = u.number();
-    match u.update(hash48(seed, bytes)) {
+    match u.update(hash63(seed, bytes)) {
         Update::Filtered => Answer::Filtered,
         Update::Kept | Update::Handed => Answer::Kept,
         Update::Busy => Answer::Busy,
     }
 }
 
-// AnswersAsk for the estimate of what is published.
+// The estimate of what is published.
 fn ask<C: ThetaKind>(u: &mut Updater<C>, k: u32) -> Answer
     requires k { k_of u.old.view.numbers ≡ k }
     requires least { least_k ≤ k }
     requires most { k ≤ most_k }
     ensures { AnswersAsk k result u.old u.new }
 {
-    let (n, d) = estimate_by(k, unpack(u.ask()));
+    let (n, d) = unpack(u.ask(), k).fraction(k);
     Answer::Estimate(n, d)
-}
-
-// The estimate of a count and a theta.
-fn estimate_by(k: u32, reply: Reply) -> (u64, u64)
-    requires least { least_k ≤ k }
-    requires most { k ≤ most_k }
-    ensures { result ≡ fraction_of k reply.count reply.theta }
-{
-    if reply.count < k {
-        (u64::from(reply.count), 1)
-    } else {
-        (u64::from(k - 1) * ITEM_END, reply.theta)
-    }
 }
 
 // Sees to it that all that was kept is published, if it can be at once.

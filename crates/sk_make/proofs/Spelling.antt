@@ -7,9 +7,10 @@ use Rattle.std.proofs.lemmas.Fmt.{decimal_by_steps, decimal_nonempty, length-dec
 use Rattle.std.proofs.lemmas.List.Sums.{fold-append, AllPass-from_list_all}
 use Rattle.std.proofs.lemmas.List.Folds.{list_all-append}
 use Rattle.sk_model.specs.Numbers.{value_of, number_of}
-use Rattle.sk_model.specs.Width.{item_end}
+use Rattle.sk_model.specs.Width.{number_end}
 use Rattle.sk_model.proofs.Lines.{HasNoLf}
 use Rattle.sk_lines.proofs.Digits.{length_decimal, number_by_digits}
+use Rattle.sk_make.specs.Made.{made_end}
 
 -- these digits spell the number
 record Spells (n : ℕ) (digits : List ℕ) : Type 0 where
@@ -53,15 +54,15 @@ digits_stay n small =
     not_cr (get_or (decimal n) (length (decimal n) - 1) 0) (AllPass-from_list_all is_ascii_digit (decimal n) (spells n small).digits_only (length (decimal n) - 1) 0 (omega (arith, some))) in
     ap (λ (b : Bool). cond b (take (length (decimal n) - 1) (decimal n)) (decimal n)) (ne_eqb (get_or (decimal n) (length (decimal n) - 1) 0) 13 other)
 
-pub digits_are_few : (n : ℕ) → n < 2 ^ 48 → length (decimal n) ≤ 15
+pub digits_are_few : (n : ℕ) → n < made_end → length (decimal n) ≤ 15
 digits_are_few n small = length-decimal-le 15 n (omega arith) (omega arith) (omega arith)
 
--- the greatest item has as many digits as the greatest number
-most_digits : length (decimal (item_end - 1)) ≡ 15
-most_digits = sym (length_decimal 14 (item_end - 1) (item_end - 1) (omega arith) (inl refl) (omega arith) (omega arith))
+-- the greatest number that is read has more digits
+most_digits : length (decimal (number_end - 1)) ≡ 19
+most_digits = sym (length_decimal 18 (number_end - 1) (number_end - 1) (omega arith) (inl refl) (omega arith) (omega arith))
 
-pub digits_are_read : (n : ℕ) → n < 2 ^ 48 → number_of item_end (decimal n) ≡ Some n
+pub digits_are_read : (n : ℕ) → n < made_end → number_of number_end (decimal n) ≡ Some n
 digits_are_read n small =
     let is = spells n (omega arith) in
-    sym (number_by_digits item_end (decimal n) is.digits_only (decimal_nonempty n (omega arith)) (omega (arith, digits_are_few n small, most_digits)) (omega (arith, is.value)))
+    sym (number_by_digits number_end (decimal n) is.digits_only (decimal_nonempty n (omega arith)) (omega (arith, digits_are_few n small, most_digits)) (omega (arith, is.value)))
     ∙ ap (λ (m : ℕ). Some m) is.value

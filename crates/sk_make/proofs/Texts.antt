@@ -1,5 +1,5 @@
 -- The lines of the text that is made.
-use Rattle.std.proofs.Common.{◌≡◌, ℕ, zero, suc, ◌+◌, ◌*◌, ◌^◌, ◌<◌, ◌≤◌, Bool, cond, nat_lt, All, IsSome, get_or, filter, unwrap_or, lt-ltb, List, [], ◌∷◌, ◌++◌, length, map, decimal, Option, Some, refl, sym, ap, ◌∙◌, subst, arith, append_assoc, length-append}
+use Rattle.std.proofs.Common.{◌≡◌, ℕ, zero, suc, ◌+◌, ◌*◌, ◌^◌, ◌<◌, ◌≤◌, Bool, cond, nat_lt, All, IsSome, get_or, filter, unwrap_or, option_map, lt-ltb, List, [], ◌∷◌, ◌++◌, length, map, decimal, Option, Some, refl, sym, ap, ◌∙◌, subst, arith, append_assoc, length-append}
 use Rattle.std.proofs.lemmas.List.{length-map}
 use Rattle.std.specs.List.{range_with_len}
 use Rattle.std.proofs.lemmas.Fmt.{decimal_nonempty}
@@ -8,16 +8,16 @@ use Rattle.std.proofs.lemmas.List.FromFn.{length-map-range_with_len}
 use Rattle.rand_chacha.specs.Block.{block_word}
 use Rattle.sk_model.specs.Lines.{lines_of, filled, items_of}
 use Rattle.sk_model.specs.Numbers.{number_of}
-use Rattle.sk_model.specs.Width.{item_end}
+use Rattle.sk_model.specs.Width.{number_end}
 use Rattle.sk_model.proofs.Lines.{first_line, lines_of_nothing}
-use Rattle.sk_make.specs.Made.{word_of, made_number, line_of, numbers_from, text_of}
+use Rattle.sk_make.specs.Made.{word_of, made_number, made_end, line_of, numbers_from, text_of}
 use Rattle.sk_make.proofs.Spelling.{digits_have_no_lf, digits_stay, digits_are_few, digits_are_read}
 
 word_is_small : (key place : ℕ) → word_of key place < 2 ^ 32
 unfolding word_of block_word
 word_is_small key place = omega arith
 
-pub number_is_small : (key j : ℕ) → made_number key j < 2 ^ 48
+pub number_is_small : (key j : ℕ) → made_number key j < made_end
 unfolding made_number
 number_is_small key j = omega (arith, word_is_small key (2 * j), word_is_small key (2 * j + 1))
 
@@ -51,7 +51,7 @@ text_begins key j n m is =
 
 -- ---- its lines
 
-lines_begin : (number : ℕ) (rest : List ℕ) → number < 2 ^ 48 → lines_of (line_of number ++ rest) ≡ decimal number ∷ lines_of rest
+lines_begin : (number : ℕ) (rest : List ℕ) → number < made_end → lines_of (line_of number ++ rest) ≡ decimal number ∷ lines_of rest
 lines_begin number rest small =
     let fits : number < 2 ^ 64 = omega arith in
     ap lines_of (append_assoc (decimal number) (10 ∷ []) rest) ∙ first_line (decimal number) rest (digits_have_no_lf number fits)
@@ -74,16 +74,16 @@ count_from key j n = length-map-range_with_len (made_number key) j n
 pub count_is : (n key : ℕ) → length (lines_of (text_of (numbers_from key 0 n))) ≡ n
 count_is n key = ap length (lines_are n key) ∙ length-map (numbers_from key 0 n) decimal ∙ count_from key 0 n
 
-read_from : (n key j : ℕ) → map (number_of item_end) (map decimal (numbers_from key j n)) ≡ map (λ number. Some number) (numbers_from key j n)
-read_from zero key j = ap (λ (numbers : List ℕ). map (number_of item_end) (map decimal numbers)) (none_made key j) ∙ sym (ap (map (λ (number : ℕ). Some number)) (none_made key j))
+read_from : (n key j : ℕ) → map (number_of number_end) (map decimal (numbers_from key j n)) ≡ map (λ number. Some number) (numbers_from key j n)
+read_from zero key j = ap (λ (numbers : List ℕ). map (number_of number_end) (map decimal numbers)) (none_made key j) ∙ sym (ap (map (λ (number : ℕ). Some number)) (none_made key j))
 read_from (suc n) key j =
-    ap (λ (numbers : List ℕ). map (number_of item_end) (map decimal numbers)) (one_made key j n)
-    ∙ ap (λ (first : Option ℕ). first ∷ map (number_of item_end) (map decimal (numbers_from key (j + 1) n))) (digits_are_read (made_number key j) (number_is_small key j))
+    ap (λ (numbers : List ℕ). map (number_of number_end) (map decimal numbers)) (one_made key j n)
+    ∙ ap (λ (first : Option ℕ). first ∷ map (number_of number_end) (map decimal (numbers_from key (j + 1) n))) (digits_are_read (made_number key j) (number_is_small key j))
     ∙ ap (λ (rest : List (Option ℕ)). Some (made_number key j) ∷ rest) (read_from n key (j + 1))
     ∙ sym (ap (map (λ (number : ℕ). Some number)) (one_made key j n))
 
-pub read_are : (n key : ℕ) → map (number_of item_end) (lines_of (text_of (numbers_from key 0 n))) ≡ map (λ number. Some number) (numbers_from key 0 n)
-read_are n key = ap (map (number_of item_end)) (lines_are n key) ∙ read_from n key 0
+pub read_are : (n key : ℕ) → map (number_of number_end) (lines_of (text_of (numbers_from key 0 n))) ≡ map (λ number. Some number) (numbers_from key 0 n)
+read_are n key = ap (map (number_of number_end)) (lines_are n key) ∙ read_from n key 0
 
 size_from : (n key j : ℕ) → length (text_of (numbers_from key j n)) ≤ 16 * n
 size_from zero key j = omega (arith, ap length (text_is_over key j 0 refl))
@@ -102,27 +102,31 @@ size_is n key = size_from n key 0
 
 -- ---- what the lines are worth
 
-small_numbers : (key j n : ℕ) → All (λ x. x < 2 ^ 48) (numbers_from key j n)
+small_numbers : (key j n : ℕ) → All (λ x. x < made_end) (numbers_from key j n)
 unfolding numbers_from
-small_numbers key j n = All-map (λ (x : ℕ). x < 2 ^ 48) (made_number key) (range_with_len j n) (λ k d below. number_is_small key (get_or (range_with_len j n) k d))
+small_numbers key j n = All-map (λ (x : ℕ). x < made_end) (made_number key) (range_with_len j n) (λ k d below. number_is_small key (get_or (range_with_len j n) k d))
 
-short_digits : (numbers : List ℕ) → All (λ x. x < 2 ^ 48) numbers → All (λ line. length line ≤ 15) (map decimal numbers)
+short_digits : (numbers : List ℕ) → All (λ x. x < made_end) numbers → All (λ line. length line ≤ 15) (map decimal numbers)
 short_digits numbers small = All-map (λ (line : List ℕ). length line ≤ 15) decimal numbers (λ k d below. digits_are_few (get_or numbers k d) (small k d below))
 
-read_digits : (numbers : List ℕ) → All (λ x. x < 2 ^ 48) numbers → All (λ line. IsSome (number_of item_end line)) (map decimal numbers)
+-- the item of a line, if it spells a number
+abbrev item_read : List ℕ → Option ℕ
+item_read line = option_map (λ number. number + 1) (number_of number_end line)
+
+read_digits : (numbers : List ℕ) → All (λ x. x < made_end) numbers → All (λ line. IsSome (item_read line)) (map decimal numbers)
 read_digits numbers small =
-    All-map (λ (line : List ℕ). IsSome (number_of item_end line)) decimal numbers (λ k d below. some_of (number_of item_end (decimal (get_or numbers k d))) (get_or numbers k d) (digits_are_read (get_or numbers k d) (small k d below)))
+    All-map (λ (line : List ℕ). IsSome (item_read line)) decimal numbers (λ k d below. some_of (number_of number_end (decimal (get_or numbers k d))) (get_or numbers k d) (digits_are_read (get_or numbers k d) (small k d below)))
   where
-    some_of : (o : Option ℕ) (x : ℕ) → o ≡ Some x → IsSome o
-    some_of o x is = subst (λ (p : Option ℕ). IsSome p) (sym is) refl
+    some_of : (o : Option ℕ) (x : ℕ) → o ≡ Some x → IsSome (option_map (λ number. number + 1) o)
+    some_of o x is = subst (λ (p : Option ℕ). IsSome (option_map (λ number. number + 1) p)) (sym is) refl
 
 -- no line is long
 pub lines_are_short : (n key : ℕ) → All (λ line. length line ≤ 15) (lines_of (text_of (numbers_from key 0 n)))
 lines_are_short n key = subst (λ (lines : List (List ℕ)). All (λ (line : List ℕ). length line ≤ 15) lines) (sym (lines_are n key)) (short_digits (numbers_from key 0 n) (small_numbers key 0 n))
 
--- each line is read
-pub lines_are_read : (n key : ℕ) → All (λ line. IsSome (number_of item_end line)) (lines_of (text_of (numbers_from key 0 n)))
-lines_are_read n key = subst (λ (lines : List (List ℕ)). All (λ (line : List ℕ). IsSome (number_of item_end line)) lines) (sym (lines_are n key)) (read_digits (numbers_from key 0 n) (small_numbers key 0 n))
+-- each line has an item
+pub lines_are_read : (n key : ℕ) → All (λ line. IsSome (option_map (λ number. number + 1) (number_of number_end line))) (lines_of (text_of (numbers_from key 0 n)))
+lines_are_read n key = subst (λ (lines : List (List ℕ)). All (λ (line : List ℕ). IsSome (item_read line)) lines) (sym (lines_are n key)) (read_digits (numbers_from key 0 n) (small_numbers key 0 n))
 
 item_first : (item : List ℕ → ℕ) (line : List ℕ) (lines : List (List ℕ)) → 0 < length line → items_of item (line ∷ lines) ≡ item line ∷ items_of item lines
 unfolding items_of filled
@@ -134,20 +138,23 @@ no_items : (item : List ℕ → ℕ) → items_of item [] ≡ []
 unfolding items_of filled
 no_items item = refl
 
-abbrev item_read : List ℕ → ℕ
-item_read line = unwrap_or (number_of item_end line) 0
+abbrev item_or : List ℕ → ℕ
+item_or line = unwrap_or (item_read line) 0
 
-items_from : (n key j : ℕ) → items_of item_read (map decimal (numbers_from key j n)) ≡ numbers_from key j n
-items_from zero key j = ap (λ (numbers : List ℕ). items_of item_read (map decimal numbers)) (none_made key j) ∙ no_items item_read ∙ sym (none_made key j)
+items_from : (n key j : ℕ) → items_of item_or (map decimal (numbers_from key j n)) ≡ map (λ number. number + 1) (numbers_from key j n)
+items_from zero key j =
+    ap (λ (numbers : List ℕ). items_of item_or (map decimal numbers)) (none_made key j) ∙ no_items item_or
+    ∙ sym (ap (map (λ (number : ℕ). number + 1)) (none_made key j))
 items_from (suc n) key j =
     let number : ℕ = made_number key j in
     let small = number_is_small key j in
-    ap (λ (numbers : List ℕ). items_of item_read (map decimal numbers)) (one_made key j n)
-    ∙ item_first item_read (decimal number) (map decimal (numbers_from key (j + 1) n)) (decimal_nonempty number (omega (arith, small)))
-    ∙ ap (λ (o : Option ℕ). unwrap_or o 0 ∷ items_of item_read (map decimal (numbers_from key (j + 1) n))) (digits_are_read number small)
-    ∙ ap (λ (items : List ℕ). number ∷ items) (items_from n key (j + 1))
-    ∙ sym (one_made key j n)
+    ap (λ (numbers : List ℕ). items_of item_or (map decimal numbers)) (one_made key j n)
+    ∙ item_first item_or (decimal number) (map decimal (numbers_from key (j + 1) n)) (decimal_nonempty number (omega (arith, small)))
+    ∙ ap (λ (o : Option ℕ). unwrap_or (option_map (λ (m : ℕ). m + 1) o) 0 ∷ items_of item_or (map decimal (numbers_from key (j + 1) n))) (digits_are_read number small)
+    ∙ ap (λ (items : List ℕ). (number + 1) ∷ items) (items_from n key (j + 1))
+    ∙ sym (ap (map (λ (m : ℕ). m + 1)) (one_made key j n))
 
--- the items of the text are its numbers
-pub items_are : (n key : ℕ) → items_of (λ line. unwrap_or (number_of item_end line) 0) (lines_of (text_of (numbers_from key 0 n))) ≡ numbers_from key 0 n
-items_are n key = ap (items_of item_read) (lines_are n key) ∙ items_from n key 0
+-- the items of the text are its numbers, each one more
+pub items_are : (n key : ℕ) → items_of (λ line. unwrap_or (option_map (λ number. number + 1) (number_of number_end line)) 0) (lines_of (text_of (numbers_from key 0 n)))
+    ≡ map (λ number. number + 1) (numbers_from key 0 n)
+items_are n key = ap (items_of item_or) (lines_are n key) ∙ items_from n key 0

@@ -14,6 +14,10 @@ word_of key place =
 unfoldable pub made_number : ℕ → ℕ → ℕ
 made_number key j = word_of key (2 * j) * 2 ^ 16 + word_of key (2 * j + 1) / 2 ^ 16
 
+-- each number is below this
+abbrev pub made_end : ℕ
+made_end = 2 ^ 48
+
 -- the line of a number
 abbrev pub line_of : ℕ → List ℕ
 line_of number = decimal number ++ codes "\n"
@@ -25,6 +29,10 @@ numbers_from key j n = map (made_number key) (range_with_len j n)
 -- the first n numbers of a key
 abbrev pub made_numbers : ℕ → ℕ → List ℕ
 made_numbers n key = numbers_from key 0 n
+
+-- their items, each one more than its number
+abbrev pub made_items : ℕ → ℕ → List ℕ
+made_items n key = map (λ number. number + 1) (made_numbers n key)
 
 -- numbers as a text, a line each
 unfoldable pub text_of : List ℕ → List ℕ

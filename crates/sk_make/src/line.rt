@@ -1,6 +1,6 @@
 // A line that is given in pieces.
-ghost use Rattle.std.specs.Prelude.{◌≡◌, ◌≢◌, ◌<◌, ◌^◌, ◌==◌, [], ◌++◌, min, length, take};
-ghost use Rattle.sk_make.specs.Made.{line_of};
+ghost use Rattle.std.specs.Prelude.{◌≡◌, ◌≢◌, ◌<◌, ◌==◌, [], ◌++◌, min, length, take};
+ghost use Rattle.sk_make.specs.Made.{line_of, made_end};
 
 use sk_lines::put_decimal;
 use std::marker::Model;
@@ -47,7 +47,7 @@ impl Line {
 
     /// Takes the line of a number in place of what was left.
     pub fn set(&mut self, number: u64)
-        requires { number < 2 ^ 48 }
+        requires { number < made_end }
         ensures line { self.new ≡ line_of number }
         ensures some { self.new ≢ [] }
     {

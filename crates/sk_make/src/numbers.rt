@@ -1,6 +1,6 @@
 // The numbers of a key.
 ghost use Rattle.std.specs.Prelude.{◌≡◌, ◌+◌, ◌*◌, ◌<◌, ◌^◌};
-ghost use Rattle.sk_make.specs.Made.{made_number};
+ghost use Rattle.sk_make.specs.Made.{made_number, made_end};
 
 use rand_chacha::ChaCha8Rng;
 use rand_core::utils::NextWord;
@@ -47,7 +47,7 @@ impl Numbers {
     pub fn make(&mut self) -> u64
         requires { self.old.next < 2 ^ 32 }
         ensures number { result ≡ made_number self.old.key self.old.next }
-        ensures small { result < 2 ^ 48 }
+        ensures small { result < made_end }
         ensures next { self.new ≡ record self.old { next = self.old.next + 1 } }
     {
         let upper = u64::from(self.words.next_word());

@@ -1,13 +1,14 @@
 //! What a ranking is asked.
 
-/// Which number's rank is told, by which sketch, and by how many updaters at once.
+/// Which rank is told, by which sketch, and by how many updaters at once.
 #[derive(Clone, Copy, Debug, PartialEq, Eq)]
 pub struct Plan {
     /// How many items a level of the sketch has.
     pub k: u32,
     /// Whose coins it tosses.
     pub key: u64,
-    /// The number whose rank is told.
+    /// The rank of this item is told: how many items are below it. An item is one more than the number that its line
+    /// spells, so the rank of a number is told at one more than the number.
     pub at: u64,
     /// How many items a buffer of each updater holds.
     pub size: u32,

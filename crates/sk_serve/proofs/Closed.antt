@@ -1,5 +1,5 @@
 -- Links that were accepted, and closed.
-use Rattle.std.proofs.Common.{◌≡◌, ℕ, ◌+◌, ◌-◌, ◌^◌, min, List, [], ◌∷◌, ◌++◌, length, Result, Ok, Err, OnErr, refl, sym, ap, ◌∙◌, arith, append-nil, append_assoc, length-append}
+use Rattle.std.proofs.Common.{◌≡◌, ℕ, ◌+◌, ◌-◌, ◌^◌, min, List, [], ◌∷◌, ◌++◌, length, Result, Ok, Err, OnErr, sym, ap, ◌∙◌, arith, append-nil, append_assoc, length-append}
 use Rattle.sk_model.specs.Causes.{Rose}
 use Rattle.sk_io.specs.Traffic.{Ended}
 use Rattle.sk_serve.specs.Served.{AreClosed}

@@ -1,5 +1,5 @@
 -- What a heart shows behind its last ask, and what is due for it.
-use Rattle.std.proofs.Common.{◌≡◌, ◌≢◌, ℕ, ◌+◌, ◌<◌, ◌≤◌, List, [], ◌∷◌, ◌++◌, length, map, get_or, All, Contains, Option, Some, Result, Ok, Err, IsErrAnd, refl, sym, ap, subst, ◌∙◌, arith}
+use Rattle.std.proofs.Common.{◌≡◌, ◌≢◌, ℕ, ◌+◌, ◌<◌, List, [], ◌∷◌, ◌++◌, length, map, get_or, All, Contains, Option, Some, Result, Ok, Err, IsErrAnd, refl, sym, ap, subst, ◌∙◌, arith}
 use Rattle.std.specs.List.{range_with_len}
 use Rattle.std.specs.Io.KnownBytes.{Appends}
 use Rattle.std.proofs.lemmas.List.{get_or-map, length-map}
@@ -7,7 +7,6 @@ use Rattle.std.proofs.lemmas.List.Elements.{All-map}
 use Rattle.std.proofs.lemmas.List.FromFn.{length-range_with_len, get_or-range_with_len}
 use Rattle.sk_model.specs.Causes.{AppendsPart}
 use Rattle.sk_model.specs.Entries.{Entry, items_of_entries, entries_by}
-use Rattle.sk_model.specs.Limits.{least_k}
 use Rattle.sk_model.specs.Sketch.{packed_of, unpacked, count_of, theta_of, fraction_of}
 use Rattle.sk_model.specs.Width.{IsItem, AreItems}
 use Rattle.sk_model.proofs.Missing.{begins_trans}
@@ -30,7 +29,6 @@ use Rattle.sk_count.specs.Texts.{alarm_lines, reply_of, armed_with}
 use Rattle.sk_serve.specs.declared.plan.ServePlan.{ServePlan}
 use Rattle.sk_count.specs.declared.remains.Remains.{Remains}
 use Rattle.sk_serve.specs.declared.fault.ServeFault.{ServeFault}
-use Rattle.sk_serve.specs.Plans.{IsServable}
 use Rattle.sk_serve.specs.Served.{Served, ShowsSessions, ServesSessions, ends_of}
 use Rattle.sk_serve.specs.Waves.{IsHeartOf, HasDrainedThem, ServesSome}
 use Rattle.sk_serve.specs.Texts.{session_lines, served_text}
@@ -95,9 +93,9 @@ items_of n l all = All-map IsItem (λ (e : Entry). e.1) l (λ i d inside. (all i
 abbrev pub pair_of : Reply → ℕ × ℕ
 pair_of reply = (reply.count, reply.theta)
 
-module _ (plan : ServePlan) (least : least_k ≤ plan.k) (list : List Entry) (entries : All (IsEntry plan.sessions) list) (word : ℕ) (word_of : word ≡ packed_of plan.k (items_of_entries list)) (reply : Reply) (reads : pair_of reply ≡ unpacked word) where
+module _ (plan : ServePlan) (list : List Entry) (entries : All (IsEntry plan.sessions) list) (word : ℕ) (word_of : word ≡ packed_of plan.k (items_of_entries list)) (reply : Reply) (reads : pair_of reply ≡ unpacked plan.k word) where
   reads_back : pair_of reply ≡ (count_of plan.k (items_of_entries list), theta_of plan.k (items_of_entries list))
-  reads_back = reads ∙ ap unpacked word_of ∙ packed_reads_back plan.k (items_of_entries list) least (items_of plan.sessions list entries)
+  reads_back = reads ∙ ap (unpacked plan.k) word_of ∙ packed_reads_back plan.k (items_of_entries list) (items_of plan.sessions list entries)
 
   pub reply_is : reply ≡ reply_of plan.k list
   reply_is = λ i. record { count = (reads_back i).0; theta = (reads_back i).1 }
@@ -119,14 +117,14 @@ pub ends_by : (plan : ServePlan) (most : ℕ) (old new : Surroundings) (remains 
 ends_by plan most old new remains (Ok x) f is ends = absurd is
 ends_by plan most old new remains (Err e) f is ends = subst (ServeEnds plan most old new) (sym is) ends
 
-module _ (plan : ServePlan) (most : ℕ) (within : IsServable plan) (w w' : Option (List ℕ)) (places armed places' : List Place) (before now : List Ended) (ends : List End) (sessions : List Served) (h : HeartState) (word : ℕ) (reply : Reply) (gone : ℕ) (estimate : ℕ × ℕ)
-    (armed_is : armed ≡ armed_with plan.k plan.alarms places) (serves : ServesSessions plan most before now sessions h) (ends_are : ends ≡ ends_of sessions) (word_of : word ≡ packed_of plan.k (items_of_entries h.view.seen)) (reads : pair_of reply ≡ unpacked word)
+module _ (plan : ServePlan) (most : ℕ) (w w' : Option (List ℕ)) (places armed places' : List Place) (before now : List Ended) (ends : List End) (sessions : List Served) (h : HeartState) (word : ℕ) (reply : Reply) (gone : ℕ) (estimate : ℕ × ℕ)
+    (armed_is : armed ≡ armed_with plan.k plan.alarms places) (serves : ServesSessions plan most before now sessions h) (ends_are : ends ≡ ends_of sessions) (word_of : word ≡ packed_of plan.k (items_of_entries h.view.seen)) (reads : pair_of reply ≡ unpacked plan.k word)
     (gone_is : gone ≡ mask_of (map (answers_at reply) armed)) (places_is : places' ≡ map (told reply) armed) (estimate_is : estimate ≡ fraction_of plan.k reply.count reply.theta) where
   text : session_lines 0 ends ++ (alarm_lines gone ++ estimate_line estimate) ≡ served_text plan.k (armed_with plan.k plan.alarms places) (ends_of sessions) h.view.seen
-  text = text_is plan within.k.0 h.view.seen serves.shows.entries word word_of reply reads places armed ends sessions gone estimate armed_is ends_are gone_is estimate_is
+  text = text_is plan h.view.seen serves.shows.entries word word_of reply reads places armed ends sessions gone estimate armed_is ends_are gone_is estimate_is
 
   tells : ServesAndTells plan most (surroundings w places before) (surroundings w' places' now) sessions h
-  tells = record { serves = serves; places = places_are plan within.k.0 h.view.seen serves.shows.entries word word_of reply reads places armed places' armed_is places_is }
+  tells = record { serves = serves; places = places_are plan h.view.seen serves.shows.entries word word_of reply reads places armed places' armed_is places_is }
 
   pub told_all : (token : TokenState) → token.table ≡ h.table → Appends w w' (session_lines 0 ends ++ (alarm_lines gone ++ estimate_line estimate)) → TellsSessions plan most (surroundings w places before) (surroundings w' places' now) (record { heart = Some h; token = Some token })
   told_all token hub written = record { sessions = sessions; heart = h; token = token; served = tells; written = subst (Appends w w') text written; left = refl; hub = hub }

@@ -18,7 +18,7 @@ use crate::fault::ServeFault;
 use crate::plan::{ServePlan, shape_of};
 use crate::text::write_served;
 use crate::waves::serve_waves;
-use sk_count::{Remains, arm, estimate_by};
+use sk_count::{Remains, arm};
 use sk_heap::HeapTheta;
 use sk_hub::{Heart, Opened, Token, open_sized};
 use sk_io::{Door, Sink};
@@ -59,9 +59,9 @@ where
     arm(board, plan.k, plan.alarms.as_slice());
     let (mut heart, token) = open_hub(alloc, plan)?;
     let (ends, word) = serve_all(rt, alloc, plan, most, &mut heart, door)?;
-    let reply = unpack(word);
+    let reply = unpack(word, plan.k);
     let gone = board.show(reply);
-    write_last(out, ends.as_slice(), gone, estimate_by(plan.k, reply))?;
+    write_last(out, ends.as_slice(), gone, reply.fraction(plan.k))?;
     remains.heart = Some(heart);
     remains.token = Some(token);
     Ok(())
@@ -140,7 +140,7 @@ fn write_last<O: Sink>(
     out: &mut O,
     ends: &[End],
     gone: u64,
-    estimate: (u64, u64),
+    estimate: (u128, u64),
 ) -> Result<(), ServeFault>
     ensures ok { OnOk result (Appends (O.written out.old) (O.written out.new) (session_lines 0 ends.now ++ (alarm_lines gone ++ estimate_line estimate))) }
     ensures part { OnErr result (AppendsPart (O.written out.old) (O.written out.new) (session_lines 0 ends.now ++ (alarm_lines gone ++ estimate_line estimate))) }

@@ -15,7 +15,7 @@ pub(crate) fn write_served<O: Sink>(
     out: &mut O,
     ends: &[End],
     gone: u64,
-    estimate: (u64, u64),
+    estimate: (u128, u64),
 ) -> Result<(), Failed>
     ensures ok { OnOk result (Appends (O.written out.old) (O.written out.new) (session_lines 0 ends.now ++ (alarm_lines gone ++ estimate_line estimate))) }
     ensures part { OnErr result (AppendsPart (O.written out.old) (O.written out.new) (session_lines 0 ends.now ++ (alarm_lines gone ++ estimate_line estimate))) }

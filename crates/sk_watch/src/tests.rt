@@ -72,8 +72,8 @@ fn an_alarm_reads_the_fraction_of_a_full_sketch(rt: HostRuntime) {
     let mut alarm = Alarm::new();
     assert!(rt; !alarm.see(full));
     for (k, mark, want) in [
-        (2, 56_294_995_342_131, true),
-        (2, 56_294_995_342_132, false),
+        (2, 1_844_674_407_370_955_161, true),
+        (2, 1_844_674_407_370_955_162, false),
         (2, u64::MAX, false),
         (1, 0, false),
         (3, 2, true),

@@ -2,6 +2,7 @@
 use Rattle.std.specs.Prelude.{ℕ, List, Option, option_and_then, option_map}
 use Rattle.sk_model.specs.Sketch.{k_smallest}
 use Rattle.sk_image.specs.Images.{text_of}
+use Rattle.sk_image.specs.Versions.{newest_version}
 use Rattle.sk_cli.specs.Behaviour.{Behaviour}
 use Rattle.sk_cli.specs.Options.{Given, seed_by}
 use Rattle.sk_cli.specs.Told.{telling}
@@ -22,7 +23,7 @@ IsWithin plan = IsWhat plan.what
 
 -- the image of these items
 abbrev pub image_of : ImagePlan → List ℕ → List ℕ
-image_of plan items = text_of plan.what.k plan.seed (k_smallest plan.what.k items)
+image_of plan items = text_of newest_version plan.what.k plan.seed (k_smallest plan.what.k items)
 
 -- it reads what `count` reads, and once the text has ended it writes the image of its items
 abbrev pub imaging : ImagePlan → Behaviour

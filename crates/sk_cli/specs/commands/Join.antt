@@ -2,10 +2,11 @@
 use Rattle.std.specs.Prelude.{◌≡◌, ◌≢◌, ◌⊎◌, ℕ, ◌<◌, ◌≤◌, Bool, if◌then◌else◌, List, ◌++◌, length, take, Option, Some, IfSome, option_and_then, option_map, Result, MatchResult}
 use Rattle.std.specs.Io.KnownBytes.{Appends, Consumes, IsAtEnd}
 use Rattle.sk_model.specs.Causes.{AppendsPart}
-use Rattle.sk_model.specs.Sketch.{k_smallest, estimate_of}
+use Rattle.sk_model.specs.Sketch.{k_smallest, estimate_to}
 use Rattle.sk_lines.specs.Fractions.{estimate_line}
 use Rattle.sk_io.specs.Files.{told_file}
 use Rattle.sk_image.specs.Images.{text_of}
+use Rattle.sk_image.specs.Versions.{end_of}
 use Rattle.sk_image.specs.Reading.{IsBadAt, IsGoodSoFar, IsImageText}
 use Rattle.sk_image.specs.Written.{image_text}
 use Rattle.sk_image.specs.declared.image.Image.{Image}
@@ -69,13 +70,13 @@ EndsFile most number told left other = ⊥
 
 -- the text of an image, or the line of its estimate
 abbrev pub image_or_line : Bool → Image → List ℕ
-image_or_line as_image image = if as_image then image_text image else estimate_line (estimate_of image.k image.hashes.items)
+image_or_line as_image image = if as_image then image_text image else estimate_line (estimate_to (end_of image.version) image.k image.hashes.items)
 
--- what is due for two images: the estimate of the hashes of both, or the image of the k smallest of them
+-- what is written of two images: the estimate of the hashes of both, or the image of the k smallest of them
 abbrev pub joined_text : Bool → Image → Image → List ℕ
 joined_text as_image left right =
     let hashes = left.hashes.items ++ right.hashes.items in
-    if as_image then text_of left.k left.seed (k_smallest left.k hashes) else estimate_line (estimate_of left.k hashes)
+    if as_image then text_of left.version left.k left.seed (k_smallest left.k hashes) else estimate_line (estimate_to (end_of left.version) left.k hashes)
 
 -- both files were read to their ends as images, and this is so of them
 pub record ReadsBoth (asked : TwoImages) (most : ℕ) (files : Files) (file_left : Option (List ℕ)) (P : Image → Image → Type 0) : Type 0 where
@@ -86,26 +87,26 @@ pub record ReadsBoth (asked : TwoImages) (most : ℕ) (files : Files) (file_left
   pub end : IsAtEnd file_left
   pub so : P left right
 
--- two images have one k and one seed
-abbrev pub Fit : Image → Image → Type 0
-Fit left right = (left.k ≡ right.k) × (left.seed ≡ right.seed)
-
--- the k and the seed of an image
+-- the version, the k and the seed of an image
 abbrev pub stamp_of : Image → Stamp
-stamp_of image = record { k = image.k; seed = image.seed }
+stamp_of image = record { version = image.version; k = image.k; seed = image.seed }
 
--- the k or the seeds of two images, which are these, differ
+-- two images have the same
+abbrev pub Fit : Image → Image → Type 0
+Fit left right = stamp_of left ≡ stamp_of right
+
+-- two images have these, which differ
 abbrev pub Differ : Image → Image → Stamp → Stamp → Type 0
-Differ left right a b = (a ≡ stamp_of left) × (b ≡ stamp_of right) × ((a.k ≢ b.k) ⊎ (a.seed ≢ b.seed))
+Differ left right a b = (a ≡ stamp_of left) × (b ≡ stamp_of right) × (a ≢ b)
 
--- why what is due for two images was not written whole
+-- why it was not written whole
 abbrev pub EndsBoth : Bool → Option (List ℕ) → Option (List ℕ) → Image → Image → Fault → Type 0
 EndsBoth as_image old new left right OutOfMemory = new ≡ old
 EndsBoth as_image old new left right WriteFault = Fit left right × AppendsPart old new (joined_text as_image left right)
 EndsBoth as_image old new left right (Mixed a b) = Differ left right a b × (new ≡ old)
 EndsBoth as_image old new left right other = ⊥
 
--- two images fit together and all that is due for them was written
+-- two images fit together and all of it was written
 abbrev pub WritesBoth : Bool → Option (List ℕ) → Option (List ℕ) → Image → Image → Type 0
 WritesBoth as_image old new left right = Fit left right × Appends old new (joined_text as_image left right)
 
@@ -150,22 +151,21 @@ pub record AreToldImages (asked : TwoImages) (most : ℕ) (files : Files) : Type
   pub left : IsToldImage most (told_file files asked.left)
   pub right : IsToldImage most (told_file files asked.right)
 
--- and they have one k and one seed
+-- the version, the k and the seed of an image's text
+abbrev pub stamp_in : (text : List ℕ) → IsImageText text → Stamp
+stamp_in text image = record { version = image.version; k = image.k; seed = image.seed }
+
+-- and have the same version, k and seed
 pub record AreFineFiles (asked : TwoImages) (most : ℕ) (files : Files) : Type 0 where
   pub told : AreToldImages asked most files
-  pub k : told.left.image.k ≡ told.right.image.k
-  pub seed : told.left.image.seed ≡ told.right.image.seed
+  pub same : stamp_in told.left.text told.left.image ≡ stamp_in told.right.text told.right.image
 
--- the k and the seed of a text
-abbrev pub stamp_in : (text : List ℕ) → IsImageText text → Stamp
-stamp_in text image = record { k = image.k; seed = image.seed }
-
--- or their k or their seeds, which are these, differ
+-- or these, which differ
 pub record AreMixed (asked : TwoImages) (most : ℕ) (files : Files) (a b : Stamp) : Type 0 where
   pub told : AreToldImages asked most files
   pub left_stamp : a ≡ stamp_in told.left.text told.left.image
   pub right_stamp : b ≡ stamp_in told.right.text told.right.image
-  pub differ : (a.k ≢ b.k) ⊎ (a.seed ≢ b.seed)
+  pub differ : a ≢ b
 
 -- the left file is refused, or the right one behind a left image
 abbrev pub IsBadOne : TwoImages → ℕ → Files → ℕ → ℕ → Type 0

@@ -4,7 +4,7 @@ use Rattle.sk_model.specs.Limits.{least_k, most_k, most_size, most_updaters, IsF
 use Rattle.sk_model.specs.Lines.{lines_of}
 use Rattle.sk_model.specs.Sketch.{estimate_of}
 use Rattle.sk_quant.specs.Limits.{key_end}
-use Rattle.sk_make.specs.Made.{made_text, made_numbers, most_made}
+use Rattle.sk_make.specs.Made.{made_text, made_items, most_made}
 use Rattle.sk_read.specs.declared.kind.Kind.TheVariants.{Raw}
 use Rattle.sk_count.specs.declared.plan.Plan.{Plan}
 use Rattle.sk_count.specs.Texts.{last_text}
@@ -39,7 +39,7 @@ pub record IsWithin (plan : MakePlan) : Type 0 where
 abbrev pub text_by : MakePlan → List ℕ
 text_by plan = made_text plan.n plan.key
 
--- how that is counted: each line spells its item
+-- how that is counted: the item of a line is one more than its number
 abbrev pub counted_by : MakePlan → Plan
 counted_by plan = record {
   k = plan.k;
@@ -54,9 +54,9 @@ counted_by plan = record {
   made = Some plan.n;
 }
 
--- how many lines it made, and one thread's estimate of their numbers
+-- how many lines it made, and one thread's estimate of their items
 abbrev pub made_report : MakePlan → List ℕ
-made_report plan = last_text (Some plan.n) (estimate_of plan.k (made_numbers plan.n plan.key))
+made_report plan = last_text (Some plan.n) (estimate_of plan.k (made_items plan.n plan.key))
 
 -- it reads nothing, and writes its report last; the hub that counted is left, and shows this run
 abbrev pub making : MakePlan → Behaviour

@@ -1,9 +1,11 @@
 -- What `quantile` is asked, and what it does.
-use Rattle.std.specs.Prelude.{◌≡◌, ℕ, ◌-◌, ◌<◌, ◌≤◌, List, [], ◌∷◌, ◌++◌, length, is_none, Option, Some, IfSome, option_and_then, option_map}
+use Rattle.std.specs.Prelude.{◌≡◌, ℕ, ◌+◌, ◌-◌, ◌^◌, ◌<◌, ◌≤◌, List, [], ◌∷◌, ◌++◌, length, is_none, Option, Some, IfSome, option_and_then, option_map, unwrap_or}
 use Rattle.std.specs.Int.{abs_diff}
 use Rattle.sk_model.specs.Entries.{Entry, items_of_entries}
 use Rattle.sk_model.specs.Limits.{most_size, most_updaters, IsFrom}
-use Rattle.sk_model.specs.Width.{item_end}
+use Rattle.sk_model.specs.Lines.{items_of}
+use Rattle.sk_model.specs.Numbers.{number_of}
+use Rattle.sk_model.specs.Width.{number_end}
 use Rattle.sk_hub.specs.Hearts.{HeartState}
 use Rattle.sk_quant.specs.Limits.{least_quantile_k, most_quantile_k, key_end}
 use Rattle.sk_quant.specs.Ranks.{rank_of, rank_error}
@@ -26,11 +28,15 @@ use Rattle.sk_cli.specs.declared.commands.quantile.What.{What}
 
 -- ---- its plan
 
+-- the greatest number whose rank is told
+abbrev pub most_at : ℕ
+most_at = 2 ^ 48 - 1
+
 -- which number's rank is told, and by which sketch
 abbrev pub what_by : List Given → Option What
 what_by given =
     option_and_then (λ at. option_and_then (λ k. option_map (λ key. record { k = k; key = key; at = at }) (number_in 0 (key_end - 1) 0 (value_behind name.Key given)))
-    (number_in least_quantile_k most_quantile_k 128 (value_behind name.K given))) (required_in 0 (item_end - 1) (value_behind name.At given))
+    (number_in least_quantile_k most_quantile_k 128 (value_behind name.K given))) (required_in 0 most_at (value_behind name.At given))
 
 -- by which updaters, and what is told on the way
 abbrev pub how_by : List Given → Option How
@@ -39,11 +45,12 @@ how_by given =
     option_map (λ propagator. record { size = size; updaters = updaters; window = window; propagator = propagator })
     (propagator_by given)) (window_by given)) (updaters_by given)) (number_in 1 most_size 64 (value_behind name.B given))
 
+-- the number's item is one more, and the items below that are those of the numbers below it
 abbrev pub plan_with : What → How → Plan
 plan_with what how = record {
   k = what.k;
   key = what.key;
-  at = what.at;
+  at = what.at + 1;
   size = how.size;
   updaters = how.updaters;
   window = how.window;
@@ -54,6 +61,7 @@ plan_with what how = record {
 pub record IsWhat (what : What) : Type 0 where
   pub k : IsFrom least_quantile_k most_quantile_k what.k
   pub key : what.key < key_end
+  pub at : what.at ≤ most_at
 
 pub record IsHow (how : How) : Type 0 where
   pub size : IsFrom 1 most_size how.size
@@ -95,7 +103,7 @@ pub record LeavesRanks (plan : Plan) (from : Beside) (units : List (List ℕ)) (
   pub near : IsNear plan.at plan.k plan.key (items_in reader.known)
   pub shows : Shows plan heart reader
 
--- each line spells its item; it writes the interim text as it reads, and last the rank in all
+-- each line spells a number, and its item is one more; it writes the interim text as it reads, and last the rank in all
 abbrev pub ranking : Plan → Behaviour
 ranking plan = telling_on Raw 0 (is_none plan.window) (IsInterim plan) (IsWhole plan) (LeavesRanks plan)
 
@@ -105,3 +113,7 @@ pub record TellsNear (plan : Plan) (items due : List ℕ) : Type 0 where
   pub below : ℕ
   pub is : due ≡ front ++ told_line (length items) below (rank_error (length items) plan.k)
   pub near : abs_diff below (rank_of plan.at items) ≤ rank_error (length items) plan.k
+
+-- the numbers that lines spell, without the empty ones
+abbrev pub numbers_in : List (List ℕ) → List ℕ
+numbers_in lines = items_of (λ line. unwrap_or (number_of number_end line) 0) lines

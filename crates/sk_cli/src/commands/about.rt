@@ -8,9 +8,9 @@ usage:
   sketchd count [--k K] [--raw] [--seed S] [--csv C] [--file NAME] [--updaters N] [--b B,..]
                 [--window W] [--alarm M,..] [--eager yes|no] [--propagator yes|no]
       writes the estimate of how many distinct lines there are that are not empty
-      --k K        how many hashes are kept, 2 to 32768 (4096)
+      --k K        how many hashes are kept, 2 to 1048576 (4096)
       --csv C      counts column C, 1 to 4096, of comma-separated values in place of lines
-      --raw        each line spells its item, a number from 0 to 281474976710655
+      --raw        each line is a number from 0 to 9223372036854775806
                    that is a hash already; of plain ids it makes an estimate that is far off
       --seed S     the seed of the hash, 0 to 4294967295 (0)
       --file NAME  reads this file in place of the standard input
@@ -23,14 +23,14 @@ usage:
       --eager      hands over item by item while there are few (yes)
       --propagator lets one thread take over what updaters hand over (yes)
   sketchd hash [--seed S] [--file NAME]
-      writes the hash of each line that is not empty, 12 digits in base 16
+      writes the hash of each line that is not empty, 16 digits in base 16
       --seed S     the seed of the hash, 0 to 4294967295 (0)
       --file NAME  reads this file in place of the standard input
   sketchd image [--k K] [--raw] [--seed S] [--csv C] [--file NAME]
       writes the image of the items once they were all read: what the sketch keeps of them, as text
       --k, --raw, --seed, --csv, --file as for count
   sketchd join --left NAME --right NAME [--image]
-      reads two images of one k and one seed and writes the estimate of both as one
+      reads two images of one version, k and seed and writes the estimate of both as one
       --left NAME, --right NAME the files of the two
       --image      writes the image of both in place of the estimate
   sketchd make --n N [--key S] [--k K] [--updaters N] [--b B] [--propagator yes|no]
@@ -70,4 +70,4 @@ A line has at most 65536 bytes. An option stands at most once.
 ";
 
 /// What `--version` writes.
-pub const VERSION: &str = "sketchd 0.1.0\n";
+pub const VERSION: &str = "sketchd 0.2.0\n";

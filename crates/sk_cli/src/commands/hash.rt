@@ -9,7 +9,7 @@ ghost use Rattle.sk_cli.specs.commands.Hash.{plan_by, hash_text, hashing};
 use crate::answering::{Answerer, answer_lines};
 use crate::fault::Fault;
 use crate::options::Options;
-use sk_hash::hash48;
+use sk_hash::hash63;
 use sk_io::{Sink, Source};
 use sk_lines::hash_line;
 use sk_model::OutOfMemory;
@@ -48,7 +48,7 @@ impl Answerer for HashPlan {
         if line.is_empty() {
             return Ok(true);
         }
-        text.extend_from_slice(&hash_line(hash48(self.seed, line)))?;
+        text.extend_from_slice(&hash_line(hash63(self.seed, line)))?;
         Ok(true)
     }
 }

@@ -6,6 +6,7 @@ ghost use Rattle.sk_model.specs.Limits.{source_limit};
 ghost use Rattle.sk_model.specs.Sketch.{k_smallest};
 ghost use Rattle.sk_theta.specs.Kept.{StandsFor};
 ghost use Rattle.sk_image.specs.Images.{text_of};
+ghost use Rattle.sk_image.specs.Versions.{newest_version};
 ghost use Rattle.sk_image.specs.Written.{image_text};
 ghost use Rattle.sk_cli.specs.Beside.{Beside};
 ghost use Rattle.sk_cli.specs.Outside.{streams_of};
@@ -16,7 +17,7 @@ use crate::commands::count::What;
 use crate::fault::Fault;
 use crate::options::Options;
 use sk_heap::HeapTheta;
-use sk_image::{Image, WriteStop, write};
+use sk_image::{Image, NEWEST_VERSION, WriteStop, write};
 use sk_io::{Sink, Source};
 use sk_model::OutOfMemory;
 use sk_read::{Intake, read_items};
@@ -42,20 +43,23 @@ impl ImagePlan {
 }
 
 // The image of what a sketch keeps.
+#[tactic(auto, unfolding(sk_image::specs::Versions::end_of, sk_image::specs::Versions::least_hash_of, sk_image::specs::Versions::most_k_of))]
 fn image_by(seed: u32, sketch: &HeapTheta) -> Result<Image, OutOfMemory>
+    ensures version { IfOk result (λ image. image.version ≡ newest_version) }
     ensures k { IfOk result (λ image. image.k ≡ sketch.now.k) }
     ensures seed { IfOk result (λ image. image.seed ≡ seed) }
     ensures hashes { (items : List ℕ) → StandsFor sketch.now items → IfOk result (λ image. image.hashes.items ≡ k_smallest sketch.now.k items) }
 {
     let hashes = sketch.list()?;
     Ok(Image {
+        version: NEWEST_VERSION,
         k: sketch.k(),
         seed,
         hashes,
     })
 }
 
-/// Writes the text of an image, or a part of it at a write fault, or nothing for want of memory.
+/// Writes the text of an image, or a part of it at a write fault, or nothing if memory is out.
 pub fn write_image<O: Sink>(alloc: Global, image: &Image, out: &mut O) -> Result<(), Fault>
     ensures ok { OnOk result (Appends (O.written out.old) (O.written out.new) (image_text image.now)) }
     ensures part { IsErrOf result Fault.WriteFault → AppendsPart (O.written out.old) (O.written out.new) (image_text image.now) }
@@ -78,9 +82,9 @@ fn write_sketch<O: Sink>(
     out: &mut O,
 ) -> Result<(), Fault>
     ensures ok { (items : List ℕ) → StandsFor sketch.now items
-        → OnOk result (Appends (O.written out.old) (O.written out.new) (text_of sketch.now.k seed (k_smallest sketch.now.k items))) }
+        → OnOk result (Appends (O.written out.old) (O.written out.new) (text_of newest_version sketch.now.k seed (k_smallest sketch.now.k items))) }
     ensures part { (items : List ℕ) → StandsFor sketch.now items → IsErrOf result Fault.WriteFault
-        → AppendsPart (O.written out.old) (O.written out.new) (text_of sketch.now.k seed (k_smallest sketch.now.k items)) }
+        → AppendsPart (O.written out.old) (O.written out.new) (text_of newest_version sketch.now.k seed (k_smallest sketch.now.k items)) }
     ensures memory { IsErrOf result Fault.OutOfMemory → out.new ≡ out.old }
     ensures cause { HasCauseIn Fault.WriteFault (O.faults out.old) (O.faults out.new) result }
     ensures err { IfErr result (λ fault. (fault ≡ Fault.WriteFault) ⊎ (fault ≡ Fault.OutOfMemory)) }

@@ -2,7 +2,7 @@
 ghost use Rattle.std.specs.Prelude.{◌≡◌, ◌≢◌, ◌⊎◌, false, Err, OnOk, IfOk, IfErr, IsErrAnd, IsErrOf, MatchResult};
 ghost use Rattle.std.specs.Io.KnownBytes.{Appends, IsAtEnd};
 ghost use Rattle.std.specs.Option.{option_map};
-ghost use Rattle.sk_model.specs.Causes.{HasCauseIn, AppendsPart};
+ghost use Rattle.sk_model.specs.Causes.{HasCause, HasCauseIn, AppendsPart};
 ghost use Rattle.sk_io.specs.Files.{told_file, IsMissing};
 ghost use Rattle.sk_cli.specs.commands.Join.{images_of, images_by, image_or_line, IsFileOf, EndsFile, WritesBoth, EndsBoth, JoinsSo, stamp_of};
 
@@ -12,8 +12,7 @@ use crate::options::{Name, Options};
 use crate::write::write_text;
 use sk_image::{Image, JoinStop, read};
 use sk_io::{OpenFile, Shelf, Sink, Source};
-use sk_lines::put_estimate_line;
-use sk_theta::Theta;
+use sk_lines::{ESTIMATE_LINE_LEN, put_estimate_line};
 use std::alloc::Global;
 
 /// Which images are joined, and whether the joined image is written in place of its estimate.
@@ -78,17 +77,14 @@ fn read_image<F: Shelf>(
 }
 
 // Writes the line of an image's estimate.
-fn write_estimate<O: Sink>(alloc: Global, image: &Image, out: &mut O) -> Result<(), Fault>
+fn write_estimate<O: Sink>(image: &Image, out: &mut O) -> Result<(), Fault>
     ensures ok { OnOk result (Appends (O.written out.old) (O.written out.new) (image_or_line false image.now)) }
     ensures part { IsErrOf result Fault.WriteFault → AppendsPart (O.written out.old) (O.written out.new) (image_or_line false image.now) }
-    ensures memory { IsErrOf result Fault.OutOfMemory → out.new ≡ out.old }
-    ensures cause { HasCauseIn Fault.WriteFault (O.faults out.old) (O.faults out.new) result }
-    ensures err { IfErr result (λ fault. (fault ≡ Fault.WriteFault) ⊎ (fault ≡ Fault.OutOfMemory)) }
+    ensures cause { HasCause (O.faults out.old) (O.faults out.new) result }
+    ensures err { IfErr result (λ fault. fault ≡ Fault.WriteFault) }
 {
-    let mut sketch = Theta::new(alloc, image.k)?;
-    sketch.merge(&image.hashes);
-    let (n, d) = sketch.fraction();
-    let mut line = [0u8; 64];
+    let (n, d) = image.fraction();
+    let mut line = [0u8; ESTIMATE_LINE_LEN];
     let len = put_estimate_line(&mut line, n, d);
     write_text(out, &line[..len])
 }
@@ -109,11 +105,11 @@ fn write_joined<O: Sink>(
     if as_image {
         write_image(alloc, image, out)
     } else {
-        write_estimate(alloc, image, out)
+        write_estimate(image, out)
     }
 }
 
-// Writes what is due for two images that were read.
+// Writes the estimate of two images that were read, or the image that they join to.
 fn write_both<O: Sink>(
     alloc: Global,
     as_image: bool,
@@ -133,13 +129,14 @@ fn write_both<O: Sink>(
     }
 }
 
-// The k and the seed of an image.
+// The numbers of an image's first line.
 fn stamp_of(image: &Image) -> Stamp
     ensures { result ≡ stamp_of image.now }
 {
     Stamp {
-        k: u64::from(image.k),
-        seed: u64::from(image.seed),
+        version: image.version,
+        k: image.k,
+        seed: image.seed,
     }
 }
 

@@ -60,7 +60,7 @@ impl MakePlan {
         })
     }
 
-    // How the lines are counted: each spells its item.
+    // How the lines are counted: each spells a number, and its item is one more.
     fn counted(&self) -> Plan
         ensures { result ≡ counted_by self.now }
     {

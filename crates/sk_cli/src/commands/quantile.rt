@@ -12,12 +12,15 @@ use crate::fault::Fault;
 use crate::options::{Name, Options};
 use crate::remains::Remains;
 use sk_io::{Sink, Source};
-use sk_model::limits::{ITEM_END, MOST_SIZE};
+use sk_model::limits::MOST_SIZE;
 use sk_quant::limits::{KEY_END, LEAST_QUANTILE_K, MOST_QUANTILE_K};
 use sk_rank::{Plan, rank};
 use std::alloc::Global;
 use std::sync::Wait;
 use std::thread::Threads;
+
+// The greatest number whose rank is told.
+const MOST_AT: u64 = (1 << 48) - 1;
 
 /// Which number's rank is told, and by which sketch.
 #[derive(Clone, Copy, Debug, PartialEq, Eq)]
@@ -49,7 +52,7 @@ impl What {
         ensures value { result ≡ what_by options.now }
         ensures limits { IfSome result IsWhat }
     {
-        let at = options.required(Name::At, 0, ITEM_END - 1)?;
+        let at = options.required(Name::At, 0, MOST_AT)?;
         let (least, most) = (u64::from(LEAST_QUANTILE_K), u64::from(MOST_QUANTILE_K));
         let k = options.number(Name::K, least, most, 128)? as u32;
         let key = options.number(Name::Key, 0, KEY_END - 1, 0)?;
@@ -76,8 +79,8 @@ impl How {
     }
 }
 
-/// The plan that the options spell. `None` where a value is out of its form or its limits, or the number whose rank is
-/// told is not given.
+/// The plan that the options spell, in which the number whose rank is told is an item: one more. `None` if a value is
+/// out of its form or its limits, or the number is not given.
 pub fn plan_of(options: &Options<'_>) -> Option<Plan>
     ensures value { result ≡ plan_by options.now }
     ensures limits { IfSome result IsWithin }
@@ -87,7 +90,7 @@ pub fn plan_of(options: &Options<'_>) -> Option<Plan>
     Some(Plan {
         k: what.k,
         key: what.key,
-        at: what.at,
+        at: what.at + 1,
         size: how.size,
         updaters: how.updaters,
         window: how.window,
@@ -96,8 +99,9 @@ pub fn plan_of(options: &Options<'_>) -> Option<Plan>
 }
 
 /// Reads the numbers of a source, one a line, by many updaters, and once it has ended writes how many there are, how
-/// many of them lie below the plan's, and by how much that may be off (Agarwal and others, "Mergeable Summaries",
-/// PODS 2012); after each full window, where that is asked for, the same of what was published by then.
+/// many of their items are below the plan's, and by how much that may be off (Agarwal and others, "Mergeable Summaries",
+/// PODS 2012); after each full window, if that is asked for, the same of what was published by then. As many numbers are
+/// below the one that was asked for (`laws::ranks_are_of_numbers`).
 pub fn quantile<'r, R: Threads + Wait + Sync, S: Source, O: Sink>(
     rt: &'r R,
     alloc: Global,

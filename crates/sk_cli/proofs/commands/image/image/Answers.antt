@@ -3,6 +3,7 @@ use Rattle.std.specs.Io.KnownBytes.{Appends}
 use Rattle.sk_model.specs.Causes.{AppendsPart}
 use Rattle.sk_model.specs.Sketch.{k_smallest}
 use Rattle.sk_image.specs.Images.{text_of}
+use Rattle.sk_image.specs.Versions.{newest_version}
 use Rattle.sk_read.specs.Items.{Gave, Missed}
 use Rattle.sk_read.specs.Reads.{ReadsAll, Ends as ReadingEnds}
 use Rattle.sk_read.specs.Units.{units_by}
@@ -32,8 +33,8 @@ returns-in-Ok-clause-done g c = λ from to.
     let items = items_of_text plan.what.kind plan.what.column all.taken in
     let r = c.write_sketch.result in
     telling_wrote plan.what.kind plan.what.column (image_of plan) c.args.most from to a b (StandsFor sketch) c.in-Ok._units all r
-    (subst (λ (n : ℕ). OnOk r (Appends a.written b.written (text_of n plan.seed (k_smallest n items)))) k (c.write_sketch.ensures.ok items all.gave.1))
-    (subst (λ (n : ℕ). IsErrOf r fault.WriteFault → AppendsPart a.written b.written (text_of n plan.seed (k_smallest n items))) k (c.write_sketch.ensures.part items all.gave.1))
+    (subst (λ (n : ℕ). OnOk r (Appends a.written b.written (text_of newest_version n plan.seed (k_smallest n items)))) k (c.write_sketch.ensures.ok items all.gave.1))
+    (subst (λ (n : ℕ). IsErrOf r fault.WriteFault → AppendsPart a.written b.written (text_of newest_version n plan.seed (k_smallest n items))) k (c.write_sketch.ensures.part items all.gave.1))
     (λ none. ap (λ o. g.O.Sink.written o) (c.write_sketch.ensures.memory none)) c.write_sketch.ensures.err
 
 pub returns-clause-done : goal.returns-clause-done

@@ -10,5 +10,5 @@ returns-in-Ok-clause-done g c =
     let e = c.in-Ok.ensures in
     let w = c.write_joined.ensures in
     wrote_both c.args.as_image (g.O.Sink.written c.args.out.now) (g.O.Sink.written c.write_joined.new.out) left right (image_or_line c.args.as_image c.in-Ok.joined) c.write_joined.result
-    (joined_is c.args.as_image c.in-Ok.joined left right e.k e.seed e.hashes) (fit_of left right _ e.mixed (λ no. absurd (cc))) w.ok w.part
+    (joined_is c.args.as_image c.in-Ok.joined left right e.version e.k e.seed e.hashes) (fit_of left right _ e.mixed (λ no. absurd (cc))) w.ok w.part
     (λ none. ap (λ o. g.O.Sink.written o) (w.memory none)) w.err

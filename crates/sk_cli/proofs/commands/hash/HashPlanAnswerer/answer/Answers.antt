@@ -13,5 +13,5 @@ pub returns-clause-answers : goal.returns-clause-answers
 returns-clause-answers c = λ said.
     let some : 0 < length c.args.line.now = search rules in
     let text : c.hash_line.result ≡ hash_text c.args.self.now.seed (c.args.line.now ∷ []) =
-    c.hash_line.ensures ∙ ap (λ (h : ℕ). hash_line h) c.hash48.ensures.value ∙ sym (hash_text_one c.args.self.now.seed c.args.line.now some) in
+    c.hash_line.ensures ∙ ap (λ (h : ℕ). hash_line h) c.hash63.ensures.value ∙ sym (hash_text_one c.args.self.now.seed c.args.line.now some) in
     hash_answers c.args.self.now.seed c.args.line.now c.hash_line.result c.args.text.now.items c.extend_from_slice.new.self.items text c.in_ok-extend_from_slice.ensures.items
