@@ -1,5 +1,7 @@
 // A plain single-thread program of the same algorithm, over std alone: the sketch of the k smallest
-// MurmurHash3_x64_128 hashes of the distinct lines of standard input.
+// MurmurHash3_x64_128 hashes of the distinct lines of standard input, or of the numbers that they spell.
+//
+//     baseline [--k K] [--raw]
 use std::collections::{BinaryHeap, HashSet};
 use std::io::Read;
 
@@ -24,7 +26,7 @@ fn second(k: u64) -> u64 {
     k.wrapping_mul(C2).rotate_left(33).wrapping_mul(C1)
 }
 
-fn hash48(bytes: &[u8]) -> u64 {
+fn hash63(bytes: &[u8]) -> u64 {
     let (mut h1, mut h2) = (0u64, 0u64);
     let mut blocks = bytes.chunks_exact(16);
     for block in &mut blocks {
@@ -46,7 +48,7 @@ fn hash48(bytes: &[u8]) -> u64 {
     h2 = h2.wrapping_add(h1);
     h1 = finish(h1);
     h2 = finish(h2);
-    h1.wrapping_add(h2) >> 16
+    (h1.wrapping_add(h2) >> 1).max(1)
 }
 
 struct Sketch {
@@ -71,8 +73,10 @@ impl Sketch {
 }
 
 fn main() {
-    let mut sketch = Sketch { k: 4096, heap: BinaryHeap::new(), kept: HashSet::new() };
-    let raw = std::env::args().any(|word| word == "--raw");
+    let words: Vec<String> = std::env::args().collect();
+    let raw = words.iter().any(|word| word == "--raw");
+    let k = words.iter().position(|word| word == "--k").map_or(4096, |place| words[place + 1].parse().unwrap());
+    let mut sketch = Sketch { k, heap: BinaryHeap::new(), kept: HashSet::new() };
     let mut input = std::io::stdin().lock();
     let mut buffer: Vec<u8> = Vec::new();
     let mut piece = vec![0; 65_536];
@@ -83,9 +87,9 @@ fn main() {
         }
         if raw {
             let text = std::str::from_utf8(line).unwrap();
-            sketch.update(text.parse().unwrap());
+            sketch.update(text.parse::<u64>().unwrap() + 1);
         } else {
-            sketch.update(hash48(line));
+            sketch.update(hash63(line));
         }
     };
     loop {
@@ -104,7 +108,7 @@ fn main() {
     take(&buffer.clone());
     match sketch.heap.peek() {
         Some(theta) if sketch.heap.len() == sketch.k => {
-            println!("estimate {}/{}", (sketch.k as u128 - 1) << 48, theta)
+            println!("estimate {}/{}", (sketch.k as u128 - 1) << 63, theta)
         }
         _ => println!("estimate {}/1", sketch.heap.len()),
     }

@@ -8,7 +8,7 @@ use std::sync::Mutex;
 use std::thread;
 
 const K: usize = 4_096;
-const ITEM_END: u64 = 1 << 48;
+const ITEM_END: u64 = 1 << 63;
 const FACTOR: u64 = 0x9E37_79B9_7F4A_7C15;
 
 /// The hash of an item for the set: one product.
@@ -75,8 +75,8 @@ impl Sketch {
 
 fn item_at(place: u64, distinct: u64) -> u64 {
     let number = if distinct == 0 { place } else { place % distinct };
-    let item = number.wrapping_mul(FACTOR) % ITEM_END;
-    (item ^ (item >> 24)).wrapping_mul(FACTOR) % ITEM_END
+    let item = (number.wrapping_mul(FACTOR) % ITEM_END).max(1);
+    ((item ^ (item >> 24)).wrapping_mul(FACTOR) % ITEM_END).max(1)
 }
 
 /// What each of the threads takes, of so many distinct items.

@@ -9,7 +9,7 @@ use std::alloc::Global;
 const K: u32 = 4_096;
 
 /// The estimate of a source's items, as a numerator and a denominator.
-pub fn count<S: Source>(alloc: Global, kind: Kind, source: &mut S) -> Result<(u64, u64), Fault> {
+pub fn count<S: Source>(alloc: Global, kind: Kind, source: &mut S) -> Result<(u128, u64), Fault> {
     let mut sketch = HeapTheta::new(alloc, K)?;
     let intake = Intake {
         kind,

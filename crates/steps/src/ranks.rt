@@ -26,7 +26,7 @@ fn offer<W: Wait + Drop, R: Wait>(
     updater: &mut Updater<VersionedQuant<W>>,
     item: u64,
 ) -> bool {
-    if updater.taken() == 1 << 40 || item >= ITEM_END {
+    if updater.taken() == 1 << 40 || !(1..ITEM_END).contains(&item) {
         return false;
     }
     if updater.update(item) != Update::Busy {
@@ -42,13 +42,13 @@ fn keep_until<W: Wait + Drop, R: Wait>(
     updater: &mut Updater<VersionedQuant<W>>,
     done: &AtomicBool,
 ) {
-    let mut item = u64::from(updater.number());
+    let mut item = u64::from(updater.number()) + 1;
     'item: for _ in rt.forever() {
         if done.load(SeqCst) {
             return;
         }
         if offer(rt, updater, item) {
-            item = item.wrapping_mul(0x9E37_79B9_7F4A_7C15).wrapping_add(1) % ITEM_END;
+            item = (item.wrapping_mul(0x9E37_79B9_7F4A_7C15).wrapping_add(1) % ITEM_END).max(1);
         }
     }
     unreachable!()

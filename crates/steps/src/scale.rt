@@ -32,7 +32,7 @@ fn mixed_at(place: u64, distinct: u64) -> u64
     ensures { IsItem result }
 {
     let item = item_at(place, distinct);
-    (item ^ (item >> 24)).wrapping_mul(FACTOR) % ITEM_END
+    ((item ^ (item >> 24)).wrapping_mul(FACTOR) % ITEM_END).max(1)
 }
 
 // Offers an item once, and answers whether it was taken.
@@ -156,5 +156,5 @@ pub fn updates<R: Threads + Wait + Sync>(
         },
         || propagate_until(rt, heart, &done),
     );
-    Ok(unpack(heart.ask()))
+    Ok(unpack(heart.ask(), K))
 }

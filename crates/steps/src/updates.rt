@@ -29,7 +29,7 @@ pub fn item_at(place: u64, distinct: u64) -> u64
     } else {
         place % distinct
     };
-    number.wrapping_mul(FACTOR) % ITEM_END
+    (number.wrapping_mul(FACTOR) % ITEM_END).max(1)
 }
 
 /// So many updates of a sketch.

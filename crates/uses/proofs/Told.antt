@@ -11,26 +11,27 @@ use Rattle.sk_rank.specs.declared.plan.Plan.{Plan}
 use Rattle.sk_rank.specs.Moments.{Moment, AreMoments}
 use Rattle.sk_rank.specs.Ranks.{Setting, TellsAll}
 use Rattle.sk_rank.specs.Texts.{told_line, rank_line, interim_text}
-use Rattle.uses.specs.Told.{numbers_in, TellsRank}
+use Rattle.uses.specs.Told.{items_of_text, TellsRank}
 
 no_text : (plan : Plan) (moments : List Moment) → moments ≡ [] → interim_text plan moments ≡ []
 unfolding interim_text
 no_text plan moments none = ap (interim_text plan) none
 
-pub tells_rank : (plan : Plan) (old new : Setting) (h : HeartState) (reader : Learnt) (left left' : Option (List ℕ)) (text : List ℕ) → Consumes left left' text → IsAtEnd left' → plan.window ≡ None
-    → TellsAll plan old new h reader (units_of (units_by 0) text) → length (items_in reader.known) ≡ length (numbers_in text) → rank_of plan.at (items_in reader.known) ≡ rank_of plan.at (numbers_in text)
-    → TellsRank plan.at plan.k left left' old.written new.written
-tells_rank plan old new h reader left left' text consumed end none all count rank =
+pub tells_rank : (at : ℕ) (plan : Plan) (old new : Setting) (h : HeartState) (reader : Learnt) (left left' : Option (List ℕ)) (text : List ℕ) → Consumes left left' text → IsAtEnd left' → plan.window ≡ None → plan.at ≡ at
+    → TellsAll plan old new h reader (units_of (units_by 0) text) → length (items_in reader.known) ≡ length (items_of_text text) → rank_of plan.at (items_in reader.known) ≡ rank_of plan.at (items_of_text text)
+    → TellsRank at plan.k left left' old.written new.written
+tells_rank at plan old new h reader left left' text consumed end none at_is all count rank =
     let c = all.course in
     let below : ℕ = ranked plan.at plan.k plan.key (items_in reader.known) in
     let no_moments : c.moments ≡ [] = subst (λ (w : Option ℕ). MatchBool (is_some w) (AreMoments plan [] [] c.windows c.moments) (c.moments ≡ [])) none c.asks in
-    let line : interim_text plan c.moments ++ rank_line plan (items_in reader.known) ≡ told_line (length (numbers_in text)) below (rank_error (length (numbers_in text)) plan.k) =
+    let line : interim_text plan c.moments ++ rank_line plan (items_in reader.known) ≡ told_line (length (items_of_text text)) below (rank_error (length (items_of_text text)) plan.k) =
     ap (λ l. l ++ rank_line plan (items_in reader.known)) (no_text plan c.moments no_moments) ∙ (λ e. told_line (count e) below (rank_error (count e) plan.k)) in
     record {
       text = text;
       consumed = consumed;
       end = end;
       below = below;
-      near = subst (λ n. abs_diff below (rank_of plan.at (numbers_in text)) ≤ rank_error n plan.k) count (subst (λ m. abs_diff below m ≤ rank_error (length (items_in reader.known)) plan.k) rank all.near);
+      near = subst (λ (m : ℕ). abs_diff below (rank_of m (items_of_text text)) ≤ rank_error (length (items_of_text text)) plan.k) at_is
+          (subst (λ n. abs_diff below (rank_of plan.at (items_of_text text)) ≤ rank_error n plan.k) count (subst (λ m. abs_diff below m ≤ rank_error (length (items_in reader.known)) plan.k) rank all.near));
       written = subst (Appends old.written new.written) line all.written;
     }

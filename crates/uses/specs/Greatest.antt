@@ -1,9 +1,9 @@
 -- The greatest member of a list, and what a sketch that keeps it owes of an item that is not above it.
-use Rattle.std.proofs.Common.{◌≡◌, ◌↔◌, ℕ, ◌+◌, ◌≤◌, max, nat_le, false, List, [], ◌∷◌, ◌++◌, fold, refl, sym, ap, ◌∙◌, arith}
+use Rattle.std.proofs.Common.{◌≡◌, ◌↔◌, ℕ, ◌+◌, ◌<◌, ◌≤◌, max, nat_le, false, List, [], ◌∷◌, ◌++◌, fold, refl, sym, ap, ◌∙◌, arith}
 use Rattle.std.proofs.lemmas.Bool.Decides.{nat_tests}
 use Rattle.std.proofs.lemmas.List.Elements.{All-head, All-tail}
 use Rattle.sk_model.specs.Entries.{Entry, items_of_entries}
-use Rattle.sk_model.specs.Width.{IsItem, AreItems}
+use Rattle.sk_model.specs.Width.{item_end, IsItem, AreItems}
 
 -- the greatest member, 0 where there is none
 abbrev pub greatest_of : List ℕ → ℕ
@@ -24,14 +24,14 @@ pub greatest_folds : (m : ℕ) (xs : List ℕ) → fold (λ most x. max most x) 
 greatest_folds m [] = omega arith
 greatest_folds m (x ∷ xs) = let e = greatest_folds (max m x) xs in omega arith
 
-pub greatest_fits : (xs : List ℕ) → AreItems xs → IsItem (greatest_of xs)
+pub greatest_fits : (xs : List ℕ) → AreItems xs → greatest_of xs < item_end
 greatest_fits [] fit = omega arith
 greatest_fits (x ∷ xs) fit =
     let first = All-head IsItem x xs fit in
     let rest = greatest_fits xs (All-tail IsItem x xs fit) in
     omega arith
 
-pub fold_fits : (m : ℕ) (xs : List ℕ) → IsItem m → AreItems xs → IsItem (fold (λ most x. max most x) m xs)
+pub fold_fits : (m : ℕ) (xs : List ℕ) → m < item_end → AreItems xs → fold (λ most x. max most x) m xs < item_end
 fold_fits m xs first fit = let e = greatest_folds m xs in let rest = greatest_fits xs fit in omega arith
 
 -- an item that is not above a part of a list may be left out behind it

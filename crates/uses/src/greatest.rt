@@ -1,7 +1,7 @@
 //! A sketch of one's own: the greatest item. It becomes concurrent by one impl.
-ghost use Rattle.std.specs.Prelude.{◌≡◌, ◌≤◌, ◌+◌, max, length, IfOk};
+ghost use Rattle.std.specs.Prelude.{◌≡◌, ◌<◌, ◌≤◌, ◌+◌, max, length, IfOk};
 ghost use Rattle.sk_model.specs.Limits.{most_kept};
-ghost use Rattle.sk_model.specs.Width.{IsItem, AreItems};
+ghost use Rattle.sk_model.specs.Width.{item_end, AreItems};
 ghost use Rattle.uses.specs.Greatest.{greatest_of};
 
 use crate::feeding::feed_all;
@@ -22,14 +22,14 @@ pub struct Greatest {
 }
 
 impl Model for Greatest {
-    ghost use Rattle.std.specs.Prelude.{ℕ};
-    ghost use Rattle.sk_model.specs.Width.{IsItem};
+    ghost use Rattle.std.specs.Prelude.{ℕ, ◌<◌};
+    ghost use Rattle.sk_model.specs.Width.{item_end};
 
     ghost Value = { ℕ };
 
     ghost view = { λ g. g.item };
 
-    ghost invariant = { λ g. IsItem g.item };
+    ghost invariant = { λ g. g.item < item_end };
 }
 
 impl Greatest {
@@ -99,12 +99,12 @@ impl Composable for Greatest {
     ghost idle_lists = { own.lists };
 }
 
-// The greatest of an item and of more.
+// The greatest of items, and of one before them or 0.
 fn greatest_from(first: u64, items: &[u64]) -> u64
-    requires first { IsItem first }
+    requires first { first < item_end }
     requires items { AreItems items.now }
     ensures greatest { result ≡ max first (greatest_of items.now) }
-    ensures item { IsItem result }
+    ensures limit { result < item_end }
 {
     items.iter().fold(first, |most, item| most.max(*item))
 }

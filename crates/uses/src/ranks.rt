@@ -11,23 +11,24 @@ use std::alloc::Global;
 use std::sync::Wait;
 use std::thread::Threads;
 
-/// Reads numbers, one a line, and writes how many there are, and how many of them lie below `x`, by
-/// so many updaters at once. However they run, that is off by at most the error which is told.
+/// Reads numbers, one a line, and writes how many there are, how many of their items are below `at`, and by how
+/// much that may be off, with this many updaters at once. The number n is item n + 1, so numbers below X are asked
+/// for by X + 1.
 pub fn rank_source<S: Source, O: Sink, R: Threads + Wait + Sync>(
     rt: &R,
     alloc: Global,
-    x: u64,
+    at: u64,
     updaters: u32,
     source: &mut S,
     out: &mut O,
 ) -> Result<(), Fault>
     requires updaters { IsFrom 1 most_updaters updaters }
-    ensures { OnOk result (TellsRank x 128 (S.left source.old) (S.left source.new) (O.written out.old) (O.written out.new)) }
+    ensures { OnOk result (TellsRank at 128 (S.left source.old) (S.left source.new) (O.written out.old) (O.written out.new)) }
 {
     let plan = Plan {
         k: 128,
         key: 0,
-        at: x,
+        at,
         size: 64,
         updaters,
         window: None,

@@ -30,7 +30,8 @@ fn sketch(alloc: Global, k: u32) -> Result<HeapTheta, OutOfMemory>
 
 // A hundred and fifty numbers, from this one on.
 fn numbers_from(alloc: Global, first: u64) -> Result<Vec<u64>, OutOfMemory>
-    requires { first ≤ 1000 }
+    requires least { 1 ≤ first }
+    requires most { first ≤ 1000 }
     ensures items { IfOk result (λ numbers. AreItems numbers.items) }
     ensures few { IfOk result (λ numbers. length numbers.items ≤ most_kept) }
 {
@@ -49,7 +50,7 @@ fn four_streams(alloc: Global) -> Result<Vec<Vec<u64>>, OutOfMemory>
 {
     let mut streams = Vec::new(alloc);
     'stream: for i in 0..4 {
-        streams.push(numbers_from(alloc, 100 * i)?)?;
+        streams.push(numbers_from(alloc, 100 * i + 1)?)?;
     }
     Ok(streams)
 }
@@ -62,11 +63,12 @@ fn four_threads_count_as_one(rt: HostRuntime) -> Result<(), Fail> {
     };
     let streams = four_streams(alloc)?;
     let counted = count_streams(&rt, alloc, &shape, sketch(alloc, 32)?, &streams, 16)?;
+    // The least 32 items are 1 to 32, so theta is k.
     let want = Reply {
         count: 32,
-        theta: 31,
+        theta: 32,
     };
-    expect(&rt, unpack(counted.last), want);
+    expect(&rt, unpack(counted.last, 32), want);
     expect(&rt, counted.meanwhile.len(), 16);
     Ok(())
 }
@@ -98,7 +100,7 @@ fn a_batch_goes_round(rt: HostRuntime) -> Result<(), Fail> {
     let answers = replay(rt.alloc(), &mut state, &events)?;
     let want = [
         Answer::Kept,
-        Answer::Hint(1 << 48),
+        Answer::Hint(1 << 63),
         Answer::Swapped,
         Answer::Handed(1),
         Answer::Waiting,
@@ -127,7 +129,8 @@ fn numbers_are_ranked_by_four_updaters(rt: HostRuntime) -> Result<(), Fail> {
     let text = b"5\n1\n4\n\n1\n3\n".to_vec(alloc)?;
     let mut input = MemSource::new(text, 3, Vec::new(alloc));
     let mut out = MemSink::new(alloc, 100, 7, Vec::new(alloc))?;
-    assert_eq!(rt; rank_source(&rt, alloc, 3, 4, &mut input, &mut out), Ok(()));
+    // Of the numbers below 3.
+    assert_eq!(rt; rank_source(&rt, alloc, 4, 4, &mut input, &mut out), Ok(()));
     assert_eq!(rt; out.written(), b"n 5 below 2 within 0\n".as_slice());
     Ok(())
 }

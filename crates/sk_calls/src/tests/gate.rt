@@ -1,12 +1,14 @@
 ghost use Rattle.std.specs.Prelude.{◌≡◌, ◌<◌, ◌≤◌, [], ◌∷◌, false, length, None, IfOk};
 ghost use Rattle.sk_machine.specs.Coarse.{blank_mine, IsBatch};
 ghost use Rattle.sk_model.specs.Limits.{most_size};
+ghost use Rattle.sk_model.specs.Width.{IsItem};
 ghost use Rattle.sk_gate.specs.Slots.{contents};
 ghost use Rattle.sk_machine.specs.declared.views.Post.TheVariants.{Root, Updater};
 ghost use Rattle.sk_gate.specs.Views.{size_of, mine_of, leads};
 ghost use Rattle.sk_gate.specs.Hands.{no_own};
 ghost use Rattle.sk_gate.specs.Starts.{blank_view, empty_handed};
 
+use super::expect;
 use sk_compose::{Buffer, Composable, Parcel};
 use sk_gate::*;
 use sk_theta::{ITEM_END, Reply, Theta, unpack};
@@ -32,7 +34,7 @@ fn parcel(alloc: Global) -> Result<Parcel<()>, OutOfMemory>
 }
 
 fn full_parcel(alloc: Global, item: u64) -> Result<Parcel<()>, OutOfMemory>
-    requires item { item < 281474976710656 }
+    requires item { IsItem item }
     ensures items { IfOk result (λ p. p.buffer.items ≡ item ∷ []) }
     ensures capacity { IfOk result (λ p. p.buffer.capacity ≡ 1) }
 {
@@ -131,17 +133,17 @@ fn a_batch_is_handed_over_and_published(rt: HostRuntime) -> Result<(), Fail> {
         count: 0,
         theta: ITEM_END,
     };
-    assert_eq!(rt; unpack(token.ask()), nothing);
+    expect(&rt, unpack(token.ask(), 2), nothing);
     let full = full_parcel(rt.alloc(), 5)?;
-    assert_eq!(rt; hand_over(&mut updater, full), 281_474_976_710_656);
-    assert_eq!(rt; unpack(updater.ask()), nothing);
-    assert_eq!(rt; serve_until_merged(&rt, &mut heart), 1);
+    expect(&rt, hand_over(&mut updater, full), ITEM_END);
+    expect(&rt, unpack(updater.ask(), 2), nothing);
+    expect(&rt, serve_until_merged(&rt, &mut heart), 1);
     let one = Reply {
         count: 1,
         theta: ITEM_END,
     };
-    assert_eq!(rt; unpack(token.ask()), one);
-    assert_eq!(rt; unpack(updater.ask()), one);
+    expect(&rt, unpack(token.ask(), 2), one);
+    expect(&rt, unpack(updater.ask(), 2), one);
     Ok(())
 }
 
@@ -187,11 +189,15 @@ fn a_round_goes_by_single_calls(rt: HostRuntime) -> Result<(), Fail> {
         token: _,
     } = one_updater(rt.alloc())?;
     let full = full_parcel(rt.alloc(), 5)?;
-    assert_eq!(rt; hand_over(&mut updater, full), 281_474_976_710_656);
+    expect(
+        &rt,
+        hand_over(&mut updater, full),
+        9_223_372_036_854_775_808,
+    );
     let published = publish_one(&rt, rt.alloc(), &mut heart)?;
     let items = vec![in rt.alloc(); 5u64]?;
     assert_eq!(rt; published, Some((0, items)));
-    assert_eq!(rt; unpack(heart.ask()).count, 1);
+    expect(&rt, unpack(heart.ask(), 2).count, 1);
     Ok(())
 }
 
@@ -208,8 +214,8 @@ fn a_batch_crosses_threads(rt: HostRuntime) -> Result<(), Fail> {
         || hand_over(&mut updater, full),
         || serve_until_merged(&rt, &mut heart),
     );
-    assert_eq!(rt; (word, count), (281_474_976_710_656, 1));
-    assert_eq!(rt; unpack(token.ask()).count, 1);
+    expect(&rt, (word, count), (ITEM_END, 1));
+    expect(&rt, unpack(token.ask(), 2).count, 1);
     Ok(())
 }
 
@@ -251,9 +257,9 @@ fn a_late_updater_hands_a_batch_over(rt: HostRuntime) -> Result<(), Fail> {
     } = make(alloc, 1, 0, Theta::new(alloc, 2)?, placeholders)?;
     let mut updater = updaters.remove(0);
     admit_and_hand(&mut updater, 1, parcel(alloc)?, full_parcel(alloc, 5)?);
-    assert_eq!(rt; unpack(token.ask()).count, 0);
-    assert_eq!(rt; serve(&rt, &mut heart), 1);
-    assert_eq!(rt; unpack(token.ask()).count, 1);
+    expect(&rt, unpack(token.ask(), 2).count, 0);
+    expect(&rt, serve(&rt, &mut heart), 1);
+    expect(&rt, unpack(token.ask(), 2).count, 1);
     Ok(())
 }
 
@@ -282,6 +288,6 @@ fn notes_meet(rt: HostRuntime) -> Result<(), Fail> {
     let mut second = token.split()?;
     let note = updater.split();
     second.join(note);
-    assert_eq!(rt; token.ask(), second.ask());
+    expect(&rt, token.ask(), second.ask());
     Ok(())
 }

@@ -9,12 +9,12 @@ mod beside;
 mod callers;
 mod refused;
 
+use super::expect;
 use crossbeam_utils::Backoff;
 use sk_compose::Composable;
 use sk_hub::*;
 use sk_theta::{ITEM_END, Shape, Theta, unpack};
 use std::alloc::Global;
-use std::fmt::Debug;
 use std::ops::Range;
 use std::process::Abort;
 use std::sync::Wait;
@@ -66,18 +66,13 @@ fn sketch(alloc: Global, k: u32) -> Result<Theta, OutOfMemory>
     Theta::new(alloc, k)
 }
 
-// An `assert_eq!` that costs the proof of a test one call.
-fn expect<R: Abort, T: PartialEq + Debug + Copy>(rt: &R, got: T, want: T) {
-    assert_eq!(rt; got, want);
-}
-
 // ---- calls, of which a test has to know the table only
 
 // Updates with an item, where few were kept.
 fn update<C: Composable, R: Abort>(rt: &R, updater: &mut Updater<C>, item: u64) -> Update
     ensures { updater.new.table ≡ updater.old.table }
 {
-    assert!(rt; item < ITEM_END && updater.taken() < 1_000);
+    assert!(rt; (1..ITEM_END).contains(&item) && updater.taken() < 1_000);
     updater.update(item)
 }
 
@@ -152,12 +147,12 @@ fn a_full_buffer_waits_for_the_one_before(rt: HostRuntime) -> Result<(), Fail> {
         (5, Update::Busy),
     ];
     give(&rt, &mut updater, &answers);
-    expect(&rt, unpack(updater.ask()).count, 0);
+    expect(&rt, unpack(updater.ask(), 8).count, 0);
     expect(&rt, settle(&mut updater), Settle::Busy);
     expect(&rt, heart.serve(&rt, 0), Serve::Served(2));
     give(&rt, &mut updater, &[(5, Update::Handed)]);
     drain(&rt, &mut heart, updater)?;
-    expect(&rt, unpack(heart.ask()).count, 5);
+    expect(&rt, unpack(heart.ask(), 8).count, 5);
     Ok(())
 }
 
@@ -175,9 +170,9 @@ fn a_token_meets_a_note(rt: HostRuntime) -> Result<(), Fail> {
     expect(&rt, flush(&mut updater), Flush::Handed);
     expect(&rt, heart.sweep(&rt), Sweep::Swept(1));
     let word = callers::meet_and_ask(&mut token, &mut updater);
-    expect(&rt, unpack(word).count, 1);
+    expect(&rt, unpack(word, 8).count, 1);
     let mut second = token.split()?;
-    expect(&rt, unpack(second.ask()).count, 1);
+    expect(&rt, unpack(second.ask(), 8).count, 1);
     Ok(())
 }
 
@@ -195,7 +190,7 @@ fn an_updater_comes_late(rt: HostRuntime) -> Result<(), Fail> {
     expect_full(&rt, rt.alloc(), &mut heart);
     drain(&rt, &mut heart, updater)?;
     drain(&rt, &mut heart, late)?;
-    expect(&rt, unpack(heart.ask()).count, 2);
+    expect(&rt, unpack(heart.ask(), 8).count, 2);
     Ok(())
 }
 
@@ -253,11 +248,11 @@ fn an_updater_is_admitted_while_another_runs(rt: HostRuntime) -> Result<(), Fail
     } = hub_of(rt.alloc(), 2, 4, sketch(rt.alloc(), 128)?)?;
     let (first, (mut heart, second)) = thread::join(
         &rt,
-        || update_all_helping(&rt, first, 0..30),
-        || admit_and_update(&rt, rt.alloc(), heart, 30..60),
+        || update_all_helping(&rt, first, 1..31),
+        || admit_and_update(&rt, rt.alloc(), heart, 31..61),
     );
     drain(&rt, &mut heart, first)?;
     drain(&rt, &mut heart, second)?;
-    expect(&rt, unpack(heart.ask()).count, 60);
+    expect(&rt, unpack(heart.ask(), 128).count, 60);
     Ok(())
 }

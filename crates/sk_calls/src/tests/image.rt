@@ -3,9 +3,12 @@ ghost use Rattle.std.specs.Prelude.{◌≡◌, ◌≤◌, ◌+◌, IfSome, lengt
 use sk_image::*;
 use sk_io::{MemSink, MemSource, Sink, Source, SureSource};
 use std::alloc::Global;
+use std::process::Abort;
 use std::test::Fail;
 
 const TWO: &str = "theta1 k=2 seed=0\n000000000003\n000000000005\nend 2\n";
+
+const WIDE: &str = "theta2 k=2 seed=0\n0000000000000004\n0000000000000006\nend 2\n";
 
 // The answer to a text that comes in pieces of seven bytes.
 fn read_text(alloc: Global, text: &str) -> Result<Result<Image, ReadStop>, Fail> {
@@ -19,34 +22,59 @@ fn read_below(alloc: Global, text: &str, most: u64) -> Result<Result<Image, Read
     Ok(read(alloc, &mut source, most))
 }
 
-#[test]
-fn first_lines_out_of_form_are_named(rt: HostRuntime) -> Result<(), Fail> {
-    let rows = [
-        "",
-        "end 0\n",
-        "theta1 k=1 seed=0\nend 0\n",
-        "theta1 k=32769 seed=0\nend 0\n",
-        "theta1 k=02 seed=0\nend 0\n",
-        "theta1 k=2 seed=00\nend 0\n",
-        "theta1 k=2 seed=4294967296\nend 0\n",
-        "theta1  k=2 seed=0\nend 0\n",
-        "theta1 k=2 seed=0 \nend 0\n",
-        "theta2 k=2 seed=0\nend 0\n",
-        "theta1 k=2 seed=0\r\nend 0\n",
-    ];
-    for text in rows {
-        let answer = read_text(rt.alloc(), text)?;
-        assert!(rt; answer == Err(ReadStop::BadImage(1)), "at {text:?}");
+// The image of a text that is one.
+fn image_of(alloc: Global, text: &str) -> Result<Image, Fail> {
+    Ok(read_text(alloc, text)?.ok().ok_or("no image")?)
+}
+
+// Texts of which the line with this number, from 1, is the first out of place. Each has these lines before it.
+fn expect_bad(
+    rt: &impl Abort,
+    alloc: Global,
+    before: &str,
+    rows: &[(&str, u64)],
+) -> Result<(), Fail> {
+    for (lines, number) in rows {
+        let text = format!(in alloc; "{before}{lines}")?;
+        let answer = read_text(alloc, &text)?;
+        assert!(rt; answer == Err(ReadStop::BadImage(*number)), "at {lines:?}");
     }
     Ok(())
 }
 
 #[test]
-fn lines_out_of_place_are_named(rt: HostRuntime) -> Result<(), Fail> {
+fn first_lines_out_of_form_are_named(rt: HostRuntime) -> Result<(), Fail> {
+    let rows = [
+        ("", 1),
+        ("end 0\n", 1),
+        ("theta1 k=1 seed=0\nend 0\n", 1),
+        ("theta2 k=1 seed=0\nend 0\n", 1),
+        ("theta1 k=32769 seed=0\nend 0\n", 1),
+        ("theta2 k=1048577 seed=0\nend 0\n", 1),
+        ("theta1 k=1048576 seed=0\nend 0\n", 1),
+        ("theta1 k=02 seed=0\nend 0\n", 1),
+        ("theta2 k=02 seed=0\nend 0\n", 1),
+        ("theta1 k=2 seed=00\nend 0\n", 1),
+        ("theta2 k=2 seed=4294967296\nend 0\n", 1),
+        ("theta1  k=2 seed=0\nend 0\n", 1),
+        ("theta2 k=2 seed=0 \nend 0\n", 1),
+        ("theta1 k=2 seed=0\r\nend 0\n", 1),
+        ("theta k=2 seed=0\nend 0\n", 1),
+        ("theta0 k=2 seed=0\nend 0\n", 1),
+        ("theta3 k=2 seed=0\nend 0\n", 1),
+        ("theta01 k=2 seed=0\nend 0\n", 1),
+        ("theta12 k=2 seed=0\nend 0\n", 1),
+    ];
+    expect_bad(&rt, rt.alloc(), "", &rows)
+}
+
+#[test]
+fn lines_of_version_1_out_of_place_are_named(rt: HostRuntime) -> Result<(), Fail> {
     let rows = [
         ("000000000003\n", 3),
         ("00000000000A\nend 1\n", 2),
         ("00000000003\nend 1\n", 2),
+        ("0000000000000003\nend 1\n", 2),
         ("000000000003\n000000000003\nend 2\n", 3),
         ("000000000005\n000000000003\nend 2\n", 3),
         ("000000000003\n000000000005\n000000000006\nend 3\n", 4),
@@ -57,11 +85,61 @@ fn lines_out_of_place_are_named(rt: HostRuntime) -> Result<(), Fail> {
         ("end 0\r\n", 2),
         ("end 00\n", 2),
     ];
-    let alloc = rt.alloc();
-    for (lines, number) in rows {
-        let text = format!(in alloc; "theta1 k=2 seed=0\n{lines}")?;
-        let answer = read_text(alloc, &text)?;
-        assert!(rt; answer == Err(ReadStop::BadImage(number)), "at {lines:?}");
+    expect_bad(&rt, rt.alloc(), "theta1 k=2 seed=0\n", &rows)
+}
+
+// A hash is from 1 to 7fffffffffffffff.
+#[test]
+fn lines_of_version_2_out_of_place_are_named(rt: HostRuntime) -> Result<(), Fail> {
+    let rows = [
+        ("0000000000000003\n", 3),
+        ("000000000000000A\nend 1\n", 2),
+        ("000000000000003\nend 1\n", 2),
+        ("000000000003\nend 1\n", 2),
+        ("0000000000000000\nend 1\n", 2),
+        ("8000000000000000\nend 1\n", 2),
+        ("ffffffffffffffff\nend 1\n", 2),
+        ("0000000000000003\n0000000000000003\nend 2\n", 3),
+        ("0000000000000005\n0000000000000003\nend 2\n", 3),
+        (
+            "0000000000000003\n0000000000000005\n0000000000000006\nend 3\n",
+            4,
+        ),
+        ("0000000000000003\n0000000000000005\nend 3\n", 4),
+        ("0000000000000003\n0000000000000005\nend 2", 4),
+        ("0000000000000003\n0000000000000005\nend 2\n\n", 5),
+        ("0000000000000003\n0000000000000005\nend 2\nx", 5),
+        ("end 0\r\n", 2),
+        ("end 00\n", 2),
+    ];
+    expect_bad(&rt, rt.alloc(), "theta2 k=2 seed=0\n", &rows)
+}
+
+// The estimate of each version has its own end of the hashes; with fewer than k of them it is their number.
+#[test]
+fn estimates_of_images(rt: HostRuntime) -> Result<(), Fail> {
+    let rows = [
+        ("theta1 k=32768 seed=4294967295\nend 0\n", (0, 1)),
+        ("theta1 k=2 seed=0\n000000000000\nend 1\n", (1, 1)),
+        (
+            "theta1 k=2 seed=0\n000000000000\n000000000001\nend 2\n",
+            (281_474_976_710_656, 1),
+        ),
+        (
+            "theta1 k=2 seed=0\n342fac623a5e\ncbd8a7b341bd\nend 2\n",
+            (281_474_976_710_656, 224_131_386_917_309),
+        ),
+        ("theta2 k=1048576 seed=4294967295\nend 0\n", (0, 1)),
+        ("theta2 k=2 seed=0\n0000000000000001\nend 1\n", (1, 1)),
+        (WIDE, (9_223_372_036_854_775_808, 6)),
+        (
+            "theta2 k=3 seed=0\n0000000000000001\n0000000000000002\n7fffffffffffffff\nend 3\n",
+            (18_446_744_073_709_551_616, 9_223_372_036_854_775_807),
+        ),
+    ];
+    for (text, fraction) in rows {
+        let image = image_of(rt.alloc(), text)?;
+        assert!(rt; image.fraction() == fraction, "at {text:?}");
     }
     Ok(())
 }
@@ -74,21 +152,44 @@ fn written(alloc: Global, image: &Image) -> Result<Vec<u8>, Fail> {
 }
 
 #[test]
-fn images_are_read_written_and_joined(rt: HostRuntime) -> Result<(), Fail> {
+fn an_image_has_what_its_text_says(rt: HostRuntime) -> Result<(), Fail> {
+    let old = image_of(rt.alloc(), TWO)?;
+    assert_eq!(rt; (old.version, old.k, old.seed), (1, 2, 0));
+    assert_eq!(rt; old.hashes.as_slice(), [3, 5].as_slice());
+    let wide = image_of(rt.alloc(), WIDE)?;
+    assert_eq!(rt; (wide.version, wide.k, wide.seed), (2, 2, 0));
+    assert_eq!(rt; wide.hashes.as_slice(), [4, 6].as_slice());
+    Ok(())
+}
+
+// Each pair of images, and the image of both.
+#[test]
+fn images_are_joined_and_written(rt: HostRuntime) -> Result<(), Fail> {
     let alloc = rt.alloc();
-    let one = "theta1 k=2 seed=0\n000000000004\nend 1\n";
-    let both = "theta1 k=2 seed=0\n000000000003\n000000000004\nend 2\n";
-    match (read_text(alloc, TWO)?, read_text(alloc, one)?) {
-        (Ok(a), Ok(b)) => {
-            assert_eq!(rt; (a.k, a.seed), (2, 0));
-            assert_eq!(rt; a.hashes.as_slice(), [3, 5].as_slice());
-            assert_eq!(rt; written(alloc, &a)?.as_slice(), TWO.as_bytes());
-            match join(alloc, &a, &b) {
-                Ok(image) => assert_eq!(rt; written(alloc, &image)?.as_slice(), both.as_bytes()),
-                Err(stop) => assert!(rt; false, "{stop:?}"),
-            }
+    let rows = [
+        (
+            TWO,
+            "theta1 k=2 seed=0\n000000000004\nend 1\n",
+            "theta1 k=2 seed=0\n000000000003\n000000000004\nend 2\n",
+        ),
+        (
+            "theta1 k=2 seed=0\n000000000000\nend 1\n",
+            TWO,
+            "theta1 k=2 seed=0\n000000000000\n000000000003\nend 2\n",
+        ),
+        (TWO, TWO, TWO),
+        (
+            WIDE,
+            "theta2 k=2 seed=0\n0000000000000005\nend 1\n",
+            "theta2 k=2 seed=0\n0000000000000004\n0000000000000005\nend 2\n",
+        ),
+        ("theta2 k=2 seed=0\nend 0\n", WIDE, WIDE),
+    ];
+    for (left, right, both) in rows {
+        match join(alloc, &image_of(alloc, left)?, &image_of(alloc, right)?) {
+            Ok(image) => assert_eq!(rt; written(alloc, &image)?.as_slice(), both.as_bytes()),
+            Err(stop) => assert!(rt; false, "{stop:?} at {left:?} and {right:?}"),
         }
-        _ => assert!(rt; false, "an image was not read"),
     }
     Ok(())
 }
@@ -96,11 +197,21 @@ fn images_are_read_written_and_joined(rt: HostRuntime) -> Result<(), Fail> {
 #[test]
 fn images_of_other_sketches_are_mixed(rt: HostRuntime) -> Result<(), Fail> {
     let alloc = rt.alloc();
-    for text in ["theta1 k=3 seed=0\nend 0\n", "theta1 k=2 seed=1\nend 0\n"] {
-        match (read_text(alloc, TWO)?, read_text(alloc, text)?) {
-            (Ok(a), Ok(b)) => assert!(rt; join(alloc, &a, &b) == Err(JoinStop::Mixed)),
-            _ => assert!(rt; false, "an image was not read"),
-        }
+    let image = image_of(alloc, TWO)?;
+    for text in [
+        "theta1 k=3 seed=0\nend 0\n",
+        "theta1 k=2 seed=1\nend 0\n",
+        "theta2 k=2 seed=0\nend 0\n",
+    ] {
+        let other = image_of(alloc, text)?;
+        assert!(rt;
+            join(alloc, &image, &other) == Err(JoinStop::Mixed),
+            "at {text:?}"
+        );
+        assert!(rt;
+            join(alloc, &other, &image) == Err(JoinStop::Mixed),
+            "at {text:?}"
+        );
     }
     Ok(())
 }
@@ -131,13 +242,9 @@ fn faults_and_limits(rt: HostRuntime) -> Result<(), Fail> {
     let mut source = MemSource::new(TWO.as_bytes().to_vec(alloc)?, 7, [2].to_vec(alloc)?);
     assert!(rt; read_fails(alloc, &mut source, 100));
     assert!(rt; !read_fails(alloc, &mut source, 100));
-    match read_text(alloc, TWO)? {
-        Ok(image) => {
-            let mut out = MemSink::new(alloc, 20, 9, Vec::new(alloc))?;
-            assert!(rt; write_fails(alloc, &mut out, &image));
-            assert_eq!(rt; out.written(), &TWO.as_bytes()[..20]);
-        }
-        Err(stop) => assert!(rt; false, "{stop:?}"),
-    }
+    let image = image_of(alloc, TWO)?;
+    let mut out = MemSink::new(alloc, 20, 9, Vec::new(alloc))?;
+    assert!(rt; write_fails(alloc, &mut out, &image));
+    assert_eq!(rt; out.written(), &TWO.as_bytes()[..20]);
     Ok(())
 }

@@ -27,7 +27,7 @@ fn a_window_of_two_lines_gives_them_back(rt: HostRuntime) -> Result<(), Fail> {
     assert!(rt; window.is_full());
     assert_eq!(rt; window.line(0), b"hello".as_slice());
     assert_eq!(rt; window.item(0, Kind::Raw), None);
-    assert_eq!(rt; window.item(1, Kind::Raw), Some(5));
+    assert_eq!(rt; window.item(1, Kind::Raw), Some(6));
     window.clear();
     assert!(rt; window.is_empty());
     Ok(())
@@ -88,9 +88,9 @@ fn a_block_without_help_ends_at_a_busy_line(rt: HostRuntime) -> Result<(), Fail>
     let mut hub = hub_of(rt.alloc(), false, sketch(rt.alloc(), 8)?)?;
     let mut updater = hub.updaters.remove(0);
     assert_eq!(rt; feed(&rt, &mut updater, &window, 0, false)?, 4);
-    assert_eq!(rt; unpack(hub.token.ask()).count, 0);
+    assert_eq!(rt; unpack(hub.token.ask(), 8).count, 0);
     assert_eq!(rt; feed(&rt, &mut updater, &window, 4, true)?, 5);
-    assert_eq!(rt; unpack(hub.token.ask()).count, 2);
+    assert_eq!(rt; unpack(hub.token.ask(), 8).count, 2);
     Ok(())
 }
 
@@ -100,6 +100,6 @@ fn an_eager_updater_publishes_each_item(rt: HostRuntime) -> Result<(), Fail> {
     let mut hub = hub_of(rt.alloc(), true, sketch(rt.alloc(), 8)?)?;
     let mut updater = hub.updaters.remove(0);
     assert_eq!(rt; feed(&rt, &mut updater, &window, 0, true)?, 5);
-    assert_eq!(rt; unpack(hub.token.ask()).count, 5);
+    assert_eq!(rt; unpack(hub.token.ask(), 8).count, 5);
     Ok(())
 }

@@ -16,7 +16,7 @@ use std::test::Fail;
 use std::thread;
 use std::thread::Threads;
 
-// A ranking below 3 by coins of key 0, and what is to come of it.
+// A ranking of the numbers below 3, which are the items below 4, by coins of key 0, and what is to come of it.
 #[derive(Clone, Copy)]
 struct Row<'a> {
     k: u32,
@@ -45,7 +45,7 @@ fn plan_of(row: Row<'_>) -> Option<Plan>
     Some(Plan {
         k: row.k,
         key: 0,
-        at: 3,
+        at: 4,
         size: row.size,
         updaters: row.updaters,
         window: if row.window == 0 {
@@ -166,7 +166,7 @@ fn keep<W: Wait + Drop, R: Abort + Wait>(
     item: u64,
 ) {
     'offer: for _ in rt.forever() {
-        assert!(rt; item < ITEM_END && updater.taken() < 10_000);
+        assert!(rt; (1..ITEM_END).contains(&item) && updater.taken() < 10_000);
         if updater.update(item) != Update::Busy {
             return;
         }

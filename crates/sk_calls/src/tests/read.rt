@@ -5,7 +5,7 @@ ghost use Rattle.sk_model.specs.Missing.{Begins};
 ghost use Rattle.sk_read.specs.Units.{units_of};
 ghost use Rattle.sk_read.specs.declared.fault.Fault.TheVariants as fault;
 
-use sk_hash::hash48;
+use sk_hash::hash63;
 use sk_io::{MemSource, Source};
 use sk_model::limits::SOURCE_LIMIT;
 use sk_read::{Fault, Intake, Kind, Taker, UnitTaker, Units, read_items, read_units};
@@ -63,7 +63,7 @@ fn expect(
 fn hashes_of(alloc: Global, fields: &[&[u8]]) -> Result<Vec<u64>, Fail> {
     let mut hashes = Vec::new(alloc);
     for field in fields {
-        hashes.push(hash48(9, field))?;
+        hashes.push(hash63(9, field))?;
     }
     Ok(hashes)
 }
@@ -119,22 +119,28 @@ fn fields_of_units(rt: HostRuntime) -> Result<(), Fail> {
     Ok(())
 }
 
-// The first unit that is refused, and the items before it.
+// The first unit that is refused, and the items before it: the number n is item n + 1.
 #[test]
 fn refused_units(rt: HostRuntime) -> Result<(), Fail> {
     let alloc = rt.alloc();
-    let cases: [(&[u8], u32, Fault, &[u64]); 11] = [
-        (b"1,2\n3\n", 1, Fault::BadCsv(2), &[1]),
-        (b"1,2\n3,4,5\n6,7\n", 2, Fault::BadCsv(2), &[2]),
+    let cases: [(&[u8], u32, Fault, &[u64]); 12] = [
+        (b"1,2\n3\n", 1, Fault::BadCsv(2), &[2]),
+        (b"1,2\n3,4,5\n6,7\n", 2, Fault::BadCsv(2), &[3]),
         (b"1,2\n3,4\n", 3, Fault::BadCsv(1), &[]),
-        (b"\n1\n\n2,3", 1, Fault::BadCsv(2), &[1]),
-        (b"5,x\n6,y\nz,7\n", 1, Fault::BadItem(3), &[5, 6]),
-        (b"a,5\nb,x\n", 2, Fault::BadItem(2), &[5]),
-        (b"\n1\n\nx\n", 1, Fault::BadItem(2), &[1]),
-        (b"1,2\nx\n", 1, Fault::BadCsv(2), &[1]),
+        (b"\n1\n\n2,3", 1, Fault::BadCsv(2), &[2]),
+        (b"5,x\n6,y\nz,7\n", 1, Fault::BadItem(3), &[6, 7]),
+        (b"a,5\nb,x\n", 2, Fault::BadItem(2), &[6]),
+        (b"\n1\n\nx\n", 1, Fault::BadItem(2), &[2]),
+        (b"1,2\nx\n", 1, Fault::BadCsv(2), &[2]),
         (b"x,1\n2\n", 1, Fault::BadItem(1), &[]),
-        (b"1,2\n\"\"\n", 1, Fault::BadCsv(2), &[1]),
-        (b"1\nx\n2\n", 0, Fault::BadItem(2), &[1]),
+        (b"1,2\n\"\"\n", 1, Fault::BadCsv(2), &[2]),
+        (b"1\nx\n2\n", 0, Fault::BadItem(2), &[2]),
+        (
+            b"9223372036854775806\n0\n9223372036854775807\n",
+            0,
+            Fault::BadItem(3),
+            &[9_223_372_036_854_775_807, 1],
+        ),
     ];
     for (text, column, fault, items) in cases {
         for piece in [1, 2, 3, 7, 1000] {
@@ -187,12 +193,12 @@ fn faults_of_the_source(rt: HostRuntime) -> Result<(), Fail> {
     let cases: [(&[u8], u32, u64, &[u64], Result<u64, Fault>, &[u64]); 8] = [
         (two, 1, 9, &[0], Err(Fault::ReadFault), &[]),
         (two, 1, 9, &[1], Err(Fault::ReadFault), &[]),
-        (two, 1, 9, &[4], Err(Fault::ReadFault), &[1]),
-        (two, 1, 9, &[8], Err(Fault::ReadFault), &[1, 3]),
-        (two, 1, 8, &[], Err(Fault::TooMuch), &[1, 3]),
-        (two, 1, 9, &[], Ok(2), &[1, 3]),
-        (refused, 0, 9, &[4], Err(Fault::BadItem(2)), &[1]),
-        (refused, 1, 9, &[4], Err(Fault::BadItem(2)), &[1]),
+        (two, 1, 9, &[4], Err(Fault::ReadFault), &[2]),
+        (two, 1, 9, &[8], Err(Fault::ReadFault), &[2, 4]),
+        (two, 1, 8, &[], Err(Fault::TooMuch), &[2, 4]),
+        (two, 1, 9, &[], Ok(2), &[2, 4]),
+        (refused, 0, 9, &[4], Err(Fault::BadItem(2)), &[2]),
+        (refused, 1, 9, &[4], Err(Fault::BadItem(2)), &[2]),
     ];
     for (text, column, most, failing, want, items) in cases {
         let got = read(

@@ -54,82 +54,91 @@ fn replay(alloc: Global, first: &str, lines: &[&str]) -> Result<String, Fail> {
     Ok(String::from_utf8(text).unwrap_or(String::new(alloc)))
 }
 
+// Of each schedule its first line, its events, and the answers to them.
 #[test]
-fn a_batch_that_is_handed_over_waits(rt: HostRuntime) -> Result<(), Fail> {
-    let lines = [
-        "offer 0 5",
-        "look 0",
-        "swap 0",
-        "hand 0",
-        "offer 0 7",
-        "look 0",
-        "ask 0",
+fn schedules_are_answered(rt: HostRuntime) -> Result<(), Fail> {
+    let rows: [(&str, &[&str], &str); 7] = [
+        // A batch that is handed over waits.
+        (
+            "machine 2 1 1",
+            &[
+                "offer 0 5",
+                "look 0",
+                "swap 0",
+                "hand 0",
+                "offer 0 7",
+                "look 0",
+                "ask 0",
+            ],
+            "kept;hint 9223372036854775808;swapped;handed 1;kept;busy;estimate 0/1;",
+        ),
+        // A batch that is returned lowers the hint.
+        (
+            "machine 2 2 1",
+            &[
+                "offer 0 3",
+                "offer 0 5",
+                "look 0",
+                "swap 0",
+                "hand 0",
+                "find 0",
+                "take 0",
+                "publish 0",
+                "ask 0",
+                "look 0",
+                "put 0",
+                "return 0",
+                "look 0",
+                "offer 0 5",
+                "offer 0 4",
+            ],
+            "kept;kept;hint 9223372036854775808;swapped;handed 2;waiting;took 2;published 2;\
+            estimate 9223372036854775808/5;busy;put;returned 5;hint 5;filtered;kept;",
+        ),
+        // With the least two items theta is k.
+        (
+            "machine 2 2 1",
+            &[
+                "offer 0 1",
+                "offer 0 2",
+                "look 0",
+                "swap 0",
+                "hand 0",
+                "find 0",
+                "take 0",
+                "publish 0",
+                "ask 0",
+                "put 0",
+                "return 0",
+            ],
+            "kept;kept;hint 9223372036854775808;swapped;handed 2;waiting;took 2;published 2;\
+            estimate 9223372036854775808/2;put;returned 2;",
+        ),
+        // A hand needs a swap.
+        ("machine 2 1 1", &["offer 0 5", "hand 0"], "kept;bad"),
+        // The turn goes round.
+        (
+            "machine 2 1 1",
+            &["yield 1", "turn 0", "turn 1", "find 0", "yield 0", "find 0"],
+            "yielded;turned;elsewhere 0;nothing;yielded;bad",
+        ),
+        // An updater comes late.
+        (
+            "vacant 2 2",
+            &["admit 1 1", "offer 1 5", "offer 0 5"],
+            "admitted;kept;bad",
+        ),
+        // Tokens learn from each other.
+        (
+            "machine 2 1 1",
+            &["split 0", "note 0", "join 0 2", "ask 1", "ask 2"],
+            "token 1;token 2;joined;estimate 0/1;bad",
+        ),
     ];
-    let said = replay(rt.alloc(), "machine 2 1 1", &lines)?;
-    assert_eq!(rt;
-        said.as_str(),
-        "kept;hint 281474976710656;swapped;handed 1;kept;busy;estimate 0/1;"
-    );
-    Ok(())
-}
-
-#[test]
-fn a_batch_that_is_returned_lowers_the_hint(rt: HostRuntime) -> Result<(), Fail> {
-    let lines = [
-        "offer 0 3",
-        "offer 0 5",
-        "look 0",
-        "swap 0",
-        "hand 0",
-        "find 0",
-        "take 0",
-        "publish 0",
-        "ask 0",
-        "look 0",
-        "put 0",
-        "return 0",
-        "look 0",
-        "offer 0 5",
-        "offer 0 4",
-    ];
-    let said = replay(rt.alloc(), "machine 2 2 1", &lines)?;
-    let want = "kept;kept;hint 281474976710656;swapped;handed 2;waiting;took 2;published 2;\
-        estimate 281474976710656/5;busy;put;returned 5;hint 5;filtered;kept;";
-    assert_eq!(rt; said.as_str(), want);
-    Ok(())
-}
-
-#[test]
-fn a_hand_needs_a_swap(rt: HostRuntime) -> Result<(), Fail> {
-    let said = replay(rt.alloc(), "machine 2 1 1", &["offer 0 5", "hand 0"])?;
-    assert_eq!(rt; said.as_str(), "kept;bad");
-    Ok(())
-}
-
-#[test]
-fn the_turn_goes_round(rt: HostRuntime) -> Result<(), Fail> {
-    let lines = ["yield 1", "turn 0", "turn 1", "find 0", "yield 0", "find 0"];
-    let said = replay(rt.alloc(), "machine 2 1 1", &lines)?;
-    assert_eq!(rt;
-        said.as_str(),
-        "yielded;turned;elsewhere 0;nothing;yielded;bad"
-    );
-    Ok(())
-}
-
-#[test]
-fn an_updater_comes_late(rt: HostRuntime) -> Result<(), Fail> {
-    let lines = ["admit 1 1", "offer 1 5", "offer 0 5"];
-    let said = replay(rt.alloc(), "vacant 2 2", &lines)?;
-    assert_eq!(rt; said.as_str(), "admitted;kept;bad");
-    Ok(())
-}
-
-#[test]
-fn tokens_learn_from_each_other(rt: HostRuntime) -> Result<(), Fail> {
-    let lines = ["split 0", "note 0", "join 0 2", "ask 1", "ask 2"];
-    let said = replay(rt.alloc(), "machine 2 1 1", &lines)?;
-    assert_eq!(rt; said.as_str(), "token 1;token 2;joined;estimate 0/1;bad");
+    for (first, lines, want) in rows {
+        let said = replay(rt.alloc(), first, lines)?;
+        assert_eq!(rt; said.as_str(), want, "{first}");
+    }
     Ok(())
 }
 
@@ -162,8 +171,11 @@ fn events_out_of_their_place_are_not_enabled(rt: HostRuntime) -> Result<(), Fail
         "ask 0 0",
         "ASK 0",
         "look -1",
-        "look 281474976710656",
+        "look 9223372036854775808",
         "offer 0",
+        "offer 0 0",
+        "offer 0 9223372036854775808",
+        "offer 0 00000000000000000001",
         "offer 0 1 2",
     ];
     for line in lines {
@@ -174,23 +186,50 @@ fn events_out_of_their_place_are_not_enabled(rt: HostRuntime) -> Result<(), Fail
 }
 
 #[test]
+fn offers_at_the_ends_of_the_items(rt: HostRuntime) -> Result<(), Fail> {
+    let mut state = State::new(rt.alloc(), 2, 2, 1)?;
+    for (item, answer) in [
+        (0, Err(NotEnabled)),
+        (1, Ok(Answer::Kept)),
+        ((1 << 63) - 1, Ok(Answer::Kept)),
+        (2, Err(NotEnabled)),
+        (1 << 63, Ok(Answer::Filtered)),
+    ] {
+        assert!(rt; state.step(&Event::Offer(0, item)) == answer, "{item}");
+    }
+    Ok(())
+}
+
+#[test]
 fn a_first_line_has_its_limits(rt: HostRuntime) {
-    assert!(rt; read_machine(b"machine 2 1 1") == Some((2, 1, 1)));
-    assert!(rt; read_machine(b"machine 32768 4096 64") == Some((32_768, 4_096, 64)));
-    assert!(rt; read_vacant(b"vacant 2 2") == Some((2, 2)));
-    assert!(rt; read_vacant(b"vacant 32768 64") == Some((32_768, 64)));
+    for (line, numbers) in [
+        ("machine 2 1 1", (2, 1, 1)),
+        ("machine 1048576 4096 64", (1_048_576, 4_096, 64)),
+        ("machine 0000000000000000002 1 1", (2, 1, 1)),
+    ] {
+        assert!(rt; read_machine(line.as_bytes()) == Some(numbers), "{line}");
+    }
+    for (line, numbers) in [
+        ("vacant 2 2", (2, 2)),
+        ("vacant 1048576 64", (1_048_576, 64)),
+    ] {
+        assert!(rt; read_vacant(line.as_bytes()) == Some(numbers), "{line}");
+    }
     for line in [
         "machine 1 1 1",
+        "machine 1048577 1 1",
         "machine 2 0 1",
         "machine 2 1 65",
         "machine 2 1",
         "machine 2 1 1 ",
+        "machine 00000000000000000002 1 1",
         "vacant 2 1",
     ] {
         assert!(rt; read_machine(line.as_bytes()).is_none());
     }
     for line in [
         "vacant 1 1",
+        "vacant 1048577 1",
         "vacant 2 65",
         "vacant 2",
         "vacant 2 1 1",

@@ -5,13 +5,13 @@ ghost use Rattle.sk_model.specs.Limits.{most_size, source_limit};
 
 mod at_once;
 
+use super::expect;
 use sk_heap::HeapTheta;
 use sk_hub::{Heart, Opened, OutOfMemory, Updater, open_sized};
 use sk_io::MemLink;
 use sk_line::*;
 use sk_theta::Shape;
 use std::alloc::Global;
-use std::fmt::Debug;
 use std::process::Abort;
 use std::sync::Wait;
 use std::test::Fail;
@@ -38,11 +38,6 @@ fn hub(alloc: Global, shape: &Shape) -> Result<(Heart<HeapTheta>, Updater<HeapTh
     } = open_sized(alloc, shape, &[shape.b()], global)?;
     let updater = updaters.remove(0);
     Ok((heart, updater))
-}
-
-// An `assert_eq!` that costs the proof of a test one call.
-fn expect<R: Abort, T: PartialEq + Debug + Copy>(rt: &R, got: T, want: T) {
-    assert_eq!(rt; got, want);
 }
 
 // What goes over a link.

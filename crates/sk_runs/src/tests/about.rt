@@ -6,9 +6,9 @@ use std::test::Fail;
 const TOLD: &str = "\
 [--k K] [--raw] [--seed S] [--csv C] [--file NAME] [--updaters N] [--b B,..]
 [--window W] [--alarm M,..] [--eager yes|no] [--propagator yes|no]
---k K        how many hashes are kept, 2 to 32768 (4096)
+--k K        how many hashes are kept, 2 to 1048576 (4096)
 --csv C      counts column C, 1 to 4096, of comma-separated values
---raw        each line spells its item, a number from 0 to 281474976710655
+--raw        each line is a number from 0 to 9223372036854775806
 --seed S     the seed of the hash, 0 to 4294967295 (0)
 --file NAME  reads this file in place of the standard input
 --updaters N how many updaters share the lines, 1 to 64 (1)
@@ -18,6 +18,7 @@ const TOLD: &str = "\
 each, at most 8
 --eager      hands over item by item while there are few (yes)
 --propagator lets one thread take over what updaters hand over (yes)
+writes the hash of each line that is not empty, 16 digits in base 16
 A line has at most 65536 bytes. An option stands at most once.";
 
 #[test]
@@ -26,7 +27,7 @@ fn help_tells_of_each_option(rt: HostRuntime) -> Result<(), Fail> {
     let ran = run_alone(&rt, alloc, &FINE, "--help", Vec::new(alloc))?;
     let help = String::from_utf8(ran.out.written().to_vec(alloc)?)?;
     expect(&rt, &ran, "--help", 0, help.as_bytes(), b"");
-    assert_eq!(rt; TOLD.lines().count(), 15);
+    assert_eq!(rt; TOLD.lines().count(), 16);
     'told: for told in TOLD.lines() {
         assert!(rt; help.contains(told), "{told}");
     }

@@ -8,7 +8,7 @@ const COLUMNS: &str = "\
 | count --csv 2 --k 4 | a,hello;b,\"hello, world\";c,hello; | 0 | estimate 2/1; |
 | count --csv 1 | a,hello;b,\"hello, world\";c,hello; | 0 | estimate 3/1; |
 | count --csv 3 | | 0 | estimate 0/1; |
-| count --raw --csv 2 --k 2 | a,5;b,;c,3; | 0 | estimate 281474976710656/5; |
+| count --raw --csv 2 --k 2 | a,5;b,;c,3; | 0 | estimate 9223372036854775808/6; |
 | count --csv 0001 --seed 3 | a^;^;\"a\"^; | 0 | estimate 1/1; |
 | count --csv 1 | a,x;a,y; | 0 | estimate 1/1; |
 | count --csv 3 | a,hello;b,\"hello, world\";c,hello; | 12 | | record 1: bad csv;

@@ -7,21 +7,21 @@ use std::test::Fail;
 // The faults of a file are its own. The input, whose first read fails, is not met beside it. A name
 // is a whole word, blanks and all.
 const FILES: &str = "\
-read=0 | count --file quick --k 2 | | 0 | estimate 281474976710656/224131386917309; |
-read=0 | count --raw --k 2 --file ids | | 0 | estimate 281474976710656/5; |
-read=0 | count --file ids --seed 7 --raw --k 2 | | 0 | estimate 281474976710656/5; |
+read=0 | count --file quick --k 2 | | 0 | estimate 9223372036854775808/7344337286506401153; |
+read=0 | count --raw --k 2 --file ids | | 0 | estimate 9223372036854775808/6; |
+read=0 | count --file ids --seed 7 --raw --k 2 | | 0 | estimate 9223372036854775808/6; |
 read=0 | count --seed 7 --file quick | | 0 | estimate 3/1; |
 read=0 | count --file --raw | | 0 | estimate 1/1; |
 read=0 | count --file _a__name_ | x;y; | 0 | estimate 2/1; |
 read=0 | replay --file plan | | 0 | token 1; |
 read=0 | count --csv 2 --file table | | 0 | estimate 1/1; |
-read=0 | hash --file quick | | 0 | cbd8a7b341bd;342fac623a5e;cd99481f9ee9; |
+read=0 | hash --file quick | | 0 | 65ec53d9a0decd81;1a17d6311d2f5e47;66cca40fcf748164; |
 read=0 | count --file none | | 8 | | open fault;
 read=0 | hash --file - | | 8 | | open fault;
 read=0 | replay --file pla | | 8 | | open fault;
 read=0 open=0 | count --file quick | | 8 | | open fault;
 read=0 file=0 | hash --file quick | | 3 | | read fault;
-read=0 file=1 | hash --file quick | | 3 | cbd8a7b341bd;342fac623a5e;cd99481f9ee9; | read fault;";
+read=0 file=1 | hash --file quick | | 3 | 65ec53d9a0decd81;1a17d6311d2f5e47;66cca40fcf748164; | read fault;";
 
 #[test]
 fn files(rt: HostRuntime) -> Result<(), Fail> {

@@ -4,12 +4,18 @@ use std::test::Fail;
 
 // Nothing is written before the text has ended.
 const IMAGES: &str = "\
-| image --raw --k 2 | 5;3; | 0 | theta1 k=2 seed=0;000000000003;000000000005;end 2; |
-| image --k 2 --raw --seed 7 | 5;3;;5;4; | 0 | theta1 k=2 seed=7;000000000003;000000000004;end 2; |
-| image --k 2 | hello;hello, world; | 0 | theta1 k=2 seed=0;342fac623a5e;cbd8a7b341bd;end 2; |
-| image | | 0 | theta1 k=4096 seed=0;end 0; |
-| image --raw --csv 2 --k 3 | a,5;b,3;c,5; | 0 | theta1 k=3 seed=0;000000000003;000000000005;end 2; |
-read=0 | image --raw --file ids --k 2 | | 0 | theta1 k=2 seed=0;000000000003;000000000005;end 2; |
+| image --raw --k 2 | 5;3; | 0 | theta2 k=2 seed=0;0000000000000004;0000000000000006;end 2; |
+| image --k 2 --raw --seed 7 | 5;3;;5;4; | 0 \
+| theta2 k=2 seed=7;0000000000000004;0000000000000005;end 2; |
+| image --k 2 | hello;hello, world; | 0 \
+| theta2 k=2 seed=0;1a17d6311d2f5e47;65ec53d9a0decd81;end 2; |
+| image --raw --k 1048576 | 9223372036854775806;0; | 0 \
+| theta2 k=1048576 seed=0;0000000000000001;7fffffffffffffff;end 2; |
+| image | | 0 | theta2 k=4096 seed=0;end 0; |
+| image --raw --csv 2 --k 3 | a,5;b,3;c,5; | 0 \
+| theta2 k=3 seed=0;0000000000000004;0000000000000006;end 2; |
+read=0 | image --raw --file ids --k 2 | | 0 \
+| theta2 k=2 seed=0;0000000000000004;0000000000000006;end 2; |
 | image --raw | 5;x; | 6 | | line 2: not a number;
 | image --raw --csv 2 | 1,5;2,x; | 6 | | record 2: not a number;
 | image --csv 3 | 1,5; | 12 | | record 1: bad csv;
@@ -20,7 +26,7 @@ room=5 | image --raw --k 2 | 5;3; | 4 | theta | write fault;";
 
 #[test]
 fn images(rt: HostRuntime) -> Result<(), Fail> {
-    check_rows(&rt, rt.alloc(), IMAGES, 13)
+    check_rows(&rt, rt.alloc(), IMAGES, 14)
 }
 
 // The left file is read whole, and found to be an image, before the right one is opened.
@@ -29,9 +35,9 @@ read=0 | join --left one --right two | | 0 | estimate 281474976710656/4; |
 read=0 | join --right one --left two | | 0 | estimate 281474976710656/4; |
 read=0 | join --left two --right two | | 0 | estimate 1/1; |
 read=0 | join --left one --image --right two | | 0 | theta1 k=2 seed=0;000000000003;000000000004;end 2; |
-read=0 | join --left one --right three | | 11 | | mixed: k=2 seed=0 and k=3 seed=0;
-read=0 | join --left three --right one | | 11 | | mixed: k=3 seed=0 and k=2 seed=0;
-read=0 | join --left one --right seven | | 11 | | mixed: k=2 seed=0 and k=2 seed=7;
+read=0 | join --left one --right three | | 11 | | mixed: theta1 k=2 seed=0 and theta1 k=3 seed=0;
+read=0 | join --left three --right one | | 11 | | mixed: theta1 k=3 seed=0 and theta1 k=2 seed=0;
+read=0 | join --left one --right seven | | 11 | | mixed: theta1 k=2 seed=0 and theta1 k=2 seed=7;
 read=0 | join --left short --right two | | 9 | | file 1 line 3: bad image;
 read=0 | join --left short --right none | | 9 | | file 1 line 3: bad image;
 read=0 | join --left short --right three | | 9 | | file 1 line 3: bad image;
@@ -46,6 +52,35 @@ read=0 | join --left one --right text | | 9 | | file 2 line 1: bad image;";
 #[test]
 fn joins(rt: HostRuntime) -> Result<(), Fail> {
     check_rows(&rt, rt.alloc(), JOINS, 17)
+}
+
+// Each version has limits of its own for k and for hashes, of which 0 is one in version 1 alone.
+const VERSIONS: &str = "\
+| join --left four --right five | | 0 | estimate 9223372036854775808/5; |
+| join --left five --right four --image | | 0 \
+| theta2 k=2 seed=0;0000000000000004;0000000000000005;end 2; |
+| join --left five --right five | | 0 | estimate 1/1; |
+| join --left two --right four | | 11 | | mixed: theta1 k=2 seed=0 and theta2 k=2 seed=0;
+| join --left four --right two --image | | 11 | | mixed: theta2 k=2 seed=0 and theta1 k=2 seed=0;
+| join --left zero --right one | | 0 | estimate 281474976710656/3; |
+| join --left two --right zero --image | | 0 \
+| theta1 k=2 seed=0;000000000000;000000000004;end 2; |
+| join --left old --right old | | 0 | estimate 2/1; |
+| join --left old --right old --image | | 0 \
+| theta1 k=32768 seed=4294967295;000000000000;ffffffffffff;end 2; |
+| join --left wide --right wide | | 0 | estimate 2/1; |
+| join --left wide --right wide --image | | 0 \
+| theta2 k=1048576 seed=4294967295;0000000000000001;7fffffffffffffff;end 2; |
+| join --left old --right wide | | 11 | \
+| mixed: theta1 k=32768 seed=4294967295 and theta2 k=1048576 seed=4294967295;
+| join --left five --right text | theta2 k=2 seed=0;0000000000000000;end 1; | 9 | | file 2 line 2: bad image;
+| join --left text --right one | theta2 k=1048577 seed=0;end 0; | 9 | | file 1 line 1: bad image;
+| join --left text --right text | theta1 k=2 seed=0;342fac623a5e;cbd8a7b341bd;end 2; | 0 \
+| estimate 281474976710656/224131386917309; |";
+
+#[test]
+fn joins_of_both_versions(rt: HostRuntime) -> Result<(), Fail> {
+    check_rows(&rt, rt.alloc(), VERSIONS, 15)
 }
 
 // Each call of the shelf fails in turn, and then the output.

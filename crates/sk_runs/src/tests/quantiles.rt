@@ -10,9 +10,10 @@ const QUANTILES: &str = "\
 | quantile --at 5 | 9;;5;4;4;;0; | 0 | n 5 below 3 within 0; |
 | quantile --at 0 | 0;0; | 0 | n 2 below 0 within 0; |
 | quantile --at 281474976710655 | 281474976710655;281474976710654; | 0 | n 2 below 1 within 0; |
+| quantile --at 281474976710655 | 9223372036854775806;0; | 0 | n 2 below 1 within 0; |
 read=0 | quantile --at 5 --file ids | | 0 | n 2 below 1 within 0; |
 | quantile --at 1 | 1;x;2; | 6 | | line 2: not a number;
-| quantile --at 1 | 281474976710656; | 6 | | line 1: not a number;
+| quantile --at 1 | 9223372036854775807; | 6 | | line 1: not a number;
 read=0 | quantile --at 1 | 1; | 3 | | read fault;
 write=0 | quantile --at 1 | 1; | 4 | | write fault;
 | quantile --at 1 --file none | | 8 | | open fault;
@@ -47,7 +48,7 @@ room=55 | quantile --at 3 --b 1 --window 2 --propagator no | 1;2;3;4; | 4 \
 
 #[test]
 fn quantiles(rt: HostRuntime) -> Result<(), Fail> {
-    check_rows(&rt, rt.alloc(), QUANTILES, 19)
+    check_rows(&rt, rt.alloc(), QUANTILES, 20)
 }
 
 #[test]

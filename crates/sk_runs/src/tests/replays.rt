@@ -5,11 +5,11 @@ use std::test::Fail;
 // Whole schedules, and lines that are no events or are by a hair.
 const SCHEDULES: &str = "\
 | replay | machine 2 1 1;offer 0 5;look 0;swap 0;hand 0;offer 0 7;look 0;ask 0; | 0 \
-| kept;hint 281474976710656;swapped;handed 1;kept;busy;estimate 0/1; |
+| kept;hint 9223372036854775808;swapped;handed 1;kept;busy;estimate 0/1; |
 | replay | machine 2 2 1;offer 0 3;offer 0 5;look 0;swap 0;hand 0;find 0;take 0;publish 0;ask 0;\
 look 0;put 0;return 0;look 0;offer 0 5;offer 0 4; | 0 \
-| kept;kept;hint 281474976710656;swapped;handed 2;waiting;took 2;published 2;\
-estimate 281474976710656/5;busy;put;returned 5;hint 5;filtered;kept; |
+| kept;kept;hint 9223372036854775808;swapped;handed 2;waiting;took 2;published 2;\
+estimate 9223372036854775808/5;busy;put;returned 5;hint 5;filtered;kept; |
 | replay | machine 2 1 1;offer 0 5;hand 0; | 7 | kept; | line 3: bad event;
 | replay | machine 2 1 1;yield 1;turn 0;turn 1;find 0;yield 0;find 0; | 7 \
 | yielded;turned;elsewhere 0;nothing;yielded; | line 7: bad event;
@@ -21,6 +21,14 @@ estimate 281474976710656/5;busy;put;returned 5;hint 5;filtered;kept; |
 | replay | ask 0; | 7 | | line 1: bad event;
 | replay | machine 2 1 1 | 0 | |
 | replay | machine 02 0001 01;ask 00; | 0 | estimate 0/1; |
+| replay | machine 1048576 4096 64;ask 0; | 0 | estimate 0/1; |
+| replay | machine 1048577 1 1; | 7 | | line 1: bad event;
+| replay | machine 0000000000000000002 1 1;offer 0 0000000000000000005; | 0 | kept; |
+| replay | machine 00000000000000000002 1 1; | 7 | | line 1: bad event;
+| replay | machine 2 2 1;offer 0 1;offer 0 2;look 0;swap 0;hand 0;find 0;take 0;publish 0;ask 0;\
+put 0;return 0;look 0;offer 0 2;offer 0 1; | 0 \
+| kept;kept;hint 9223372036854775808;swapped;handed 2;waiting;took 2;published 2;\
+estimate 9223372036854775808/2;put;returned 2;hint 2;filtered;kept; |
 | replay | machine 2 1 1^;ask 0^;ask 0 | 0 | estimate 0/1;estimate 0/1; |
 | replay | machine 2 1 1;ask 0;;ask 0; | 7 | estimate 0/1; | line 3: bad event;
 | replay | machine 2 1 1;ask 0;machine 2 1 1; | 7 | estimate 0/1; | line 3: bad event;
@@ -30,10 +38,12 @@ estimate 281474976710656/5;busy;put;returned 5;hint 5;filtered;kept; |
 // Each event where it is enabled, and where it is not.
 const EVENTS: &str = "\
 | replay | machine 2 1 1;offer 0 5;offer 0 3; | 7 | kept; | line 3: bad event;
+| replay | machine 2 2 1;offer 0 9223372036854775807;offer 0 0; | 7 | kept; | line 3: bad event;
+| replay | machine 2 1 1;offer 0 9223372036854775808; | 7 | | line 2: bad event;
 | replay | machine 2 1 1;look 0;offer 0 5;swap 0;look 0; | 7 \
-| hint 281474976710656;kept;swapped; | line 5: bad event;
+| hint 9223372036854775808;kept;swapped; | line 5: bad event;
 | replay | machine 2 1 1;offer 0 5;swap 0; | 7 | kept; | line 3: bad event;
-| replay | machine 2 1 1;look 0;swap 0; | 7 | hint 281474976710656; | line 3: bad event;
+| replay | machine 2 1 1;look 0;swap 0; | 7 | hint 9223372036854775808; | line 3: bad event;
 | replay | machine 2 1 1;hand 0; | 7 | | line 2: bad event;
 | replay | machine 2 1 1;find 0;find 0;take 0; | 7 | nothing;nothing; | line 4: bad event;
 | replay | machine 2 1 1;publish 0; | 7 | | line 2: bad event;
@@ -49,17 +59,17 @@ const EVENTS: &str = "\
 | replay | machine 2 1 1;yield 0; | 7 | | line 2: bad event;
 | replay | machine 2 1 1;admit 0 1; | 7 | | line 2: bad event;
 | replay | machine 2 1 1;offer 0 5;look 0;swap 0;hand 0;find 0;find 0; | 7 \
-| kept;hint 281474976710656;swapped;handed 1;waiting; | line 7: bad event;
+| kept;hint 9223372036854775808;swapped;handed 1;waiting; | line 7: bad event;
 | replay | machine 2 1 1;offer 0 5;look 0;swap 0;hand 0;find 0;take 0;take 0; | 7 \
-| kept;hint 281474976710656;swapped;handed 1;waiting;took 1; | line 8: bad event;
+| kept;hint 9223372036854775808;swapped;handed 1;waiting;took 1; | line 8: bad event;
 | replay | machine 2 1 1;offer 0 5;look 0;swap 0;hand 0;find 0;publish 0; | 7 \
-| kept;hint 281474976710656;swapped;handed 1;waiting; | line 7: bad event;
+| kept;hint 9223372036854775808;swapped;handed 1;waiting; | line 7: bad event;
 | replay | machine 2 1 1;offer 0 5;look 0;swap 0;hand 0;find 0;take 0;publish 0;return 0; | 7 \
-| kept;hint 281474976710656;swapped;handed 1;waiting;took 1;published 1; | line 9: bad event;
+| kept;hint 9223372036854775808;swapped;handed 1;waiting;took 1;published 1; | line 9: bad event;
 | replay | machine 2 1 1;offer 0 5;look 0;swap 0;hand 0;\
 find 0;take 0;publish 0;put 0;return 0;ask 0;return 0; | 7 \
-| kept;hint 281474976710656;swapped;handed 1;\
-waiting;took 1;published 1;put;returned 281474976710656;estimate 1/1; | line 12: bad event;
+| kept;hint 9223372036854775808;swapped;handed 1;\
+waiting;took 1;published 1;put;returned 9223372036854775808;estimate 1/1; | line 12: bad event;
 | replay | vacant 2 1;admit 0 4096;admit 0 1; | 7 | admitted; | line 3: bad event;
 | replay | vacant 2 1;admit 0 4097; | 7 | | line 2: bad event;";
 
@@ -77,12 +87,12 @@ piece=65536 room=0 | replay | machine 2 1 1; | 0 | |";
 
 #[test]
 fn schedules(rt: HostRuntime) -> Result<(), Fail> {
-    check_rows(&rt, rt.alloc(), SCHEDULES, 17)
+    check_rows(&rt, rt.alloc(), SCHEDULES, 22)
 }
 
 #[test]
 fn every_event(rt: HostRuntime) -> Result<(), Fail> {
-    check_rows(&rt, rt.alloc(), EVENTS, 25)
+    check_rows(&rt, rt.alloc(), EVENTS, 27)
 }
 
 #[test]

@@ -109,6 +109,11 @@ two | theta1 k=2 seed=0;000000000004;end 1;
 three | theta1 k=3 seed=0;000000000004;end 1;
 seven | theta1 k=2 seed=7;000000000004;end 1;
 short | theta1 k=2 seed=0;000000000003;
+zero | theta1 k=2 seed=0;000000000000;end 1;
+old | theta1 k=32768 seed=4294967295;000000000000;ffffffffffff;end 2;
+four | theta2 k=2 seed=0;0000000000000004;0000000000000006;end 2;
+five | theta2 k=2 seed=0;0000000000000005;end 1;
+wide | theta2 k=1048576 seed=4294967295;0000000000000001;7fffffffffffffff;end 2;
 text | =
 _a__name_ | =";
 

@@ -71,6 +71,10 @@ fn sessions_are_one_count(rt: HostRuntime) -> Result<(), Fail> {
             "session 0 quit\nsession 1 closed\nestimate 2/1\n",
         ),
         (
+            "serve --k 2 --sessions 2 --port 7000",
+            "session 0 quit\nsession 1 closed\nestimate 9223372036854775808/7344337286506401153\n",
+        ),
+        (
             "serve --port 7000 --b 2,1 --sessions 2 --eager no",
             "session 0 quit\nsession 1 closed\nestimate 2/1\n",
         ),

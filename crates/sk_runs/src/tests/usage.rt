@@ -13,7 +13,11 @@ const USAGE: &[u8] = b"usage: sketchd count, hash, replay, image, join, quantile
 const REFUSED: &str = "\
 count --k 1
 
-count --k 32769
+count --k 1048577
+count --k 00000004
+image --k 1048577
+make --n 1 --k 1048577
+serve --port 7000 --k 1048577
 count --k
 count --k 4 --k 4
 count --raw --raw
@@ -127,7 +131,7 @@ Count
 // Values that are the least or the greatest, and lists of numbers.
 const ACCEPTED: &str = "\
 | count --k 2 | a;a; | 0 | estimate 1/1; |
-| count --k 32768 | a;a; | 0 | estimate 1/1; |
+| count --k 1048576 | a;a; | 0 | estimate 1/1; |
 | count --updaters 01 --b 64 | a;a; | 0 | estimate 1/1; |
 | count --updaters 2 --b 1,4096 | a;a; | 0 | estimate 1/1; |
 | count --updaters 3 --b 01,0002,3 | a;a; | 0 | estimate 1/1; |
@@ -139,7 +143,7 @@ const ACCEPTED: &str = "\
 | count --window 1 --eager yes --propagator no | a;a; | 0 \
 | at 1 estimate 1/1;at 2 estimate 1/1;estimate 1/1; |
 | count --alarm 0,1,2,3,4,5,6,281474976710655 | a;a; | 0 | estimate 1/1; |
-| --version | | 0 | sketchd 0.1.0; |";
+| --version | | 0 | sketchd 0.2.0; |";
 
 // Runs each line, of which there are so many, over a text that it does not read.
 fn check_refused<R: Threads + Wait + Abort + Sync>(
@@ -158,7 +162,7 @@ fn check_refused<R: Threads + Wait + Abort + Sync>(
 
 #[test]
 fn words_that_are_no_command(rt: HostRuntime) -> Result<(), Fail> {
-    check_refused(&rt, rt.alloc(), REFUSED, 111)
+    check_refused(&rt, rt.alloc(), REFUSED, 115)
 }
 
 #[test]

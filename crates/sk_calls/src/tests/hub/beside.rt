@@ -56,26 +56,22 @@ fn update_until_busy<C: Composable, R: Abort>(
     to
 }
 
-// Rounds in which the heart sweeps while the updater takes items, until all are taken.
+// Rounds in which the heart sweeps while the updater takes the items from 1 to before an end, until all are taken.
 fn update_in_rounds<C: Composable + Send, R: Abort + Threads + Wait + Sync>(
     rt: &R,
     heart: &mut Heart<C>,
     updater: &mut Updater<C>,
-    items: u64,
+    end: u64,
 )
 where
     C::Told: Send,
     requires table { updater.old.table ≡ heart.old.table }
     ensures table { updater.new.table ≡ heart.new.table }
 {
-    let mut next = 0;
+    let mut next = 1;
     'round: for _ in 0..100_000 {
-        next = run_beside(
-            rt,
-            heart,
-            &mut || update_until_busy(rt, updater, next, items),
-        );
-        if next == items {
+        next = run_beside(rt, heart, &mut || update_until_busy(rt, updater, next, end));
+        if next == end {
             return;
         }
     }
@@ -89,8 +85,8 @@ fn a_heart_that_is_lent_sweeps_beside_an_updater(rt: HostRuntime) -> Result<(), 
         mut updater,
         token: _,
     } = hub_of(rt.alloc(), 1, 4, sketch(rt.alloc(), 128)?)?;
-    update_in_rounds(&rt, &mut heart, &mut updater, 60);
+    update_in_rounds(&rt, &mut heart, &mut updater, 61);
     drain(&rt, &mut heart, updater)?;
-    expect(&rt, unpack(heart.ask()).count, 60);
+    expect(&rt, unpack(heart.ask(), 128).count, 60);
     Ok(())
 }

@@ -33,7 +33,7 @@ impl<C: Composable> Report<C> for Counts {
     ghost sketch = { λ _. None };
 
     fn at(&mut self, line: u64, opened: &mut Opened<C>) -> Result<(), Stop> {
-        let count = unpack(opened.token.ask()).count;
+        let count = unpack(opened.token.ask(), 8).count;
         if self.seen.len() + 1 == self.fails {
             self.faults = self.faults.saturating_add(1);
             return Err(Stop::Failed);
@@ -111,7 +111,7 @@ fn expect(
 ) -> Result<(), Fail> {
     let (word, report) = count(rt, alloc, &run)?;
     let counted = match word {
-        Ok(word) => Ok(unpack(word).count),
+        Ok(word) => Ok(unpack(word, 8).count),
         Err(fault) => Err(fault),
     };
     assert_eq!(rt; counted, ends);
@@ -144,7 +144,7 @@ fn full_windows_are_reported(rt: HostRuntime) -> Result<(), Fail> {
     expect(&rt, alloc, run, Err(Fault::WriteFault), &[(2, 2)])
 }
 
-// The 8 smallest of 1 to 300 are 1 to 8.
+// The number n is item n + 1, so the 8 smallest of 1 to 300 are the items 2 to 9, and the word is the last of them.
 #[test]
 fn updaters_change_no_last_word(rt: HostRuntime) -> Result<(), Fail> {
     for updaters in [1, 4, 64] {
@@ -154,7 +154,7 @@ fn updaters_change_no_last_word(rt: HostRuntime) -> Result<(), Fail> {
         run.interim = false;
         run.updaters = updaters;
         let (word, _) = count(&rt, rt.alloc(), &run)?;
-        assert_eq!(rt; word, Ok(8 << 48 | 8));
+        assert_eq!(rt; word, Ok(9));
     }
     Ok(())
 }

@@ -6,9 +6,9 @@ use Rattle.uses.proofs.ranks.rank_source.Goals as goal
 
 pub returns : goal.returns
 returns g c =
-    let plan : Plan = record { k = 128; key = 0; at = c.args.x; size = 64; updaters = c.args.updaters; window = None; propagator = true } in
+    let plan : Plan = record { k = 128; key = 0; at = c.args.at; size = 64; updaters = c.args.updaters; window = None; propagator = true } in
     let reads = c.in_ok-rank.ensures.ranks in let all = reads.1 in
     let units = units_of (units_by 0) all.taken in let told = all.gave in
-    tells_rank plan _ _ _ _ (g.S.Source.left c.args.source.now) (g.S.Source.left c.rank.new.source) all.taken all.consumed all.end refl told
+    tells_rank c.args.at plan _ _ _ _ (g.S.Source.left c.args.source.now) (g.S.Source.left c.rank.new.source) all.taken all.consumed all.end refl refl told
     (c.ranks_of_lists_are_near.ensures.count plan units told.course _ c.requires.updaters.0 told.list)
     (c.ranks_of_lists_are_near.ensures.rank plan units told.course _ c.requires.updaters.0 told.list)

@@ -13,6 +13,6 @@ pub number-preserved : goal.number-preserved
 number-preserved c =
     let inv = c.number.invariant in let items = c.in_ok-push.ensures.items in
     record {
-      items = subst AreItems (sym items) (All-push IsItem c.number.numbers.items c.number.number inv.items (omega (arith, c.requires, c.number-test.true)));
+      items = subst AreItems (sym items) (All-push IsItem c.number.numbers.items c.number.number inv.items (omega (arith, inv.count, c.requires.least, c.requires.most, c.number-test.true)));
       count = omega (arith, inv.count, ap length items, length-append c.number.numbers.items (c.number.number ∷ []));
     }
