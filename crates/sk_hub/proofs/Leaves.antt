@@ -189,6 +189,7 @@ flushed hint_of u u' (inr is) same empty hands = (comes_handed hint_of u u' (han
 pub drained_after : (h h' h'' : HeartState) (u u' : UpdaterState) → TriesUntil true h u h' u' → IsDrained h' u' h'' → IsDrained h u h''
 drained_after h h' h'' u u' t d = let k = t.known in let b = t.back in record {
   seen = ap (λ n. entries_by n h''.view.seen) (sym b.number) ∙ d.seen ∙ b.kept;
+  grows = begins_trans _ _ _ k.grows d.grows;
   hears = begins_trans _ _ _ b.seen d.hears;
   base = begins_trans _ _ _ b.base d.base;
   entries = subst (λ n. All (IsEntry n) h''.view.seen) (ap (λ z. z.updaters) t.stays) d.entries;

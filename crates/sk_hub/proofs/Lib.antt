@@ -9,3 +9,4 @@ pub mod Opening
 pub mod Opens
 pub mod Leaves
 pub mod TakenIn
+pub mod Taking

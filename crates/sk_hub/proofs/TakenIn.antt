@@ -134,6 +134,7 @@ module _ {T : Type 0} (hint_of packed : List ℕ → List Entry → ℕ) (k : Te
       map-set held told number p.told ∙ ap (λ z. set (map held told) number z) (some ∙ own_told ∙ ap (λ l. not (is_empty l)) (sym kept_is)) in
       record {
         seen = asks.drained number in_it ∙ known_is ∙ sym kept_is;
+        grows = seen_then;
         hears = hears_then;
         base = begins_trans _ _ _ u.view.based hears_then;
         entries = subst (λ z. All (IsEntry z) ha.view.seen) (ap (λ v. length v.sizes) joined_is ∙ sizes_length n hs.view.sizes us.view.sizes h.sized sized) asks.is_seen.entries;

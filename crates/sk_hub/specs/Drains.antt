@@ -1,5 +1,5 @@
 -- What it means that an updater was drained, and that one was admitted.
-use Rattle.std.specs.Prelude.{◌≡◌, ◌≢◌, ℕ, suc, ◌<◌, List, [], ◌∷◌, ◌++◌, length, replicate, All, Bool, not, true, false, slice_set}
+use Rattle.std.specs.Prelude.{◌≡◌, ◌≢◌, ℕ, suc, ◌<◌, List, [], ◌∷◌, ◌++◌, length, replicate, All, Contains, Bool, not, true, false, slice_set}
 use Rattle.std.specs.Bool.{MatchBool}
 use Rattle.sk_model.specs.Entries.{Entry, entries_by}
 use Rattle.sk_model.specs.Missing.{Begins}
@@ -15,6 +15,7 @@ use Rattle.sk_hub.specs.Rounds.{Refuses, KnowsAsMuch, TriesTimes}
 -- the published list has exactly what the updater kept, and the heart knows it; it has seen what the updater had
 pub record IsDrained (h : HeartState) (u : UpdaterState) (h' : HeartState) : Type 0 where
   pub seen : entries_by u.number h'.view.seen ≡ kept_of u
+  pub grows : Begins h.view.seen h'.view.seen
   pub hears : Begins u.view.seen h'.view.seen
   pub base : Begins (base_of u) h'.view.seen
   pub entries : All (IsEntry h.updaters) h'.view.seen
@@ -25,6 +26,15 @@ pub record IsDrained (h : HeartState) (u : UpdaterState) (h' : HeartState) : Typ
   pub stays : h' ≡ record h { view = h'.view; news = h'.news }
   pub numbers : h'.view.numbers ≡ h.view.numbers
   pub name : h'.view.name ≡ h.view.name
+
+-- what a heart knows of an updater that it took in, whatever it has done since: exactly what the updater kept. The
+-- published list has all of that, and begins with the updater's base and with what the updater had seen
+pub record HasTakenIn (h : HeartState) (u : UpdaterState) : Type 0 where
+  pub drained : Contains h.view.drained u.number
+  pub known : known_of h.view u.number ≡ kept_of u
+  pub kept : Begins (kept_of u) (entries_by u.number h.view.seen)
+  pub base : Begins (base_of u) h.view.seen
+  pub hears : Begins u.view.seen h.view.seen
 
 -- it served this updater, or waited, then took its seat in, and asked
 pub record ServesAndTakesIn (i : ℕ) (v w : View) : Type 0 where
@@ -46,7 +56,7 @@ pub record IsSettled (u : UpdaterState) : Type 0 where
   pub fill : u.fill ≡ []
   pub ready : (mine_of u.view).ready ≡ true
 
--- what an updater came back with, after want of memory
+-- what an updater came back with, after it ran out of memory
 pub record ComesBack (u u' : UpdaterState) : Type 0 where
   pub kept : kept_of u' ≡ kept_of u
   pub handed : Begins (handed_of u) (handed_of u')

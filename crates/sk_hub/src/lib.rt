@@ -3,6 +3,7 @@
 
 mod answers;
 mod heart;
+mod laws;
 mod opened;
 mod round;
 mod token;
@@ -10,6 +11,7 @@ mod updater;
 
 pub use answers::{Admit, Drain, Flush, Help, Serve, Settle, Sweep, Update};
 pub use heart::Heart;
+pub use laws::{an_ask_has_what_was_taken_in, drained_is_taken_in, taken_in_stays};
 pub use opened::{Opened, open, open_sized};
 pub use sk_model::OutOfMemory;
 pub use token::{Note, Token};
