@@ -97,8 +97,4 @@ pub trait Composable: Drop {
         ≡ hint_of numbers ((list ++ more) ++ rest))
         × (packed_of numbers ((list ++ more) ++ (i, item) ∷ rest)
         ≡ packed_of numbers ((list ++ more) ++ rest)) };
-
-    ghost idle_lists: { (s : Self) (list more rest : List Entry) (i item : ℕ) → IsItem item
-        → keeps_of (hint_of (numbers s) list) item ≡ false
-        → (is_of s ((list ++ more) ++ (i, item) ∷ rest) ↔ is_of s ((list ++ more) ++ rest)) };
 }

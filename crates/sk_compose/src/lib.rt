@@ -10,7 +10,7 @@ mod theta_kind;
 pub use buffer::{Buffer, Parcel};
 pub use composable::Composable;
 pub use sk_model::OutOfMemory;
-pub use theta_kind::ThetaKind;
+pub use theta_kind::{ThetaKind, ThetaWord};
 
 #[cfg(test)]
 mod tests;

@@ -4,7 +4,7 @@ ghost use Rattle.sk_model.specs.Width.{item_end};
 
 use crate::buffer::Buffer;
 use crate::composable::Composable;
-use crate::theta_kind::ThetaKind;
+use crate::theta_kind::{ThetaKind, ThetaWord};
 use sk_model::OutOfMemory;
 use sk_theta::{ITEM_END, Theta};
 use std::sync::Wait;
@@ -68,11 +68,9 @@ impl Composable for Theta {
     fn told(&mut self) {}
 
     ghost idle_replies = { Idle.replies };
-
-    ghost idle_lists = { Idle.lists };
 }
 
-impl ThetaKind for Theta {
+impl ThetaWord for Theta {
     ghost use Rattle.std.specs.Prelude.{refl};
 
     fn k(&self) -> u32 {
@@ -86,6 +84,10 @@ impl ThetaKind for Theta {
     ghost keeps_is = { λ _ _. refl };
 
     ghost early_is = { λ _. refl };
+}
+
+impl ThetaKind for Theta {
+    ghost use Rattle.std.specs.Prelude.{refl};
 
     ghost takes_none = { refl };
 }

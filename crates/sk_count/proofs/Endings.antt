@@ -8,10 +8,10 @@ use Rattle.sk_model.specs.Entries.{Entry, items_of_entries}
 use Rattle.sk_model.specs.Missing.{Begins}
 use Rattle.sk_model.specs.Sketch.{theta_of, packed_of, unpacked, count_of, estimate_of, fraction_of}
 use Rattle.sk_model.specs.Width.{IsItem, AreItems}
-use Rattle.sk_model.proofs.Sketch.{packed_reads_back}
+use Rattle.sk_model.proofs.Sketch.{packed_reads_back, k_smallest_of_members}
 use Rattle.sk_compose.specs.Numbers.{k_of}
 use Rattle.sk_compose.proofs.Kept.{kept_longer}
-use Rattle.sk_compose.proofs.Smallest.{smallest_of_all, same_members, same_word}
+use Rattle.sk_compose.proofs.Smallest.{smallest_of_all, same_word}
 use Rattle.sk_machine.specs.declared.views.Move.TheVariants.{Ask}
 use Rattle.sk_hub.specs.Hearts.{HeartState}
 use Rattle.sk_hub.specs.Updaters.{UpdaterState, base_of, kept_of}
@@ -131,7 +131,7 @@ word_of_all plan windows us list some took has = same_word plan.k (items_of_entr
     (λ i within. let within' : i < length us = omega (arith, took.count) in at_some us i within' (λ d.
     subst (AreKeptOver plan.k list (share plan.kind windows plan.updaters i)) (sym (has.kept i d within'))
     (kept_longer keeps (λ front. theta_of plan.k (items_of_entries front)) (base_of (get_or us i d)) list (share plan.kind windows plan.updaters i) (kept_of (get_or us i d)) (has.bases i d within') (took.each i d within').kept)))
-    ∙ same_members plan.k (flat_map (λ i. share plan.kind windows plan.updaters i) (range_with_len 0 plan.updaters)) (items_in plan.kind (all_lines windows))
+    ∙ k_smallest_of_members plan.k (flat_map (λ i. share plan.kind windows plan.updaters i) (range_with_len 0 plan.updaters)) (items_in plan.kind (all_lines windows))
     (λ z h. (all_items plan.kind windows plan.updaters z some).0 h) (λ z h. (all_items plan.kind windows plan.updaters z some).1 h))
 
 -- ---- a count that ended well

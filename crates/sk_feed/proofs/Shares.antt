@@ -8,10 +8,11 @@ use Rattle.sk_model.specs.Missing.{Begins}
 use Rattle.sk_model.proofs.Missing.{begins_trans, begins_refl}
 use Rattle.sk_model.specs.Sketch.{k_smallest, theta_of}
 use Rattle.sk_model.specs.Width.{IsItem, AreItems}
+use Rattle.sk_model.proofs.Sketch.{k_smallest_of_members}
 use Rattle.sk_model.proofs.Rising.{Has, Has-from_Contains, Contains-from_Has, Has-append_left}
 use Rattle.sk_compose.specs.Kept.{AreKept}
 use Rattle.sk_compose.proofs.Kept.{kept_append, kept_longer}
-use Rattle.sk_compose.proofs.Smallest.{has_right, has_cases, in_some_part, in_all_parts, smallest_of_all, same_members}
+use Rattle.sk_compose.proofs.Smallest.{has_right, has_cases, in_some_part, in_all_parts, smallest_of_all}
 use Rattle.sk_hub.specs.Updaters.{UpdaterState, base_of, kept_of}
 use Rattle.sk_read.specs.declared.kind.Kind.{Kind}
 use Rattle.sk_fill.specs.Windows.{all_lines, items_in}
@@ -176,7 +177,7 @@ pub smallest_of_shares : (k : ℕ) (keeps : ℕ → ℕ → Bool) (hint_of : Lis
     → 0 < length us → HaveKeptNone numbers us → KeepShares keeps hint_of kind windows us us' → HasAllOf list us' → k_smallest k (items_of_entries list) ≡ k_smallest k (items_in kind (all_lines windows))
 smallest_of_shares k keeps hint_of numbers list kind windows us us' keeps_is hint_is some new taken has =
     smallest_of_all k keeps (hint_of numbers) list n (λ i. share kind windows n i) keeps_is hint_is only (λ i within. share_below kind windows n i some within) kept
-    ∙ same_members k (flat_map (λ i. share kind windows n i) (range_with_len 0 n)) (items_in kind (all_lines windows)) (λ z h. (all_items kind windows n z some).0 h) (λ z h. (all_items kind windows n z some).1 h)
+    ∙ k_smallest_of_members k (flat_map (λ i. share kind windows n i) (range_with_len 0 n)) (items_in kind (all_lines windows)) (λ z h. (all_items kind windows n z some).0 h) (λ z h. (all_items kind windows n z some).1 h)
   where
     n : ℕ
     n = length us

@@ -3,7 +3,7 @@ ghost use Rattle.std.specs.Prelude.{◌≡◌};
 ghost use Rattle.sk_model.specs.Width.{item_end};
 
 use crate::heap_theta::HeapTheta;
-use sk_compose::{Buffer, Composable, ThetaKind};
+use sk_compose::{Buffer, Composable, ThetaKind, ThetaWord};
 use sk_model::OutOfMemory;
 use sk_theta::ITEM_END;
 use std::sync::Wait;
@@ -67,11 +67,9 @@ impl Composable for HeapTheta {
     fn told(&mut self) {}
 
     ghost idle_replies = { Idle.replies };
-
-    ghost idle_lists = { Idle.lists };
 }
 
-impl ThetaKind for HeapTheta {
+impl ThetaWord for HeapTheta {
     ghost use Rattle.std.specs.Prelude.{refl};
 
     fn k(&self) -> u32 {
@@ -85,6 +83,10 @@ impl ThetaKind for HeapTheta {
     ghost keeps_is = { λ _ _. refl };
 
     ghost early_is = { λ _. refl };
+}
+
+impl ThetaKind for HeapTheta {
+    ghost use Rattle.std.specs.Prelude.{refl};
 
     ghost takes_none = { refl };
 }

@@ -3,7 +3,7 @@ ghost use Rattle.sk_model.specs.Width.{IsItem};
 ghost use Rattle.sk_model.specs.Limits.{least_k, most_k};
 
 use super::*;
-use sk_compose::{Buffer, Composable, ThetaKind};
+use sk_compose::{Buffer, Composable, ThetaWord};
 use sk_model::plain;
 use sk_theta::{ITEM_END, Reply, Theta, unpack};
 use std::alloc::Global;
@@ -77,7 +77,7 @@ fn a_repeat_in_a_batch_counts_once(rt: HostRuntime) -> Result<(), Fail> {
     assert_eq!(rt; sketch.hint(), 5);
     assert!(rt; !HeapTheta::keeps(5, 5));
     assert!(rt; HeapTheta::early(ITEM_END));
-    assert_eq!(rt; ThetaKind::k(&sketch), 2);
+    assert_eq!(rt; ThetaWord::k(&sketch), 2);
     Ok(())
 }
 

@@ -12,7 +12,7 @@ ghost use Rattle.sk_fill.specs.Windows.{most_lines};
 use crate::ingesting::ingest;
 use crate::laws::ingested_units_are_kept;
 use crate::report::Report;
-use sk_compose::ThetaKind;
+use sk_compose::ThetaWord;
 use sk_feed::drain_all;
 use sk_feed::laws::shares::the_word_is_of_all_that_was_taken;
 use sk_hub::{Opened, open};
@@ -26,7 +26,7 @@ use std::thread::Threads;
 
 /// The count and theta of all items of a source, in one word, counted by as many updaters as the shape has.
 /// Who takes which item, what is filtered and what a report sees change nothing.
-pub fn word_of_source<S: Source, C: ThetaKind + Send, P: Report<C>, R: Threads + Wait + Sync>(
+pub fn word_of_source<S: Source, C: ThetaWord + Send, P: Report<C>, R: Threads + Wait + Sync>(
     rt: &R,
     alloc: Global,
     plan: &Intake,

@@ -8,7 +8,7 @@ ghost use Rattle.sk_line.specs.Sessions.{session_state};
 
 use crate::pumps::Pump;
 use crate::sessions::{End, session};
-use sk_compose::{Composable, ThetaKind};
+use sk_compose::{Composable, ThetaWord};
 use sk_hub::Updater;
 use sk_io::Link;
 use sk_theta::Shape;
@@ -27,7 +27,7 @@ pub struct Job<C: Composable, L: Drop, P: Drop> {
     pub end: Option<End>,
 }
 
-impl<C: ThetaKind, L: Link + Drop, P: Pump<C> + Drop> Job<C, L, P> {
+impl<C: ThetaWord, L: Link + Drop, P: Pump<C> + Drop> Job<C, L, P> {
     // Runs the session.
     fn run<R: Wait>(&mut self, rt: &R, alloc: Global, shape: &Shape, most: u64)
         requires k { k_of self.old.updater.view.numbers ≡ shape.now.k }
@@ -51,7 +51,7 @@ impl<C: ThetaKind, L: Link + Drop, P: Pump<C> + Drop> Job<C, L, P> {
 
 /// Runs the sessions of all jobs at once, each in a thread of its own. Each is as `session` says.
 pub fn serve_links<
-    C: ThetaKind + Send,
+    C: ThetaWord + Send,
     L: Link + Drop + Send,
     P: Pump<C> + Drop + Send,
     R: Threads + Wait + Sync,

@@ -13,14 +13,14 @@ ghost use Rattle.sk_line.specs.Serving.{AnswersAdd, AnswersAsk, AnswersSync, Ans
 use crate::answers::Answer;
 use crate::pumps::Pump;
 use crate::requests::Request;
-use sk_compose::ThetaKind;
+use sk_compose::ThetaWord;
 use sk_hash::hash63;
 use sk_hub::{Flush, Settle, Update, Updater};
 use sk_theta::{Shape, unpack};
 use std::sync::Wait;
 
 /// Does what a line asks for. The line that ends the session has no answer.
-pub(crate) fn serve<P: Pump<C>, C: ThetaKind, R: Wait>(
+pub(crate) fn serve<P: Pump<C>, C: ThetaWord, R: Wait>(
     rt: &R,
     line: &[u8],
     u: &mut Updater<C>,
@@ -45,7 +45,7 @@ pub(crate) fn serve<P: Pump<C>, C: ThetaKind, R: Wait>(
 }
 
 // Offers an item to the updater of a sketch that keeps k hashes.
-fn add<C: ThetaKind>(u: &mut Updater<C>, seed: u32, bytes: &[u8], k: u32) -> Answer
+fn add<C: ThetaWord>(u: &mut Updater<C>, seed: u32, bytes: &[u8], k: u32) -> Answer
     requires k { k_of u.old.view.numbers ≡ k }
     requires room { length (kept_of u.old) < most_kept }
     ensures { AnswersAdd k (hash_of seed bytes.now) result u.old u.new }
@@ -60,7 +60,7 @@ fn add<C: ThetaKind>(u: &mut Updater<C>, seed: u32, bytes: &[u8], k: u32) -> Ans
 }
 
 // The estimate of what is published.
-fn ask<C: ThetaKind>(u: &mut Updater<C>, k: u32) -> Answer
+fn ask<C: ThetaWord>(u: &mut Updater<C>, k: u32) -> Answer
     requires k { k_of u.old.view.numbers ≡ k }
     requires least { least_k ≤ k }
     requires most { k ≤ most_k }
@@ -71,7 +71,7 @@ fn ask<C: ThetaKind>(u: &mut Updater<C>, k: u32) -> Answer
 }
 
 // Sees to it that all that was kept is published, if it can be at once.
-fn sync<P: Pump<C>, C: ThetaKind, R: Wait>(rt: &R, u: &mut Updater<C>, pump: &mut P) -> Answer
+fn sync<P: Pump<C>, C: ThetaWord, R: Wait>(rt: &R, u: &mut Updater<C>, pump: &mut P) -> Answer
     ensures synced { AnswersSync result u.old u.new }
     ensures pumps { HasRisen 0 (P.pumps pump.old) (P.pumps pump.new) }
     ensures stays { P.stands_on pump.new ≡ P.stands_on pump.old }
@@ -87,7 +87,7 @@ fn sync<P: Pump<C>, C: ThetaKind, R: Wait>(rt: &R, u: &mut Updater<C>, pump: &mu
 }
 
 // Hands over what the fill buffer has, unless what was handed over last is not published.
-fn hand_over<C: ThetaKind>(u: &mut Updater<C>) -> bool
+fn hand_over<C: ThetaWord>(u: &mut Updater<C>) -> bool
     ensures handed { OnTrue result (KeepsNone u.old u.new × (u.new.fill ≡ [])) }
     ensures busy { OnFalse result (LooksInVain u.old u.new) }
 {

@@ -15,7 +15,7 @@ ghost use Rattle.sk_line.specs.Sessions.{SessionState, session_state, ComesTo, S
 use crate::answers::send_reply;
 use crate::pumps::Pump;
 use crate::serving::serve;
-use sk_compose::ThetaKind;
+use sk_compose::ThetaWord;
 use sk_hub::Updater;
 use sk_io::{Link, OnLink};
 use sk_read::{LineFault, LineReader};
@@ -44,7 +44,7 @@ pub enum End {
 /// examined, until one asks to quit, the link ends or fails, or a request is too long; then it sends what
 /// waits, and the peer sees the end. It takes fewer than `most` bytes of the link, and all its memory
 /// before the first. The sketch of the hub keeps as many hashes as the shape says.
-pub fn session<L: Link, P: Pump<C>, C: ThetaKind, R: Wait>(
+pub fn session<L: Link, P: Pump<C>, C: ThetaWord, R: Wait>(
     rt: &R,
     alloc: Global,
     link: &mut L,
@@ -70,7 +70,7 @@ pub fn session<L: Link, P: Pump<C>, C: ThetaKind, R: Wait>(
 }
 
 // Serves requests until the session comes to an end, and answers that.
-fn serve_each<L: Link, P: Pump<C>, C: ThetaKind, R: Wait>(
+fn serve_each<L: Link, P: Pump<C>, C: ThetaWord, R: Wait>(
     rt: &R,
     link: &mut L,
     u: &mut Updater<C>,
@@ -112,7 +112,7 @@ fn finish<L: Link>(link: &mut L, due: End) -> End
 }
 
 // Pumps once, reads the next line, and does what it asks for.
-fn serve_next<L: Link, P: Pump<C>, C: ThetaKind, R: Wait>(
+fn serve_next<L: Link, P: Pump<C>, C: ThetaWord, R: Wait>(
     rt: &R,
     link: &mut L,
     u: &mut Updater<C>,

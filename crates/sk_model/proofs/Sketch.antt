@@ -2,7 +2,7 @@
 use Rattle.std.proofs.Common.{◌≡◌, ℕ, zero, suc, ◌+◌, ◌-◌, ◌^◌, ◌<◌, ◌≤◌, Bool, true, false, List, [], ◌∷◌, ◌++◌, length, take, get_or, min, ltb, cond, All, Contains, ◌⊎◌, inl, inr, ⊎_elim, refl, sym, ap, ◌∙◌, arith, length-take, append_assoc, get_or-take}
 use Rattle.std.specs.List.Sorted.{IsStrictlyIncreasing}
 use Rattle.std.proofs.lemmas.Bool.Decides.{nat_tests}
-use Rattle.std.proofs.lemmas.List.Elements.{All-contains, Contains-get_or}
+use Rattle.std.proofs.lemmas.List.Elements.{All-contains, Contains-get_or, Contains-append_left, Contains-append_right, Contains-append_cases}
 use Rattle.std.proofs.lemmas.List.{take_more}
 use Rattle.std.proofs.lemmas.List.Sums.{fold-append}
 use Rattle.sk_model.specs.Width.{item_end, IsItem, AreItems}
@@ -99,6 +99,24 @@ k_smallest_is k xs hashes up most to from =
     take_is_least k 0 0 xs (rising hashes) (RisesFrom-increasing xs up) (RisesFrom-rising hashes) most
     (λ z h. rising-has hashes z (Has-from_Contains hashes z (to z (Contains-from_Has xs z h))))
     (λ z h. ⊎_elim (λ c. inl (Has-from_Contains xs z c)) (λ p. inr p) (from z (Contains-from_Has hashes z (Has-rising hashes z h))))
+
+-- lists with the same members have the same k smallest
+pub k_smallest_of_members : (k : ℕ) (xs ys : List ℕ) → ((x : ℕ) → Contains xs x → Contains ys x) → ((x : ℕ) → Contains ys x → Contains xs x) → k_smallest k xs ≡ k_smallest k ys
+k_smallest_of_members k xs ys to from =
+    k_smallest_is k (k_smallest k ys) xs (k_smallest_rises k ys) (count_within k ys)
+    (λ x has. from x (k_smallest_has_members k ys x has)) (λ x has. k_smallest_has_the_least k ys x (to x has))
+
+turned : (xs ys : List ℕ) (x : ℕ) → Contains (xs ++ ys) x → Contains (ys ++ xs) x
+turned xs ys x has = ⊎_elim (λ here. Contains-append_right ys xs x here) (λ there. Contains-append_left ys xs x there) (Contains-append_cases xs ys x has)
+
+-- either of two lists may come first
+pub either_first : (k : ℕ) (xs ys : List ℕ) → k_smallest k (xs ++ ys) ≡ k_smallest k (ys ++ xs)
+either_first k xs ys = k_smallest_of_members k (xs ++ ys) (ys ++ xs) (turned xs ys) (turned ys xs)
+
+-- nothing more is needed of either than what is kept of it
+pub k_smallest_append : (k : ℕ) (xs ys : List ℕ) → k_smallest k (k_smallest k xs ++ k_smallest k ys) ≡ k_smallest k (xs ++ ys)
+k_smallest_append k xs ys =
+    either_first k (k_smallest k xs) (k_smallest k ys) ∙ sym (a_batch_more k ys (k_smallest k xs)) ∙ either_first k ys (k_smallest k xs) ∙ sym (a_batch_more k xs ys)
 
 -- ---- theta
 

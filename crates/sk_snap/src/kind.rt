@@ -64,6 +64,4 @@ impl<R: Wait + Drop> Composable for VersionedQuant<R> {
     }
 
     ghost idle_replies = { λ _ _ _ _ _ _ _ idle. Idle.never idle };
-
-    ghost idle_lists = { λ _ _ _ _ _ _ _ idle. Idle.never idle };
 }

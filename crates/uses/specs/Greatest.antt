@@ -1,5 +1,5 @@
 -- The greatest member of a list, and what a sketch that keeps it owes of an item that is not above it.
-use Rattle.std.proofs.Common.{◌≡◌, ◌↔◌, ℕ, ◌+◌, ◌<◌, ◌≤◌, max, nat_le, false, List, [], ◌∷◌, ◌++◌, fold, refl, sym, ap, ◌∙◌, arith}
+use Rattle.std.proofs.Common.{◌≡◌, ℕ, ◌+◌, ◌<◌, ◌≤◌, max, nat_le, false, List, [], ◌∷◌, ◌++◌, fold, refl, sym, ap, ◌∙◌, arith}
 use Rattle.std.proofs.lemmas.Bool.Decides.{nat_tests}
 use Rattle.std.proofs.lemmas.List.Elements.{All-head, All-tail}
 use Rattle.sk_model.specs.Entries.{Entry, items_of_entries}
@@ -68,9 +68,3 @@ pub replies : (numbers : List ℕ) (list more rest : List Entry) (i item : ℕ) 
     → (greatest_in ((list ++ more) ++ (i, item) ∷ rest) + 1 ≡ greatest_in ((list ++ more) ++ rest) + 1)
     × (greatest_in ((list ++ more) ++ (i, item) ∷ rest) ≡ greatest_in ((list ++ more) ++ rest))
 replies numbers list more rest i item small not_kept = let same = same_greatest list more rest i item not_kept in (ap (λ m. m + 1) same, same)
-
-pub lists : (kept : ℕ) (list more rest : List Entry) (i item : ℕ) → IsItem item → nat_le (greatest_in list + 1) item ≡ false
-    → (kept ≡ greatest_in ((list ++ more) ++ (i, item) ∷ rest)) ↔ (kept ≡ greatest_in ((list ++ more) ++ rest))
-lists kept list more rest i item small not_kept =
-    let same = same_greatest list more rest i item not_kept in
-    (λ is. is ∙ same, λ is. is ∙ sym same)

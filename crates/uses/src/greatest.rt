@@ -95,8 +95,6 @@ impl Composable for Greatest {
     fn told(&mut self) {}
 
     ghost idle_replies = { own.replies };
-
-    ghost idle_lists = { own.lists };
 }
 
 // The greatest of items, and of one before them or 0.

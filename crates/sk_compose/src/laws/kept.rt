@@ -9,7 +9,7 @@ ghost use Rattle.sk_compose.specs.Kept.{IsFiltered, AreKept};
 ghost use Rattle.sk_compose.specs.Numbers.{k_of};
 
 use crate::composable::Composable;
-use crate::theta_kind::ThetaKind;
+use crate::theta_kind::ThetaWord;
 use std::marker::PhantomData;
 
 /// One item more at the end, which is kept.
@@ -24,7 +24,7 @@ pub fn drops_one_more()
         → IsFiltered keeps hint base item → AreKept keeps hint base items kept → AreKept keeps hint base (items ++ item ∷ []) kept }
 {}
 
-/// What was kept of items stays, whatever the list comes to begin.
+/// What was kept of items stays, whatever longer list begins with the base.
 pub fn kept_stays()
     ensures { (keeps : ℕ → ℕ → Bool) (hint : List Entry → ℕ) (base longer : List Entry) (items kept : List ℕ)
         → Begins base longer → AreKept keeps hint base items kept → AreKept keeps hint longer items kept }
@@ -36,7 +36,7 @@ pub fn kept_are_few()
         → AreKept keeps hint base items kept → length kept ≤ length items }
 {}
 
-/// Behind the base, items give the replies of those that were kept, whatever comes before and after them.
+/// After the base, items give the replies of those that were kept, whatever comes before and after them.
 pub fn kept_items_give_the_replies<C: Composable>(_sketch: PhantomData<C>)
     ensures word { (numbers : List ℕ) (base list rest : List Entry) (i : ℕ) (items kept : List ℕ)
         → Begins base list → AreItems items → AreKept C.keeps_of (C.hint_of numbers) base items kept
@@ -46,8 +46,8 @@ pub fn kept_items_give_the_replies<C: Composable>(_sketch: PhantomData<C>)
         → C.hint_of numbers (list ++ tagged i items ++ rest) ≡ C.hint_of numbers (list ++ tagged i kept ++ rest) }
 {}
 
-/// Where a list has of each of n updaters exactly the items that were kept, its word is that of all their items.
-pub fn the_word_is_of_all_items<C: ThetaKind>(_sketch: PhantomData<C>)
+/// If a list has of each of n updaters exactly the items that were kept, its word is that of all their items.
+pub fn the_word_is_of_all_items<C: ThetaWord>(_sketch: PhantomData<C>)
     ensures { (numbers : List ℕ) (list : List Entry) (n : ℕ) (items : ℕ → List ℕ)
         → All (λ entry. entry.0 < n) list → ((i : ℕ) → i < n → AreItems (items i))
         → ((i : ℕ) → i < n → AreKept C.keeps_of (C.hint_of numbers) list (items i) (entries_by i list))

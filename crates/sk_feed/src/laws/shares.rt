@@ -10,7 +10,7 @@ ghost use Rattle.sk_fill.specs.Windows.{all_lines, items_in};
 ghost use Rattle.sk_feed.specs.Rounds.{TakeBlocks};
 ghost use Rattle.sk_feed.specs.Shares.{share, KeepShares, TakeShares, HaveKeptNone, HasAllOf};
 
-use sk_compose::ThetaKind;
+use sk_compose::ThetaWord;
 use std::marker::PhantomData;
 
 /// Of no windows nobody takes anything.
@@ -48,7 +48,7 @@ pub fn what_was_taken_is_kept()
 {}
 
 /// The word of a list that has all that updaters kept is one thread's, over the items of all lines.
-pub fn the_word_is_of_all_that_was_taken<C: ThetaKind>(_sketch: PhantomData<C>)
+pub fn the_word_is_of_all_that_was_taken<C: ThetaWord>(_sketch: PhantomData<C>)
     ensures { (numbers : List ℕ) (list : List Entry) (kind : Kind) (windows : List (List (List ℕ)))
         (us us' : List UpdaterState) → 0 < length us → HaveKeptNone numbers us
         → KeepShares C.keeps_of C.hint_of kind windows us us' → HasAllOf list us'

@@ -56,6 +56,17 @@ pub fn a_batch_more()
     ensures { (k : ℕ) (hashes more : List ℕ) → k_smallest k (hashes ++ more) ≡ k_smallest k (k_smallest k hashes ++ more) }
 {}
 
+/// Lists with the same members have the same k smallest, in whatever order and however often each stands.
+pub fn k_smallest_of_members()
+    ensures { (k : ℕ) (xs ys : List ℕ) → ((x : ℕ) → Contains xs x → Contains ys x) → ((x : ℕ) → Contains ys x → Contains xs x)
+        → k_smallest k xs ≡ k_smallest k ys }
+{}
+
+/// Two lists, one after the other, need no more of either than what is kept of it.
+pub fn k_smallest_append()
+    ensures { (k : ℕ) (xs ys : List ℕ) → k_smallest k (k_smallest k xs ++ k_smallest k ys) ≡ k_smallest k (xs ++ ys) }
+{}
+
 /// The theta of a full list is at least k - 1, and at least k if its hashes are items.
 pub fn theta_of_full()
     ensures any { (end k : ℕ) (hashes : List ℕ) → count_of k hashes ≡ k → k - 1 ≤ theta_to end k hashes }

@@ -70,8 +70,6 @@ impl Composable for Tally {
     }
 
     ghost idle_replies = { λ _ _ _ _ _ _ _ no. never no };
-
-    ghost idle_lists = { λ _ _ _ _ _ _ _ no. never no };
 }
 
 #[test]

@@ -8,6 +8,6 @@ use Rattle.sk_feed.proofs.laws.shares.the_word_is_of_all_that_was_taken.Goals as
 
 pub returns : goal.returns
 returns g c = λ numbers list kind windows us us' some new taken has.
-    g.met.C.ThetaKind.packed_is numbers list
+    g.met.C.ThetaWord.packed_is numbers list
     ∙ same_word (k_of numbers) (items_of_entries list) (items_in kind (all_lines windows))
-    (smallest_of_shares (k_of numbers) g.C.Composable.keeps_of g.C.Composable.hint_of numbers list kind windows us us' g.met.C.ThetaKind.keeps_is (g.met.C.ThetaKind.hint_is numbers) some new taken has)
+    (smallest_of_shares (k_of numbers) g.C.Composable.keeps_of g.C.Composable.hint_of numbers list kind windows us us' g.met.C.ThetaWord.keeps_is (g.met.C.ThetaWord.hint_is numbers) some new taken has)
