@@ -2,7 +2,7 @@
 use Rattle.std.proofs.Common.{◌≡◌, ◌≢◌, ℕ, ◌+◌, ◌-◌, ◌%◌, ◌<◌, ◌≤◌, List, length, set, get_or, ⊎_elim, refl, sym, ap, subst, ◌∙◌, arith, length-set}
 use Rattle.std.proofs.lemmas.Bool.{cases_eq, cases_order}
 use Rattle.std.proofs.Math.Nat.{mod-eq_of_lt}
-use Rattle.sk_heap.specs.Table.{going_round, IsProbedOver, IsProbedButGap, IsGap}
+use Rattle.sk_heap.specs.Table.{home, going_round, IsProbedOver, IsProbedButGap, IsGap}
 use Rattle.sk_heap.proofs.Round.{steps_on, steps_back, one_round, steps_reach}
 use Rattle.sk_heap.proofs.Probes.{round_at, round_off}
 
@@ -10,9 +10,9 @@ use Rattle.sk_heap.proofs.Probes.{round_at, round_off}
 pub gap_opens : (len : ℕ) (t : List ℕ) (at : ℕ) → len ≡ length t → at < len → IsProbedOver len t → IsProbedButGap len (set t at 0) at 0 1
 gap_opens len t at long inside probed h n e under found less empty =
     let none : at + 0 ≡ at = omega arith in
-    let off : (h + n) % len ≢ at = λ same. absurd (omega (arith, sym (round_at len t at 0 (h + n) (omega arith) same) ∙ found)) in
-    let found' : going_round len t (h + n) ≡ h + 1 = sym (round_off len t at 0 (h + n) off) ∙ found in (
-      ⊎_elim (λ same. same ∙ sym (ap (λ (p : ℕ). p % len) none ∙ mod-eq_of_lt inside)) (λ apart. absurd (probed h n e under found' less (sym (round_off len t at 0 (h + e) apart) ∙ empty))) (cases_eq ((h + e) % len) at),
+    let off : (home len h + n) % len ≢ at = λ same. absurd (omega (arith, sym (round_at len t at 0 (home len h + n) (omega arith) same) ∙ found)) in
+    let found' : going_round len t (home len h + n) ≡ h + 1 = sym (round_off len t at 0 (home len h + n) off) ∙ found in (
+      ⊎_elim (λ same. same ∙ sym (ap (λ (p : ℕ). p % len) none ∙ mod-eq_of_lt inside)) (λ apart. absurd (probed h n e under found' less (sym (round_off len t at 0 (home len h + e) apart) ∙ empty))) (cases_eq ((home len h + e) % len) at),
       λ c above below. absurd (omega arith),
     )
 
@@ -22,22 +22,22 @@ module _ (len : ℕ) (t : List ℕ) (start gap step : ℕ) (long : len ≡ lengt
   gap_closes ends h n e under found less empty =
       let p = but h n e under found less empty in
       let c : ℕ = gap + (n - e) in
-      let meets : (h + n) % len ≡ (start + c) % len = steps_on len h e start gap (n - e) n c p.0 (omega arith) refl in
+      let meets : (home len h + n) % len ≡ (start + c) % len = steps_on len (home len h) e start gap (n - e) n c p.0 (omega arith) refl in
       ⊎_elim
       (λ same. absurd (omega (arith, sym found ∙ ap (λ (q : ℕ). get_or t q 0) (meets ∙ ap (λ (c : ℕ). (start + c) % len) same) ∙ ends)))
       (λ apart.
       ⊎_elim (λ below. p.1 c (omega arith) below meets)
       (λ past.
       let f : ℕ = e + (step - gap) in
-      let meets' : (h + f) % len ≡ (start + step) % len = steps_on len h e start gap (step - gap) f step p.0 refl (omega arith) in
-      let empty' : going_round len t (h + f) ≡ 0 = ap (λ (q : ℕ). get_or t q 0) meets' ∙ ends in
+      let meets' : (home len h + f) % len ≡ (start + step) % len = steps_on len (home len h) e start gap (step - gap) f step p.0 refl (omega arith) in
+      let empty' : going_round len t (home len h + f) ≡ 0 = ap (λ (q : ℕ). get_or t q 0) meets' ∙ ends in
       let same : step ≡ gap = one_round len start step gap within (omega arith) (sym meets' ∙ (but h n f under found (omega arith) empty').0) in
       absurd (omega arith))
       apart)
       (cases_order c step)
 
-  module _ (y d : ℕ) (under_d : d < len) (reaches : (y + d) % len ≡ (start + step) % len) (entry : going_round len t (start + step) ≡ y + 1) where
-    at_step : (h n : ℕ) → (h + n) % len ≡ (start + step) % len → going_round len t (h + n) ≡ h + 1 → h ≡ y
+  module _ (y d : ℕ) (under_d : d < len) (reaches : (home len y + d) % len ≡ (start + step) % len) (entry : going_round len t (start + step) ≡ y + 1) where
+    at_step : (h n : ℕ) → (home len h + n) % len ≡ (start + step) % len → going_round len t (home len h + n) ≡ h + 1 → h ≡ y
     at_step h n same found = omega (arith, sym found ∙ ap (λ (q : ℕ). get_or t q 0) same ∙ entry)
 
     -- the next place has an entry whose way does not pass the gap
@@ -48,10 +48,10 @@ module _ (len : ℕ) (t : List ℕ) (start gap step : ℕ) (long : len ≡ lengt
           λ c above below same.
               ⊎_elim
               (λ last.
-              let at : (h + n) % len ≡ (start + step) % len = same ∙ ap (λ (c : ℕ). (start + c) % len) last in
+              let at : (home len h + n) % len ≡ (start + step) % len = same ∙ ap (λ (c : ℕ). (start + c) % len) last in
               let hashes : h ≡ y = at_step h n at found in
-              let way : n ≡ d = one_round len y n d under under_d (ap (λ (g : ℕ). (g + n) % len) (sym hashes) ∙ at ∙ sym reaches) in
-              let meets : (h + n) % len ≡ (start + (gap + (n - e))) % len = steps_on len h e start gap (n - e) n (gap + (n - e)) p.0 (omega arith) refl in
+              let way : n ≡ d = one_round len (home len y) n d under under_d (ap (λ (g : ℕ). (home len g + n) % len) (sym hashes) ∙ at ∙ sym reaches) in
+              let meets : (home len h + n) % len ≡ (start + (gap + (n - e))) % len = steps_on len (home len h) e start gap (n - e) n (gap + (n - e)) p.0 (omega arith) refl in
               let steps : gap + (n - e) ≡ step = one_round len start (gap + (n - e)) step (omega arith) within (sym meets ∙ at) in
               absurd (omega arith))
               (λ other. p.1 c above (omega arith) same)
@@ -60,13 +60,13 @@ module _ (len : ℕ) (t : List ℕ) (start gap step : ℕ) (long : len ≡ lengt
 
 -- no way of an entry has an empty place but the gap
 abbrev pub IsOnlyGap : ℕ → List ℕ → ℕ → ℕ → Type 0
-IsOnlyGap len t start gap = (h n e : ℕ) → n < len → going_round len t (h + n) ≡ h + 1 → e < n → going_round len t (h + e) ≡ 0 → (h + e) % len ≡ (start + gap) % len
+IsOnlyGap len t start gap = (h n e : ℕ) → n < len → going_round len t (home len h + n) ≡ h + 1 → e < n → going_round len t (home len h + e) ≡ 0 → (home len h + e) % len ≡ (start + gap) % len
 
 module _ (len : ℕ) (t : List ℕ) (start gap step : ℕ) (long : len ≡ length t) (behind : gap < step) (within : step < len) (only : IsOnlyGap len t start gap) where
-  module _ (y d : ℕ) (under_d : d < len) (reaches : (y + d) % len ≡ (start + step) % len) (entry : going_round len t (start + step) ≡ y + 1) (hole : going_round len t (start + gap) ≡ 0) (far : step - gap ≤ d) where
+  module _ (y d : ℕ) (under_d : d < len) (reaches : (home len y + d) % len ≡ (start + step) % len) (entry : going_round len t (start + step) ≡ y + 1) (hole : going_round len t (start + gap) ≡ 0) (far : step - gap ≤ d) where
     -- the gap is at the place that y's way meets so many steps before the entry
-    on_the_way : (y + (d - (step - gap))) % len ≡ (start + gap) % len
-    on_the_way = steps_back len y (d - (step - gap)) start gap (step - gap) d step (omega arith) reaches (omega arith) (omega arith)
+    on_the_way : (home len y + (d - (step - gap))) % len ≡ (start + gap) % len
+    on_the_way = steps_back len (home len y) (d - (step - gap)) start gap (step - gap) d step (omega arith) reaches (omega arith) (omega arith)
 
     -- the entry moves into the gap
     pub gap_moves : IsProbedButGap len (set (set t ((start + gap) % len) (y + 1)) ((start + step) % len) 0) start step (step + 1)
@@ -76,23 +76,23 @@ module _ (len : ℕ) (t : List ℕ) (start gap step : ℕ) (long : len ≡ lengt
         let filled : List ℕ = set t gap_at (y + 1) in
         let inside : gap_at < length t = omega arith in
         let inside' : at < length filled = omega (arith, length-set t gap_at (y + 1)) in
-        let off_at : (h + n) % len ≢ at = λ same. absurd (omega (arith, sym (round_at len filled at 0 (h + n) inside' same) ∙ found)) in
-        let found' : going_round len filled (h + n) ≡ h + 1 = sym (round_off len filled at 0 (h + n) off_at) ∙ found in (
+        let off_at : (home len h + n) % len ≢ at = λ same. absurd (omega (arith, sym (round_at len filled at 0 (home len h + n) inside' same) ∙ found)) in
+        let found' : going_round len filled (home len h + n) ≡ h + 1 = sym (round_off len filled at 0 (home len h + n) off_at) ∙ found in (
           ⊎_elim (λ same. same)
               (λ off.
-              let empty' : going_round len filled (h + e) ≡ 0 = sym (round_off len filled at 0 (h + e) off) ∙ empty in
-              let off_gap : (h + e) % len ≢ gap_at = λ same. absurd (omega (arith, sym (round_at len t gap_at (y + 1) (h + e) inside same) ∙ empty')) in
-              let empty'' : going_round len t (h + e) ≡ 0 = sym (round_off len t gap_at (y + 1) (h + e) off_gap) ∙ empty' in
+              let empty' : going_round len filled (home len h + e) ≡ 0 = sym (round_off len filled at 0 (home len h + e) off) ∙ empty in
+              let off_gap : (home len h + e) % len ≢ gap_at = λ same. absurd (omega (arith, sym (round_at len t gap_at (y + 1) (home len h + e) inside same) ∙ empty')) in
+              let empty'' : going_round len t (home len h + e) ≡ 0 = sym (round_off len t gap_at (y + 1) (home len h + e) off_gap) ∙ empty' in
               ⊎_elim
               (λ same.
-              let hashes : h ≡ y = omega (arith, sym (round_at len t gap_at (y + 1) (h + n) inside same) ∙ found') in
-              let way : n ≡ d - (step - gap) = one_round len y n (d - (step - gap)) under (omega arith) (ap (λ (g : ℕ). (g + n) % len) (sym hashes) ∙ same ∙ sym on_the_way) in
-              let there : going_round len t (y + d) ≡ y + 1 = ap (λ (q : ℕ). get_or t q 0) reaches ∙ entry in
-              let empty_y : going_round len t (y + e) ≡ 0 = ap (λ (g : ℕ). going_round len t (g + e)) (sym hashes) ∙ empty'' in
-              absurd (off_gap (ap (λ (g : ℕ). (g + e) % len) hashes ∙ only y d e under_d there (omega arith) empty_y)))
-              (λ apart. absurd (off_gap (only h n e under (sym (round_off len t gap_at (y + 1) (h + n) apart) ∙ found') less empty'')))
-              (cases_eq ((h + n) % len) gap_at))
-              (cases_eq ((h + e) % len) at),
+              let hashes : h ≡ y = omega (arith, sym (round_at len t gap_at (y + 1) (home len h + n) inside same) ∙ found') in
+              let way : n ≡ d - (step - gap) = one_round len (home len y) n (d - (step - gap)) under (omega arith) (ap (λ (g : ℕ). (home len g + n) % len) (sym hashes) ∙ same ∙ sym on_the_way) in
+              let there : going_round len t (home len y + d) ≡ y + 1 = ap (λ (q : ℕ). get_or t q 0) reaches ∙ entry in
+              let empty_y : going_round len t (home len y + e) ≡ 0 = ap (λ (g : ℕ). going_round len t (home len g + e)) (sym hashes) ∙ empty'' in
+              absurd (off_gap (ap (λ (g : ℕ). (home len g + e) % len) hashes ∙ only y d e under_d there (omega arith) empty_y)))
+              (λ apart. absurd (off_gap (only h n e under (sym (round_off len t gap_at (y + 1) (home len h + n) apart) ∙ found') less empty'')))
+              (cases_eq ((home len h + n) % len) gap_at))
+              (cases_eq ((home len h + e) % len) at),
           λ c above below. absurd (omega arith),
         )
 
@@ -119,7 +119,7 @@ module _ (t : List ℕ) (start gap step : ℕ) (within : step < length t) (g : I
   pub gap_ends : going_round (length t) t (start + step) ≡ 0 → IsProbedOver (length t) t
   gap_ends = gap_closes (length t) t start gap step refl (g.behind) within (g.but)
 
-  module _ (y d : ℕ) (under : d < length t) (reaches : (y + d) % length t ≡ (start + step) % length t) (entry : going_round (length t) t (start + step) ≡ y + 1) where
+  module _ (y d : ℕ) (under : d < length t) (reaches : (home (length t) y + d) % length t ≡ (start + step) % length t) (entry : going_round (length t) t (start + step) ≡ y + 1) where
     past : (c : ℕ) → step ≤ c → going_round (length t) t (start + c) ≡ 0 → step + 1 ≤ c
     past c from empty = ⊎_elim (λ same. absurd (omega (arith, sym entry ∙ ap (λ (c : ℕ). going_round (length t) t (start + c)) (sym same) ∙ empty))) (λ apart. omega arith) (cases_eq c step)
 
@@ -157,7 +157,7 @@ module _ (t : List ℕ) (start gap step : ℕ) (within : step < length t) (g : I
     apart_from_gap same = let behind : gap < step = g.behind in let e : gap ≡ step = one_round (length t) start gap step (omega arith) within same in absurd (omega arith)
 
 -- the last entry before an empty place moves into the gap
-module _ (t : List ℕ) (start last : ℕ) (inside : start < length t) (within : last + 1 < length t) (g : IsGap (length t) t start 0 1) (ends : going_round (length t) t (start + (last + 1)) ≡ 0) (y d : ℕ) (under : d < length t) (reaches : (y + d) % length t ≡ (start + last) % length t) (entry : going_round (length t) t (start + last) ≡ y + 1) where
+module _ (t : List ℕ) (start last : ℕ) (inside : start < length t) (within : last + 1 < length t) (g : IsGap (length t) t start 0 1) (ends : going_round (length t) t (start + (last + 1)) ≡ 0) (y d : ℕ) (under : d < length t) (reaches : (home (length t) y + d) % length t ≡ (start + last) % length t) (entry : going_round (length t) t (start + last) ≡ y + 1) where
   start_is : (start + 0) % length t ≡ start
   start_is = let none : start + 0 ≡ start = omega arith in ap (λ (p : ℕ). p % length t) none ∙ mod-eq_of_lt inside
 

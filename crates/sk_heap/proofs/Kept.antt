@@ -10,7 +10,7 @@ use Rattle.std.proofs.lemmas.List.Sorted.{length_permutation, IsPermutation-sym}
 use Rattle.std.proofs.lemmas.List.{get_or_default}
 use Rattle.sk_model.specs.Sketch.{placed, rising, k_smallest}
 use Rattle.sk_model.proofs.Rising.{Has, Has-from_Contains, Contains-from_Has, increasing_from_RisesFrom}
-use Rattle.sk_model.proofs.Sketch.{RisesFrom-rising, Has-rising, rising-has, k_smallest_is, one_more}
+use Rattle.sk_model.proofs.Sketch.{RisesFrom-rising, Has-rising, rising-has, k_smallest_is, k_smallest_append, one_more}
 use Rattle.sk_theta.specs.Kept.{theta_kept}
 use Rattle.sk_heap.specs.Held.{IsExchanged}
 use Rattle.sk_heap.proofs.Distinct.{Has-permutation, All-from_Has, head_once, distinct_moved, rising_moves}
@@ -22,9 +22,16 @@ rises xs = increasing_from_RisesFrom 0 (rising xs) (RisesFrom-rising xs)
 pub length_rising : (xs : List ℕ) → IsDistinct nat_eq xs → length (rising xs) ≡ length xs
 length_rising xs distinct = sym (length_permutation (rising xs) xs (rising_moves xs distinct))
 
-all_kept : (k : ℕ) (xs : List ℕ) → length (rising xs) ≤ k → k_smallest k xs ≡ rising xs
+pub all_kept : (k : ℕ) (xs : List ℕ) → length (rising xs) ≤ k → k_smallest k xs ≡ rising xs
 unfolding k_smallest
 all_kept k xs within = take_all k (rising xs) within
+
+-- the hashes of a heap are as good as the list that it keeps the k smallest of
+pub joined_stands : (k : ℕ) (heap hashes more : List ℕ) → length (rising heap) ≤ k → rising heap ≡ k_smallest k more → k_smallest k (hashes ++ heap) ≡ k_smallest k (hashes ++ more)
+joined_stands k heap hashes more within stands =
+    sym (k_smallest_append k hashes heap)
+    ∙ ap (λ (l : List ℕ). k_smallest k (k_smallest k hashes ++ l)) (all_kept k heap within ∙ stands)
+    ∙ k_smallest_append k hashes more
 
 -- the new hashes are the old ones and h, or those of them that are the least
 kept_more : (k h : ℕ) (xs ys : List ℕ) → length (rising xs) ≤ k → length (rising ys) ≤ k

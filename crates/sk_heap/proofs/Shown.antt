@@ -15,6 +15,7 @@ use Rattle.sk_theta.specs.Kept.{Sketch, IsWhole, theta_kept}
 use Rattle.sk_theta.proofs.Sketches.{stands_for_kept}
 use Rattle.sk_heap.specs.Heap.{times, IsMaxHeap}
 use Rattle.sk_heap.specs.Held.{IsHeld}
+use Rattle.sk_heap.specs.Table.{home}
 use Rattle.sk_heap.proofs.Counts.{once-same, once-other, times-cons}
 use Rattle.sk_heap.proofs.Distinct.{rising_moves, distinct_moved}
 use Rattle.sk_heap.proofs.Kept.{rises, length_rising}
@@ -89,7 +90,7 @@ held_empty k n heap table least most size none zeros order =
       distinct = distinct_nil;
       order = subst (λ (heap : List ℕ). IsHeap nat_cmp heap) none order;
       size = subst (λ (len : ℕ). IsNextPowerOfTwo (2 * k) len) (sym (length-replicate {A = ℕ} n 0)) size;
-      probed = λ h m e under found less. absurd (omega (arith, found, zeros_are n ((h + m) % length (zeros_of n))));
+      probed = λ h m e under found less. absurd (omega (arith, found, zeros_are n ((home (length (zeros_of n)) h + m) % length (zeros_of n))));
       entries = λ h. zeros_alone n h;
       vacant = omega (arith, zeros_times n, length-replicate {A = ℕ} n 0);
     }))

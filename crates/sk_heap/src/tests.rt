@@ -18,7 +18,7 @@ fn a_worked_sketch_shows_its_heap_and_table(rt: HostRuntime) -> Result<(), Fail>
     assert!(rt; sketch.update(4));
     assert!(rt; !sketch.update(3));
     assert_eq!(rt; sketch.heap(), [4, 3].as_slice());
-    assert_eq!(rt; sketch.table(), [5, 0, 0, 4].as_slice());
+    assert_eq!(rt; sketch.table(), [4, 0, 5, 0].as_slice());
     assert!(rt; !sketch.update(8));
     assert_eq!(rt; sketch.fraction(), (9_223_372_036_854_775_808, 4));
     assert_eq!(rt; sketch.list()?.as_slice(), [3, 4].as_slice());
@@ -36,28 +36,44 @@ fn the_least_theta_is_k(rt: HostRuntime) -> Result<(), Fail> {
     Ok(())
 }
 
-// Hashes 1, 5 and 9 begin at one place of a table of 4, and 3 before it.
+// In a table of 4, hashes 1, 4 and 11 have the home 2, and 3 has the home 0.
 #[test]
-fn entries_move_back_behind_one_that_goes(rt: HostRuntime) -> Result<(), Fail> {
+fn entries_move_back_after_one_that_goes(rt: HostRuntime) -> Result<(), Fail> {
     let mut sketch = HeapTheta::new(rt.alloc(), 2)?;
-    sketch.merge(&[9, 5]);
-    assert_eq!(rt; sketch.table(), [0, 10, 6, 0].as_slice());
+    sketch.merge(&[11, 4]);
+    assert_eq!(rt; sketch.table(), [0, 0, 12, 5].as_slice());
     assert!(rt; sketch.update(1));
-    assert_eq!(rt; sketch.table(), [0, 2, 6, 0].as_slice());
+    assert_eq!(rt; sketch.table(), [0, 0, 2, 5].as_slice());
     assert!(rt; sketch.update(3));
-    assert_eq!(rt; sketch.table(), [0, 2, 0, 4].as_slice());
+    assert_eq!(rt; sketch.table(), [4, 0, 2, 0].as_slice());
     assert!(rt; !sketch.update(1));
     Ok(())
 }
 
-// Hashes 1, 9 and 17 begin at one place of a table of 8, and 3 and 4 stand where they begin.
+// In a table of 8, hashes 4 and 17 have the home 5, and 13 and 3 stand at theirs, 7 and 0.
 #[test]
 fn entries_move_back_before_one_that_stays(rt: HostRuntime) -> Result<(), Fail> {
     let mut sketch = HeapTheta::new(rt.alloc(), 3)?;
-    sketch.merge(&[17, 9, 3]);
-    assert_eq!(rt; sketch.table(), [0, 18, 10, 4, 0, 0, 0, 0].as_slice());
-    assert!(rt; sketch.update(4));
-    assert_eq!(rt; sketch.table(), [0, 10, 0, 4, 5, 0, 0, 0].as_slice());
+    sketch.merge(&[17, 4, 13]);
+    assert_eq!(rt; sketch.table(), [0, 0, 0, 0, 0, 18, 5, 14].as_slice());
+    assert!(rt; sketch.update(3));
+    assert_eq!(rt; sketch.table(), [4, 0, 0, 0, 0, 5, 0, 14].as_slice());
+    Ok(())
+}
+
+#[test]
+fn joined_and_cleared_sketches_are_of_their_lists(rt: HostRuntime) -> Result<(), Fail> {
+    let mut sketch = HeapTheta::new(rt.alloc(), 3)?;
+    let mut other = HeapTheta::new(rt.alloc(), 3)?;
+    sketch.merge(&[9, 2]);
+    other.merge(&[7, 2, 4, 11]);
+    sketch.join(&other);
+    assert_eq!(rt; sketch.list()?.as_slice(), [2, 4, 7].as_slice());
+    assert_eq!(rt; other.list()?.as_slice(), [2, 4, 7].as_slice());
+    sketch.clear();
+    assert_eq!(rt; (sketch.count(), sketch.theta()), (0, ITEM_END));
+    sketch.join(&other);
+    assert_eq!(rt; sketch.list()?.as_slice(), [2, 4, 7].as_slice());
     Ok(())
 }
 

@@ -39,7 +39,7 @@ fn pass_blocks(table: &[u64], from: usize, entry: u64) -> usize
     at
 }
 
-// The first place from one on that is empty or has an entry, or the length where there is none.
+// The first place from one on that is empty or has an entry, or the length if there is none.
 fn seek(table: &[u64], from: usize, entry: u64) -> usize
     requires within { from ≤ length table.now }
     ensures within { result ≤ length table.now }

@@ -1,5 +1,5 @@
 use Rattle.sk_heap.proofs.Walks.{run_is_within, run_is_full}
-use Rattle.sk_heap.proofs.table.run_behind.Goals as goal
+use Rattle.sk_heap.proofs.table.run_after.Goals as goal
 
 pub returns-clause-within : goal.returns-clause-within
 returns-clause-within c =
