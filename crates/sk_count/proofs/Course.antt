@@ -25,7 +25,7 @@ use Rattle.sk_read.specs.declared.kind.Kind.{Kind}
 use Rattle.sk_read.specs.declared.items.Intake.{Intake}
 use Rattle.sk_fill.specs.Windows.{items_in, all_lines}
 use Rattle.sk_fill.specs.Blocks.{block_of}
-use Rattle.sk_feed.specs.Feeds.{Takes}
+use Rattle.sk_hub.specs.Calls.{Takes}
 use Rattle.sk_feed.specs.Shares.{share, TakeShares}
 use Rattle.sk_feed.specs.Hubs.{Hub, FeedsWindow, LeavesHub, IsLeft, HeartGoesOn}
 use Rattle.sk_ingest.specs.Ingests.{Terms, Reported}

@@ -27,6 +27,7 @@ use Rattle.sk_fill.specs.Windows.{items_in, all_lines}
 use Rattle.sk_fill.specs.Blocks.{block_of}
 use Rattle.sk_feed.specs.Shares.{share, HasAllOf}
 use Rattle.sk_feed.specs.Hubs.{Hub}
+use Rattle.sk_feed.proofs.Drained.{known_at}
 use Rattle.sk_fill.proofs.Items.{items_below, good_items}
 use Rattle.sk_feed.proofs.Shares.{all_items}
 use Rattle.sk_count.specs.declared.plan.Plan.{Plan}
@@ -165,11 +166,11 @@ module _ (plan : Plan) (a : Hub) (opened : IsOpened plan a) (some : 0 < plan.upd
   shows_all = record {
     drained = d.drains.drained ∙ ap (λ l. l ++ range_with_len 0 (length b.updaters)) (ap (λ v. v.drained) fed.last.heart.knows.view ∙ fed.passes.passes.heart.drained ∙ opened.drained) ∙ ap (range_with_len 0) took.count;
     kept = λ i within. let within' : i < length b.updaters = omega (arith, took.count) in at_some b.updaters i within' (λ e.
-        subst (AreKeptOver plan.k h.view.seen (share plan.kind (fed.passes.windows ++ fed.rest ∷ []) plan.updaters i)) (sym (d.drains.known i e within'))
+        subst (AreKeptOver plan.k h.view.seen (share plan.kind (fed.passes.windows ++ fed.rest ∷ []) plan.updaters i)) (sym (known_at d.drains i e within'))
         (kept_longer keeps (λ front. theta_of plan.k (items_of_entries front)) (base_of (get_or b.updaters i e)) h.view.seen (share plan.kind (fed.passes.windows ++ fed.rest ∷ []) plan.updaters i) (kept_of (get_or b.updaters i e)) (d.has.bases i e within') (took.each i e within').kept));
-    sees = λ i within. let within' : i < length b.updaters = omega (arith, took.count) in at_some b.updaters i within' (λ e. d.has.kept i e within' ∙ sym (d.drains.known i e within'));
+    sees = λ i within. let within' : i < length b.updaters = omega (arith, took.count) in at_some b.updaters i within' (λ e. d.has.kept i e within' ∙ sym (known_at d.drains i e within'));
     later = λ j m inside. λ i within. let within' : i < length b.updaters = omega (arith, took.count) in at_some b.updaters i within' (λ e.
-        subst (Begins (kept_by (get_or fed.passes.passes.moments j m) i)) (sym (d.drains.known i e within'))
+        subst (Begins (kept_by (get_or fed.passes.passes.moments j m) i)) (sym (known_at d.drains i e within'))
         (keeps_more fed.between.updaters b.updaters (get_or fed.passes.passes.moments j m) fed.last.updaters.count (fed.passes.passes.kept j m inside) (kept_fed plan.kind fed.rest fed.between.updaters b.updaters fed.last.updaters) i e within'));
     steps = (d.steps.0, d.steps.1 ∙ ap (λ n. d.steps.0 ++ Ask n ∷ []) the_word);
   }

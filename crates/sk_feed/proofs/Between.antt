@@ -9,7 +9,7 @@ use Rattle.sk_compose.specs.Kept.{AreKept}
 use Rattle.sk_hub.specs.Updaters.{UpdaterState, base_of, handed_of, kept_of}
 use Rattle.sk_read.specs.declared.kind.Kind.{Kind}
 use Rattle.sk_fill.specs.Windows.{WindowState}
-use Rattle.sk_feed.specs.Feeds.{GoesOn, Takes}
+use Rattle.sk_hub.specs.Calls.{GoesOn, Takes}
 use Rattle.sk_feed.specs.Shares.{share, TakeShares}
 use Rattle.sk_feed.specs.Hubs.{Hub, FeedsWindow, FeedsWindows}
 use Rattle.std.proofs.lemmas.List.{get_or_default, take-append-drop}

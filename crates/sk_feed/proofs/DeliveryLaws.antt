@@ -9,13 +9,13 @@ use Rattle.sk_model.specs.Limits.{most_kept}
 use Rattle.sk_hub.specs.Updaters.{UpdaterState, kept_of}
 use Rattle.sk_read.specs.declared.kind.Kind.{Kind}
 use Rattle.sk_fill.specs.Windows.{all_lines}
-use Rattle.sk_feed.specs.Feeds.{Takes}
+use Rattle.sk_hub.specs.Calls.{Takes}
 use Rattle.sk_feed.specs.Shares.{share}
 use Rattle.sk_fill.specs.Stretches.{StretchState}
 use Rattle.sk_feed.specs.Deliveries.{windows_of, EndAt, IsNext, IsUpTo, HasFed}
 use Rattle.sk_feed.proofs.Rooms.{few_shares, few_blocks}
 use Rattle.sk_feed.proofs.Shares.{share_none, share_append}
-use Rattle.sk_feed.proofs.Updaters.{none_refl, takes_none, takes_trans, takes_few}
+use Rattle.sk_hub.proofs.Calls.{none_refl, takes_none, takes_trans, takes_few}
 
 -- ---- lists of stretches
 

@@ -6,10 +6,10 @@ use Rattle.sk_model.specs.Entries.{Entry}
 use Rattle.sk_read.specs.declared.kind.Kind.{Kind}
 use Rattle.sk_hub.specs.Updaters.{UpdaterState, kept_of}
 use Rattle.sk_fill.specs.Windows.{item_in, items_in}
-use Rattle.sk_feed.specs.Feeds.{KeepsNone, Takes}
+use Rattle.sk_hub.specs.Calls.{KeepsNone, Takes}
 use Rattle.sk_fill.specs.Blocks.{block_of}
 use Rattle.sk_fill.proofs.Items.{range_none, range_split, no_items, next_item, next_empty, items_append}
-use Rattle.sk_feed.proofs.Updaters.{none_refl, takes_none, takes_trans, takes_then_none, takes_few}
+use Rattle.sk_hub.proofs.Calls.{none_refl, takes_none, takes_trans, takes_then_none, takes_few}
 
 pub no_line : (keeps : ℕ → ℕ → Bool) (hint_of : List ℕ → List Entry → ℕ) (u : UpdaterState) (kind : Kind) (lines : List (List ℕ)) (from : ℕ) → Takes keeps hint_of u (items_in kind (slice_range lines from from)) u
 no_line keeps hint_of u kind lines from = subst (λ l. Takes keeps hint_of u l u) (sym (ap (items_in kind) (range_none lines from) ∙ no_items kind)) (takes_none keeps hint_of u u (none_refl u))

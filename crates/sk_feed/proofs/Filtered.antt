@@ -6,7 +6,7 @@ use Rattle.sk_model.specs.Missing.{Begins}
 use Rattle.sk_model.proofs.Missing.{begins_trans}
 use Rattle.sk_compose.specs.Kept.{AreKept}
 use Rattle.sk_hub.specs.Updaters.{UpdaterState, base_of}
-use Rattle.sk_feed.specs.Feeds.{Takes}
+use Rattle.sk_hub.specs.Calls.{Takes}
 
 one_of_all : (keeps : ℕ → ℕ → Bool) (hint : List Entry → ℕ) (front base : List Entry) (n x : ℕ) (items kept : List ℕ) (b : Bool) → n ≡ hint front → Begins front base
     → ((kept : List ℕ) → AreKept keeps hint base (filter (keeps n) items) kept → AreKept keeps hint base items kept) → keeps n x ≡ b

@@ -10,7 +10,7 @@ use Rattle.sk_hub.specs.Hearts.{HeartState}
 use Rattle.sk_hub.specs.Updaters.{UpdaterState, handed_of, kept_of}
 use Rattle.sk_hub.proofs.Leaves.{knows_none, knows_trans}
 use Rattle.sk_read.specs.declared.kind.Kind.{Kind}
-use Rattle.sk_feed.specs.Feeds.{Takes}
+use Rattle.sk_hub.specs.Calls.{Takes}
 use Rattle.sk_feed.specs.Rounds.{HaveRoom, HaveFew}
 use Rattle.sk_fill.specs.Blocks.{block_of}
 use Rattle.sk_feed.specs.Shares.{TakeShares, share, HaveKeptNone}
@@ -19,7 +19,7 @@ use Rattle.sk_feed.proofs.Rounds.{block_within}
 use Rattle.sk_feed.proofs.Shares.{share_one}
 use Rattle.sk_fill.specs.Windows.{items_in}
 use Rattle.sk_fill.proofs.Items.{few_items, no_items}
-use Rattle.sk_feed.proofs.Updaters.{takes_few, takes_none, none_refl}
+use Rattle.sk_hub.proofs.Calls.{takes_few, takes_none, none_refl}
 
 pub heart_waits : (h : HeartState) → HeartGoesOn h h
 heart_waits h = record { knows = knows_none h.view; stays = refl }

@@ -1,4 +1,3 @@
-pub mod Updaters
 pub mod Shares
 pub mod Feeding
 pub mod Rounds

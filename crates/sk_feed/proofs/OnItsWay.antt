@@ -9,11 +9,11 @@ use Rattle.sk_model.proofs.Missing.{begins_trans, begins_refl}
 use Rattle.sk_hub.specs.Updaters.{UpdaterState, base_of}
 use Rattle.sk_read.specs.declared.kind.Kind.{Kind}
 use Rattle.sk_fill.specs.Windows.{item_in, items_in}
-use Rattle.sk_feed.specs.Feeds.{KeepsNone, Takes}
+use Rattle.sk_hub.specs.Calls.{KeepsNone, Takes}
 use Rattle.sk_feed.specs.OnItsWay.{BlockItemsState, IsOnItsWay}
 use Rattle.sk_fill.proofs.Items.{few_items, items_append, one_item, no_item, no_items}
 use Rattle.sk_feed.proofs.Filtered.{takes_by_earlier}
-use Rattle.sk_feed.proofs.Updaters.{none_refl, takes_none, takes_trans}
+use Rattle.sk_hub.proofs.Calls.{none_refl, takes_none, takes_trans}
 
 -- ---- parts of lists
 

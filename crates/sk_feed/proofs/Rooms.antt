@@ -7,14 +7,14 @@ use Rattle.sk_model.specs.Limits.{most_kept}
 use Rattle.sk_hub.specs.Updaters.{UpdaterState, kept_of}
 use Rattle.sk_read.specs.declared.kind.Kind.{Kind}
 use Rattle.sk_fill.specs.Windows.{WindowState, items_in, all_lines}
-use Rattle.sk_feed.specs.Feeds.{Takes}
+use Rattle.sk_hub.specs.Calls.{Takes}
 use Rattle.sk_fill.specs.Blocks.{block_of, blocks_of}
 use Rattle.sk_feed.specs.Rounds.{HaveRoom, HaveRoomFor, HaveFew}
 use Rattle.sk_feed.specs.Shares.{share, TakeShares}
 use Rattle.sk_fill.proofs.Items.{few_items}
 use Rattle.sk_feed.proofs.Rounds.{block_within, of_images, ok_gives}
 use Rattle.sk_feed.proofs.Shares.{share_none, share_one, share_append}
-use Rattle.sk_feed.proofs.Updaters.{takes_few, takes_none, takes_trans, none_refl}
+use Rattle.sk_hub.proofs.Calls.{takes_few, takes_none, takes_trans, none_refl}
 
 -- ---- how many
 

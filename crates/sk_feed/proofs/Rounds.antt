@@ -7,7 +7,7 @@ use Rattle.sk_hub.specs.Updaters.{UpdaterState, kept_of}
 use Rattle.sk_read.specs.declared.kind.Kind.{Kind}
 use Rattle.sk_fill.specs.Blocks.{place_of, block_of}
 use Rattle.sk_fill.specs.Windows.{items_in}
-use Rattle.sk_feed.specs.Feeds.{Takes}
+use Rattle.sk_hub.specs.Calls.{Takes}
 use Rattle.sk_feed.specs.Rounds.{HaveRoom, TakesFront, TakeBlocks, TakeFronts}
 use Rattle.sk_fill.proofs.Blocks.{places_within}
 use Rattle.sk_model.specs.Limits.{most_kept}

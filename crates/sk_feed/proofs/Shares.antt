@@ -16,13 +16,13 @@ use Rattle.sk_compose.proofs.Smallest.{has_right, has_cases, in_some_part, in_al
 use Rattle.sk_hub.specs.Updaters.{UpdaterState, base_of, kept_of}
 use Rattle.sk_read.specs.declared.kind.Kind.{Kind}
 use Rattle.sk_fill.specs.Windows.{all_lines, items_in}
-use Rattle.sk_feed.specs.Feeds.{Takes}
+use Rattle.sk_hub.specs.Calls.{Takes}
 use Rattle.sk_fill.specs.Blocks.{block_of}
 use Rattle.sk_feed.specs.Rounds.{TakeBlocks}
 use Rattle.sk_feed.specs.Shares.{share, KeepsMore, KeepShares, TakeShares, HaveKeptNone, HasAllOf}
 use Rattle.sk_fill.proofs.Items.{items_append, items_below, no_items}
 use Rattle.sk_fill.proofs.Joined.{items_joined}
-use Rattle.sk_feed.proofs.Updaters.{none_refl, takes_none, takes_trans}
+use Rattle.sk_hub.proofs.Calls.{none_refl, takes_none, takes_trans}
 
 -- ---- what each took
 

@@ -7,7 +7,7 @@ use Rattle.sk_hub.specs.Updaters.{UpdaterState, kept_of}
 use Rattle.sk_model.specs.Entries.{Entry}
 use Rattle.sk_read.specs.declared.kind.Kind.{Kind}
 use Rattle.sk_model.specs.Limits.{most_kept}
-use Rattle.sk_feed.specs.Feeds.{Takes}
+use Rattle.sk_hub.specs.Calls.{Takes}
 use Rattle.sk_feed.specs.Shares.{share}
 use Rattle.sk_fill.specs.Windows.{all_lines}
 use Rattle.sk_fill.specs.Stretches.{StretchState}

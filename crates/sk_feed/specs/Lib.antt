@@ -1,4 +1,3 @@
-pub mod Feeds
 pub mod Calls
 pub mod Rounds
 pub mod Shares

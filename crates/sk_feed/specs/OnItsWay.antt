@@ -6,7 +6,7 @@ use Rattle.sk_model.specs.Missing.{Begins}
 use Rattle.sk_hub.specs.Updaters.{UpdaterState, base_of}
 use Rattle.sk_read.specs.declared.kind.Kind.{Kind}
 use Rattle.sk_fill.specs.Windows.{items_in}
-use Rattle.sk_feed.specs.Feeds.{Takes}
+use Rattle.sk_hub.specs.Calls.{Takes}
 
 -- the items of a block on their way: those that wait to be taken, and the lines to come behind them
 pub record BlockItemsState : Type 0 where

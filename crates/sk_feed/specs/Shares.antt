@@ -7,7 +7,7 @@ use Rattle.sk_hub.specs.Updaters.{UpdaterState, base_of, kept_of}
 use Rattle.sk_read.specs.declared.kind.Kind.{Kind}
 use Rattle.sk_fill.specs.Windows.{items_in}
 use Rattle.sk_fill.specs.Blocks.{block_of}
-use Rattle.sk_feed.specs.Feeds.{Takes}
+use Rattle.sk_hub.specs.Calls.{Takes}
 
 -- what updater i of n takes of windows, in order: the items of its block of each
 unfoldable pub share : Kind → List (List (List ℕ)) → ℕ → ℕ → List ℕ

@@ -3,7 +3,7 @@ ghost use Rattle.std.specs.Prelude.{◌≡◌, ◌<◌, ◌≤◌, ◌+◌, ◌+
 ghost use Rattle.std.specs.List.{filter};
 ghost use Rattle.sk_hub.specs.Updaters.{UpdaterState, kept_of};
 ghost use Rattle.sk_fill.specs.Windows.{items_in};
-ghost use Rattle.sk_feed.specs.Feeds.{Takes};
+ghost use Rattle.sk_hub.specs.Calls.{Takes};
 ghost use Rattle.sk_feed.specs.OnItsWay.{IsOnItsWay};
 ghost use Rattle.sk_model.specs.Limits.{most_kept};
 ghost use Rattle.sk_model.specs.Width.{AreItems};

@@ -8,7 +8,7 @@ use sk_hub::{Drain, Heart, Updater};
 use sk_model::OutOfMemory;
 use std::sync::Wait;
 
-/// Takes in all updaters of a hub, in number order, and answers the word of exactly what they kept.
+/// Takes in all updaters of a hub, in number order, and returns the word of exactly what they kept.
 pub fn drain_all<C: Composable, R: Wait>(
     rt: &R,
     heart: &mut Heart<C>,
@@ -23,7 +23,7 @@ pub fn drain_all<C: Composable, R: Wait>(
     ensures cause { OnErr result (IsTrue C.TAKES_MEMORY) }
 {
     take_in_all(rt, heart, updaters)?;
-    // It tells the proof how many updaters the hub has.
+    // It shows how many updaters the hub has.
     let _admitted = heart.admitted();
     Ok(heart.ask())
 }

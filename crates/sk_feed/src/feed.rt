@@ -2,7 +2,7 @@
 ghost use Rattle.std.specs.Prelude.{◌≡◌, ◌≢◌, ◌⊎◌, ℕ, ◌+◌, ◌-◌, ◌<◌, ◌≤◌, [], ◌∷◌, length, slice_index_or, slice_range, true, false, Ok, OnOk, OnErr, IfOk, IsTrue};
 ghost use Rattle.sk_hub.specs.Updaters.{kept_of};
 ghost use Rattle.sk_fill.specs.Windows.{item_in, items_in};
-ghost use Rattle.sk_feed.specs.Feeds.{KeepsNone, Takes};
+ghost use Rattle.sk_hub.specs.Calls.{KeepsNone, Takes};
 ghost use Rattle.sk_feed.specs.Calls.{filter_of, IsFed, IsFedEach, IsStopped, IsBusyWith, Filters, Accepts, InsistsAfter, HelpsIfEager, ServesAfter, ServesAll, FindsElsewhere};
 ghost use Rattle.sk_model.specs.Width.{IsItem};
 ghost use Rattle.sk_model.specs.Limits.{most_kept};

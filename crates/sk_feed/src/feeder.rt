@@ -2,7 +2,7 @@
 ghost use Rattle.std.specs.Prelude.{◌≡◌, ℕ, ◌+◌, ◌-◌, ◌<◌, ◌≤◌, length, map, slice_index_or, slice_range, OnOk, OnErr, IfOk, IsOk, IsErr, IsTrue};
 ghost use Rattle.sk_hub.specs.Updaters.{kept_of};
 ghost use Rattle.sk_fill.specs.Windows.{items_in};
-ghost use Rattle.sk_feed.specs.Feeds.{KeepsNone, Takes};
+ghost use Rattle.sk_hub.specs.Calls.{KeepsNone, Takes};
 ghost use Rattle.sk_fill.specs.Blocks.{block_of, blocks_of};
 ghost use Rattle.sk_feed.specs.Rounds.{HaveRoom, HaveRoomFor, TakesFront, TakeBlocks, TakeFronts};
 ghost use Rattle.sk_feed.specs.Shares.{share, TakeShares};

@@ -2,7 +2,7 @@
 ghost use Rattle.std.specs.Prelude.{◌≡◌, ℕ, ◌+◌, ◌<◌, ◌≤◌, [], ◌∷◌, length, OnOk, OnErr, IfOk, IsTrue};
 ghost use Rattle.rtrb.specs.Ring.{sent, received, IsPair, SameConsumer};
 ghost use Rattle.sk_hub.specs.Updaters.{kept_of};
-ghost use Rattle.sk_feed.specs.Feeds.{Takes};
+ghost use Rattle.sk_hub.specs.Calls.{Takes};
 ghost use Rattle.sk_fill.specs.Blocks.{blocks_of};
 ghost use Rattle.sk_feed.specs.Shares.{share};
 ghost use Rattle.sk_feed.specs.Deliveries.{IsNext, IsUpTo, HasFed, IsOpen};

@@ -5,7 +5,7 @@ ghost use Rattle.sk_model.specs.Missing.{Begins};
 ghost use Rattle.sk_hub.specs.Updaters.{UpdaterState, kept_of};
 ghost use Rattle.sk_read.specs.declared.kind.Kind.{Kind};
 ghost use Rattle.sk_fill.specs.Windows.{items_in};
-ghost use Rattle.sk_feed.specs.Feeds.{Takes};
+ghost use Rattle.sk_hub.specs.Calls.{Takes};
 
 pub mod shares;
 

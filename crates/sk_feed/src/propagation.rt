@@ -1,5 +1,5 @@
 //! Who propagates what updaters hand over.
-ghost use Rattle.sk_feed.specs.Feeds.{KeepsNone};
+ghost use Rattle.sk_hub.specs.Calls.{KeepsNone};
 ghost use Rattle.sk_feed.specs.Hubs.{HeartGoesOn};
 ghost use Rattle.std.specs.Prelude.{OnErr, IsTrue};
 

@@ -2,7 +2,7 @@
 ghost use Rattle.std.specs.Prelude.{◌∷◌, ◌+◌, ◌-◌, ◌≤◌, [], length, slice_range, OnOk, OnErr, IsTrue};
 ghost use Rattle.sk_hub.specs.Updaters.{kept_of};
 ghost use Rattle.sk_fill.specs.Windows.{items_in};
-ghost use Rattle.sk_feed.specs.Feeds.{Takes};
+ghost use Rattle.sk_hub.specs.Calls.{Takes};
 ghost use Rattle.sk_feed.specs.Rounds.{HaveRoom};
 ghost use Rattle.sk_feed.specs.Shares.{TakeShares};
 ghost use Rattle.sk_feed.specs.Hubs.{HeartGoesOn};

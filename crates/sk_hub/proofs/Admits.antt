@@ -1,6 +1,6 @@
 -- An updater whose seat was vacant.
-use Rattle.std.proofs.Common.{◌≡◌, ℕ, ◌+◌, ◌<◌, ◌≤◌, List, [], ◌∷◌, ◌++◌, length, All, Bool, not, Option, Some, None, subst, sym, ap, refl, ◌∙◌, length-set, arith}
-use Rattle.std.proofs.lemmas.List.Elements.{All-nil}
+use Rattle.std.proofs.Common.{◌≡◌, ℕ, ◌+◌, ◌<◌, ◌≤◌, List, [], ◌∷◌, ◌++◌, length, All, Bool, not, Option, Some, None, subst, sym, ap, refl, ◌∙◌, length-set, length-append, arith}
+use Rattle.std.proofs.lemmas.List.Elements.{All-nil, All-push}
 use Rattle.std.specs.Prelude.{slice_set}
 use Rattle.atomic_table.specs.Seated.{TableId}
 use Rattle.sk_model.specs.Entries.{Entry, entries_by}
@@ -8,7 +8,7 @@ use Rattle.sk_model.specs.Missing.{Begins}
 use Rattle.sk_model.specs.Width.{IsItem, AreItems}
 use Rattle.sk_model.proofs.Missing.{begins_nil}
 use Rattle.sk_machine.specs.Coarse.{IsEntry}
-use Rattle.sk_compose.specs.Buffers.{Contents}
+use Rattle.sk_compose.specs.Buffers.{Contents, IsBuffer}
 use Rattle.sk_machine.specs.declared.views.Move.TheVariants.{Look}
 use Rattle.sk_machine.specs.declared.views.Post.TheVariants.{Updater}
 use Rattle.sk_gate.specs.Slots.{contents, Telling}
@@ -19,7 +19,17 @@ use Rattle.sk_hub.specs.Updaters.{IsFree, IsViewOf, IsUpdater, state_of}
 use Rattle.sk_hub.specs.Hearts.{IsVacant, AreVacant, heart_of}
 use Rattle.sk_hub.specs.Drains.{IsNew}
 use Rattle.sk_hub.proofs.Views.{none_by}
-use Rattle.sk_model.specs.Limits.{most_updaters}
+use Rattle.sk_model.specs.Limits.{most_updaters, most_size, IsFrom}
+
+-- ---- fill buffers
+
+pub empty_buffer : (size : ℕ) (items : List ℕ) → items ≡ [] → IsFrom 1 most_size size → IsBuffer (contents items size)
+empty_buffer size items none from = subst (λ l. IsBuffer (contents l size)) (sym none) (record { least = from.0; most = from.1; within = omega arith; items_fit = All-nil IsItem })
+
+pub one_more : (size item : ℕ) (items : List ℕ) → IsBuffer (contents items size) → length items < size → IsItem item → IsBuffer (contents (items ++ item ∷ []) size)
+one_more size item items b room is = record { least = b.least; most = b.most; within = omega (arith, length-append items (item ∷ [])); items_fit = All-push IsItem items item b.items_fit is }
+
+-- ---- an updater that is admitted
 
 -- the first of such seats
 pub first_vacant : (n : ℕ) (table : TableId) (numbers name : List ℕ) (number : ℕ) (seats more : List SeatState) (s : SeatState) → seats ≡ s ∷ more → AreVacant n table numbers name number seats → IsVacant n table numbers name number s
@@ -39,8 +49,8 @@ module _ {T : Type 0} (hint_of : List ℕ → List Entry → ℕ) (k : Telling T
   items : fill.items ≡ []
   items = ap (λ f. f.items) empty
 
-  pub admitted_is : n ≤ most_updaters → hs.table.slots ≡ n + 1 → IsUpdater hint_of k p number n b (Some fill) None word 0 0
-  admitted_is few slots =
+  pub admitted_is : n ≤ most_updaters → hs.table.slots ≡ n + 1 → IsFrom 1 most_size b → IsUpdater hint_of k p number n b (Some fill) None word 0 0
+  admitted_is few slots size_from =
       let x : SeatState = seat_admitted s word b in let none = admits.none in
       let size : size_of x.view s.number ≡ b = ap (λ w. size_of w s.number) (sym admits.view) ∙ admits.size in
       let free : IsFree x = record { duty = vacant.free.duty; filled = vacant.free.filled; lifted = vacant.free.lifted } in
@@ -66,6 +76,7 @@ module _ {T : Type 0} (hint_of : List ℕ → List Entry → ℕ) (k : Telling T
         sized = length-set s.view.sizes s.number b ∙ vacant.sized;
         size_is = ap (λ z. size_of x.view z) (sym vacant.number_is) ∙ size;
         fill_is = filled;
+        buffer = empty_buffer b fill.items items size_from;
         hint_is = admits.hint_is;
         taken_is = few_kept;
         most = omega arith;

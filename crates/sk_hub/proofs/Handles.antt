@@ -21,9 +21,10 @@ use Rattle.sk_hub.proofs.Steps.{asks_knows}
 known_more : (s s' : SeatState) → s' ≡ record s { view = s'.view } → KnowsAsMuch s.view s'.view → record s { view = record s.view { seen = s'.view.seen; steps = s'.view.steps; given = s'.view.given; sizes = s'.view.sizes } } ≡ s'
 known_more s s' stays knows = (λ a. record s { view = sym knows.view a }) ∙ sym stays
 
-pub updater_stays : {T : Type 0} (hint_of : List ℕ → List Entry → ℕ) (k : Telling T) (s s' : SeatState) (number updaters size : ℕ) (fill : Option Contents) (told : Option T) (hint taken last : ℕ) → 1 ≤ size → s' ≡ record s { view = s'.view } → KnowsAsMuch s.view s'.view
+pub updater_stays : {T : Type 0} (hint_of : List ℕ → List Entry → ℕ) (k : Telling T) (s s' : SeatState) (number updaters size : ℕ) (fill : Option Contents) (told : Option T) (hint taken last : ℕ) → s' ≡ record s { view = s'.view } → KnowsAsMuch s.view s'.view
     → IsUpdater hint_of k s number updaters size fill told hint taken last → IsUpdater hint_of k s' number updaters size fill told hint taken last
-updater_stays hint_of k s s' number updaters size fill told hint taken last least stays knows i =
+updater_stays hint_of k s s' number updaters size fill told hint taken last stays knows i =
+    let least : 1 ≤ size = i.buffer.least in
     let is : size_of s.view number ≡ size = i.size_is in
     let there : size_of s.view number ≢ 0 = omega arith in
     let x : SeatState = record s { view = record s.view { seen = s'.view.seen; steps = s'.view.steps; given = s'.view.given; sizes = s'.view.sizes } } in
@@ -40,6 +41,7 @@ updater_stays hint_of k s s' number updaters size fill told hint taken last leas
       sized = knows.sized ∙ i.sized;
       size_is = knows.sizes_stay number there ∙ is;
       fill_is = i.fill_is;
+      buffer = i.buffer;
       hint_is = i.hint_is;
       taken_is = i.taken_is;
       most = i.most;
@@ -68,6 +70,7 @@ updater_asks hint_of packed k s s' word number updaters size fill told hint take
       sized = i.sized;
       size_is = i.size_is;
       fill_is = i.fill_is;
+      buffer = i.buffer;
       hint_is = i.hint_is;
       taken_is = i.taken_is;
       most = i.most;

@@ -1,19 +1,18 @@
 -- An updater that is served and flushed until nothing of it is left.
-use Rattle.std.proofs.Common.{◌≡◌, ◌≢◌, ◌⊎◌, inl, inr, ℕ, zero, suc, List, [], ◌∷◌, ◌++◌, All, Bool, true, false, not, subst, sym, ap, refl, ◌∙◌, append-nil}
+use Rattle.std.proofs.Common.{◌≡◌, ◌≢◌, ◌⊎◌, inl, inr, ℕ, zero, suc, List, [], ◌∷◌, ◌++◌, All, Bool, true, false, not, subst, sym, ap, refl, ◌∙◌}
 use Rattle.std.specs.Prelude.{slice_set}
 use Rattle.sk_model.specs.Entries.{Entry, entries_by}
-use Rattle.sk_model.specs.Missing.{Begins}
 use Rattle.sk_model.proofs.Missing.{begins_trans, begins_refl}
 use Rattle.sk_machine.specs.Coarse.{IsEntry}
 use Rattle.sk_machine.specs.declared.views.Move.TheVariants.{Ask, Join}
 use Rattle.sk_machine.specs.declared.views.View.{View}
 use Rattle.sk_gate.specs.Views.{known_of, mine_of}
 use Rattle.sk_gate.specs.Hands.{is_empty}
-use Rattle.sk_hub.specs.Updaters.{UpdaterState, handed_of, base_of, kept_of, LooksInVain, Renews, HandsOver}
+use Rattle.sk_hub.specs.Updaters.{UpdaterState, LooksInVain, Renews, HandsOver}
 use Rattle.sk_hub.specs.Hearts.{HeartState}
 use Rattle.sk_hub.specs.Rounds.{KnowsAsMuch, Serves, Refuses, IsElsewhere, TriesToServe, TriesTimes}
 use Rattle.sk_hub.specs.Drains.{IsDrained, ServesAndTakesIn, ComesBack, TriesUntil, IsSettled, TriesInVain}
-use Rattle.sk_hub.proofs.Handing.{told_trans, earlier_handed}
+use Rattle.sk_hub.proofs.Calls.{none_refl, none_trans, none_in_vain, none_renewed, none_handed}
 
 -- ---- what the heart knows
 
@@ -60,77 +59,23 @@ in_vain_after i v x w first r = let all = tries_trans i v x r.before first (r.ti
 -- ---- what an updater comes back with
 
 pub comes_back : (u : UpdaterState) → ComesBack u u
-comes_back u = record { kept = refl; handed = begins_refl (handed_of u); base = begins_refl (base_of u); seen = begins_refl u.view.seen; number = refl; size = refl; table = refl; name = refl; numbers = refl; sizes = refl; eager = refl; told = inl (refl, refl, refl) }
+comes_back u = record { none = none_refl u; sizes = refl }
 
 pub comes_trans : (u v w : UpdaterState) → ComesBack u v → ComesBack v w → ComesBack u w
-comes_trans u v w a b = record {
-  kept = b.kept ∙ a.kept;
-  handed = begins_trans _ _ _ a.handed b.handed;
-  base = begins_trans _ _ _ a.base b.base;
-  seen = begins_trans _ _ _ a.seen b.seen;
-  number = b.number ∙ a.number;
-  size = b.size ∙ a.size;
-  table = b.table ∙ a.table;
-  name = b.name ∙ a.name;
-  numbers = b.numbers ∙ a.numbers;
-  sizes = b.sizes ∙ a.sizes;
-  eager = b.eager ∙ a.eager;
-  told = told_trans u v w a.told b.told;
-}
+comes_trans u v w a b = record { none = none_trans u v w a.none b.none; sizes = b.sizes ∙ a.sizes }
 
 pub comes_waiting : (u u' : UpdaterState) → LooksInVain u u' → ComesBack u u'
-comes_waiting u u' l = record {
-  kept = ap (λ z. kept_of z) l.state;
-  handed = subst (Begins (handed_of u)) (sym (ap (λ z. handed_of z) l.state)) (begins_refl (handed_of u));
-  base = subst (Begins (base_of u)) (sym (ap (λ z. base_of z) l.state)) (begins_refl (base_of u));
-  seen = subst (Begins u.view.seen) (sym (ap (λ z. z.view.seen) l.state)) (begins_refl u.view.seen);
-  number = ap (λ z. z.number) l.state;
-  size = ap (λ z. z.size) l.state;
-  table = ap (λ z. z.table) l.state;
-  name = ap (λ z. z.view.name) l.state;
-  numbers = ap (λ z. z.view.numbers) l.state;
-  sizes = ap (λ z. z.view.sizes) l.state;
-  eager = ap (λ z. z.eager) l.state;
-  told = inl (ap (λ z. z.news) l.state, ap (λ z. handed_of z) l.state, ap (λ z. z.last) l.state);
-}
+comes_waiting u u' l = record { none = none_in_vain u u' l; sizes = ap (λ z. z.view.sizes) l.state }
 
 pub comes_renewed : (hint_of : List ℕ → List Entry → ℕ) (u u' : UpdaterState) → Renews hint_of u u' → ComesBack u u'
-comes_renewed hint_of u u' r =
-    let handed : handed_of u' ≡ handed_of u = ap (λ v. (mine_of v).handed) r.view in record {
-      kept = λ e. handed e ++ (r.state e).fill;
-      handed = subst (Begins (handed_of u)) (sym handed) (begins_refl (handed_of u));
-      base = r.renewed.grows;
-      seen = r.renewed.sees;
-      number = ap (λ z. z.number) r.state;
-      size = ap (λ z. z.size) r.state;
-      table = ap (λ z. z.table) r.state;
-      name = ap (λ v. v.name) r.view;
-      numbers = ap (λ v. v.numbers) r.view;
-      sizes = ap (λ v. v.sizes) r.view;
-      eager = ap (λ z. z.eager) r.state;
-      told = inl (ap (λ z. z.news) r.state, handed, ap (λ z. z.last) r.state);
-    }
+comes_renewed hint_of u u' r = record { none = none_renewed hint_of u u' r; sizes = ap (λ v. v.sizes) r.view }
 
 pub comes_handed : (hint_of : List ℕ → List Entry → ℕ) (u u' : UpdaterState) → HandsOver hint_of u [] u' → ComesBack u u'
-comes_handed hint_of u u' r =
-    let handed : handed_of u' ≡ handed_of u ++ u.fill = ap (λ v. (mine_of v).handed) r.view in record {
-      kept = (λ e. handed e ++ (r.state e).fill) ∙ append-nil (kept_of u);
-      handed = (u.fill, handed);
-      base = r.renewed.grows;
-      seen = r.renewed.sees;
-      number = ap (λ z. z.number) r.state;
-      size = ap (λ z. z.size) r.state;
-      table = ap (λ z. z.table) r.state;
-      name = ap (λ v. v.name) r.view;
-      numbers = ap (λ v. v.numbers) r.view;
-      sizes = ap (λ v. v.sizes) r.view;
-      eager = ap (λ z. z.eager) r.state;
-      told = inr (ap (λ z. z.news) r.state ∙ ap (λ l. not (is_empty l)) (sym (earlier_handed hint_of u u' [] r)));
-    }
+comes_handed hint_of u u' h = record { none = none_handed hint_of u u' h; sizes = ap (λ v. v.sizes) h.view }
 
 -- it is of the heart's table then
 pub same_table : (h h' : HeartState) (u u' : UpdaterState) → h' ≡ record h { view = h'.view } → ComesBack u u' → u.table ≡ h.table → u'.table ≡ h'.table
-same_table h h' u u' stays back same = back.table ∙ same ∙ sym (ap (λ z. z.table) stays)
+same_table h h' u u' stays back same = back.none.goes.table ∙ same ∙ sym (ap (λ z. z.table) stays)
 
 -- ---- tries until something is done
 
@@ -141,7 +86,7 @@ not_tried h u = record { ends = tries_none u.number h.view; known = knows_none h
 -- it was tried once more, and then the updater came back
 pub tried_again : (h x w : HeartState) (u y z : UpdaterState) → TriesUntil true h u x y → TriesToServe y.number x.view w.view → KnowsAsMuch x.view w.view → w ≡ record x { view = w.view } → ComesBack y z → TriesUntil true h u w z
 tried_again h x w u y z t once knows stays back = record {
-  ends = tries_more u.number h.view x.view w.view t.ends (subst (λ n. TriesToServe n x.view w.view) t.back.number once);
+  ends = tries_more u.number h.view x.view w.view t.ends (subst (λ n. TriesToServe n x.view w.view) t.back.none.goes.number once);
   known = knows_trans h.view x.view w.view t.known knows;
   stays = stays ∙ λ e. record (t.stays e) { view = w.view };
   back = comes_trans u y z t.back back;
@@ -150,7 +95,7 @@ tried_again h x w u y z t once knows stays back = record {
 -- or a batch was refused
 pub tried_in_vain : (h x w : HeartState) (u y : UpdaterState) → TriesUntil true h u x y → Refuses x.view y.number 1 w.view → KnowsAsMuch x.view w.view → w ≡ record x { view = w.view } → TriesUntil false h u w y
 tried_in_vain h x w u y t refuses knows stays = record {
-  ends = record { times = t.ends.0; before = x.view; tries = t.ends.1; refuses = subst (λ n. Refuses x.view n 1 w.view) t.back.number refuses };
+  ends = record { times = t.ends.0; before = x.view; tries = t.ends.1; refuses = subst (λ n. Refuses x.view n 1 w.view) t.back.none.goes.number refuses };
   known = knows_trans h.view x.view w.view t.known knows;
   stays = stays ∙ λ e. record (t.stays e) { view = w.view };
   back = t.back;
@@ -159,13 +104,13 @@ tried_in_vain h x w u y t refuses knows stays = record {
 -- the same updater was then tried anew
 pub tried_then : (done : Bool) (h x w : HeartState) (u y z : UpdaterState) → TriesUntil true h u x y → TriesUntil done x y w z → TriesUntil done h u w z
 tried_then true h x w u y z first then = record {
-  ends = tries_trans u.number h.view x.view w.view first.ends (subst (λ n. (times : ℕ) × TriesTimes n times x.view w.view) first.back.number then.ends);
+  ends = tries_trans u.number h.view x.view w.view first.ends (subst (λ n. (times : ℕ) × TriesTimes n times x.view w.view) first.back.none.goes.number then.ends);
   known = knows_trans h.view x.view w.view first.known then.known;
   stays = then.stays ∙ λ e. record (first.stays e) { view = w.view };
   back = comes_trans u y z first.back then.back;
 }
 tried_then false h x w u y z first then = record {
-  ends = in_vain_after u.number h.view x.view w.view first.ends (subst (λ n. TriesInVain n x.view w.view) first.back.number then.ends);
+  ends = in_vain_after u.number h.view x.view w.view first.ends (subst (λ n. TriesInVain n x.view w.view) first.back.none.goes.number then.ends);
   known = knows_trans h.view x.view w.view first.known then.known;
   stays = then.stays ∙ λ e. record (first.stays e) { view = w.view };
   back = comes_trans u y z first.back then.back;
@@ -187,16 +132,16 @@ flushed hint_of u u' (inr is) same empty hands = (comes_handed hint_of u u' (han
 
 -- an updater that was served before it was taken in
 pub drained_after : (h h' h'' : HeartState) (u u' : UpdaterState) → TriesUntil true h u h' u' → IsDrained h' u' h'' → IsDrained h u h''
-drained_after h h' h'' u u' t d = let k = t.known in let b = t.back in record {
-  seen = ap (λ n. entries_by n h''.view.seen) (sym b.number) ∙ d.seen ∙ b.kept;
+drained_after h h' h'' u u' t d = let k = t.known in let b = t.back.none in let number = b.goes.number in record {
+  seen = ap (λ n. entries_by n h''.view.seen) (sym number) ∙ d.seen ∙ b.kept;
   grows = begins_trans _ _ _ k.grows d.grows;
-  hears = begins_trans _ _ _ b.seen d.hears;
-  base = begins_trans _ _ _ b.base d.base;
+  hears = begins_trans _ _ _ b.goes.seen d.hears;
+  base = begins_trans _ _ _ b.goes.base d.base;
   entries = subst (λ n. All (IsEntry n) h''.view.seen) (ap (λ z. z.updaters) t.stays) d.entries;
-  known = ap (λ n. known_of h''.view n) (sym b.number) ∙ d.known ∙ b.kept;
-  others = λ i ne. d.others i (subst (λ n. i ≢ n) (sym b.number) ne) ∙ ap (λ v. known_of v i) k.view;
-  drained = d.drained ∙ (λ e. (k.view e).drained ++ b.number e ∷ []);
-  news = d.news ∙ (λ e. slice_set (t.stays e).news (b.number e) (not (is_empty (b.kept e))));
+  known = ap (λ n. known_of h''.view n) (sym number) ∙ d.known ∙ b.kept;
+  others = λ i ne. d.others i (subst (λ n. i ≢ n) (sym number) ne) ∙ ap (λ v. known_of v i) k.view;
+  drained = d.drained ∙ (λ e. (k.view e).drained ++ number e ∷ []);
+  news = d.news ∙ (λ e. slice_set (t.stays e).news (number e) (not (is_empty (b.kept e))));
   stays = d.stays ∙ (λ e. record (t.stays e) { view = h''.view; news = h''.news });
   numbers = d.numbers ∙ ap (λ v. v.numbers) k.view;
   name = d.name ∙ ap (λ v. v.name) k.view;

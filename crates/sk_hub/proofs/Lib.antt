@@ -7,6 +7,7 @@ pub mod Handles
 pub mod Admits
 pub mod Opening
 pub mod Opens
+pub mod Calls
 pub mod Leaves
 pub mod TakenIn
 pub mod Taking

@@ -16,7 +16,7 @@ use Rattle.sk_machine.specs.declared.views.View.{View}
 use Rattle.sk_gate.specs.Views.{size_of, batch_of, stage_in}
 use Rattle.sk_gate.specs.Moves.{IsSeen, AsksAt, FindsBatchAt, LeavesAt, LearnsSize, TakesTurnAt, YieldsAt}
 use Rattle.sk_gate.specs.Merge.{MergesAt}
-use Rattle.sk_hub.specs.Rounds.{Advances, TakesTurn, KnowsAsMuch, PublishesBatch, FinishesHeld, FindsInVain, ServesOne, ServesEach, Serves, ServesNothing, ServesBatch, Refuses, RefusesFound, IsElsewhere, TriesTheTurn}
+use Rattle.sk_hub.specs.Rounds.{Advances, TakesTurn, KnowsAsMuch, PublishesBatch, FinishesHeld, FindsInVain, ServesOne, ServesEach, Serves, Refuses, RefusesFound, IsElsewhere, TriesTheTurn}
 use Rattle.sk_hub.specs.Turns.{RefusesAfter}
 use Rattle.sk_hub.proofs.Views.{seen_again}
 
@@ -230,10 +230,14 @@ asks_knows packed v w word a = record {
 
 -- ---- one updater alone
 
-pub serves_nothing : (v w : View) (i held found : ℕ) → found ≡ 0 → Serves v i 1 held found w → ServesNothing v i w
+-- items of updater i were published, after those of a batch that was held; so many in all
+abbrev pub ServesItems : View → ℕ → ℕ → View → Type 0
+ServesItems v i count w = (held : ℕ) × (found : ℕ) × (0 < found) × (count ≡ held + found) × Serves v i 1 held found w
+
+pub serves_nothing : (v w : View) (i held found : ℕ) → found ≡ 0 → Serves v i 1 held found w → (held' : ℕ) × Serves v i 1 held' 0 w
 serves_nothing v w i held found none s = (held, subst (λ z. Serves v i 1 held z w) none s)
 
-pub serves_batch : (v w : View) (i held found : ℕ) → found ≢ 0 → Serves v i 1 held found w → ServesBatch v i (held + found) w
+pub serves_batch : (v w : View) (i held found : ℕ) → found ≢ 0 → Serves v i 1 held found w → ServesItems v i (held + found) w
 serves_batch v w i held found some s = (held, found, omega arith, refl, s)
 
 -- ---- a turn, taken or found with another seat

@@ -8,7 +8,8 @@ use Rattle.sk_machine.specs.declared.views.Move.TheVariants.{Look, Ask, Split, J
 use Rattle.sk_machine.specs.declared.views.View.{View}
 use Rattle.sk_gate.specs.Views.{known_of, mine_of}
 use Rattle.sk_gate.specs.Hands.{is_empty}
-use Rattle.sk_hub.specs.Updaters.{UpdaterState, handed_of, base_of, kept_of, HoldsTold}
+use Rattle.sk_hub.specs.Updaters.{UpdaterState, base_of, kept_of}
+use Rattle.sk_hub.specs.Calls.{KeepsNone}
 use Rattle.sk_hub.specs.Hearts.{HeartState}
 use Rattle.sk_hub.specs.Rounds.{Refuses, KnowsAsMuch, TriesTimes}
 
@@ -56,20 +57,10 @@ pub record IsSettled (u : UpdaterState) : Type 0 where
   pub fill : u.fill ≡ []
   pub ready : (mine_of u.view).ready ≡ true
 
--- what an updater came back with, after it ran out of memory
+-- what an updater came back with, after it ran out of memory: it has kept nothing more, and knows no more sizes
 pub record ComesBack (u u' : UpdaterState) : Type 0 where
-  pub kept : kept_of u' ≡ kept_of u
-  pub handed : Begins (handed_of u) (handed_of u')
-  pub base : Begins (base_of u) (base_of u')
-  pub seen : Begins u.view.seen u'.view.seen
-  pub number : u'.number ≡ u.number
-  pub size : u'.size ≡ u.size
-  pub table : u'.table ≡ u.table
-  pub name : u'.view.name ≡ u.view.name
-  pub numbers : u'.view.numbers ≡ u.view.numbers
+  pub none : KeepsNone u u'
   pub sizes : u'.view.sizes ≡ u.view.sizes
-  pub eager : u'.eager ≡ u.eager
-  pub told : HoldsTold u u'
 
 -- the heart tried to serve this updater until something was done, or until a batch was refused. It knows no more of
 -- updaters, and this one comes back

@@ -84,14 +84,6 @@ pub record Serves (v : View) (from n held found : ℕ) (w : View) : Type 0 where
 abbrev pub Sweeps : View → ℕ → ℕ → View → Type 0
 Sweeps v n count w = (held : ℕ) × (found : ℕ) × (count ≡ held + found) × Serves v 0 n held found w
 
--- nothing waited at updater i; a batch that was held is published
-abbrev pub ServesNothing : View → ℕ → View → Type 0
-ServesNothing v i w = (held : ℕ) × Serves v i 1 held 0 w
-
--- a batch waited at updater i; so many items were published, with those of a batch that was held
-abbrev pub ServesBatch : View → ℕ → ℕ → View → Type 0
-ServesBatch v i count w = (held : ℕ) × (found : ℕ) × (0 < found) × (count ≡ held + found) × Serves v i 1 held found w
-
 -- no memory was found for a batch that one of these n updaters had handed over; those before it were served
 pub record RefusesFound (v : View) (from n : ℕ) (w : View) : Type 0 where
   pub held : ℕ

@@ -6,7 +6,7 @@ use Rattle.sk_model.specs.Entries.{Entry, entries_by}
 use Rattle.sk_model.specs.Missing.{Begins, longer}
 use Rattle.sk_model.specs.Width.{AreItems}
 use Rattle.sk_model.specs.Limits.{most_size, most_updaters, most_kept, IsFrom}
-use Rattle.sk_compose.specs.Buffers.{Contents}
+use Rattle.sk_compose.specs.Buffers.{Contents, IsBuffer}
 use Rattle.sk_machine.specs.Coarse.{IsEntry}
 use Rattle.sk_machine.specs.declared.views.Mine.{Mine}
 use Rattle.sk_machine.specs.declared.views.Move.TheVariants.{Look, Hand}
@@ -118,6 +118,7 @@ pub record IsUpdater {T : Type 0} (hint_of : List ℕ → List Entry → ℕ) (k
   pub sized : length s.view.sizes ≡ updaters
   pub size_is : size_of s.view number ≡ size
   pub fill_is : fill ≡ Some (contents (items_in fill) size)
+  pub buffer : IsBuffer (contents (items_in fill) size)
   pub hint_is : hint ≡ hint_of s.view.numbers (mine_of s.view).base
   pub taken_is : taken ≡ length ((mine_of s.view).handed ++ items_in fill)
   pub most : taken ≤ most_kept

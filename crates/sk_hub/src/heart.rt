@@ -4,7 +4,7 @@ ghost use Rattle.sk_gate.specs.Views.{known_of};
 ghost use Rattle.sk_hub.specs.Drains.{IsDrained, ServesAndTakesIn, TriesInVain, ComesBack, TriesUntil, IsSettled, IsNew};
 ghost use Rattle.sk_hub.specs.Hearts.{IsWholeHeart};
 ghost use Rattle.sk_hub.specs.Replies.{IsRelaxedReply, HasDrained};
-ghost use Rattle.sk_hub.specs.Rounds.{Sweeps, ServesNothing, ServesBatch, Refuses, IsElsewhere, KnowsAsMuch, TriesToServe};
+ghost use Rattle.sk_hub.specs.Rounds.{Serves, Sweeps, Refuses, IsElsewhere, KnowsAsMuch, TriesToServe};
 ghost use Rattle.sk_hub.specs.Updaters.{TellsItems};
 ghost use Rattle.sk_machine.specs.declared.views.Move.TheVariants.{Ask, Join};
 ghost use Rattle.sk_model.specs.Limits.{most_size};
@@ -52,8 +52,9 @@ impl<C: Composable> Heart<C> {
     /// held, and whoever propagates next finishes it first.
     pub fn serve<R: Wait>(&mut self, rt: &R, i: u32) -> Serve
         requires within { i < self.old.updaters }
-        ensures nothing { result ≡ Serve.Nothing → ServesNothing self.old.view i self.new.view }
-        ensures served { (count : ℕ) → result ≡ Serve.Served count → ServesBatch self.old.view i count self.new.view }
+        ensures nothing { result ≡ Serve.Nothing → (held : ℕ) × Serves self.old.view i 1 held 0 self.new.view }
+        ensures served { (count : ℕ) → result ≡ Serve.Served count → (held : ℕ) × (found : ℕ) × (0 < found) × (count ≡ held + found)
+            × Serves self.old.view i 1 held found self.new.view }
         ensures elsewhere { (other : ℕ) → result ≡ Serve.Elsewhere other → IsElsewhere self.old.view other self.new.view }
         ensures refused { result ≡ Serve.OutOfMemory → Refuses self.old.view i 1 self.new.view }
         ensures cause { result ≡ Serve.OutOfMemory → IsTrue C.TAKES_MEMORY }
@@ -96,7 +97,7 @@ impl<C: Composable> Heart<C> {
         self.seat.ask()
     }
 
-    /// How many updaters were admitted. This call also tells what is true of every heart.
+    /// How many updaters were admitted. Its clauses also say what is true of every heart.
     pub fn admitted(&self) -> u32
         ensures value { result ≡ self.now.admitted }
         ensures whole { IsWholeHeart self.now }
@@ -115,7 +116,7 @@ impl<C: Composable> Heart<C> {
         self.told[i as usize].take()
     }
 
-    /// Takes in an updater, once all that it has kept is published. Where another seat propagates it waits,
+    /// Takes in an updater, once all that it has kept is published. If another seat propagates, it waits
     /// and tries again.
     pub fn drain<R: Wait>(&mut self, rt: &R, u: Updater<C>) -> Drain<C>
         requires table { u.table ≡ self.old.table }
@@ -141,7 +142,7 @@ impl<C: Composable> Heart<C> {
         Drain::Drained
     }
 
-    // Serves an updater, unless memory is wanting. Where another seat propagates it waits a moment.
+    // Serves an updater, unless it runs out of memory. If another seat propagates, it waits a moment.
     fn serve_for<R: Wait>(&mut self, rt: &R, u: &Updater<C>, backoff: &Backoff) -> bool
         requires table { u.now.table ≡ self.old.table }
         ensures tries { OnTrue result (TriesToServe u.now.number self.old.view self.new.view) }
@@ -230,6 +231,7 @@ impl<C: Composable> Heart<C> {
         let Parcel { buffer: _, told } = seat.pick(empty);
         self.told[number as usize] = told;
         self.seat.join(seat);
+        // An ask shows that the published list has all that both had seen, and that the sketch is one.
         self.seat.ask();
     }
 

@@ -114,12 +114,11 @@ impl<C: Composable> Updater<C> {
         }
     }
 
-    /// One look, which tells whether all that was handed over is published.
+    /// One look, which shows whether all that was handed over is published.
     pub fn settle(&mut self) -> Settle
         ensures busy { result ≡ Settle.Busy → LooksInVain self.old self.new }
         ensures settled { result ≡ Settle.Settled → Renews C.hint_of self.old self.new }
     {
-        let _size = self.size();
         let hint = self.seat.look();
         if hint == 0 {
             return Settle::Busy;
@@ -129,6 +128,7 @@ impl<C: Composable> Updater<C> {
     }
 
     // Puts an item into the fill buffer.
+    #[tactic(auto, using(crate::proofs::Admits::one_more))]
     fn put(&mut self, item: u64)
         requires item { IsItem item }
         requires room { length self.old.fill < self.old.size }
@@ -141,7 +141,7 @@ impl<C: Composable> Updater<C> {
         self.taken += 1;
     }
 
-    // One look. Where it gives a number other than 0, the fill buffer is handed over.
+    // One look. If it gives a number other than 0, the fill buffer is handed over.
     fn hand_over(&mut self) -> bool
         requires some { self.old.fill ≢ [] }
         ensures handed { OnTrue result (HandsOver C.hint_of self.old [] self.new) }
@@ -169,14 +169,11 @@ impl<C: Composable> Updater<C> {
         true
     }
 
-    /// Its number in the hub. This call also tells what is true of every updater.
+    /// Its number in the hub. Its clauses also say what is true of every updater.
     pub fn number(&self) -> u32
         ensures value { result ≡ self.now.number }
         ensures whole { IsWholeUpdater C.hint_of self.now }
     {
-        if let Some(fill) = &self.fill {
-            let _count = fill.len();
-        }
         self.number
     }
 
@@ -186,9 +183,6 @@ impl<C: Composable> Updater<C> {
         ensures least { 1 ≤ result }
         ensures most { result ≤ most_size }
     {
-        if let Some(fill) = &self.fill {
-            let _count = fill.len();
-        }
         self.size
     }
 
@@ -226,7 +220,7 @@ impl<C: Composable> Updater<C> {
         self.eager && C::early(self.hint)
     }
 
-    /// What the merge made known whose batch was handed over last but one. It is given out once.
+    /// What the merge of the last batch but one made known. It is given out once.
     pub fn told(&mut self) -> Option<C::Told>
         ensures news { is_some result ≡ self.old.news }
         ensures tells { (t : _) → result ≡ Some t → TellsItems (telling C.tells C.told_name C.told_of) self.old.view.name self.old.number (earlier_of self.old) t }
@@ -239,8 +233,6 @@ impl<C: Composable> Updater<C> {
     pub fn ask(&mut self) -> u64
         ensures { IsOwnReply C.packed_of self.old result self.new }
     {
-        // It tells the proof that no more items lie in it than it has room for.
-        let _count = self.len();
         self.seat.ask()
     }
 
@@ -273,8 +265,6 @@ impl<C: Composable> Updater<C> {
         ensures knows { KnowsAsMuch self.old.view self.new.view }
         ensures stays { self.new ≡ record self.old { view = self.new.view } }
     {
-        // It tells the proof that the size is not 0.
-        let _size = self.size();
         match propagate(rt, &mut self.seat, 0, self.updaters) {
             Ok(Done { held, found }) => Help::Served(held + found),
             Err(Stopped::Elsewhere(other)) => Help::Elsewhere(other),

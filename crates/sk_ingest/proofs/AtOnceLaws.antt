@@ -16,7 +16,7 @@ use Rattle.sk_read.specs.declared.units.Units.{Units}
 use Rattle.sk_read.specs.declared.fault.Fault.{Fault}
 use Rattle.sk_read.specs.declared.fault.Fault.TheVariants as fault
 use Rattle.sk_fill.specs.Windows.{fills, all_lines, items_in, IsBad}
-use Rattle.sk_feed.specs.Feeds.{Takes}
+use Rattle.sk_hub.specs.Calls.{Takes}
 use Rattle.sk_fill.specs.Blocks.{block_of}
 use Rattle.sk_feed.specs.Rounds.{HaveFew}
 use Rattle.sk_feed.specs.Shares.{share, TakeShares}
@@ -28,7 +28,7 @@ use Rattle.sk_fill.proofs.Joined.{blocks_joined}
 use Rattle.sk_fill.proofs.Items.{items_append, one_item, no_item}
 use Rattle.sk_feed.proofs.Filtered.{takes_all}
 use Rattle.sk_feed.proofs.Shares.{share_one}
-use Rattle.sk_feed.proofs.Updaters.{none_refl, takes_none, takes_trans}
+use Rattle.sk_hub.proofs.Calls.{none_refl, takes_none, takes_trans}
 use Rattle.sk_feed.proofs.Between.{parts_taken}
 use Rattle.sk_fill.proofs.Cutting.{no_units, unit_left, unit_fills}
 use Rattle.sk_feed.proofs.HubLaws.{heart_waits, heart_goes, hub_fed, few_left, few_fed, no_window}

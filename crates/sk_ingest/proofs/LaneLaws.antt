@@ -11,7 +11,7 @@ use Rattle.sk_read.specs.Reading.{Reading, HasRead}
 use Rattle.sk_read.specs.declared.kind.Kind.{Kind}
 use Rattle.sk_feed.specs.declared.lane.Lane.{Lane}
 use Rattle.sk_fill.specs.Windows.{all_lines}
-use Rattle.sk_feed.specs.Feeds.{Takes}
+use Rattle.sk_hub.specs.Calls.{Takes}
 use Rattle.sk_feed.specs.Rounds.{HaveFew}
 use Rattle.sk_feed.specs.Shares.{share, TakeShares}
 use Rattle.sk_fill.specs.Stretches.{StretchState}
@@ -21,7 +21,7 @@ use Rattle.sk_ingest.specs.Supplies.{GaveEach}
 use Rattle.sk_fill.proofs.Filled.{read_few}
 use Rattle.sk_feed.proofs.Rounds.{of_images, ok_then, ok_gives}
 use Rattle.sk_feed.proofs.Shares.{share_append}
-use Rattle.sk_feed.proofs.Updaters.{takes_trans}
+use Rattle.sk_hub.proofs.Calls.{takes_trans}
 use Rattle.sk_feed.proofs.DeliveryLaws.{windows_append, lines_one}
 
 -- ---- the first stretch

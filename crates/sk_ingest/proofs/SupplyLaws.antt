@@ -19,7 +19,7 @@ use Rattle.sk_feed.specs.Deliveries.{windows_of, EndAt, IsNext}
 use Rattle.sk_ingest.specs.Supplies.{GaveEach, Supplies}
 use Rattle.sk_feed.proofs.Rounds.{ok_then}
 use Rattle.sk_feed.proofs.DeliveryLaws.{windows_append, windows_one, end_later, ends_once}
-use Rattle.sk_feed.proofs.Updaters.{on_ok}
+use Rattle.sk_hub.proofs.Calls.{on_ok}
 use Rattle.sk_fill.proofs.StretchLaws.{on_ok_at, none_on_err, stretch_starts, stretch_passed, read_then_none, nothing_read}
 use Rattle.sk_ingest.proofs.StretchLaws.{both_joined}
 

@@ -6,7 +6,7 @@ ghost use Rattle.sk_hub.specs.Updaters.{kept_of};
 ghost use Rattle.sk_lines.specs.Spans.{AreBehind, lines_at};
 ghost use Rattle.sk_read.specs.Faults.{IsOfTaker};
 ghost use Rattle.sk_read.specs.Reads.{StopsAmong};
-ghost use Rattle.sk_feed.specs.Feeds.{Takes};
+ghost use Rattle.sk_hub.specs.Calls.{Takes};
 ghost use Rattle.sk_feed.specs.Hubs.{Hub, hub_of, HeartGoesOn};
 ghost use Rattle.sk_ingest.specs.Ingests.{StopsAtUnit};
 ghost use Rattle.sk_ingest.specs.Takers.{UnitsWent, IsAlone, untold};

@@ -8,8 +8,8 @@ use Rattle.sk_model.specs.Entries.{entries_by, items_of_entries}
 use Rattle.sk_model.specs.Sketch.{theta_of}
 use Rattle.sk_model.proofs.Entries.{entries_by_append}
 use Rattle.sk_hub.specs.Updaters.{UpdaterState, handed_of, base_of, kept_of}
-use Rattle.sk_feed.specs.Feeds.{GoesOn}
-use Rattle.sk_feed.proofs.Updaters.{takes_none, takes_trans, none_then_takes}
+use Rattle.sk_hub.specs.Calls.{GoesOn}
+use Rattle.sk_hub.proofs.Calls.{goes_trans, goes_same, takes_none, takes_trans, none_then_takes}
 use Rattle.sk_theta.specs.Sizes.{Sizes}
 use Rattle.sk_line.specs.Pumps.{IsPumped}
 use Rattle.sk_line.specs.Requests.{client_request, added_item}
@@ -18,7 +18,7 @@ use Rattle.sk_line.specs.declared.answers.Answer.{Answer}
 use Rattle.sk_line.specs.declared.answers.Answer.TheVariants as answer
 use Rattle.sk_line.specs.declared.requests.Request.{Request}
 use Rattle.sk_line.specs.declared.requests.Request.TheVariants as request
-use Rattle.sk_line.proofs.Updaters.{none_pumped, does_go, goes_trans, goes_same}
+use Rattle.sk_line.proofs.Updaters.{none_pumped, does_go}
 
 -- ---- what was kept
 

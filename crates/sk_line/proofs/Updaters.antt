@@ -1,23 +1,19 @@
 -- What requests do to an updater.
-use Rattle.std.proofs.Common.{◌≡◌, inl, inr, ℕ, ◌+◌, ◌≤◌, Bool, false, List, [], ◌∷◌, ◌++◌, length, All, nat_lt, not, refl, sym, ap, ◌∙◌, subst, arith, append-nil, length-append}
+use Rattle.std.proofs.Common.{◌≡◌, ℕ, ◌+◌, ◌≤◌, Bool, false, List, [], ◌++◌, length, All, nat_lt, sym, ap, ◌∙◌, subst, arith, append-nil, length-append}
 use Rattle.std.proofs.lemmas.Bool.Decides.{nat_tests}
 use Rattle.std.proofs.lemmas.List.Elements.{All-map}
 use Rattle.sk_model.specs.Entries.{Entry, items_of_entries, entries_by}
 use Rattle.sk_model.specs.Missing.{Begins}
 use Rattle.sk_model.specs.Sketch.{fraction_of, count_of, theta_of, packed_of, unpacked}
 use Rattle.sk_model.specs.Width.{IsItem, AreItems}
-use Rattle.sk_model.proofs.Missing.{begins_refl, begins_trans}
 use Rattle.sk_model.proofs.Sketch.{packed_reads_back}
 use Rattle.sk_machine.specs.Coarse.{IsEntry}
-use Rattle.sk_machine.specs.declared.views.Move.TheVariants.{Look, Hand, Ask}
+use Rattle.sk_machine.specs.declared.views.Move.TheVariants.{Ask}
 use Rattle.sk_compose.specs.Numbers.{k_of}
-use Rattle.sk_gate.specs.Views.{mine_of}
-use Rattle.sk_gate.specs.Hands.{is_empty}
 use Rattle.sk_hub.specs.Replies.{IsOwnReply}
-use Rattle.sk_hub.specs.Updaters.{UpdaterState, handed_of, base_of, kept_of, LooksInVain, Renews, HandsOver}
-use Rattle.sk_hub.proofs.Handing.{earlier_handed, told_trans}
-use Rattle.sk_feed.specs.Feeds.{GoesOn, KeepsNone}
-use Rattle.sk_feed.proofs.Updaters.{none_refl, none_trans, helped}
+use Rattle.sk_hub.specs.Updaters.{UpdaterState, handed_of, base_of, kept_of, LooksInVain, Renews}
+use Rattle.sk_hub.specs.Calls.{GoesOn, KeepsNone}
+use Rattle.sk_hub.proofs.Calls.{goes_same, none_refl, none_trans, none_in_vain, none_renewed, none_asked, helped}
 use Rattle.sk_theta.specs.Sizes.{Sizes}
 use Rattle.sk_line.specs.Pumps.{IsPumped}
 use Rattle.sk_line.specs.Serving.{DropsItem, Estimates, IsSynced, IsUnpublished, AnswersRequest, item_kept}
@@ -26,62 +22,10 @@ use Rattle.sk_line.specs.declared.answers.Answer.TheVariants as answer
 use Rattle.sk_line.specs.declared.requests.Request.{Request}
 use Rattle.sk_line.specs.declared.requests.Request.TheVariants as request
 
-same_begins : {A : Type 0} (xs ys : List A) → ys ≡ xs → Begins xs ys
-same_begins xs ys same = ([], same ∙ sym (append-nil xs))
-
 -- ---- steps that keep nothing
 
 pub none_pumped : (u u' : UpdaterState) → IsPumped u u' → KeepsNone u u'
 none_pumped u u' p = helped u u' p.stays p.knows
-
-pub none_in_vain : (u u' : UpdaterState) → LooksInVain u u' → KeepsNone u u'
-none_in_vain u u' l = subst (KeepsNone u) (sym l.state) (record {
-  goes = record { number = refl; size = refl; table = refl; eager = refl; name = refl; numbers = refl; sized = refl; base = begins_refl (base_of u); handed = begins_refl (handed_of u); seen = begins_refl u.view.seen; steps = (Look u.number 0 ∷ [], refl); told = inl (refl, refl, refl) };
-  kept = refl;
-})
-
-pub none_renewed : (hint_of : List ℕ → List Entry → ℕ) (u u' : UpdaterState) → Renews hint_of u u' → KeepsNone u u'
-none_renewed hint_of u u' r =
-    let handed : handed_of u' ≡ handed_of u = ap (λ v. (mine_of v).handed) r.view in record {
-      goes = record {
-        number = ap (λ z. z.number) r.state;
-        size = ap (λ z. z.size) r.state;
-        table = ap (λ z. z.table) r.state;
-        eager = ap (λ z. z.eager) r.state;
-        name = ap (λ v. v.name) r.view;
-        numbers = ap (λ v. v.numbers) r.view;
-        sized = ap (λ v. length v.sizes) r.view;
-        base = r.renewed.grows;
-        handed = same_begins (handed_of u) (handed_of u') handed;
-        seen = r.renewed.sees;
-        steps = (Look u.number u'.hint ∷ [], ap (λ v. v.steps) r.view);
-        told = inl (ap (λ z. z.news) r.state, handed, ap (λ z. z.last) r.state);
-      };
-      kept = ap (λ l. l ++ u'.fill) handed ∙ ap (λ l. handed_of u ++ l) (ap (λ z. z.fill) r.state);
-    }
-
-pub none_handed : (hint_of : List ℕ → List Entry → ℕ) (u u' : UpdaterState) → HandsOver hint_of u [] u' → KeepsNone u u'
-none_handed hint_of u u' h =
-    let handed : handed_of u' ≡ kept_of u = ap (λ v. (mine_of v).handed) h.view in record {
-      goes = record {
-        number = ap (λ z. z.number) h.state;
-        size = ap (λ z. z.size) h.state;
-        table = ap (λ z. z.table) h.state;
-        eager = ap (λ z. z.eager) h.state;
-        name = ap (λ v. v.name) h.view;
-        numbers = ap (λ v. v.numbers) h.view;
-        sized = ap (λ v. length v.sizes) h.view;
-        base = h.renewed.grows;
-        handed = (u.fill, handed);
-        seen = h.renewed.sees;
-        steps = (Look u.number u'.hint ∷ Hand u.number ∷ [], ap (λ v. v.steps) h.view);
-        told = inr (ap (λ z. z.news) h.state ∙ ap (λ l. not (is_empty l)) (sym (earlier_handed hint_of u u' [] h)));
-      };
-      kept = ap (λ l. l ++ u'.fill) handed ∙ ap (λ l. kept_of u ++ l) (ap (λ z. z.fill) h.state) ∙ append-nil (kept_of u);
-    }
-
-pub fill_handed : (hint_of : List ℕ → List Entry → ℕ) (u u' : UpdaterState) → HandsOver hint_of u [] u' → u'.fill ≡ []
-fill_handed hint_of u u' h = ap (λ z. z.fill) h.state
 
 -- all that was kept was handed over, and is published
 pub synced : (hint_of : List ℕ → List Entry → ℕ) (u v x w : UpdaterState) → KeepsNone u v → v.fill ≡ [] → IsPumped v x → Renews hint_of x w → IsSynced u w
@@ -104,25 +48,6 @@ pub looked_first : (u w : UpdaterState) → LooksInVain u w → IsUnpublished u 
 looked_first u w look = record { before = u; goes = none_refl u; look = look }
 
 -- ---- one ask
-
-none_asked : (packed : List ℕ → List Entry → ℕ) (u u' : UpdaterState) (word : ℕ) → IsOwnReply packed u word u' → KeepsNone u u'
-none_asked packed u u' word r = record {
-  goes = record {
-    number = ap (λ z. z.number) r.stays;
-    size = ap (λ z. z.size) r.stays;
-    table = ap (λ z. z.table) r.stays;
-    eager = ap (λ z. z.eager) r.stays;
-    name = ap (λ z. z.view.name) r.stays;
-    numbers = ap (λ z. z.view.numbers) r.stays;
-    sized = ap (λ z. length z.view.sizes) r.stays;
-    base = same_begins (base_of u) (base_of u') (ap base_of r.stays);
-    handed = same_begins (handed_of u) (handed_of u') (ap handed_of r.stays);
-    seen = r.grows;
-    steps = (Ask word ∷ [], ap (λ z. z.view.steps) r.stays);
-    told = inl (ap (λ z. z.news) r.stays, ap handed_of r.stays, ap (λ z. z.last) r.stays);
-  };
-  kept = ap kept_of r.stays;
-}
 
 items_of : (n : ℕ) (l : List Entry) → All (IsEntry n) l → AreItems (items_of_entries l)
 unfolding items_of_entries
@@ -151,27 +76,8 @@ drops k item hint keeps u u' keeps_is hint_is dropped stays based =
 
 -- ---- any request
 
-pub goes_same : (u u' : UpdaterState) → u' ≡ u → GoesOn u u'
-goes_same u u' same = subst (GoesOn u) (sym same) (none_refl u).goes
-
 unpublished : (u u' : UpdaterState) → IsUnpublished u u' → KeepsNone u u'
 unpublished u u' n = none_trans u n.before u' n.goes (none_in_vain n.before u' n.look)
-
-pub goes_trans : (u v w : UpdaterState) → GoesOn u v → GoesOn v w → GoesOn u w
-goes_trans u v w a b = record {
-  number = b.number ∙ a.number;
-  size = b.size ∙ a.size;
-  table = b.table ∙ a.table;
-  eager = b.eager ∙ a.eager;
-  name = b.name ∙ a.name;
-  numbers = b.numbers ∙ a.numbers;
-  sized = b.sized ∙ a.sized;
-  base = begins_trans _ _ _ a.base b.base;
-  handed = begins_trans _ _ _ a.handed b.handed;
-  seen = begins_trans _ _ _ a.seen b.seen;
-  steps = begins_trans _ _ _ a.steps b.steps;
-  told = told_trans u v w a.told b.told;
-}
 
 none_more : (u u' : UpdaterState) → KeepsNone u u' → kept_of u' ≡ kept_of u ++ []
 none_more u u' n = n.kept ∙ sym (append-nil (kept_of u))
@@ -179,7 +85,7 @@ none_more u u' n = n.kept ∙ sym (append-nil (kept_of u))
 same_more : (u u' : UpdaterState) → u' ≡ u → kept_of u' ≡ kept_of u ++ []
 same_more u u' same = ap kept_of same ∙ sym (append-nil (kept_of u))
 
--- the updater goes on, and keeps the item of an add that is answered so
+-- the updater continues, and keeps the item of an add that is answered so
 pub does_go : (shape : Sizes) (r : Request) (line : List ℕ) (a : Answer) (u u' : UpdaterState) → AnswersRequest shape r line a u u' → GoesOn u u' × (kept_of u' ≡ kept_of u ++ item_kept shape.seed line a)
 does_go shape request.Add line answer.Kept u u' d = (d.goes, d.kept)
 does_go shape request.Add line answer.Filtered u u' d = (goes_same u u' d.stays, same_more u u' d.stays)

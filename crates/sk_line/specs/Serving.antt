@@ -7,7 +7,7 @@ use Rattle.sk_theta.specs.Sizes.{Sizes}
 use Rattle.sk_compose.specs.Numbers.{k_of}
 use Rattle.sk_hub.specs.Replies.{IsOwnReply}
 use Rattle.sk_hub.specs.Updaters.{UpdaterState, base_of, kept_of, LooksInVain}
-use Rattle.sk_feed.specs.Feeds.{GoesOn, KeepsNone, Takes as TakesItems}
+use Rattle.sk_hub.specs.Calls.{GoesOn, KeepsNone, Takes as TakesItems}
 use Rattle.sk_line.specs.Pumps.{IsPumped}
 use Rattle.sk_line.specs.Replies.{reply_line}
 use Rattle.sk_line.specs.Requests.{client_request, added_item}

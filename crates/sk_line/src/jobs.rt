@@ -56,6 +56,8 @@ pub fn serve_links<
     P: Pump<C> + Drop + Send,
     R: Threads + Wait + Sync,
 >(rt: &R, alloc: Global, shape: &Shape, jobs: &mut [Job<C, L, P>], most: u64)
+where
+    C::Told: Send,
     requires k { All (λ job. k_of job.updater.view.numbers ≡ shape.now.k) jobs.old }
     requires room { All (λ job. length (kept_of job.updater) + most ≤ most_kept) jobs.old }
     ensures served { (i : ℕ) (d : _) → i < length jobs.old

@@ -2,9 +2,8 @@
 ghost use Rattle.std.specs.Prelude.{◌≡◌, ℕ, ◌+◌, ◌≤◌, List, ◌∷◌, ◌++◌, [], length, codes, All};
 ghost use Rattle.sk_compose.specs.Numbers.{k_of};
 ghost use Rattle.sk_hub.specs.Updaters.{UpdaterState, kept_of};
-ghost use Rattle.sk_feed.specs.Feeds.{GoesOn};
+ghost use Rattle.sk_hub.specs.Calls.{GoesOn};
 ghost use Rattle.sk_theta.specs.Sizes.{Sizes};
-ghost use Rattle.sk_line.specs.Replies.{reply_line};
 ghost use Rattle.sk_line.specs.Requests.{client_request};
 ghost use Rattle.sk_line.specs.Serving.{Answered, AnswersLine, AnswersEach, items_kept, kept_since, answered_busy, items_offered, TakesOffered};
 ghost use Rattle.sk_line.specs.declared.answers.Answer.TheVariants as answer;

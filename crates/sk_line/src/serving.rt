@@ -3,7 +3,7 @@ ghost use Rattle.std.specs.Prelude.{◌≡◌, ◌<◌, ◌≤◌, [], length, I
 ghost use Rattle.std.specs.Bool.{OnTrue, OnFalse};
 ghost use Rattle.sk_compose.specs.Numbers.{k_of};
 ghost use Rattle.sk_hub.specs.Updaters.{kept_of, LooksInVain};
-ghost use Rattle.sk_feed.specs.Feeds.{KeepsNone};
+ghost use Rattle.sk_hub.specs.Calls.{KeepsNone};
 ghost use Rattle.sk_model.specs.Limits.{least_k, most_k, most_kept};
 ghost use Rattle.sk_model.specs.Murmur.{hash_of};
 ghost use Rattle.sk_line.specs.Pumps.{HasRisen};

@@ -15,7 +15,7 @@ use Rattle.sk_hub.specs.Updaters.{UpdaterState, handed_of, kept_of, earlier_of, 
 use Rattle.sk_read.specs.declared.items.Intake.{Intake}
 use Rattle.sk_read.specs.declared.kind.Kind.TheVariants.{Raw}
 use Rattle.sk_fill.specs.Windows.{all_lines}
-use Rattle.sk_feed.specs.Feeds.{Takes}
+use Rattle.sk_hub.specs.Calls.{Takes}
 use Rattle.sk_feed.specs.Hubs.{Hub, FeedsWindow, LeavesHub, IsLeft}
 use Rattle.sk_ingest.specs.Ingests.{Terms, Reported}
 use Rattle.sk_count.proofs.Course.{share_append, lines_one}

@@ -10,6 +10,7 @@ use Rattle.sk_quant.specs.Held.{ranked}
 use Rattle.sk_quant.specs.Ranks.{rank_error}
 use Rattle.sk_read.specs.declared.fault.Fault.{Fault}
 use Rattle.sk_feed.specs.Hubs.{Hub}
+use Rattle.sk_feed.proofs.Drained.{known_at}
 use Rattle.sk_read.specs.Units.{units_by}
 use Rattle.sk_count.proofs.Endings.{all_so}
 use Rattle.sk_count.proofs.Fronts.{part_behind}
@@ -66,7 +67,7 @@ module _ (plan : Plan) (left left' w w' w'' : Option (List ℕ)) (b : Hub) (read
   shows : Shows plan h s
   shows = record {
     drained = end.drains.drained ∙ ap (λ l. l ++ range_with_len 0 (length b.updaters)) fed.drained ∙ ap (range_with_len 0) fed.count;
-    known = λ i within. let within' : i < length b.updaters = omega (arith, fed.count) in at_some b.updaters i within' (λ d. end.drains.known i d within' ∙ sym (end.each i d within'));
+    known = λ i within. let within' : i < length b.updaters = omega (arith, fed.count) in at_some b.updaters i within' (λ d. known_at end.drains i d within' ∙ sym (end.each i d within'));
     name = end.name ∙ fed.name ∙ ap name_of (sym end.goes.book);
     k = k;
     key = key;

@@ -2,8 +2,8 @@
 use Rattle.std.proofs.Common.{◌≡◌, inl, inr, ℕ, List, refl, sym, ap, subst}
 use Rattle.sk_theta.specs.Sizes.{Sizes}
 use Rattle.sk_hub.specs.Updaters.{UpdaterState}
-use Rattle.sk_feed.specs.Feeds.{KeepsNone}
-use Rattle.sk_feed.proofs.Updaters.{none_refl}
+use Rattle.sk_hub.specs.Calls.{KeepsNone}
+use Rattle.sk_hub.proofs.Calls.{none_refl}
 use Rattle.sk_line.specs.Serving.{Answered, AnswersEach}
 use Rattle.sk_line.specs.Sessions.{SessionState, ComesTo, Went}
 use Rattle.sk_line.specs.declared.sessions.End.{End}

@@ -6,12 +6,12 @@ use Rattle.sk_model.specs.Causes.{Rose}
 use Rattle.sk_io.specs.Traffic.{Traffic, Ended}
 use Rattle.sk_theta.specs.Sizes.{Sizes}
 use Rattle.sk_hub.specs.Updaters.{UpdaterState}
-use Rattle.sk_feed.specs.Feeds.{GoesOn}
+use Rattle.sk_hub.specs.Calls.{GoesOn}
 use Rattle.sk_line.specs.Jobs.{IsJobDone}
 use Rattle.sk_line.specs.Sessions.{session_state, SessionEnds}
 use Rattle.sk_line.specs.declared.sessions.End.{End}
 use Rattle.sk_line.proofs.Added.{answers_keep}
-use Rattle.sk_line.proofs.Updaters.{goes_trans}
+use Rattle.sk_hub.proofs.Calls.{goes_trans}
 use Rattle.sk_serve.specs.declared.plan.ServePlan.{ServePlan}
 use Rattle.sk_serve.specs.Plans.{shape_of}
 use Rattle.sk_serve.specs.Served.{Served, IsServed, links_of, ends_of, answered_in}

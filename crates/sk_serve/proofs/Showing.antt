@@ -30,6 +30,7 @@ use Rattle.sk_serve.specs.declared.plan.ServePlan.{ServePlan}
 use Rattle.sk_count.specs.declared.remains.Remains.{Remains}
 use Rattle.sk_serve.specs.declared.fault.ServeFault.{ServeFault}
 use Rattle.sk_serve.specs.Served.{Served, ShowsSessions, ServesSessions, ends_of}
+use Rattle.sk_hub.proofs.Taking.{exactly_taken}
 use Rattle.sk_serve.specs.Waves.{IsHeartOf, HasDrainedThem, ServesSome}
 use Rattle.sk_serve.specs.Texts.{session_lines, served_text}
 use Rattle.sk_serve.specs.Serves.{Surroundings, surroundings, ServesAndTells, TellsSessions, TellsPartOfSessions, ServeEnds, ServesPlan}
@@ -53,9 +54,9 @@ shows plan sessions h h' word count d whole hub r drained = record {
   drained = ap (λ v. v.drained) r.stays ∙ all_drained;
   known = λ i below. ap (λ v. known_of v i) r.stays ∙ sym (listed_at i below);
   listed = λ i e within. record {
-    kept = listed_at i (omega (arith, within, count)) ∙ d.known i e within;
-    seen = begins_trans _ _ _ (d.seen i e within) r.grows;
-    base = begins_trans _ _ _ (d.bases i e within) r.grows;
+    kept = ap (λ n. entries_by n h'.view.seen) (sym (d.numbered i e within)) ∙ exactly_taken h h' (get_or sessions i e).updater drained (d.taken_in i e within);
+    seen = begins_trans _ _ _ (d.taken_in i e within).hears r.grows;
+    base = begins_trans _ _ _ (d.taken_in i e within).base r.grows;
   };
   entries = subst (λ n. All (IsEntry n) h'.view.seen) (whole.sized ∙ hub.updaters) r.entries;
   steps = (h.view.steps, ap (λ v. v.steps) r.stays ∙ ap (λ n. h.view.steps ++ Ask n ∷ []) (word_is plan h h' word hub r));

@@ -4,13 +4,12 @@ use Rattle.std.specs.List.{range_with_len}
 use Rattle.std.proofs.lemmas.List.{map-append, get_or-map, length-map}
 use Rattle.std.proofs.lemmas.List.Elements.{All-nil, All-append}
 use Rattle.std.proofs.Math.Nat.{suc-mul}
-use Rattle.sk_model.specs.Missing.{Begins}
-use Rattle.sk_model.proofs.Missing.{begins_trans}
 use Rattle.sk_io.specs.Traffic.{Ended}
 use Rattle.sk_compose.specs.Numbers.{k_of}
-use Rattle.sk_gate.specs.Views.{known_of}
 use Rattle.sk_hub.specs.Hearts.{HeartState}
-use Rattle.sk_hub.specs.Updaters.{UpdaterState, base_of, kept_of}
+use Rattle.sk_hub.specs.Drains.{HasTakenIn}
+use Rattle.sk_hub.specs.Updaters.{UpdaterState}
+use Rattle.sk_hub.proofs.Taking.{taken_with_view}
 use Rattle.sk_line.specs.declared.sessions.End.{End}
 use Rattle.sk_count.proofs.MaskLines.{range_split}
 use Rattle.sk_serve.specs.declared.plan.ServePlan.{ServePlan}
@@ -59,7 +58,7 @@ none_served plan most before ends h none admitted drained = record {
   served = each_none (IsServed plan most) 0;
   closed = sym (append-nil before);
   ended = none;
-  heart = record { admitted = admitted; drained = drained; known = λ i d within. absurd (omega arith); seen = λ i d within. absurd (omega arith); bases = λ i d within. absurd (omega arith) };
+  heart = record { admitted = admitted; drained = drained; numbered = λ i d within. absurd (omega arith); taken_in = All-nil (λ s. HasTakenIn h s.updater) };
 }
 
 -- of sessions that were served and of those of a wave
@@ -82,15 +81,17 @@ wave_more plan most count h h' before mid now ends ends' sessions s w = record {
   ended = w.ended ∙ ap (λ l. l ++ ends_of w.sessions) s.ended ∙ sym (map-append (λ (z : Served). z.end) sessions w.sessions);
   heart = record {
     admitted = let is = w.drains.admitted in omega (arith, is, s.heart.admitted, w.as_many, length-append sessions w.sessions);
-    drained = w.drains.drained ∙ ap (λ l. l ++ range_with_len h.admitted (length (map (λ (z : Served). z.updater) w.sessions))) s.heart.drained ∙ numbered;
-    known = both (λ i u. known_of h'.view i ≡ kept_of u) sessions w.sessions h.admitted s.heart.admitted (λ i d within. w.drains.others i (omega (arith, within, s.heart.admitted)) ∙ s.heart.known i d within) w.drains.known;
-    seen = both (λ i u. Begins u.view.seen h'.view.seen) sessions w.sessions h.admitted s.heart.admitted (λ i d within. begins_trans _ _ _ (s.heart.seen i d within) w.drains.grows) w.drains.seen;
-    bases = both (λ i u. Begins (base_of u) h'.view.seen) sessions w.sessions h.admitted s.heart.admitted (λ i d within. begins_trans _ _ _ (s.heart.bases i d within) w.drains.grows) w.drains.bases;
+    drained = w.drains.drained ∙ ap (λ l. l ++ range_with_len h.admitted (length (map (λ (z : Served). z.updater) w.sessions))) s.heart.drained ∙ ranged;
+    numbered = both (λ i u. u.number ≡ i) sessions w.sessions h.admitted s.heart.admitted s.heart.numbered w.drains.numbered;
+    taken_in = both (λ i u. HasTakenIn h' u) sessions w.sessions h.admitted s.heart.admitted
+        (λ i d within. w.drains.stays (get_or sessions i d).updater (omega (arith, within, s.heart.admitted, s.heart.numbered i d within))
+        (taken_with_view h (record h { admitted = h.admitted + count }) (get_or sessions i d).updater refl (s.heart.taken_in i d within)))
+        w.drains.taken_in;
   };
 }
   where
-    numbered : range_with_len 0 (length sessions) ++ range_with_len h.admitted (length (map (λ (z : Served). z.updater) w.sessions)) ≡ range_with_len 0 (length (sessions ++ w.sessions))
-    numbered =
+    ranged : range_with_len 0 (length sessions) ++ range_with_len h.admitted (length (map (λ (z : Served). z.updater) w.sessions)) ≡ range_with_len 0 (length (sessions ++ w.sessions))
+    ranged =
         let from : h.admitted ≡ 0 + length sessions = omega (arith, s.heart.admitted) in
         ap (λ n. range_with_len 0 (length sessions) ++ range_with_len n (length (map (λ (z : Served). z.updater) w.sessions))) from
         ∙ ap (λ n. range_with_len 0 (length sessions) ++ range_with_len (0 + length sessions) n) (length-map w.sessions (λ (z : Served). z.updater))

@@ -5,9 +5,9 @@ use Rattle.atomic_table.specs.Seated.{TableId}
 use Rattle.sk_model.specs.Missing.{Begins}
 use Rattle.sk_io.specs.Traffic.{Traffic, Ended}
 use Rattle.sk_compose.specs.Numbers.{k_of}
-use Rattle.sk_gate.specs.Views.{known_of}
+use Rattle.sk_hub.specs.Drains.{HasTakenIn}
 use Rattle.sk_hub.specs.Hearts.{HeartState}
-use Rattle.sk_hub.specs.Updaters.{UpdaterState, base_of, kept_of}
+use Rattle.sk_hub.specs.Updaters.{UpdaterState}
 use Rattle.sk_line.specs.declared.sessions.End.{End}
 use Rattle.sk_serve.specs.declared.plan.ServePlan.{ServePlan}
 use Rattle.sk_serve.specs.Served.{IsFresh, Served, IsServed, AreServed, IsUnread, links_of, ends_of}
@@ -82,8 +82,8 @@ pub record ClosesLinks (plan : ServePlan) (most : ℕ) (table : TableId) (from c
 
 -- ---- updaters that were drained
 
--- the heart drained these updaters, in order, the first of them with this number: it knows what each kept, and has
--- seen all that each saw and filtered by
+-- the heart drained these updaters, in order, the first of them with this number, and has taken in each; those that it
+-- took in before it has still
 pub record DrainsFrom (from : ℕ) (h : HeartState) (us : List UpdaterState) (h' : HeartState) : Type 0 where
   pub table : h'.table ≡ h.table
   pub updaters : h'.updaters ≡ h.updaters
@@ -92,10 +92,9 @@ pub record DrainsFrom (from : ℕ) (h : HeartState) (us : List UpdaterState) (h'
   pub numbers : h'.view.numbers ≡ h.view.numbers
   pub grows : Begins h.view.seen h'.view.seen
   pub drained : h'.view.drained ≡ h.view.drained ++ range_with_len from (length us)
-  pub others : (i : ℕ) → i < from → known_of h'.view i ≡ known_of h.view i
-  pub known : (i : ℕ) (d : UpdaterState) → i < length us → known_of h'.view (from + i) ≡ kept_of (slice_index_or us i d)
-  pub seen : (i : ℕ) (d : UpdaterState) → i < length us → Begins (slice_index_or us i d).view.seen h'.view.seen
-  pub bases : (i : ℕ) (d : UpdaterState) → i < length us → Begins (base_of (slice_index_or us i d)) h'.view.seen
+  pub numbered : (i : ℕ) (d : UpdaterState) → i < length us → (slice_index_or us i d).number ≡ from + i
+  pub taken_in : All (HasTakenIn h') us
+  pub stays : (u : UpdaterState) → u.number < from → HasTakenIn h u → HasTakenIn h' u
 
 -- ---- a whole wave
 
@@ -114,9 +113,8 @@ pub record ServesWave (plan : ServePlan) (most count : ℕ) (h h' : HeartState) 
 pub record HasDrainedThem (sessions : List Served) (h : HeartState) : Type 0 where
   pub admitted : h.admitted ≡ length sessions
   pub drained : h.view.drained ≡ range_with_len 0 (length sessions)
-  pub known : (i : ℕ) (d : Served) → i < length sessions → known_of h.view i ≡ kept_of (slice_index_or sessions i d).updater
-  pub seen : (i : ℕ) (d : Served) → i < length sessions → Begins (slice_index_or sessions i d).updater.view.seen h.view.seen
-  pub bases : (i : ℕ) (d : Served) → i < length sessions → Begins (base_of (slice_index_or sessions i d).updater) h.view.seen
+  pub numbered : (i : ℕ) (d : Served) → i < length sessions → (slice_index_or sessions i d).updater.number ≡ i
+  pub taken_in : All (λ s. HasTakenIn h s.updater) sessions
 
 pub record ServesSome (plan : ServePlan) (most : ℕ) (before now : List Ended) (ends : List End) (sessions : List Served) (h : HeartState) : Type 0 where
   pub served : AreServed plan most 0 sessions

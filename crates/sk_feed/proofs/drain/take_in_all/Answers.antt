@@ -12,6 +12,6 @@ updater-preserved g c =
     let all = ap (λ l. c.updater.yielded ++ l) (sym c.in-Some.ensures.steps.0) ∙ c.updater.invariant.all in
     let number = next_has (λ i u. u.number ≡ i) c.args.updaters.items c.updater.yielded c.next.new.self.rest.items c.in-Some.updater all c.requires.numbers in
     record {
-      drained = one_more c.args.heart.now c.updater.heart c.drain.new.self c.updater.yielded c.in-Some.updater c.updater.invariant.drained number c.drain.ensures.seen (c.drain.ensures.drained c.in-Drained.is);
+      drained = one_more c.args.heart.now c.updater.heart c.drain.new.self c.updater.yielded c.in-Some.updater c.updater.invariant.drained number (c.drain.ensures.drained c.in-Drained.is);
       all = append_assoc c.updater.yielded (c.in-Some.updater ∷ []) c.next.new.self.rest.items ∙ all;
     }

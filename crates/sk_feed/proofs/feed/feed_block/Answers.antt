@@ -2,10 +2,10 @@ use Rattle.std.proofs.Common.{◌≡◌, ℕ, List, [], ◌<◌, ◌≤◌, ◌+
 use Rattle.std.proofs.lemmas.List.{get_or-drop, drop-drop}
 use Rattle.sk_hub.specs.Updaters.{UpdaterState, kept_of}
 use Rattle.sk_fill.specs.Windows.{item_in, items_in}
-use Rattle.sk_feed.specs.Feeds.{Takes}
+use Rattle.sk_hub.specs.Calls.{Takes}
 use Rattle.sk_feed.specs.Calls.{filter_of, IsFedEach}
 use Rattle.sk_feed.proofs.Calls.{no_line_fed, line_fed, line_unfed, lines_fed, stopped}
-use Rattle.sk_feed.proofs.Updaters.{takes_then_none, on_err}
+use Rattle.sk_hub.proofs.Calls.{takes_then_none, on_err}
 use Rattle.sk_feed.proofs.Feeding.{no_line, line_taken, line_passed, line_refused, room_after, room_passed}
 use Rattle.sk_feed.proofs.feed.feed_block.Goals as goal
 use Rattle.sk_feed.proofs.feed.feed_block.Goals.{in-Some+in_ok-feed_item+else-not-branch, in_default}

@@ -1,7 +1,7 @@
 use Rattle.std.proofs.Common.{◌≡◌, ℕ, List, ◌≤◌, ◌+◌, ◌-◌, ◌++◌, length, drop, slice_range}
 use Rattle.sk_hub.specs.Updaters.{UpdaterState, kept_of}
 use Rattle.sk_fill.specs.Windows.{items_in}
-use Rattle.sk_feed.specs.Feeds.{Takes}
+use Rattle.sk_hub.specs.Calls.{Takes}
 use Rattle.sk_feed.specs.Calls.{filter_of, IsFedEach}
 use Rattle.sk_feed.proofs.feed.feed_block.Given as goal
 use Rattle.sk_model.specs.Limits.{most_kept}

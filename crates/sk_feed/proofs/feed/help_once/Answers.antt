@@ -1,4 +1,4 @@
-use Rattle.sk_feed.proofs.Updaters.{helped}
+use Rattle.sk_hub.proofs.Calls.{helped}
 use Rattle.sk_feed.proofs.feed.help_once.Goals as goal
 
 pub returns-in-Elsewhere-clause-none : goal.returns-in-Elsewhere-clause-none

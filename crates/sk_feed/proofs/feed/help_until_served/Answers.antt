@@ -1,5 +1,5 @@
 use Rattle.std.proofs.Common.{suc, Ok, ap}
-use Rattle.sk_feed.proofs.Updaters.{none_refl, none_trans}
+use Rattle.sk_hub.proofs.Calls.{none_refl, none_trans}
 use Rattle.sk_feed.proofs.Calls.{served_now, served_later}
 use Rattle.sk_feed.proofs.feed.help_until_served.Goals as goal
 

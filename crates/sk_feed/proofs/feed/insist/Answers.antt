@@ -1,5 +1,5 @@
 use Rattle.std.proofs.Common.{[], ◌∷◌, inl, inr, suc}
-use Rattle.sk_feed.proofs.Updaters.{none_trans, none_then_takes, takes_then_none, on_ok, on_err, not_busy}
+use Rattle.sk_hub.proofs.Calls.{none_trans, none_then_takes, takes_then_none, on_ok, on_err, not_busy}
 use Rattle.sk_feed.specs.Calls.{filter_of}
 use Rattle.sk_feed.proofs.Calls.{insists_later, filtered_now, accepted_now}
 use Rattle.sk_feed.proofs.Rounds.{ok_then}

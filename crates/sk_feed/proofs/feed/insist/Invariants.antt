@@ -1,6 +1,6 @@
 use Rattle.std.proofs.Common.{ℕ}
 use Rattle.sk_hub.specs.Updaters.{UpdaterState}
-use Rattle.sk_feed.specs.Feeds.{KeepsNone}
+use Rattle.sk_hub.specs.Calls.{KeepsNone}
 use Rattle.sk_feed.specs.Calls.{filter_of, InsistsAfter}
 use Rattle.sk_feed.proofs.feed.insist.Given as goal
 

@@ -1,7 +1,7 @@
 use Rattle.std.proofs.Common.{sym, ◌∙◌}
 use Rattle.sk_feed.specs.Calls.{filter_of}
 use Rattle.sk_feed.proofs.Calls.{was_busy, was_filtered, was_accepted}
-use Rattle.sk_feed.proofs.Updaters.{offered}
+use Rattle.sk_hub.proofs.Calls.{offered}
 use Rattle.sk_feed.proofs.feed.offer.Goals as goal
 
 pub returns-clause-taken : goal.returns-clause-taken

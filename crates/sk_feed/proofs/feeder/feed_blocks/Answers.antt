@@ -1,7 +1,7 @@
 use Rattle.std.proofs.Common.{◌≡◌, ◌+◌, length, map, slice_range, ap, subst, ◌∙◌, arith}
 use Rattle.sk_fill.specs.Blocks.{place_of, block_of}
 use Rattle.sk_fill.specs.Windows.{items_in}
-use Rattle.sk_feed.specs.Feeds.{Takes}
+use Rattle.sk_hub.specs.Calls.{Takes}
 use Rattle.sk_feed.proofs.Rounds.{block_length}
 use Rattle.sk_feed.proofs.Rooms.{sets_out, has_room, goes_on_its_way}
 use Rattle.sk_feed.proofs.feeder.feed_blocks.Goals as goal

@@ -2,10 +2,10 @@ use Rattle.std.proofs.Common.{ℕ, ◌<◌, ◌≤◌, ◌+◌, length, get_or, 
 use Rattle.sk_hub.specs.Updaters.{kept_of}
 use Rattle.sk_feed.specs.declared.feeder.Feeder.{Feeder}
 use Rattle.sk_fill.specs.Windows.{items_in}
-use Rattle.sk_feed.specs.Feeds.{Takes}
+use Rattle.sk_hub.specs.Calls.{Takes}
 use Rattle.sk_fill.specs.Blocks.{block_of}
 use Rattle.sk_feed.specs.Rounds.{TakesFront}
-use Rattle.sk_feed.proofs.Updaters.{on_err}
+use Rattle.sk_hub.proofs.Calls.{on_err}
 use Rattle.sk_feed.proofs.Rounds.{ok_then, err_then, one_refused, room_at, all_take, all_front}
 use Rattle.sk_feed.proofs.feeder.feed_each.Goals as goal
 use Rattle.sk_model.specs.Limits.{most_kept}

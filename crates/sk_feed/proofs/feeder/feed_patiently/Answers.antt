@@ -1,7 +1,7 @@
 use Rattle.std.proofs.Common.{◌-◌, length, drop, slice_range, ap, ◌∙◌, subst, arith, length-take, ℕ, ◌≤◌, refl}
 use Rattle.sk_fill.specs.Windows.{items_in}
-use Rattle.sk_feed.specs.Feeds.{Takes}
-use Rattle.sk_feed.proofs.Updaters.{on_err}
+use Rattle.sk_hub.specs.Calls.{Takes}
+use Rattle.sk_hub.proofs.Calls.{on_err}
 use Rattle.sk_feed.proofs.OnItsWay.{sets_out, waits_on, arrives, front_taken}
 use Rattle.sk_feed.proofs.feeder.feed_patiently.Goals as goal
 

@@ -2,7 +2,7 @@ use Rattle.std.proofs.Common.{ℕ, ◌<◌, ◌≤◌, ◌+◌, length, map, get
 use Rattle.sk_hub.specs.Updaters.{kept_of}
 use Rattle.sk_model.specs.Limits.{most_kept}
 use Rattle.sk_feed.specs.declared.feeder.Feeder.{Feeder}
-use Rattle.sk_feed.specs.Feeds.{Takes}
+use Rattle.sk_hub.specs.Calls.{Takes}
 use Rattle.sk_fill.specs.Blocks.{blocks_of}
 use Rattle.sk_feed.specs.Shares.{share}
 use Rattle.sk_feed.proofs.Rounds.{ok_then, err_then, one_refused}

@@ -1,4 +1,4 @@
-use Rattle.sk_feed.proofs.Updaters as lemmas
+use Rattle.sk_hub.proofs.Calls as lemmas
 use Rattle.sk_feed.proofs.laws.takes_add_up.Goals as goal
 
 pub returns : goal.returns

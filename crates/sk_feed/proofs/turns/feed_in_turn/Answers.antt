@@ -2,7 +2,7 @@ use Rattle.std.proofs.Common.{◌≡◌, ◌+◌, ◌<◌, length, slice_range, 
 use Rattle.std.proofs.lemmas.List.{length-set}
 use Rattle.sk_fill.specs.Blocks.{place_of, block_of}
 use Rattle.sk_fill.specs.Windows.{items_in}
-use Rattle.sk_feed.specs.Feeds.{Takes}
+use Rattle.sk_hub.specs.Calls.{Takes}
 use Rattle.sk_feed.proofs.Feeding.{next_took, others_wait}
 use Rattle.sk_feed.proofs.Shares.{one_window}
 use Rattle.sk_feed.proofs.HubLaws.{heart_goes}

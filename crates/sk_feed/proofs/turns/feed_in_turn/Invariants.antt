@@ -1,7 +1,7 @@
 use Rattle.std.proofs.Common.{◌≡◌, ℕ, ◌<◌, ◌≤◌, length, get_or}
 use Rattle.sk_hub.specs.Updaters.{UpdaterState}
 use Rattle.sk_fill.specs.Windows.{items_in}
-use Rattle.sk_feed.specs.Feeds.{Takes}
+use Rattle.sk_hub.specs.Calls.{Takes}
 use Rattle.sk_fill.specs.Blocks.{block_of}
 use Rattle.sk_feed.specs.Hubs.{HeartGoesOn}
 use Rattle.sk_feed.proofs.turns.feed_in_turn.Given as goal

@@ -1,6 +1,6 @@
 use Rattle.std.proofs.Common.{◌-◌, length, drop, slice_range, ap, ◌∙◌, subst, arith, length-take}
 use Rattle.sk_fill.specs.Windows.{items_in}
-use Rattle.sk_feed.specs.Feeds.{Takes}
+use Rattle.sk_hub.specs.Calls.{Takes}
 use Rattle.sk_feed.proofs.OnItsWay.{sets_out, waits_on, arrives}
 use Rattle.sk_feed.proofs.HubLaws.{heart_waits, heart_goes}
 use Rattle.sk_feed.proofs.turns.feed_through.Goals as goal

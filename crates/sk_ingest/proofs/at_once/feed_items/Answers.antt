@@ -1,7 +1,7 @@
 use Rattle.std.proofs.Common.{[], ◌∷◌, get_or, take, sym, subst, arith}
 use Rattle.std.proofs.lemmas.List.{take_more}
-use Rattle.sk_feed.specs.Feeds.{Takes}
-use Rattle.sk_feed.proofs.Updaters.{none_refl, takes_none, takes_trans, takes_few}
+use Rattle.sk_hub.specs.Calls.{Takes}
+use Rattle.sk_hub.proofs.Calls.{none_refl, takes_none, takes_trans, takes_few}
 use Rattle.sk_feed.proofs.HubLaws.{heart_waits, heart_goes}
 use Rattle.sk_ingest.proofs.at_once.feed_items.Goals as goal
 

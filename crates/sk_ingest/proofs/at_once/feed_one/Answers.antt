@@ -1,6 +1,6 @@
 use Rattle.std.proofs.Common.{[], ◌∷◌, length, ap, arith}
 use Rattle.std.proofs.lemmas.Result.{on_ok_weaker}
-use Rattle.sk_feed.proofs.Updaters.{none_then_takes}
+use Rattle.sk_hub.proofs.Calls.{none_then_takes}
 use Rattle.sk_ingest.proofs.at_once.feed_one.Goals as goal
 
 pub propagate_until_taken-requires-clause-room : goal.propagate_until_taken-requires-clause-room

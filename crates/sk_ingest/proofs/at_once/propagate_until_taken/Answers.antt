@@ -1,5 +1,5 @@
 use Rattle.std.proofs.Common.{[], ◌∷◌, length, ap, arith}
-use Rattle.sk_feed.proofs.Updaters.{none_refl, none_trans, none_then_takes}
+use Rattle.sk_hub.proofs.Calls.{none_refl, none_trans, none_then_takes}
 use Rattle.sk_feed.proofs.HubLaws.{heart_waits, heart_goes}
 use Rattle.sk_ingest.proofs.at_once.propagate_until_taken.Goals as goal
 

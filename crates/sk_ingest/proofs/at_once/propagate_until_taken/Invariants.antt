@@ -1,4 +1,4 @@
-use Rattle.sk_feed.specs.Feeds.{KeepsNone}
+use Rattle.sk_hub.specs.Calls.{KeepsNone}
 use Rattle.sk_feed.specs.Hubs.{HeartGoesOn}
 use Rattle.sk_ingest.proofs.at_once.propagate_until_taken.Given as goal
 

@@ -1,6 +1,6 @@
 use Rattle.std.proofs.Common.{ℕ, [], ◌∷◌, ◌++◌, ap, ◌∙◌}
 use Rattle.sk_hub.specs.Updaters.{kept_of}
-use Rattle.sk_feed.proofs.Updaters.{offered, not_busy}
+use Rattle.sk_hub.proofs.Calls.{offered, not_busy}
 use Rattle.sk_line.proofs.serving.add.Goals as goal
 
 pub returns-in-Kept : goal.returns-in-Kept

@@ -1,8 +1,7 @@
 use Rattle.std.proofs.Common.{◌≡◌, [], inl, inr, sym, ap, ◌∙◌, subst}
 use Rattle.sk_hub.specs.Updaters.{UpdaterState}
-use Rattle.sk_feed.specs.Feeds.{KeepsNone}
-use Rattle.sk_feed.proofs.Updaters.{none_refl}
-use Rattle.sk_line.proofs.Updaters.{none_handed, fill_handed}
+use Rattle.sk_hub.specs.Calls.{KeepsNone}
+use Rattle.sk_hub.proofs.Calls.{none_refl, none_handed, fill_handed}
 use Rattle.sk_line.proofs.serving.hand_over.Goals as goal
 
 pub returns-in-Empty : goal.returns-in-Empty

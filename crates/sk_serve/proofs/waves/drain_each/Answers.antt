@@ -13,7 +13,7 @@ updater-preserved g c =
       all = append_assoc c.updater.yielded (u ∷ []) c.next.new.self.rest.items ∙ all;
       table = ap (λ z. z.table) d.stays ∙ i.table;
       drained = λ from are. one_drained from c.args.heart.now c.updater.heart c.drain.new.self c.updater.yielded u (i.drained from are)
-          (each_next (λ n v. v.number ≡ n) from c.args.updaters.items c.updater.yielded c.next.new.self.rest.items u all are.numbers) c.drain.ensures.seen d;
+          (each_next (λ n v. v.number ≡ n) from c.args.updaters.items c.updater.yielded c.next.new.self.rest.items u all are.numbers) d;
     }
 
 pub returns : goal.returns

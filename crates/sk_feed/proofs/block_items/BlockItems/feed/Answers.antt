@@ -1,5 +1,5 @@
 use Rattle.std.proofs.Common.{length, ap, ◌∙◌, arith, length-append}
-use Rattle.sk_feed.proofs.Updaters.{takes_few}
+use Rattle.sk_hub.proofs.Calls.{takes_few}
 use Rattle.sk_feed.proofs.OnItsWay.{few_kept, takes_waiting, gathers_more}
 use Rattle.sk_feed.proofs.block_items.BlockItems.feed.Goals as goal
 

@@ -15,7 +15,7 @@ invariant_of-result g c = let k = g.C.Composable in let f = c.self.inside in let
     let v = first_vacant f.updaters f.seat.table f.seat.view.numbers f.seat.view.name f.admitted f.vacant.items c.pop_front.new.self.items c.in-Some.seat c.in-Some.ensures.items i.vacant_are in
     let within : f.admitted < f.updaters = omega (arith, i.all, c.if-self.false) in
     let empty : c.in-Ok-Ok.fill ≡ contents [] c.args.b = λ e. contents (c.in-Ok-Ok.ensures.items e) (c.in-Ok-Ok.ensures.capacity e) in
-    admitted_is k.hint_of (telling k.tells k.told_name k.told_of) f.seat c.in-Some.seat c.admit-hint.new.self c.pick.new.self f.updaters f.admitted c.args.b c.admit-hint.result c.in-Ok-Ok.fill v c.admit-hint.ensures.told c.admit-hint.ensures.seat c.pick.ensures.seat within empty i.few i.slots
+    admitted_is k.hint_of (telling k.tells k.told_name k.told_of) f.seat c.in-Some.seat c.admit-hint.new.self c.pick.new.self f.updaters f.admitted c.args.b c.admit-hint.result c.in-Ok-Ok.fill v c.admit-hint.ensures.told c.admit-hint.ensures.seat c.pick.ensures.seat within empty i.few i.slots (c.requires.least, c.requires.most)
 
 pub returns-clause-admitted : goal.returns-clause-admitted
 returns-clause-admitted g c u is = let k = g.C.Composable in let f = c.self.inside in let i = c.self.invariant in

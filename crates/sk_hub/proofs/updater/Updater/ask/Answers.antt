@@ -1,5 +1,6 @@
-use Rattle.std.proofs.Common.{◌≤◌, subst}
+use Rattle.std.proofs.Common.{◌≤◌, length, subst}
 use Rattle.sk_gate.specs.Slots.{telling}
+use Rattle.sk_hub.specs.Updaters.{UpdaterState}
 use Rattle.sk_hub.proofs.Handles.{updater_asks}
 use Rattle.sk_hub.proofs.Kept.{own_reply}
 use Rattle.sk_hub.proofs.updater.Updater.ask.Goals as goal
@@ -10,5 +11,5 @@ invariant_of-self g c = let k = g.C.Composable in let f = c.self.inside in
 
 pub returns : goal.returns
 returns g c =
-    let f = c.self.inside in let i = c.self.invariant in let now = c.args.self.now in let e = c.len-count.ensures in
-    own_reply g.C.Composable.packed_of f.seat c.ask.new.self f.number f.size f.fill f.told f.hint f.last f.eager now c.ask.result i.view.post i.size_is c.self.view_is (subst (λ z. z ≤ now.size) e.value e.within) c.ask.ensures.told c.ask.ensures.seat
+    let f = c.self.inside in let i = c.self.invariant in let now = c.args.self.now in
+    own_reply g.C.Composable.packed_of f.seat c.ask.new.self f.number f.size f.fill f.told f.hint f.last f.eager now c.ask.result i.view.post i.size_is c.self.view_is (subst (λ (u : UpdaterState). length u.fill ≤ u.size) c.self.view_is i.buffer.within) c.ask.ensures.told c.ask.ensures.seat

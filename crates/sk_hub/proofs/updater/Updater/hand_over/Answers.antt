@@ -3,6 +3,7 @@ use Rattle.sk_gate.specs.Slots.{telling}
 use Rattle.sk_gate.specs.Moves.{RenewsAt, HandsAt}
 use Rattle.sk_hub.specs.Updaters.{UpdaterState, items_in, state_of, IsViewOf, IsRenewed, HandsOver}
 use Rattle.sk_model.specs.Width.{AreItems}
+use Rattle.sk_hub.proofs.Admits.{empty_buffer}
 use Rattle.sk_hub.proofs.Views.{view_renewed, view_handed}
 use Rattle.sk_hub.proofs.Handing.{handed_sees, handed_view, handed_tells}
 use Rattle.sk_hub.proofs.updater.Updater.hand_over.Goals as goal
@@ -34,4 +35,6 @@ invariant_of-self-2 g c = let k = g.C.Composable in let f = c.self.inside in
     let items : AreItems batch = search rules in
     let view : IsViewOf f.number y = view_handed f.number x y batch hands items (subst (IsViewOf f.number) (sym same) (view_renewed k.hint_of f.number v w word renews c.self.invariant.view)) in
     let count : c.len-count.result ≡ length batch = search rules in
-    record { number_is = search rules; view = view; free = search rules; own = search rules; within = search rules; few = search rules; slots = search rules; sized = search rules; size_is = search rules; fill_is = search rules; hint_is = search rules; taken_is = search rules; most = search rules; last_is = search rules; told_is = λ t is. handed_tells k.hint_of v w x y word f.number batch renews same hands (telling k.tells k.told_name k.told_of) c.len-count.result t count (c.swap-buffer.ensures.tells t is).1 }
+    let p = c.swap-buffer.result.buffer in
+    let none : p.items ≡ [] = ap (λ b. b.items) c.swap-buffer.ensures.empty in
+    record { number_is = search rules; view = view; free = search rules; own = search rules; within = search rules; few = search rules; slots = search rules; sized = search rules; size_is = search rules; fill_is = search rules; buffer = empty_buffer f.size p.items none (c.self.invariant.buffer.least, c.self.invariant.buffer.most); hint_is = search rules; taken_is = search rules; most = search rules; last_is = search rules; told_is = λ t is. handed_tells k.hint_of v w x y word f.number batch renews same hands (telling k.tells k.told_name k.told_of) c.len-count.result t count (c.swap-buffer.ensures.tells t is).1 }

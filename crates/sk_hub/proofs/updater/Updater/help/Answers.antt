@@ -1,4 +1,4 @@
-use Rattle.std.proofs.Common.{◌≡◌, ◌≤◌, true, ◌∙◌, ap, sym, subst}
+use Rattle.std.proofs.Common.{◌≡◌, true, ◌∙◌, sym, subst}
 use Rattle.sk_gate.specs.Slots.{telling}
 use Rattle.sk_gate.specs.Views.{is_open}
 use Rattle.sk_hub.specs.Rounds.{TriesTheTurn}
@@ -8,7 +8,7 @@ use Rattle.sk_hub.proofs.updater.Updater.help.Goals as goal
 use Rattle.sk_hub.proofs.updater.Updater.help.Goals.{in-Ok, in-Err-Elsewhere, in-Err-OutOfMemory}
 
 pub invariant_of-self : goal.invariant_of-self
-invariant_of-self g c = let k = g.C.Composable in let f = c.self.inside in let e = c.size-size.ensures in updater_stays k.hint_of (telling k.tells k.told_name k.told_of) f.seat _ f.number f.updaters f.size f.fill f.told f.hint f.taken f.last (subst (λ z. 1 ≤ z) (e.value ∙ ap (λ u. u.size) (sym c.self.view_is)) e.least) c.propagate.ensures.seat c.propagate.ensures.knows c.self.invariant
+invariant_of-self g c = let k = g.C.Composable in let f = c.self.inside in updater_stays k.hint_of (telling k.tells k.told_name k.told_of) f.seat _ f.number f.updaters f.size f.fill f.told f.hint f.taken f.last c.propagate.ensures.seat c.propagate.ensures.knows c.self.invariant
 
 pub returns-clause-turn : goal.returns-clause-turn
 returns-clause-turn g c = subst (λ u. TriesTheTurn u.view c.propagate.new.seat.view) c.self.view_is c.propagate.ensures.turn

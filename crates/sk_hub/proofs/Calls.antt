@@ -1,4 +1,4 @@
--- An updater that goes on.
+-- An updater that continues: what each of its calls leaves.
 use Rattle.std.proofs.Common.{◌≡◌, ◌≢◌, ◌⊎◌, inl, inr, ℕ, ◌+◌, ◌≤◌, List, [], ◌∷◌, ◌++◌, length, Bool, true, false, not, MatchBool, Result, Ok, Err, OnOk, OnErr, subst, sym, ap, refl, ◌∙◌, append-nil, append_assoc, length-append, arith}
 use Rattle.sk_model.specs.Entries.{Entry}
 use Rattle.sk_model.specs.Missing.{Begins}
@@ -7,20 +7,27 @@ use Rattle.sk_gate.specs.Views.{mine_of}
 use Rattle.sk_gate.specs.Hands.{is_empty}
 use Rattle.sk_hub.specs.declared.answers.Update.{Update}
 use Rattle.sk_hub.specs.declared.answers.Update.TheVariants as update
-use Rattle.sk_hub.specs.Updaters.{UpdaterState, handed_of, base_of, kept_of, with_item, LooksInVain, HandsOver, Keeps, HandsWith}
-use Rattle.sk_machine.specs.declared.views.Move.TheVariants.{Look, Hand}
+use Rattle.sk_hub.specs.Updaters.{UpdaterState, handed_of, base_of, kept_of, with_item, LooksInVain, Renews, HandsOver, Keeps, HandsWith}
+use Rattle.sk_machine.specs.declared.views.Move.TheVariants.{Look, Hand, Ask}
 use Rattle.sk_hub.specs.Rounds.{KnowsAsMuch}
+use Rattle.sk_hub.specs.Replies.{IsOwnReply}
 use Rattle.sk_hub.proofs.Handing.{told_trans, earlier_handed}
 use Rattle.sk_compose.specs.Kept.{AreKept}
-use Rattle.sk_feed.specs.Feeds.{GoesOn, KeepsNone, Takes}
+use Rattle.sk_hub.specs.Calls.{GoesOn, KeepsNone, Takes}
 use Rattle.sk_compose.proofs.Kept.{kept_append, kept_longer, kept_few, one_kept, one_dropped}
 
--- ---- it goes on
+same_begins : {A : Type 0} (xs ys : List A) → ys ≡ xs → Begins xs ys
+same_begins xs ys same = ([], same ∙ sym (append-nil xs))
+
+-- ---- it continues
 
 goes_refl : (u : UpdaterState) → GoesOn u u
 goes_refl u = record { number = refl; size = refl; table = refl; eager = refl; name = refl; numbers = refl; sized = refl; base = begins_refl (base_of u); handed = begins_refl (handed_of u); seen = begins_refl u.view.seen; steps = begins_refl u.view.steps; told = inl (refl, refl, refl) }
 
-goes_trans : (u v w : UpdaterState) → GoesOn u v → GoesOn v w → GoesOn u w
+pub goes_same : (u u' : UpdaterState) → u' ≡ u → GoesOn u u'
+goes_same u u' same = subst (GoesOn u) (sym same) (goes_refl u)
+
+pub goes_trans : (u v w : UpdaterState) → GoesOn u v → GoesOn v w → GoesOn u w
 goes_trans u v w a b = record {
   number = b.number ∙ a.number;
   size = b.size ∙ a.size;
@@ -59,6 +66,40 @@ goes_handed hint_of u u' fill h = record {
   told = inr (ap (λ z. z.news) h.state ∙ ap (λ l. not (is_empty l)) (sym (earlier_handed hint_of u u' fill h)));
 }
 
+-- a look that renewed the hint
+goes_renewed : (hint_of : List ℕ → List Entry → ℕ) (u u' : UpdaterState) → Renews hint_of u u' → GoesOn u u'
+goes_renewed hint_of u u' r =
+    let handed : handed_of u' ≡ handed_of u = ap (λ v. (mine_of v).handed) r.view in record {
+      number = ap (λ z. z.number) r.state;
+      size = ap (λ z. z.size) r.state;
+      table = ap (λ z. z.table) r.state;
+      eager = ap (λ z. z.eager) r.state;
+      name = ap (λ v. v.name) r.view;
+      numbers = ap (λ v. v.numbers) r.view;
+      sized = ap (λ v. length v.sizes) r.view;
+      base = r.renewed.grows;
+      handed = same_begins (handed_of u) (handed_of u') handed;
+      seen = r.renewed.sees;
+      steps = (Look u.number u'.hint ∷ [], ap (λ v. v.steps) r.view);
+      told = inl (ap (λ z. z.news) r.state, handed, ap (λ z. z.last) r.state);
+    }
+
+goes_asked : (packed : List ℕ → List Entry → ℕ) (u u' : UpdaterState) (word : ℕ) → IsOwnReply packed u word u' → GoesOn u u'
+goes_asked packed u u' word r = record {
+  number = ap (λ z. z.number) r.stays;
+  size = ap (λ z. z.size) r.stays;
+  table = ap (λ z. z.table) r.stays;
+  eager = ap (λ z. z.eager) r.stays;
+  name = ap (λ z. z.view.name) r.stays;
+  numbers = ap (λ z. z.view.numbers) r.stays;
+  sized = ap (λ z. length z.view.sizes) r.stays;
+  base = same_begins (base_of u) (base_of u') (ap base_of r.stays);
+  handed = same_begins (handed_of u) (handed_of u') (ap handed_of r.stays);
+  seen = r.grows;
+  steps = (Ask word ∷ [], ap (λ z. z.view.steps) r.stays);
+  told = inl (ap (λ z. z.news) r.stays, ap handed_of r.stays, ap (λ z. z.last) r.stays);
+}
+
 -- ---- it keeps nothing more
 
 pub none_refl : (u : UpdaterState) → KeepsNone u u
@@ -67,8 +108,27 @@ none_refl u = record { goes = goes_refl u; kept = refl }
 pub none_trans : (u v w : UpdaterState) → KeepsNone u v → KeepsNone v w → KeepsNone u w
 none_trans u v w a b = record { goes = goes_trans u v w a.goes b.goes; kept = b.kept ∙ a.kept }
 
-same_begins : {A : Type 0} (xs ys : List A) → ys ≡ xs → Begins xs ys
-same_begins xs ys same = ([], same ∙ sym (append-nil xs))
+pub none_in_vain : (u u' : UpdaterState) → LooksInVain u u' → KeepsNone u u'
+none_in_vain u u' l = record { goes = goes_in_vain u u' l; kept = ap kept_of l.state }
+
+pub none_renewed : (hint_of : List ℕ → List Entry → ℕ) (u u' : UpdaterState) → Renews hint_of u u' → KeepsNone u u'
+none_renewed hint_of u u' r = record {
+  goes = goes_renewed hint_of u u' r;
+  kept = ap (λ l. l ++ u'.fill) (ap (λ v. (mine_of v).handed) r.view) ∙ ap (λ l. handed_of u ++ l) (ap (λ z. z.fill) r.state);
+}
+
+pub fill_handed : (hint_of : List ℕ → List Entry → ℕ) (u u' : UpdaterState) → HandsOver hint_of u [] u' → u'.fill ≡ []
+fill_handed hint_of u u' h = ap (λ z. z.fill) h.state
+
+-- all that was kept was handed over
+pub none_handed : (hint_of : List ℕ → List Entry → ℕ) (u u' : UpdaterState) → HandsOver hint_of u [] u' → KeepsNone u u'
+none_handed hint_of u u' h = record {
+  goes = goes_handed hint_of u u' [] h;
+  kept = ap (λ l. l ++ u'.fill) (ap (λ v. (mine_of v).handed) h.view) ∙ ap (λ l. kept_of u ++ l) (fill_handed hint_of u u' h) ∙ append-nil (kept_of u);
+}
+
+pub none_asked : (packed : List ℕ → List Entry → ℕ) (u u' : UpdaterState) (word : ℕ) → IsOwnReply packed u word u' → KeepsNone u u'
+none_asked packed u u' word r = record { goes = goes_asked packed u u' word r; kept = ap kept_of r.stays }
 
 -- it tried to propagate
 pub helped : (u u' : UpdaterState) → u' ≡ record u { view = u'.view } → KnowsAsMuch u.view u'.view → KeepsNone u u'
@@ -155,7 +215,7 @@ offered keeps early hint_of u u' item update.Kept hint filtered same kept handed
 offered keeps early hint_of u u' item update.Handed hint filtered same kept handed grows taken = takes_one keeps hint_of u u' item (goes_handing early hint_of u u' item (handed refl)) (grows (inr refl))
 offered keeps early hint_of u u' item update.Busy hint filtered same kept handed grows taken = absurd (taken refl)
 
--- what is true is so behind an answer
+-- what is true is so after an answer
 pub on_ok : {T E P : Type 0} (r : Result T E) → P → OnOk r P
 on_ok (Ok x) p = p
 on_ok (Err e) p = tt

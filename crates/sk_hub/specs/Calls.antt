@@ -1,4 +1,4 @@
--- What it means that items were fed to an updater.
+-- An updater that continues: through calls that keep nothing more, or that take items.
 use Rattle.std.specs.Prelude.{◌≡◌, ℕ, List, ◌++◌, length, Bool}
 use Rattle.sk_model.specs.Entries.{Entry}
 use Rattle.sk_model.specs.Missing.{Begins}
@@ -20,12 +20,12 @@ pub record GoesOn (u u' : UpdaterState) : Type 0 where
   pub steps : Begins u.view.steps u'.view.steps
   pub told : HoldsTold u u'
 
--- it goes on, and has kept nothing more
+-- it continues, and has kept nothing more
 pub record KeepsNone (u u' : UpdaterState) : Type 0 where
   pub goes : GoesOn u u'
   pub kept : kept_of u' ≡ kept_of u
 
--- it goes on, and of these items, in order, has kept each that is not filtered by its base
+-- it continues, and of these items, in order, has kept each that is not filtered by its base
 pub record Takes (keeps : ℕ → ℕ → Bool) (hint_of : List ℕ → List Entry → ℕ) (u : UpdaterState) (items : List ℕ) (u' : UpdaterState) : Type 0 where
   pub goes : GoesOn u u'
   pub more : List ℕ
