@@ -70,7 +70,7 @@ fn take_in<W: Wait + Drop, R: Wait>(
         Drain::OutOfMemory(_) => return Err(OutOfMemory),
     }
     if let Some(told) = heart.told(number) {
-        reader.learn(rt, told);
+        reader.learn(told);
     }
     Ok(())
 }

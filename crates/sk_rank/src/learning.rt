@@ -36,6 +36,6 @@ fn learn<W: Wait + Drop, R: Wait>(
     // It tells the proof how much may lie in its buffers.
     let _number = u.number();
     if let Some(told) = u.told() {
-        reader.learn(rt, told);
+        reader.learn(told);
     }
 }

@@ -9,12 +9,13 @@ use crate::history::Known;
 use crate::rule::{About, Enters, Versions};
 use crate::version::{Rank, Version};
 use core::mem::replace_with;
+use crossbeam_utils::Backoff;
 use left_right::reader::Reader;
 use std::marker::Model;
 use std::sync::Wait;
 
 /// Reads ranks of the versions that are published, each over a list that begins with all that it has
-/// learnt and read. Once its sketch is gone a call waits for ever.
+/// learnt and read. Once its sketch is gone, a read waits for ever.
 #[derive(Drop)]
 pub struct QuantReader {
     reader: Reader<Version, About, Versions>,
@@ -50,7 +51,7 @@ impl QuantReader {
     }
 
     /// Each later read is over a list that begins with the told list too.
-    pub fn learn<R: Wait>(&mut self, rt: &R, told: Known)
+    pub fn learn(&mut self, told: Known)
         requires sketch { name_of told.book ≡ name_of self.old.known.book }
         ensures mine { Begins (entries_in self.old.known) (entries_in self.new.known) }
         ensures theirs { Begins (entries_in told) (entries_in self.new.known) }
@@ -59,7 +60,6 @@ impl QuantReader {
         ensures name { self.new.known.book ≡ self.old.known.book }
     {
         self.known.learn(&told);
-        self.read(rt, 0);
     }
 
     /// The rank of a number in a list that begins with all that was learnt and read, and is known
@@ -72,15 +72,17 @@ impl QuantReader {
         ensures key { self.new.key ≡ self.old.key }
         ensures name { self.new.known.book ≡ self.old.known.book }
     {
+        let backoff = Backoff::new();
         'again: for _ in rt.forever() {
             if let Some(rank) = self.look(x) {
                 return rank;
             }
+            backoff.snooze();
         }
         unreachable!()
     }
 
-    // One entry. It gives nothing where the version is older than what is known, or there is none.
+    // One entry. It gives nothing if the version is older than what is known, or if there is none.
     fn look(&mut self, x: u64) -> Option<Rank>
         ensures rank { IfSome result (λ rank. IsRank x self.old.k self.old.key
             (items_in self.new.known) rank.n rank.below rank.within) }

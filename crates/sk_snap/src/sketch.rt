@@ -196,7 +196,8 @@ impl<R: Wait + Drop> VersionedQuant<R> {
         self.writer.published().known.again()
     }
 
-    // Merges a batch, or changes nothing.
+    // Merges a batch, or changes nothing. A batch that is refused may stay in the history: until that batch comes again and
+    // is merged, each other one is refused too.
     pub(crate) fn merge_items<W: Wait>(
         &mut self,
         rt: &W,

@@ -53,10 +53,10 @@ fn expect_ranks<R: Wait + Abort>(
     let (mut sketch, mut reader) = VersionedQuant::new(alloc, rt, setting.0, setting.1)?;
     expect(rt, reader.read(rt, x), 0, 0, 0);
     let told = merge_two(rt, alloc, &mut sketch, items[0], items[1])?;
-    reader.learn(rt, told);
+    reader.learn(told);
     assert_eq!(rt; reader.read(rt, x), want[0]);
     let told = merge_two(rt, alloc, &mut sketch, items[2], items[3])?;
-    reader.learn(rt, told);
+    reader.learn(told);
     assert_eq!(rt; reader.read(rt, x), want[1]);
     assert_eq!(rt; Composable::packed(&sketch), 4);
     Ok(())
@@ -143,7 +143,7 @@ fn a_reader_runs_beside_a_writer(rt: HostRuntime) -> Result<(), Fail> {
     );
     let (_sketch, told) = written?;
     assert!(rt; seen == rank(0, 0, 0) || seen == rank(2, 2, 0) || seen == rank(4, 2, 0));
-    reader.learn(&rt, told);
+    reader.learn(told);
     expect(&rt, reader.read(&rt, 3), 4, 2, 0);
     Ok(())
 }
