@@ -3,6 +3,7 @@
 
 mod feeding;
 mod greatest;
+mod joins;
 mod lines;
 mod ranks;
 mod schedule;
@@ -10,6 +11,7 @@ mod streams;
 
 pub use feeding::{feed_all, feed_item};
 pub use greatest::{Greatest, greatest_item};
+pub use joins::{estimate_again, estimate_of_both, list_of_both};
 pub use lines::{Measured, Threes, measure_lines, measure_text};
 pub use ranks::rank_source;
 pub use schedule::replay;

@@ -56,6 +56,27 @@ fn four_streams(alloc: Global) -> Result<Vec<Vec<u64>>, OutOfMemory>
 }
 
 #[test]
+fn sketches_join_and_are_filled_again(rt: HostRuntime) -> Result<(), Fail> {
+    let alloc = rt.alloc();
+    expect(
+        &rt,
+        estimate_of_both(alloc, 8, &[5, 3, 9], &[3, 7])?,
+        (4, 1),
+    );
+    let mut one = HeapTheta::new(alloc, 8)?;
+    let mut other = HeapTheta::new(alloc, 8)?;
+    one.merge(&[5, 3, 9]);
+    other.merge(&[3, 7]);
+    expect(
+        &rt,
+        list_of_both(alloc, &one, &other)?.as_slice(),
+        [3, 5, 7, 9].as_slice(),
+    );
+    expect(&rt, estimate_again(&mut one, &[8, 6]), (2, 1));
+    Ok(())
+}
+
+#[test]
 fn four_threads_count_as_one(rt: HostRuntime) -> Result<(), Fail> {
     let alloc = rt.alloc();
     let Ok(shape) = Shape::new(32, 4, 4, 0, false) else {
