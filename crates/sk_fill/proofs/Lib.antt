@@ -9,4 +9,6 @@ pub mod ManyLines
 pub mod HeldLines
 pub mod Gathering
 pub mod Pages
+pub mod PageText
+pub mod PageGroups
 pub mod StretchLaws

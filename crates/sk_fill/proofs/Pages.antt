@@ -6,7 +6,7 @@ use Rattle.std.proofs.lemmas.List.{drop-append-le, take-append-le, drop_at, take
 use Rattle.std.proofs.Math.Seq.{drop-length, drop-append-add}
 use Rattle.std.proofs.lemmas.List.Elements.{All-push}
 use Rattle.std.proofs.lemmas.List.Folds.{concat-append}
-use Rattle.sk_lines.specs.Pages.{PageState}
+use Rattle.sk_fill.specs.Pages.{PageState}
 use Rattle.sk_lines.specs.Spans.{AreBehind, lines_at}
 use Rattle.sk_lines.specs.declared.spans.Span.{Span}
 use Rattle.sk_fill.specs.Windows.{full_bytes, fills, IsWindow}

@@ -1,4 +1,5 @@
 pub mod Windows
 pub mod Blocks
 pub mod Fills
+pub mod Pages
 pub mod Stretches

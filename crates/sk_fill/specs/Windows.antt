@@ -1,7 +1,7 @@
 -- What contracts see of a window, and the items of its lines.
 use Rattle.std.specs.Prelude.{IsNone, ◌≡◌, ℕ, ◌+◌, ◌<◌, ◌≤◌, ◌==◌, ◌||◌, nat_le, Bool, true, false, List, [], ◌∷◌, ◌++◌, length, take, Option, None, filter_map, flat_map, All}
 use Rattle.std.specs.List.{concat}
-use Rattle.sk_lines.specs.Pages.{PageState}
+use Rattle.sk_fill.specs.Pages.{PageState}
 use Rattle.sk_lines.specs.Spans.{AreBehind, lines_at}
 use Rattle.sk_read.specs.Items.{item_of}
 use Rattle.sk_read.specs.declared.kind.Kind.{Kind}

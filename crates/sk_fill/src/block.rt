@@ -12,7 +12,7 @@ pub struct Block {
 }
 
 impl Block {
-    /// Block i of so many lines that are cut into n blocks, from 1 to 64. They differ by at most one line.
+    /// Block i of `lines` lines that are cut into n blocks, from 1 to 64. They differ by at most one line.
     pub fn of(lines: u32, i: u32, n: u32) -> Block
         requires most { lines ≤ most_lines }
         requires few { n ≤ most_updaters }

@@ -16,8 +16,8 @@ use crate::window::Window;
 use sk_io::Source;
 use sk_read::{Fault, Kind, LineReader};
 
-/// Reads lines into an empty window until it is full, or answers `false` at the end of the source. It stops at a line
-/// that has to spell a number and does not, at a fault of the reading, and for want of memory: the window then has the
+/// Reads lines into an empty window until it is full, or returns `false` at the end of the source. It stops at a line
+/// that has to spell a number and does not, at a fault of the reading, and when out of memory: the window then has the
 /// lines before.
 pub fn fill<S: Source>(
     reader: &mut LineReader,

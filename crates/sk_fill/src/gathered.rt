@@ -20,7 +20,7 @@ pub struct Gathered {
     pub items: usize,
 }
 
-/// Puts the items of lines that a hint keeps to the front of `kept`, up to the first line that is neither empty
+/// Writes the items of lines that a hint keeps to the start of `kept`, up to the first line that is neither empty
 /// nor an item. It does not branch on whether an item is kept: a processor would often foretell that wrongly.
 #[inline(always)]
 pub fn gather<C: Composable>(
@@ -58,7 +58,7 @@ pub fn gather<C: Composable>(
     }
 }
 
-/// Puts the items of lines that a hint keeps to the front of `kept`, and answers how many they are. A line that is
+/// Writes the items of lines that a hint keeps to the start of `kept`, and returns how many they are. A line that is
 /// no item is passed over.
 #[inline(always)]
 pub fn gather_all<C: Composable>(

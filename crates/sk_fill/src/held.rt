@@ -13,7 +13,7 @@ use sk_read::{Fault, Kind, LineReader};
 // As many lines are taken at once at most.
 const RUN: usize = 512;
 
-// Takes the lines that a reader holds into a window until it is full, and answers whether it is.
+// Takes the lines that a reader holds into a window until it is full, and returns whether it is.
 pub(crate) fn take_held(
     window: &mut Window,
     reader: &mut LineReader,
@@ -34,7 +34,7 @@ pub(crate) fn take_held(
     take_lines(window, reader, kind)
 }
 
-// Takes many lines at once as long as they can lie beside the others, and answers whether the window is full.
+// Takes many lines at once as long as they can lie beside the others, and returns whether the window is full.
 fn take_runs(window: &mut Window, reader: &mut LineReader, kind: Kind) -> Result<bool, Fault>
     requires unfilled { FillsNone window.old.most window.old.lines }
     requires good { All (IsGood kind) window.old.lines }
@@ -58,7 +58,7 @@ fn take_runs(window: &mut Window, reader: &mut LineReader, kind: Kind) -> Result
     Ok(false)
 }
 
-// Takes some lines that a reader holds, and answers whether there were any.
+// Takes some lines that a reader holds, and returns whether there were any.
 fn take_run(window: &mut Window, reader: &mut LineReader, kind: Kind) -> Result<bool, Fault>
     requires unfilled { FillsNone window.old.most window.old.lines }
     requires good { All (IsGood kind) window.old.lines }
@@ -90,7 +90,7 @@ fn take_run(window: &mut Window, reader: &mut LineReader, kind: Kind) -> Result<
     Ok(true)
 }
 
-// Takes out of a window what comes from a place on behind lines that are good. `before` lines came before that place.
+// Takes out of a window what comes from a place on after lines that are good. `before` lines came before that place.
 fn keep_good(window: &mut Window, first: u32, kind: Kind, before: u64) -> Result<(), Fault>
     requires apart { window.old.apart ≡ 0 }
     requires within { first ≤ length window.old.lines }
@@ -126,7 +126,7 @@ fn first_bad(window: &Window, first: u32, kind: Kind) -> Option<u32>
     None
 }
 
-// Takes lines one after another until the window is full, and answers whether it is.
+// Takes lines one after another until the window is full, and returns whether it is.
 fn take_lines(window: &mut Window, reader: &mut LineReader, kind: Kind) -> Result<bool, Fault>
     requires unfilled { FillsNone window.old.most window.old.lines }
     requires good { All (IsGood kind) window.old.lines }

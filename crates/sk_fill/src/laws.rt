@@ -12,17 +12,17 @@ pub fn blocks_begin()
     ensures { (lines n : ℕ) → place_of lines 0 n ≡ 0 }
 {}
 
-/// The last block ends behind the last line.
+/// The last block ends after the last line.
 pub fn blocks_end()
     ensures { (lines n : ℕ) → 0 < n → place_of lines n n ≡ lines }
 {}
 
-/// Each block ends where it begins, or behind.
+/// Each block ends where it begins, or after.
 pub fn blocks_rise()
     ensures { (lines i n : ℕ) → 0 < n → place_of lines i n ≤ place_of lines (i + 1) n }
 {}
 
-/// The blocks, one behind another, are the lines, and their items are those of the lines.
+/// The blocks, one after another, are the lines, and their items are those of the lines.
 pub fn blocks_are_the_lines()
     ensures lines { (lines : List (List ℕ)) (n : ℕ) → 0 < n
         → flat_map (λ i. block_of lines i n) (range_with_len 0 n) ≡ lines }
@@ -30,7 +30,7 @@ pub fn blocks_are_the_lines()
         → flat_map (λ i. items_in kind (block_of lines i n)) (range_with_len 0 n) ≡ items_in kind lines }
 {}
 
-/// Where each line is empty or an item, the items are those that a reader of these lines gives.
+/// If each line is empty or an item, the items are those that a reader of these lines gives.
 pub fn items_of_good_lines()
     ensures { (kind : Kind) (lines : List (List ℕ)) → All (IsGood kind) lines → items_in kind lines ≡ items_by kind lines }
 {}

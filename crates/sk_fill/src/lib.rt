@@ -7,6 +7,7 @@ mod gathered;
 mod good;
 mod held;
 pub mod laws;
+mod page;
 mod stretch;
 mod window;
 mod window_lines;

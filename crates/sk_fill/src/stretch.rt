@@ -19,7 +19,7 @@ const FULL_BYTES: usize = 16_777_216;
 /// Windows that are fed together.
 #[derive(Drop)]
 pub struct Stretch {
-    // the first so many are in use: the others keep their memory
+    // only the first are in use: the others keep their memory
     windows: Vec<Window>,
     used: usize,
     // how many lines those in use have, and how many bytes these
@@ -70,7 +70,7 @@ impl Stretch {
         &self.windows[..self.used]
     }
 
-    // Takes all windows out: those that come lie behind so many lines. The memory stays.
+    // Takes all windows out: `first` lines come before the next ones. The memory stays.
     fn clear(&mut self, first: u64)
         ensures windows { self.new.windows ≡ [] }
         ensures most { self.new.most ≡ self.old.most }
@@ -101,12 +101,12 @@ impl Stretch {
         self.size
     }
 
-    // Whether it takes no further window, where so many lines are enough.
+    // Whether it takes no further window, if `enough` lines are enough.
     fn is_full(&self, enough: usize) -> bool {
         self.lines >= enough || self.size >= FULL_BYTES
     }
 
-    // Reads lines into a window more, and answers whether that is full.
+    // Reads lines into a window more, and returns whether that is full.
     fn read_window<S: Source>(
         &mut self,
         reader: &mut LineReader,
@@ -132,7 +132,7 @@ impl Stretch {
     }
 }
 
-// Finds memory for a window behind those in use.
+// Finds memory for a window after those in use.
 fn reserve(
     alloc: Global,
     windows: &mut Vec<Window>,
@@ -155,7 +155,7 @@ fn reserve(
 }
 
 /// Reads windows into a stretch, in the place of those that it has, until it has as many lines as are enough or is full,
-/// or answers `false` at the end of the source: then the last of them is not full. It stops where `fill` does.
+/// or returns `false` at the end of the source: then the last of them is not full. It stops where `fill` does.
 pub fn fill_stretch<S: Source>(
     reader: &mut LineReader,
     source: &mut S,

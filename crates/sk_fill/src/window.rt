@@ -7,8 +7,9 @@ ghost use Rattle.sk_fill.specs.Windows.{most_lines, full_bytes, is_full, item_in
 ghost use Rattle.sk_model.specs.Lines.{lines_of};
 ghost use Rattle.sk_model.specs.Width.{IsItem};
 
+use crate::page::Page;
 use crate::window_lines::WindowLines;
-use sk_lines::{Page, Span};
+use sk_lines::Span;
 use sk_model::OutOfMemory;
 use sk_read::{Kind, LINE_LIMIT};
 use std::alloc::Global;
@@ -22,9 +23,9 @@ const FULL_BYTES: usize = 67_108_864;
 pub struct Window {
     // its first lines, in the bytes that they came in
     page: Page,
-    // how many bytes these have without what ended them, where others lie behind
+    // how many bytes these have without what ended them, if others come after them
     page_bytes: usize,
-    // the others, one behind the other, and where each lies
+    // the others, one after the other, and where each lies
     text: Vec<u8>,
     spans: Vec<Span>,
     // how many lines there may be
@@ -44,7 +45,7 @@ impl Model for Window {
 }
 
 impl Window {
-    /// A window of at most so many lines, from 1 to 1,000,000. Memory for their bytes is taken as they come.
+    /// A window of at most `most` lines, from 1 to 1,000,000. Memory for their bytes is taken as they come.
     pub fn new(alloc: Global, lines: u32) -> Result<Window, OutOfMemory>
         requires least { 1 ≤ lines }
         requires most { lines ≤ most_lines }
@@ -95,7 +96,7 @@ impl Window {
         self.push(line)
     }
 
-    // Whether lines of so many bytes in all, with what ended them, can lie behind the others, and do not fill it by
+    // Whether lines of `bytes` bytes in all, with what ended them, can come after the others, and do not fill it by
     // their bytes.
     #[inline(always)]
     pub(crate) fn has_room_for(&self, bytes: usize) -> bool
@@ -106,7 +107,7 @@ impl Window {
         self.spans.is_empty() && self.page.size().saturating_add(bytes) < FULL_BYTES
     }
 
-    // Puts lines to the end, so many, each with what ended it.
+    // Appends the `count` lines of a run, each with what ended it.
     pub(crate) fn push_run(&mut self, run: &[u8], count: usize) -> Result<(), OutOfMemory>
         requires run { IsRun count run.now }
         requires apart { self.old.apart ≡ 0 }
@@ -120,7 +121,7 @@ impl Window {
         self.page.push_run(run, count)
     }
 
-    // Keeps the first lines, so many.
+    // Keeps the first `count` lines.
     pub(crate) fn keep(&mut self, count: usize)
         requires apart { self.old.apart ≡ 0 }
         requires within { count ≤ length self.old.lines }
@@ -209,7 +210,7 @@ impl Window {
         self.lines_from(i).next_line()
     }
 
-    /// The item of the line at a place: none where it is empty, or has to spell a number and does not.
+    /// The item of the line at a place: none if it is empty, or has to spell a number and does not.
     pub fn item(&self, i: u32, kind: Kind) -> Option<u64>
         requires { i < length self.now.lines }
         ensures value { result ≡ item_in kind (slice_index_or self.now.lines i []) }
@@ -233,7 +234,7 @@ impl Window {
 fn bytes_of(page: &Page) -> usize
     ensures { result ≡ length (concat page.now.lines) }
 {
-    // It tells the proof that they are few enough to be counted.
+    // By it the proof knows that they are few enough to be counted.
     let _size = page.size();
     let mut lines = page.lines_from(0);
     let mut bytes = 0;

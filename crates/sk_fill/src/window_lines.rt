@@ -4,14 +4,15 @@ ghost use Rattle.sk_lines.specs.Spans.{AreBehind, lines_at};
 ghost use Rattle.sk_fill.specs.Windows.{item_in};
 ghost use Rattle.sk_model.specs.Width.{IsItem};
 
-use sk_lines::{GROUP, PageLines, Span};
+use crate::page::PageLines;
+use sk_lines::{GROUP, Span};
 use sk_read::Kind;
 use std::marker::Model;
 
 /// Lines of a window, one after another.
 #[derive(Drop)]
 pub struct WindowLines<'a> {
-    // so many lines of a page come first
+    // the lines of a page that are left come first
     page: PageLines<'a>,
     left: usize,
     // and then those that lie in a text
@@ -62,7 +63,7 @@ impl<'a> WindowLines<'a> {
         &text[span.from..span.to]
     }
 
-    /// Moves on, and gives the next line's item: none where it is empty, or has to spell a number and does not.
+    /// Moves on, and gives the next line's item: none if it is empty, or has to spell a number and does not.
     #[inline(always)]
     pub fn next_item(&mut self, kind: Kind) -> Option<u64>
         requires { 0 < length self.old.rest }
@@ -74,8 +75,8 @@ impl<'a> WindowLines<'a> {
         item_at(kind, text, span)
     }
 
-    /// Moves on by some of the next lines, at most so many, puts to the front of `spans` where they lie in a text,
-    /// and answers that text and how many they are.
+    /// Moves on by some of the next lines, at most `most`, writes to the start of `spans` where they lie in a text,
+    /// and returns that text and how many they are.
     pub fn next_lines(&mut self, spans: &mut [Span; GROUP], most: usize) -> (&'a [u8], usize)
         requires some { 0 < length self.old.rest }
         requires wanted { 0 < most }
@@ -96,7 +97,7 @@ impl<'a> WindowLines<'a> {
         (self.text, count)
     }
 
-    // Moves on, and tells where the next line lies.
+    // Moves on, and returns where the next line lies.
     #[inline(always)]
     fn next_place(&mut self) -> (&'a [u8], Span)
         requires { 0 < length self.old.rest }
@@ -116,7 +117,7 @@ impl<'a> WindowLines<'a> {
     }
 }
 
-// The item of a line that lies in a text: none where it is empty, or has to spell a number and does not.
+// The item of a line that lies in a text: none if it is empty, or has to spell a number and does not.
 #[inline(always)]
 pub(crate) fn item_at(kind: Kind, text: &[u8], span: Span) -> Option<u64>
     requires order { span.from ≤ span.to }

@@ -5,9 +5,6 @@ ghost use Rattle.std.specs.Prelude.{◌≡◌, ◌+◌, ◌<◌, ◌≤◌, ◌^
 ghost use Rattle.sk_model.specs.Murmur.{word_at, scrambled_first, scrambled_second, after_block, with_tail, finished_word, finished, murmur128_of, hash_of, hash48_of};
 ghost use Rattle.sk_model.specs.Width.{IsItem};
 
-#[cfg(test)]
-mod tests;
-
 // The constants of the reference code.
 const C1: u64 = 0x87c3_7b91_1142_53d5;
 

@@ -8,7 +8,7 @@ use Rattle.sk_model.specs.Lines.{lines_of, AreWithin}
 use Rattle.sk_model.proofs.Lines.{lines_of_nothing, lines_at_end, after_whole_lines, within_append}
 use Rattle.sk_lines.specs.Cutter.{Cutter, Follows, counted}
 use Rattle.sk_lines.specs.Runs.{GivesRun, IsRun, run_between}
-use Rattle.sk_lines.proofs.Pages.{no_lines, run_more, bytes_are_few}
+use Rattle.sk_lines.proofs.WholeLines.{no_lines, run_more, bytes_are_few}
 use Rattle.sk_lines.proofs.Steps.{front_of_rest, rest_behind}
 
 -- so many lines behind what was given

@@ -1,12 +1,10 @@
 -- Lemmas on hashes as hexadecimal digits.
 use Rattle.std.proofs.Common.{◌≡◌, ℕ, zero, suc, ◌+◌, ◌*◌, ◌^◌, ◌<◌, ◌≤◌, ◌/◌, ◌%◌, nat_lt, cond, inl, inr, List, [], ◌∷◌, ◌++◌, length, take, drop, set, get_or, All, refl, sym, ap, ◌∙◌, arith, append_assoc, length-append, pow-suc}
 use Rattle.std.proofs.Math.Nat.{pow-le-pow_right}
-use Rattle.std.specs.Prelude.{codes}
 use Rattle.std.proofs.lemmas.Bool.{cases_lt, cond_both, ltb-true, lt-ltb, le-ltb}
 use Rattle.std.proofs.lemmas.List.{drop_all, drop-append-le, get_or_append_left, get_or_at, same_from_push, take_more}
 use Rattle.std.proofs.lemmas.List.Elements.{All-nil, All-push}
-use Rattle.sk_lines.specs.Hashes.{hex, hex_digit, hash_digits, hash_line}
-use Rattle.sk_model.specs.Width.{item_digits, IsItem}
+use Rattle.sk_lines.specs.Hashes.{hex, hex_digit}
 
 pub hex_more : (width n : ℕ) → hex (width + 1) n ≡ hex width (n / 16) ++ hex_digit (n % 16) ∷ []
 unfolding hex
@@ -116,9 +114,6 @@ hex_injective (suc width) a b sa sb e =
     let low : a % 16 ≡ b % 16 = digit_injective (a % 16) (b % 16) (omega arith) (omega arith) parts.1 in
     omega (arith, high, low)
 
-pub hash_injective : (a b : ℕ) → IsItem a → IsItem b → hash_digits a ≡ hash_digits b → a ≡ b
-hash_injective a b sa sb e = hex_injective item_digits a b (omega (arith, sa)) (omega (arith, sb)) e
-
 -- without the first of a number's digits, its last ones are left
 pub hex_last : (width more n : ℕ) → drop more (hex (more + width) n) ≡ hex width n
 unfolding hex
@@ -128,9 +123,3 @@ hex_last (suc width) more n =
     ap (λ (w : ℕ). drop more (hex w n)) next
     ∙ drop-append-le more (hex (more + width) (n / 16)) (hex_digit (n % 16) ∷ []) (omega (arith, length_hex (more + width) (n / 16)))
     ∙ ap (λ (l : List ℕ). l ++ hex_digit (n % 16) ∷ []) (hex_last width more (n / 16))
-
-pub hash_line_last : (width more hash : ℕ) → more + width ≡ item_digits → drop more (hash_line hash) ≡ hex width hash ++ codes "\n"
-hash_line_last width more hash whole =
-    drop-append-le more (hash_digits hash) (codes "\n") (omega (arith, length_hex item_digits hash, whole))
-    ∙ ap (λ (w : ℕ). drop more (hex w hash) ++ codes "\n") (sym whole)
-    ∙ ap (λ (l : List ℕ). l ++ codes "\n") (hex_last width more hash)

@@ -9,7 +9,7 @@ use native.Mathlib.Nat.{pow-suc}
 use Rattle.sk_model.proofs.Lines.{a_line_alone}
 use Rattle.sk_lines.specs.Cutter.{HasNoLf}
 use Rattle.sk_lines.specs.Runs.{IsRun}
-use Rattle.sk_lines.proofs.Pages.{no_lines, run_more}
+use Rattle.sk_lines.proofs.WholeLines.{no_lines, run_more}
 use Rattle.sk_lines.proofs.Steps as steps
 
 -- LFs were passed over from a place up to another, and the last stands before `at`

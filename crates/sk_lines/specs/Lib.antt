@@ -8,8 +8,5 @@ pub mod Hashes
 pub mod Inside
 pub mod Marks
 pub mod Padded
-pub mod Pages
 pub mod Runs
-pub mod ShortNumbers
 pub mod Spans
-pub mod Wide

@@ -55,7 +55,7 @@ pub struct Lines {
     buffer: Padded,
     // Where the bytes begin that no line given has.
     at: usize,
-    // How far LFs were sought, and those of the block before that place which lie behind `at`.
+    // How far LFs were sought, and those of the block before that place which come after `at`.
     scanned: usize,
     marks: u64,
     line_start: usize,
@@ -133,7 +133,7 @@ impl Lines {
     }
 
     /// Reads the next piece of the text from a source, at most `MOST_PIECE` bytes and at most `room`, and
-    /// answers how many they are: none only at the source's end. Where none may be read it answers `TooMuch`.
+    /// returns how many they are: none only at the source's end. If none may be read it returns `TooMuch`.
     /// A read that fails takes none.
     pub fn feed_from<S: Source>(&mut self, source: &mut S, room: u64) -> Result<usize, BoundFault>
         requires hungry { self.old.hungry ≡ true }
@@ -155,7 +155,7 @@ impl Lines {
         read
     }
 
-    // Drops the lines that were given, so that what is left lies at the front.
+    // Drops the lines that were given, so that what is left lies at the start.
     fn drop_given(&mut self)
         requires { self.old.hungry ≡ true }
         ensures { self.new ≡ record self.old { front = []; line = [] } }
@@ -168,7 +168,7 @@ impl Lines {
         self.line_end = 0;
     }
 
-    /// The next line. It is `Long` as soon as the bytes fed tell it, and from then on always.
+    /// The next line. It is `Long` as soon as the bytes fed show it, and from then on always.
     #[inline(always)]
     pub fn next(&mut self) -> Next
         ensures line { result ≡ Next.Line → GivesLine self.old self.new }
@@ -179,7 +179,7 @@ impl Lines {
             → (given : List (List ℕ)) (text : List ℕ) → Follows self.old given text
             → IsLongAfter self.old.limit n given (open_lines_of text) }
 
-        // What was too long stays so, and behind the end there is nothing.
+        // What was too long stays so, and after the end there is nothing.
         ensures again { is_long self.old.last ≡ true → result ≡ self.old.last }
         ensures front { result ≢ Next.Line → self.new.front ≡ self.old.front }
         ensures rest { result ≢ Next.Line → self.new.rest ≡ self.old.rest }
@@ -220,9 +220,9 @@ impl Lines {
         self.last
     }
 
-    /// Moves on to the next complete lines that are held, puts to the front of `spans` where they lie in
-    /// `front`, and answers how many they are. They may be fewer than are held; where there is none, no line is
-    /// complete or the next is too long, and `next` tells.
+    /// Moves on to the next complete lines that are held, writes to the start of `spans` where they lie in
+    /// `front`, and returns how many they are. They may be fewer than are held; if there is none, no line is
+    /// complete or the next is too long, and `next` says which.
     pub fn next_lines(&mut self, spans: &mut [Span; GROUP]) -> usize
         ensures few { result ≤ GROUP }
         ensures lines { GivesLines self.old self.new (take result spans.new) }
@@ -242,9 +242,9 @@ impl Lines {
         count
     }
 
-    /// Moves on to the next complete lines that are held, at most so many, and answers how many they are: `front`
-    /// has become longer by them and what ended them. Where more bytes are held than a line may have it moves
-    /// over none, and `next` goes on.
+    /// Moves on to the next complete lines that are held, at most `most`, and returns how many they are: `front`
+    /// has become longer by them and what ended them. If more bytes are held than a line may have, it moves
+    /// over none, and `next` continues.
     pub fn next_run(&mut self, most: usize) -> usize
         ensures few { result ≤ most }
         ensures run { GivesRun self.old self.new result }
@@ -266,7 +266,7 @@ impl Lines {
         count
     }
 
-    // Answers where no LF is held.
+    // What `next` returns if no LF is held.
     fn rest_is_open(&mut self) -> Next
         requires piece { HasNoLf self.old.rest }
         requires not_long { is_long self.old.last ≡ false }
@@ -399,9 +399,9 @@ impl Lines {
     }
 }
 
-// How many bytes the line from `at` up to `end` has without the CR at its end.
+/// How many bytes the line from `at` up to its LF at `end` has: a CR directly before the LF does not count.
 #[inline(always)]
-pub(crate) fn line_len(bytes: &[u8], at: usize, end: usize) -> usize
+pub fn line_len(bytes: &[u8], at: usize, end: usize) -> usize
     requires from { at ≤ end }
     requires within { end ≤ length bytes.now }
     ensures { result ≡ length (strip_carriage_return (slice_range bytes.now at end)) }

@@ -1,5 +1,5 @@
 // Numbers, fractions and estimates as decimal text.
-ghost use Rattle.std.specs.Prelude.{◌≡◌, ◌+◌, ◌≤◌, ◌++◌, OnOk, OnErr, decimal, codes, length, take, true};
+ghost use Rattle.std.specs.Prelude.{◌≡◌, ◌+◌, ◌<◌, ◌≤◌, ◌++◌, OnOk, OnErr, decimal, codes, length, take, true};
 ghost use Rattle.std.specs.List.{list_all};
 ghost use Rattle.std.specs.Char.{is_ascii_digit};
 ghost use Rattle.sk_model.specs.Numbers.{number_of, value_of};
@@ -35,7 +35,7 @@ pub fn read_number(bytes: &[u8], below: u64) -> Option<u64>
     if value < below { Some(value) } else { None }
 }
 
-// The number that the digits before a place spell: eight at once, as a loop of so many is unrolled.
+// The number that the digits before a place spell: eight at once, as a loop of eight is unrolled.
 #[inline(always)]
 fn value_before(bytes: &[u8], place: usize) -> u64
     requires within { place ≤ length bytes.now }
@@ -124,7 +124,7 @@ pub fn put_fraction(into: &mut [u8; 64], n: u128, d: u64) -> usize
 /// Writes `estimate n/d` to the start of `into`, and returns its length.
 pub fn put_estimate(into: &mut [u8; ESTIMATE_LINE_LEN], n: u128, d: u64) -> usize
     ensures text { take result into.new ≡ estimate_text n d }
-    ensures most { result ≤ 69 }
+    ensures most { result < ESTIMATE_LINE_LEN }
 {
     let at = put_text(into, b"estimate ");
     at + put_parts(&mut into[at..], n, d)
@@ -133,7 +133,7 @@ pub fn put_estimate(into: &mut [u8; ESTIMATE_LINE_LEN], n: u128, d: u64) -> usiz
 /// Writes `estimate n/d` and LF to the start of `into`, and returns their length.
 pub fn put_estimate_line(into: &mut [u8; ESTIMATE_LINE_LEN], n: u128, d: u64) -> usize
     ensures text { take result into.new ≡ estimate_line (n, d) }
-    ensures most { result ≤ 70 }
+    ensures most { result ≤ ESTIMATE_LINE_LEN }
 {
     let end = put_estimate(into, n, d);
     into[end] = b'\n';
@@ -188,9 +188,9 @@ fn put_parts(into: &mut [u8], n: u128, d: u64) -> usize
     slash + 1 + put_decimal(&mut into[slash + 1..], d)
 }
 
-// How many digits a number has.
+/// How many decimal digits a number has, 1 for 0.
 #[inline(always)]
-pub(crate) fn decimal_len(n: u64) -> usize
+pub fn decimal_len(n: u64) -> usize
     ensures { result ≡ length (decimal n) }
 {
     n.max(1).ilog10() as usize + 1

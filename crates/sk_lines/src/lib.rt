@@ -7,22 +7,16 @@ mod hashes;
 pub mod laws;
 mod marks;
 mod padded;
-mod page;
 mod runs;
-mod short_numbers;
 mod spans;
-#[cfg(test)]
-mod tests;
-mod wide;
 
-pub use cutter::{Ending, Lines, MOST_LIMIT, MOST_PIECE, Next};
+pub use cutter::{Ending, Lines, MOST_LIMIT, MOST_PIECE, Next, line_len};
 pub use decimals::{
-    ESTIMATE_LINE_LEN, are_digits, push_fraction, put_decimal, put_estimate, put_estimate_line,
-    put_fraction, put_text, read_number,
+    ESTIMATE_LINE_LEN, are_digits, decimal_len, push_fraction, put_decimal, put_estimate,
+    put_estimate_line, put_fraction, put_text, read_number,
 };
 pub use hashes::{HASH_LINE_LEN, hash_line, read_hash};
-pub use page::{Page, PageLines};
-pub use short_numbers::are_short_numbers;
+pub use marks::{BLOCK, lfs_of_block, seek, take_lf};
+pub use runs::skip_lfs;
 pub use sk_model::OutOfMemory;
-pub use spans::{GROUP, Span};
-pub use wide::read_number_at;
+pub use spans::{GROUP, Span, cut_lines, find_ends};

@@ -5,14 +5,15 @@ ghost use Rattle.sk_lines.specs.Marks.{KnowsLfs, TakesLf};
 
 use std::simd::prelude::*;
 
-/// How many places a mask has.
-pub(crate) const BLOCK: usize = 64;
+/// How many bytes one mask is of. A text that is searched has as many zeros after it.
+pub const BLOCK: usize = 64;
 
 pub(crate) const LF: u8 = b'\n';
 
-// Goes on to the first place at or behind `scanned` where a block with an LF ends, and marks its LFs.
+/// Continues to the end of the first block from `scanned` on that has an LF, and returns that place and the block's
+/// LFs as marks: bit k stands for the byte k places after the block's start. While marks are left it stays.
 #[inline(always)]
-pub(crate) fn seek(bytes: &[u8], scanned: usize, marks: u64) -> (usize, u64)
+pub fn seek(bytes: &[u8], scanned: usize, marks: u64) -> (usize, u64)
     requires padded { BLOCK ≤ length bytes.now }
     requires within { scanned ≤ length bytes.now }
     requires block { marks ≢ 0 → BLOCK ≤ scanned }
@@ -46,9 +47,9 @@ fn search(bytes: &[u8], from: usize) -> (usize, u64)
     (scanned, 0)
 }
 
-// Bit k says whether the byte at place `at + k` is LF.
+/// The LFs of the 64 bytes from `at` on: bit k is set if the byte at place `at + k` is LF.
 #[inline(always)]
-pub(crate) fn lfs_of_block(bytes: &[u8], at: usize) -> u64
+pub fn lfs_of_block(bytes: &[u8], at: usize) -> u64
     requires { at + 64 ≤ length bytes.now }
     ensures { (k : ℕ) → (bit_at result k ≡ 1) ↔ ((k < 64) × (slice_index bytes.now (at + k) ≡ 10)) }
 {
@@ -57,9 +58,9 @@ pub(crate) fn lfs_of_block(bytes: &[u8], at: usize) -> u64
         .to_bitmask()
 }
 
-// The place of the first marked LF, and the marks behind it.
+/// The place of the first marked LF, and the marks after it.
 #[inline(always)]
-pub(crate) fn take_lf(scanned: usize, marks: u64) -> (usize, u64)
+pub fn take_lf(scanned: usize, marks: u64) -> (usize, u64)
     requires block { BLOCK ≤ scanned }
     requires some { marks ≢ 0 }
     ensures { (bytes : List ℕ) (at : ℕ) → KnowsLfs bytes at scanned marks
@@ -69,7 +70,7 @@ pub(crate) fn take_lf(scanned: usize, marks: u64) -> (usize, u64)
     (scanned - BLOCK + mark, without_mark(marks, mark))
 }
 
-// The place of the lowest mark, or the last place where there is none.
+// The place of the lowest mark, or the last place if there is none.
 #[inline(always)]
 pub(crate) fn lowest_mark(marks: u64) -> usize
     ensures bound { result < 64 }

@@ -1,4 +1,4 @@
-// A text with a block of zeros and room for more behind it.
+// A text with a block of zeros and room for more after it.
 ghost use Rattle.std.specs.Prelude.{◌≡◌, ◌↔◌, ◌+◌, ◌^◌, ◌≤◌, ℕ, List, ◌++◌, length, take, drop, replicate, IfOk, IsErrOf};
 ghost use Rattle.sk_model.specs.Causes.{HasCauseIn};
 ghost use Rattle.sk_lines.specs.Cutter.{IsRead};
@@ -69,7 +69,7 @@ impl Padded {
         self.end -= at;
     }
 
-    // Puts a piece behind the text.
+    // Appends a piece to the text.
     pub(crate) fn push(&mut self, piece: &[u8])
         requires padded { BLOCK ≤ length self.old.items }
         requires room { length self.old.items + length piece.now ≤ self.old.room }
@@ -81,7 +81,7 @@ impl Padded {
         self.end += piece.len();
     }
 
-    // Reads a piece of at most `room` bytes and puts it behind the text.
+    // Reads a piece of at most `room` bytes and appends it to the text.
     pub(crate) fn read<S: Source>(&mut self, source: &mut S, room: u64) -> Result<usize, BoundFault>
         requires padded { BLOCK ≤ length self.old.items }
         requires space { length self.old.items + MOST_PIECE ≤ self.old.room }

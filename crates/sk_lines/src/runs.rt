@@ -4,8 +4,8 @@ ghost use Rattle.sk_lines.specs.Runs.{IsRun};
 
 use crate::marks::{BLOCK, LF, lfs_of_block};
 
-// Passes over so many LFs at most from a place on, and answers how many they are, and the place behind the last.
-pub(crate) fn skip_lfs(bytes: &[u8], from: usize, most: usize) -> (usize, usize)
+/// Passes over at most `most` LFs from a place on, and returns how many they are, and the place after the last.
+pub fn skip_lfs(bytes: &[u8], from: usize, most: usize) -> (usize, usize)
     requires within { from + BLOCK ≤ length bytes.now }
     requires zeros { (i : ℕ) → length bytes.now ≤ i + 64 → slice_index bytes.now i ≡ 0 }
     ensures few { result.0 ≤ most }
@@ -21,7 +21,7 @@ pub(crate) fn skip_lfs(bytes: &[u8], from: usize, most: usize) -> (usize, usize)
 #[derive(Clone, Copy)]
 struct Passed {
     count: usize,
-    // the place behind the last
+    // the place after the last
     at: usize,
     // no other lies before this place
     scanned: usize,
@@ -56,7 +56,7 @@ fn skip_blocks(bytes: &[u8], from: usize, most: usize) -> Passed
     passed
 }
 
-// Goes on byte by byte.
+// Continues byte by byte.
 fn skip_bytes(bytes: &[u8], from: usize, most: usize, passed: Passed) -> (usize, usize)
     requires few { passed.count ≤ most }
     requires place { (from ≤ passed.at) × (passed.at ≤ passed.scanned) × (passed.at + 64 ≤ length bytes.now) × (passed.scanned ≤ length bytes.now) }

@@ -21,9 +21,9 @@ impl Span {
     pub const EMPTY: Span = Span { from: 0, to: 0 };
 }
 
-// Finds the LFs from a place on, in order, until there is no room for those of one block more, or no
-// block is left. It notes their places as ends, and answers how many they are.
-pub(crate) fn find_ends(bytes: &[u8], from: usize, spans: &mut [Span; GROUP]) -> usize
+/// Finds the LFs from a place on, in order, until there is no room for those of one block more, or no
+/// block is left. It writes their places to the start of `spans`, as ends, and returns how many they are.
+pub fn find_ends(bytes: &[u8], from: usize, spans: &mut [Span; GROUP]) -> usize
     requires padded { BLOCK ≤ length bytes.now }
     ensures few { result ≤ GROUP }
     ensures ends { AreEnds bytes.now from (ends_of result spans.new) }
@@ -41,8 +41,8 @@ pub(crate) fn find_ends(bytes: &[u8], from: usize, spans: &mut [Span; GROUP]) ->
     count
 }
 
-// Notes the LFs of the block before `scanned` behind the first `count`: four of them without a branch, as
-// most blocks of short lines have so many.
+// Notes the LFs of the block before `scanned` after the first `count`: four of them without a branch, as
+// most blocks of short lines have no more.
 #[inline(always)]
 fn put_ends(spans: &mut [Span; GROUP], count: usize, scanned: usize, marks: u64) -> usize
     requires room { count + BLOCK ≤ GROUP }
@@ -77,7 +77,7 @@ fn put_other_ends(spans: &mut [Span; GROUP], count: usize, scanned: usize, marks
     count
 }
 
-// Notes the first marked LF, if there is one, behind the first `count`, and answers how many there are then,
+// Notes the first marked LF, if there is one, after the first `count`, and returns how many there are then,
 // and the other marks.
 #[inline(always)]
 fn put_end(spans: &mut [Span; GROUP], count: usize, scanned: usize, marks: u64) -> (usize, u64)
@@ -101,9 +101,9 @@ fn one_if_any(marks: u64) -> usize
     usize::from(marks != 0)
 }
 
-// Makes lines of the first `count` ends until one is too long, and answers how many they are, and the place
-// behind them.
-pub(crate) fn cut_lines(
+/// Makes lines of the first `count` ends, which `find_ends` wrote, until one has more than `limit` bytes, and
+/// returns how many they are, and the place after them.
+pub fn cut_lines(
     bytes: &[u8],
     from: usize,
     limit: usize,

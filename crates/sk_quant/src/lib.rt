@@ -11,6 +11,3 @@ mod sketch;
 pub use coins::words_of;
 pub use sk_model::OutOfMemory;
 pub use sketch::Quant;
-
-#[cfg(test)]
-mod tests;

@@ -1,15 +1,20 @@
 mod CauseLaws
 pub mod ColumnLaws
 pub mod Cuts
+pub mod Dense
 pub mod DelimiterLaws
 pub mod FaultLaws
 pub mod GroupLaws
 pub mod ItemLaws
+pub mod Lanes
 pub mod LineEnds
+pub mod Pairs
 pub mod PartLaws
 pub mod Plain
 pub mod PlainLaws
 pub mod Readings
 pub mod RecordEnds
+pub mod Rows
 pub mod Runs
+pub mod Spelling
 pub mod Steps

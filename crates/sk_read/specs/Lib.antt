@@ -12,5 +12,7 @@ pub mod Reads
 pub mod Records
 pub mod Rows
 pub mod Scan
+pub mod ShortNumbers
 pub mod Standing
 pub mod Units
+pub mod Wide

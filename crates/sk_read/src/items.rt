@@ -25,8 +25,8 @@ pub struct Intake {
     pub window: u32,
     /// Whether each full window is reported.
     pub interim: bool,
-    /// Whether the heart propagates beside the updaters, in place of their help, where these are fed in rounds. One
-    /// that has a thread for the whole source propagates itself where it is busy.
+    /// Whether the heart propagates beside the updaters, in place of their help, if these are fed in rounds. One
+    /// that has a thread for the whole source propagates itself when it is busy.
     pub propagator: bool,
     /// As many bytes as this are too much.
     pub most: u64,
@@ -56,7 +56,7 @@ pub trait Taker {
     /// The numbers that it was made with.
     ghost numbers: { Self → List ℕ };
 
-    /// Takes an item behind those of the lists that it stands for.
+    /// Takes an item after those of the lists that it stands for.
     fn take(&mut self, item: u64)
         requires item { IsItem item }
         requires room { (items : List ℕ) × (length items < most_kept) × stands_for self.old items }
@@ -84,7 +84,7 @@ impl<T: Taker> UnitTaker for Items<'_, T> {
     }
 }
 
-/// Gives the items of a source to the taker, in order, and answers how many units there were: lines
+/// Gives the items of a source to the taker, in order, and returns how many units there were: lines
 /// at column 0, else records. Records have commas and double quotes, and the first is like any other.
 /// Of the intake only its kind, its column and how much it takes at most are used.
 pub fn read_items<S: Source, T: Taker>(

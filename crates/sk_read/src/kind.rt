@@ -6,8 +6,10 @@ ghost use Rattle.sk_lines.specs.Cutter.{IsOfWholeLines};
 ghost use Rattle.sk_read.specs.Items.{item_of, IsGood};
 ghost use Rattle.sk_model.specs.Width.{IsItem, number_end};
 
+use crate::short_numbers::are_short_numbers;
+use crate::wide::read_number_at;
 use sk_hash::hash63;
-use sk_lines::{Span, are_digits, are_short_numbers, read_number, read_number_at};
+use sk_lines::{Span, are_digits, read_number};
 use sk_model::limits::NUMBER_END;
 
 /// How a line that is not empty becomes an item.

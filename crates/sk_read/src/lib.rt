@@ -8,12 +8,16 @@ mod kind;
 mod lines;
 mod reader;
 mod records;
+mod short_numbers;
 mod takers;
 mod units;
+mod wide;
 
 pub use fault::Fault;
 pub use items::{Intake, Taker, read_items};
 pub use kind::Kind;
 pub use reader::{LineFault, LineReader};
+pub use short_numbers::are_short_numbers;
 pub use sk_model::limits::LINE_LIMIT;
 pub use units::{UnitTaker, Units, read_units};
+pub use wide::read_number_at;

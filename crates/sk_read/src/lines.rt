@@ -14,7 +14,7 @@ use sk_io::Source;
 use sk_lines::{GROUP, Span};
 use std::alloc::Global;
 
-// Gives a source's lines to the taker, and answers how many lines there were.
+// Gives a source's lines to the taker, and returns how many lines there were.
 pub(crate) fn read_lines<S: Source, T: UnitTaker>(
     alloc: Global,
     most: u64,

@@ -77,7 +77,7 @@ impl LineReader {
         })
     }
 
-    // Reads a piece and feeds it, or answers `false` at the end of the source.
+    // Reads a piece and feeds it, or returns `false` at the end of the source.
     fn refill<S: Source>(&mut self, source: &mut S) -> Result<bool, LineFault>
         requires hungry { self.old.cutter.hungry ≡ true }
         requires open { self.old.ended ≡ false }
@@ -144,7 +144,7 @@ impl LineReader {
 }
 
 impl LineReader {
-    /// Moves on to the source's next line, and answers `false` where there is none. After an error
+    /// Moves on to the source's next line, and returns `false` if there is none. After an error
     /// it is not used again.
     #[inline(always)]
     pub fn next<S: Source>(&mut self, source: &mut S) -> Result<bool, LineFault>
@@ -163,7 +163,7 @@ impl LineReader {
         self.next_read(source)
     }
 
-    // The same, and reads on where no line is held: seldom, so that `next` is short where it is called.
+    // The same, and reads on if no line is held: seldom, so that `next` is short where it is called.
     #[inline(never)]
     fn next_read<S: Source>(&mut self, source: &mut S) -> Result<bool, LineFault>
         ensures goes { (given : List (List ℕ)) (taken : List ℕ) → HasRead self.old (S.left source.old) given taken
@@ -190,7 +190,7 @@ impl LineReader {
         }
     }
 
-    /// Moves on to the next line of the bytes that were read, and answers `false` where these hold no
+    /// Moves on to the next line of the bytes that were read, and returns `false` if these hold no
     /// complete one: `next` reads on. After an error it is not used again.
     #[inline(always)]
     pub fn next_held(&mut self) -> Result<bool, LineFault>
@@ -211,8 +211,8 @@ impl LineReader {
         }
     }
 
-    /// Moves on to the next complete lines of the bytes that were read, puts to the front of `spans` where
-    /// they lie in `front`, and answers how many they are. Where there is none `next` goes on.
+    /// Moves on to the next complete lines of the bytes that were read, writes to the start of `spans`
+    /// where they lie in `front`, and returns how many they are. If there is none `next` continues.
     pub fn next_lines(&mut self, spans: &mut [Span; GROUP]) -> usize
         ensures few { result ≤ GROUP }
         ensures lines { GivesLines self.old.cutter self.new.cutter (take result spans.new) }
@@ -225,8 +225,8 @@ impl LineReader {
         self.lines.next_lines(spans)
     }
 
-    /// Moves on to the next complete lines of the bytes that were read, at most so many, and answers how many
-    /// they are: `front` has become longer by them and what ended them. Where there is none `next_held` goes on.
+    /// Moves on to the next complete lines of the bytes that were read, at most `most`, and returns how many
+    /// they are: `front` has become longer by them and what ended them. If there is none `next_held` continues.
     pub fn next_run(&mut self, most: usize) -> usize
         ensures few { result ≤ most }
         ensures run { GivesRun self.old.cutter self.new.cutter result }

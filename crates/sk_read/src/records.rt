@@ -18,7 +18,7 @@ use crate::units::UnitTaker;
 use sk_io::Source;
 use std::alloc::Global;
 
-// Gives the fields in a column of a source's records to the taker, and answers how many records
+// Gives the fields in a column of a source's records to the taker, and returns how many records
 // there were.
 pub(crate) fn read_records<S: Source, T: UnitTaker>(
     alloc: Global,

@@ -50,7 +50,7 @@ pub trait UnitTaker {
     /// What no `take` changes.
     ghost stands_on: { Self → Standing };
 
-    /// Takes the unit of this number, counted from 1, behind those that it was given. After an error
+    /// Takes the unit of this number, counted from 1, after those that it was given. After an error
     /// it is not used again.
     fn take(&mut self, unit: &[u8], number: u64) -> Result<(), Fault>
         requires short { length unit.now ≤ line_limit }
@@ -63,7 +63,7 @@ pub trait UnitTaker {
         ensures fault { IfErr result (IsOfTaker number) }
         ensures stays { stands_on self.new ≡ stands_on self.old };
 
-    /// Takes units that lie in a text, in order, behind so many that it was given. After an error it is
+    /// Takes units that lie in a text, in order, after `before` that it was given. After an error it is
     /// not used again.
     fn take_all(&mut self, text: &[u8], spans: &[Span], before: u64) -> Result<(), Fault>
         requires few { length spans.now ≤ GROUP }
@@ -86,8 +86,8 @@ pub trait UnitTaker {
     }
 }
 
-/// Gives the units of a source of fewer than `most` bytes to the taker, in order, and answers how
-/// many there were. Where the taker stops at one, it answers the taker's fault.
+/// Gives the units of a source of fewer than `most` bytes to the taker, in order, and returns how
+/// many there were. If the taker stops at one, it returns the taker's fault.
 pub fn read_units<S: Source, T: UnitTaker>(
     alloc: Global,
     units: Units,

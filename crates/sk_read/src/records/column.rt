@@ -67,7 +67,7 @@ impl ColumnReader {
         self.give_records(alloc, text, taker)
     }
 
-    // The same, by its lines, where it has no quote.
+    // The same, by its lines, if it has no quote.
     fn give_lines<T: UnitTaker>(&mut self, text: &[u8], taker: &mut T) -> Result<(), Fault>
         requires plain { All (λ byte. byte ≢ 34) text.now }
         requires room { (start : _) × (rows : List Row) × (length rows + length (records default_config text.now) ≤ most_kept) × HasRows self.old (T.went start taker.old) rows }
@@ -130,7 +130,7 @@ impl ColumnReader {
         self.give_field(field_in(row, self.column), row.len(), taker)
     }
 
-    // Gives a field to the taker, that of a record of so many fields.
+    // Gives a field to the taker, that of a record of `width` fields.
     fn give_field<T: UnitTaker>(
         &mut self,
         field: &[u8],
@@ -155,7 +155,7 @@ impl ColumnReader {
     }
 }
 
-// Whether a record of so many fields is as long as the first, which it may be, and has the column.
+// Whether a record of `width` fields is as long as the first, which it may be, and has the column.
 fn fits(first: &mut Option<usize>, column: usize, width: usize) -> bool
     ensures { (rows : List Row) (row : Row) → first.old ≡ first_width rows → width ≡ length row
         → (first.new ≡ first_width (rows ++ row ∷ [])) × ((result ≡ true) ↔ ((width ≡ width_of (rows ++ row ∷ [])) × (column < width))) }

@@ -48,7 +48,7 @@ pub(crate) fn next_delimiter(text: &[u8], at: usize, ahead: Ahead) -> (usize, Ah
     )
 }
 
-// Goes on to the end of the first block with delimiters, or to the last bytes, which are no block.
+// Continues to the end of the first block with delimiters, or to the last bytes, which are no block.
 fn scan_blocks(text: &[u8], at: usize, from: usize) -> Ahead
     requires { Knows text.now at (record { scanned = from; marks = 0 }) }
     ensures { Knows text.now at result }
@@ -75,7 +75,7 @@ fn last_delimiter(text: &[u8], at: usize) -> usize
     }
 }
 
-// The place of the first mark, and the marks behind it.
+// The place of the first mark, and the marks after it.
 #[inline(always)]
 fn take_mark(text: &[u8], at: usize, ahead: Ahead) -> (usize, Ahead)
     requires known { Knows text.now at ahead }

@@ -22,7 +22,7 @@ const MARK: [u8; 3] = [0xEF, 0xBB, 0xBF];
 // The bytes of a source, in parts of whole records.
 #[derive(Drop)]
 pub(crate) struct Parts {
-    // The bytes that no part given has, behind one that ends a record: so no part seems to begin
+    // The bytes that no part given has, after one that ends a record: so no part seems to begin
     // with a byte order mark.
     bytes: Vec<u8>,
     // How many of them lie before the last place between two records.
@@ -97,7 +97,7 @@ impl Parts {
         Ok(())
     }
 
-    // Reads until a record has ended, or answers `false` at the end of the source.
+    // Reads until a record has ended, or returns `false` at the end of the source.
     pub(crate) fn refill<S: Source>(&mut self, source: &mut S) -> Result<bool, Fault>
         requires { (rows : List Row) × (taken : List ℕ) × HasHeld self.old (S.left source.old) rows taken }
         ensures goes { (rows : List Row) (taken : List ℕ) → HasHeld self.old (S.left source.old) rows taken
@@ -151,7 +151,7 @@ impl Parts {
     }
 }
 
-// The last cut, where `found` bytes lie before the last one in a piece that was put behind `len` bytes.
+// The last cut, where `found` bytes lie before the last one in a piece that was put after `len` bytes.
 fn cut_behind(before: usize, len: usize, found: usize) -> usize
     requires { len + found < 2 ^ 64 }
     ensures stays { found ≡ 0 → result ≡ before }
@@ -177,7 +177,7 @@ fn may_be_mark(bytes: &[u8]) -> bool
     bytes.len() < MARK.len() && MARK.starts_with(bytes)
 }
 
-// Drops a byte order mark that the bytes behind the first one are.
+// Drops a byte order mark that the bytes after the first one are.
 fn drop_mark(bytes: &mut Vec<u8>)
     requires { 1 ≤ length bytes.old.items }
     ensures { (first : ℕ) (taken : List ℕ) → bytes.old.items ≡ first ∷ taken

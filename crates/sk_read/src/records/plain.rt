@@ -16,7 +16,7 @@ pub(crate) struct Fields {
     pub(crate) field: Span,
 }
 
-// A line: where its LF or CR is or the text ends, its fields, and what is known of the text behind it.
+// A line: where its LF or CR is or the text ends, its fields, and what is known of the text after it.
 #[derive(Clone, Copy)]
 pub(crate) struct Line {
     pub(crate) end: usize,

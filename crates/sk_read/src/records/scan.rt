@@ -13,11 +13,11 @@ pub(crate) enum ScanState {
     FieldStart,
     InField,
     InQuotes,
-    // Behind a quote that ends the quotes or is the first of two.
+    // After a quote that ends the quotes or is the first of two.
     AfterQuote,
 }
 
-// The place behind a byte.
+// The place after a byte.
 #[inline(always)]
 fn behind(place: ScanState, byte: u8) -> ScanState
     ensures { state_of result ≡ settled (step default_config (state_of place) byte).0 }
@@ -41,7 +41,7 @@ fn behind(place: ScanState, byte: u8) -> ScanState
     }
 }
 
-// The place behind a byte that is no quote, or stands in a field without quotes.
+// The place after a byte that is no quote, or stands in a field without quotes.
 #[inline(always)]
 fn unquoted(byte: u8) -> ScanState
     ensures { state_of result ≡ settled (step default_config (state_of ScanState.InField) byte).0 }
@@ -76,7 +76,7 @@ fn end_len(bytes: &[u8]) -> usize
     }
 }
 
-// What `scan` answers for bytes without a quote.
+// What `scan` returns for bytes without a quote.
 #[inline]
 fn scan_plain(start: ScanState, bytes: &[u8]) -> (ScanState, usize)
     requires { All (λ byte. byte ≢ 34) bytes.now }
@@ -92,7 +92,7 @@ fn scan_plain(start: ScanState, bytes: &[u8]) -> (ScanState, usize)
     (unquoted(bytes[bytes.len() - 1]), end_len(bytes))
 }
 
-// What `scan` answers up to the first quote, which it includes, and how many bytes these are.
+// What `scan` returns up to the first quote, which it includes, and how many bytes these are.
 #[inline]
 fn scan_run(start: ScanState, bytes: &[u8]) -> (ScanState, usize, usize)
     requires { 0 < length bytes.now }
@@ -109,8 +109,8 @@ fn scan_run(start: ScanState, bytes: &[u8]) -> (ScanState, usize, usize)
     (behind(place, bytes[len]), cut, len + 1)
 }
 
-// The place behind a piece, and how many bytes of it lie before the last place between two records
-// that it has behind its start.
+// The place after a piece, and how many bytes of it lie before the last place between two records
+// that it has after its start.
 pub(crate) fn scan(start: ScanState, piece: &[u8]) -> (ScanState, usize)
     ensures cut { IsCut (state_of start) piece.now (state_of result.0) result.1 }
     ensures within { result.1 ≤ length piece.now }

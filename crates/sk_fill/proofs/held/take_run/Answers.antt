@@ -4,7 +4,7 @@ use Rattle.std.proofs.lemmas.List.{drop_at, nil_from_length, take_all}
 use Rattle.sk_model.specs.Lines.{lines_of}
 use Rattle.sk_lines.specs.Cutter.{IsOfWholeLines}
 use Rattle.sk_lines.specs.Runs.{IsRun, run_between}
-use Rattle.sk_lines.proofs.Pages.{bytes_are_few}
+use Rattle.sk_lines.proofs.WholeLines.{bytes_are_few}
 use Rattle.sk_read.specs.Items.{IsGood}
 use Rattle.sk_read.specs.Reading.{HasRead}
 use Rattle.sk_read.proofs.GroupLaws.{with_fault, as_many}

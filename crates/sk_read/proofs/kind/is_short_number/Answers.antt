@@ -1,7 +1,8 @@
 use Rattle.std.proofs.Common.{◌-◌, ◌+◌, ◌≡◌, ◌∙◌, length, decimal, sym, arith, refl, inl}
 use Rattle.sk_model.specs.Numbers.{value_of}
 use Rattle.sk_model.specs.Width.{number_end}
-use Rattle.sk_lines.proofs.Digits.{few_digits, nineteen_digits, length_decimal}
+use Rattle.sk_lines.proofs.Digits.{length_decimal}
+use Rattle.sk_read.proofs.Spelling.{few_digits, nineteen_digits}
 use Rattle.sk_read.proofs.kind.is_short_number.Goals as goal
 
 long : 18 + 1 ≡ length (decimal (number_end - 1))

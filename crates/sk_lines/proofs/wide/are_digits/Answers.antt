@@ -1,5 +1,0 @@
-use Rattle.sk_lines.proofs.Lanes as lanes
-use Rattle.sk_lines.proofs.wide.are_digits.Goals as goal
-
-pub returns : goal.returns
-returns c = lanes.are_small c.args.lanes c.fits-lanes.0

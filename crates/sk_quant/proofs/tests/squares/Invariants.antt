@@ -1,5 +1,0 @@
-use Rattle.std.proofs.Common.{◌≡◌, vec_len}
-use Rattle.sk_quant.proofs.tests.squares.Given as goal
-
-abbrev pub invariant-push : goal.invariant-push
-invariant-push l = vec_len l.items ≡ l.i
