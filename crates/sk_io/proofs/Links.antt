@@ -3,7 +3,7 @@ use Rattle.std.proofs.Common.{◌≡◌, ℕ, ◌+◌, ◌-◌, List, [], ◌++�
 use Rattle.std.proofs.lemmas.List.{take_all, append_cancel_right}
 use Rattle.std.proofs.Math.Seq.{take-add}
 use Rattle.std.specs.Io.KnownBytes.{Consumes, Keeps, ReadConsumes}
-use Rattle.sk_io.specs.Traffic.{Traffic, IsUntouched, Exchanges, Receives, SendsPart, left_of, sides_of}
+use Rattle.sk_io.specs.Traffic.{Traffic, IsUntouched, Exchanges, Receives, SendsPart, left_of, text_of, sides_of}
 
 -- nothing went over a link
 pub exchanges_none : (a : Option Traffic) → Exchanges a a [] []
@@ -27,7 +27,7 @@ exchanges_trans (Some x) (Some y) (Some z) read sent more_read more_sent p q = r
 pub exchanges_then : (a b c : Option Traffic) (read sent : List ℕ) → Exchanges a b read [] → Exchanges b c [] sent → Exchanges a c read sent
 exchanges_then a b c read sent first then = subst (λ (l : List ℕ). Exchanges a c l sent) (append-nil read) (exchanges_trans a b c read [] [] sent first then)
 
--- all that a link tells that was untouched before
+-- all that a link shows that was untouched before
 pub untouched_then : (a b : Option Traffic) (read sent : List ℕ) → IfSome a IsUntouched → Exchanges a b read sent → IfSome b (λ (t : Traffic). (t.taken ≡ read) × (t.written ≡ sent))
 untouched_then None None read sent new p = tt
 untouched_then None (Some y) read sent new p = absurd p
@@ -37,7 +37,15 @@ untouched_then (Some x) (Some y) read sent new p = (
   p.written ∙ ap (λ (l : List ℕ). l ++ sent) new.written,
 )
 
--- a piece sent behind the front that was
+-- all that comes over a link stays, whatever is read and written
+pub text_kept : (a b : Option Traffic) (read sent : List ℕ) → Exchanges a b read sent → text_of b ≡ text_of a
+text_kept None None read sent p = refl
+text_kept None (Some y) read sent p = absurd p
+text_kept (Some x) None read sent p = absurd p
+text_kept (Some x) (Some y) read sent p =
+    ap (λ (l : List ℕ). Some (l ++ y.left)) p.taken ∙ ap (λ (l : List ℕ). Some l) (append_assoc x.taken read y.left ∙ ap (λ (l : List ℕ). x.taken ++ l) (sym p.left))
+
+-- a piece sent after the prefix that was
 pub sent_more : (a b c : Option Traffic) (bytes : List ℕ) (at n : ℕ) → Exchanges a b [] (take at bytes) → Exchanges b c [] (take n (take (length bytes - at) (drop at bytes))) → Exchanges a c [] (take (at + n) bytes)
 sent_more a b c bytes at n before here =
     let rest : take (length bytes - at) (drop at bytes) ≡ drop at bytes = take_all _ _ (omega (arith, length-drop at bytes)) in
@@ -74,7 +82,7 @@ received (Some x) (Some y) bytes p same =
       written = ap (λ (sides : List ℕ × List ℕ). sides.1) both ∙ sym (append-nil x.written);
     }
 
--- whatever a sending answers, a front was written
+-- whatever a sending answers, a prefix was written
 pub sent_front : {T E : Type 0} (a b : Option Traffic) (bytes : List ℕ) (result : Result T E) → OnOk result (Exchanges a b [] bytes) → OnErr result (SendsPart a b bytes) → (n : ℕ) × Exchanges a b [] (take n bytes)
 sent_front a b bytes (Ok t) whole part = (length bytes, subst (λ (l : List ℕ). Exchanges a b [] l) (sym (take_all _ bytes (omega arith))) whole)
 sent_front a b bytes (Err e) whole part = (part.0, part.2)

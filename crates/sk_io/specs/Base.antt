@@ -2,14 +2,15 @@
 use Rattle.std.specs.Prelude.{ℕ, List, [], Option, None}
 
 -- plain data that no read changes: the ghost names of the borrows that the source holds, the counts
--- of faults beside its own, the files of the shelf below it by name, and of the link below it all bytes
--- that come and those that were written, where these tell them
+-- of faults next to its own, the files of the shelf below it by name and the names that were opened there,
+-- and of the link below it all bytes that come and those that were written, if these are known
 pub record Base : Type 0 where
   pub borrows : List ℕ
   pub counts : List ℕ
   pub files : Option (List (List ℕ × List ℕ))
+  pub opened : Option (List (List ℕ))
   pub sides : Option (List ℕ × List ℕ)
 
 -- what a source stands on that holds no borrow
 abbrev pub nothing : Base
-nothing = record { borrows = []; counts = []; files = None; sides = None }
+nothing = record { borrows = []; counts = []; files = None; opened = None; sides = None }

@@ -1,9 +1,9 @@
 -- The forms in memory as contracts see them, and what a call makes of them.
-use Rattle.std.specs.Prelude.{◌≡◌, ℕ, ◌+◌, ◌-◌, ◌^◌, ◌==◌, Bool, ◌||◌, if◌then◌else◌, min, List, [], ◌++◌, length, map, take, drop, slice_get, Some, is_none, Vec, String, string_bytes}
+use Rattle.std.specs.Prelude.{◌≡◌, ℕ, ◌+◌, ◌-◌, ◌^◌, ◌==◌, Bool, ◌||◌, if◌then◌else◌, min, List, [], ◌++◌, length, map, take, drop, slice_get, Option, Some, is_none, Vec, String, string_bytes}
 use Rattle.std.specs.List.{list_any}
-use Rattle.std.specs.Option.{option_map_or}
+use Rattle.std.specs.Option.{option_map, option_map_or}
 use Rattle.sk_io.specs.Files.{file_named}
-use Rattle.sk_io.specs.Traffic.{Traffic, IsUntouched, Ended}
+use Rattle.sk_io.specs.Traffic.{Traffic, IsUntouched, Ended, Doorway, text_of}
 use Rattle.sk_io.specs.declared.mem_shelf.MemFile.{MemFile}
 
 -- the numbers of the calls that fail, and how many calls were made and failed
@@ -56,7 +56,7 @@ pub record SinkState : Type 0 where
   pub piece : ℕ
   pub calls : Calls
 
--- whether the next write fails, as one that is listed or for want of room
+-- whether the next write fails, as one that is listed or when the room is full
 abbrev pub refuses : SinkState → Bool
 refuses s = next_fails s.calls || s.room - length s.written == 0
 
@@ -70,16 +70,22 @@ after_write s bytes = if refuses s
     then record s { calls = failed (called s.calls) }
     else record s { written = s.written ++ take (next_taken s (length bytes)) bytes; calls = called s.calls }
 
--- a shelf: its files, its calls of `open` and of `read`, and the file that was opened or read last
+-- a shelf: its files, its calls of `open` and of `read`, the names that were opened, as long as there was memory for
+-- them, and the file that was opened or read last
 pub record ShelfState : Type 0 where
   pub files : List (List ℕ × List ℕ)
   pub opens : Calls
   pub reads : Calls
+  pub opened : Option (List (List ℕ))
   pub last : MemFile
 
--- each file as its name beside its bytes
+-- each file as its name with its bytes
 abbrev pub stored : {Z Y : Type 0} → List (String Z × Vec ℕ Y) → List (List ℕ × List ℕ)
 stored {Z} {Y} files = map (λ (f : String Z × Vec ℕ Y). (string_bytes f.0, f.1.items)) files
+
+-- the bytes of each name
+abbrev pub names_in : {Z Y : Type 0} → Option (Vec (String Z) Y) → Option (List (List ℕ))
+names_in {Z} {Y} kept = option_map (λ (names : Vec (String Z) Y). map (λ (name : String Z). string_bytes name) names.items) kept
 
 -- the bytes of the file with this number, from 0
 abbrev pub bytes_of : List (List ℕ × List ℕ) → ℕ → List ℕ
@@ -89,11 +95,11 @@ bytes_of files number = option_map_or (λ (f : List ℕ × List ℕ). f.1) (slic
 abbrev pub unread : ShelfState → MemFile → List ℕ
 unread s file = drop file.at (bytes_of s.files file.number)
 
--- whether an open of this name fails, as one that is listed or for want of the file
+-- whether an open of this name fails, as one that is listed or since there is no such file
 abbrev pub cannot_open : ShelfState → List ℕ → Bool
 cannot_open s name = next_fails s.opens || is_none (file_named s.files name)
 
--- after an open of this name, but for the file that was opened
+-- after an open of this name, but for the names that were opened and the last file
 abbrev pub after_open : ShelfState → List ℕ → ShelfState
 after_open s name = if cannot_open s name
     then record s { opens = failed (called s.opens) }
@@ -140,7 +146,7 @@ after_link_read l len = if next_fails l.calls
     then record l { calls = failed (called l.calls) }
     else record l { traffic = having_read (next_received l len) l.traffic; calls = called l.calls }
 
--- whether the next write fails, as one that is listed or for want of room
+-- whether the next write fails, as one that is listed or when the room is full
 abbrev pub refuses_on : LinkState → Bool
 refuses_on l = next_fails l.calls || l.room - length l.traffic.written == 0
 
@@ -158,21 +164,25 @@ after_link_write l bytes = if refuses_on l
     then record l { calls = failed (called l.calls) }
     else record l { traffic = having_sent (take (next_sent l (length bytes)) bytes) l.traffic; calls = called l.calls }
 
--- a door: the links that it will give, those that were closed, how many were accepted, how many more may be closed, whether
--- it listens, and its calls of `listen` and `accept`
+-- a door: the links that it will give, those that were closed, how many were accepted, how many more may be closed, the
+-- port that it listens at, and its calls of `listen` and `accept`
 pub record DoorState : Type 0 where
   pub waiting : List LinkState
   pub closed : List LinkState
   pub accepted : ℕ
   pub room : ℕ
-  pub listens : Bool
+  pub port : Option ℕ
   pub calls : Calls
 
 -- the record of a link that was closed
 abbrev pub ended_of : LinkState → Ended
 ended_of l = record { traffic = Some l.traffic; faults = l.calls.faults; waiting = 0 }
 
--- whether the next accept fails, as one that is listed or for want of a link
+-- what a door shows, of which all is known
+abbrev pub doorway_of : DoorState → Doorway
+doorway_of d = record { port = d.port; coming = Some (map (λ l. text_of (Some l.traffic)) d.waiting); closed = map ended_of d.closed }
+
+-- whether the next accept fails, as one that is listed or since no link is left
 abbrev pub cannot_accept : DoorState → Bool
 cannot_accept d = next_fails d.calls || length d.waiting == 0
 

@@ -1,7 +1,7 @@
 // Where connections are accepted.
-ghost use Rattle.std.specs.Prelude.{◌≡◌, ◌+◌, ◌<◌, [], ◌∷◌, ◌++◌, ℕ, Bool, true, List, OnOk, OnErr, IfOk, IfSome};
+ghost use Rattle.std.specs.Prelude.{◌≡◌, ◌+◌, ◌<◌, [], ◌∷◌, ◌++◌, ℕ, Some, IsSome, OnOk, OnErr, IfOk, IfSome};
 ghost use Rattle.sk_model.specs.Causes.{HasCause, HasCauseIn, Rose};
-ghost use Rattle.sk_io.specs.Traffic.{Ended, IsUntouched};
+ghost use Rattle.sk_io.specs.Traffic.{Arrive, Doorway, IsUntouched, text_of};
 
 use crate::link::Link;
 use crate::stream::Failed;
@@ -47,44 +47,41 @@ pub trait Door {
     /// How many links were accepted. The count stops at the largest `u64`.
     ghost accepted: { Self → ℕ };
 
-    /// The links that were closed, in order.
-    ghost ended: { Self → List Ended };
-
-    /// Whether a `listen` answered `Ok`.
-    ghost listens: { Self → Bool };
+    /// The port that the last `listen` which answered `Ok` was given, the links to come, in the order in
+    /// which they will be accepted, if the door knows them, and those that were closed, in order.
+    ghost doorway: { Self → Doorway };
 
     /// How many more links may be closed.
     ghost room: { Self → ℕ };
 
-    /// Listens at a port, and takes the room for so many further records of links that are closed.
+    /// Listens at a port, and takes the room for `links` further records of links that are closed.
     fn listen(&mut self, port: u16, links: u32) -> Result<(), DoorFault>
-        ensures listens { OnOk result (listens self.new ≡ true) }
+        ensures listens { OnOk result (doorway self.new ≡ record (doorway self.old) { port = Some port }) }
         ensures room { OnOk result (room self.new ≡ links) }
-        ensures err { OnErr result ((listens self.new ≡ listens self.old) × (room self.new ≡ room self.old)) }
+        ensures err { OnErr result ((doorway self.new ≡ doorway self.old) × (room self.new ≡ room self.old)) }
         ensures cause { HasCauseIn DoorFault.Failed (faults self.old) (faults self.new) result }
-        ensures accepted { accepted self.new ≡ accepted self.old }
-        ensures ended { ended self.new ≡ ended self.old };
+        ensures accepted { accepted self.new ≡ accepted self.old };
 
     /// Waits for the next link.
     fn accept(&mut self) -> Result<Self::Link, Failed>
-        requires { listens self.old ≡ true }
+        requires { IsSome (doorway self.old).port }
         ensures untouched { IfOk result (λ link. IfSome (Self.Link.traffic link) IsUntouched) }
         ensures count { IfOk result (λ link. Self.Link.faults link ≡ 0) }
         ensures sent { IfOk result (λ link. Self.Link.waiting link ≡ 0) }
+        ensures arrives { IfOk result (λ link. Arrive (doorway self.old) (doorway self.new) (text_of (Self.Link.traffic link) ∷ [])) }
         ensures cause { HasCause (faults self.old) (faults self.new) result }
         ensures accepts { OnOk result (Rose (accepted self.old) (accepted self.new)) }
-        ensures none { OnErr result (accepted self.new ≡ accepted self.old) }
-        ensures ended { ended self.new ≡ ended self.old }
-        ensures listens { listens self.new ≡ listens self.old }
+        ensures none { OnErr result ((doorway self.new ≡ doorway self.old) × (accepted self.new ≡ accepted self.old)) }
         ensures room { room self.new ≡ room self.old };
 
     /// Closes a link, and keeps its record.
     fn close(&mut self, link: Self::Link)
         requires { 0 < room self.old }
-        ensures ended { ended self.new ≡ ended self.old
-            ++ record { traffic = Self.Link.traffic link; faults = Self.Link.faults link; waiting = Self.Link.waiting link } ∷ [] }
+        ensures closed { doorway self.new ≡ record (doorway self.old) {
+          closed = (doorway self.old).closed
+              ++ record { traffic = Self.Link.traffic link; faults = Self.Link.faults link; waiting = Self.Link.waiting link } ∷ [];
+        } }
         ensures room { room self.new + 1 ≡ room self.old }
         ensures accepted { accepted self.new ≡ accepted self.old }
-        ensures faults { faults self.new ≡ faults self.old }
-        ensures listens { listens self.new ≡ listens self.old };
+        ensures faults { faults self.new ≡ faults self.old };
 }

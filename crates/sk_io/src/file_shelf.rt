@@ -10,7 +10,8 @@ use std::fs;
 use std::io::Read;
 use std::rt::Files;
 
-/// The files of the system, by their paths. It counts the system's errors, and tells no bytes.
+/// The files of the system, by their paths. It counts the system's errors, and knows neither their bytes
+/// nor what was opened.
 #[derive(Drop)]
 pub struct FileShelf<R> {
     rt: R,
@@ -40,6 +41,8 @@ impl<R: Files> Shelf for FileShelf<R> {
     ghost read_faults = { λ s. s.read_faults };
 
     ghost files = { λ _. None };
+
+    ghost opened = { λ _. None };
 
     ghost left = { λ _ _. None };
 

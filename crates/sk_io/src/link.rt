@@ -10,7 +10,7 @@ use crate::stream::{Failed, Source};
 
 /// A connection, over which bytes come and go.
 pub trait Link {
-    /// What was read of the link, what is left to read and what was written on it, where it tells them.
+    /// What was read of the link, what is left to read and what was written on it, if it shows them.
     ghost traffic: { Self → Option Traffic };
 
     /// How often a call has failed. The count stops at the largest `u64`, and only such a call moves it.
@@ -19,7 +19,7 @@ pub trait Link {
     /// How many of the bytes that were written wait to be sent.
     ghost waiting: { Self → ℕ };
 
-    /// Reads some bytes into the front of `buf`, none only at the end. What waits is sent before the peer
+    /// Reads some bytes to the start of `buf`, none only at the end. What waits is sent before the peer
     /// is waited for. A read that fails takes none.
     fn read(&mut self, buf: &mut [u8]) -> Result<usize, Failed>
         requires { 0 < length buf.old }
@@ -29,7 +29,7 @@ pub trait Link {
         ensures sent { OnOk result (waiting self.new ≡ 0) }
         ensures cause { HasCause (faults self.old) (faults self.new) result };
 
-    /// Writes at least one byte from the front of `bytes`. A write that fails writes none.
+    /// Writes at least one byte from the start of `bytes`. A write that fails writes none.
     fn write(&mut self, bytes: &[u8]) -> Result<usize, Failed>
         requires { 0 < length bytes.now }
         ensures bound { WritesAtMost result bytes.now }
@@ -37,7 +37,7 @@ pub trait Link {
         ensures bytes { Sends (traffic self.old) (traffic self.new) result bytes.now }
         ensures cause { HasCause (faults self.old) (faults self.new) result };
 
-    /// Sends what waits, and tells the peer that nothing comes behind it.
+    /// Sends what waits, and tells the peer that nothing comes after it.
     fn finish(&mut self) -> Result<(), Failed>
         ensures sent { OnOk result (waiting self.new ≡ 0) }
         ensures bytes { traffic self.new ≡ traffic self.old }
@@ -70,6 +70,7 @@ impl<L: Link> Source for OnLink<'_, L> {
       borrows = s.link.ghost_name ∷ [];
       counts = [];
       files = None;
+      opened = None;
       sides = sides_of (L.traffic s.link.now);
     } };
 
@@ -78,7 +79,7 @@ impl<L: Link> Source for OnLink<'_, L> {
     }
 }
 
-/// Writes all of `bytes` on a link. Where it fails, a part from their front was written, and not all.
+/// Writes all of `bytes` on a link. If it fails, a proper prefix of them was written.
 pub fn send_all<L: Link>(link: &mut L, bytes: &[u8]) -> Result<(), Failed>
     ensures ok { OnOk result (Exchanges (L.traffic link.old) (L.traffic link.new) [] bytes.now) }
     ensures err { OnErr result (SendsPart (L.traffic link.old) (L.traffic link.new) bytes.now) }

@@ -1,7 +1,7 @@
-ghost use Rattle.std.specs.Prelude.{◌≡◌, ◌≢◌, ◌-◌, ◌<◌, [], ◌∷◌, ◌++◌, All, Err, Some, IfOk, IfSome, OnOk, is_err, true, false, length, map, slice_get};
+ghost use Rattle.std.specs.Prelude.{◌≡◌, ◌≢◌, ◌-◌, ◌<◌, [], ◌∷◌, ◌++◌, All, Err, None, Some, IsSome, IfOk, IfSome, OnOk, OnErr, is_err, length, slice_get};
 ghost use Rattle.sk_model.specs.Causes.{HasCause, HasCauseIn};
-ghost use Rattle.sk_io.specs.Traffic.{IsUntouched};
-ghost use Rattle.sk_io.specs.Memory.{planned, IsNew, next_fails, called, failed, cannot_accept, after_accept, ended_of};
+ghost use Rattle.sk_io.specs.Traffic.{IsUntouched, Arrive, text_of};
+ghost use Rattle.sk_io.specs.Memory.{planned, IsNew, next_fails, called, failed, cannot_accept, after_accept, doorway_of};
 
 use crate::door::{Door, DoorFault};
 use crate::mem_link::MemLink;
@@ -9,15 +9,15 @@ use crate::plan::Plan;
 use crate::stream::Failed;
 use std::marker::Model;
 
-/// A door in memory, which gives the links that it has, in order. It fails where it is told to and
-/// where no link is left.
+/// A door in memory, which gives the links that it has, in order. It fails at the calls that it is given
+/// and when no link is left.
 #[derive(Drop)]
 pub struct MemDoor {
     waiting: Vec<MemLink>,
     closed: Vec<MemLink>,
     accepted: u64,
     room: u32,
-    listens: bool,
+    port: Option<u16>,
     plan: Plan,
 }
 
@@ -32,7 +32,7 @@ impl Model for MemDoor {
       closed = d.closed.items;
       accepted = d.accepted;
       room = d.room;
-      listens = d.listens;
+      port = d.port;
       calls = d.plan;
     } };
 
@@ -49,7 +49,7 @@ impl MemDoor {
           closed = [];
           accepted = 0;
           room = 0;
-          listens = false;
+          port = None;
           calls = planned fails.items;
         } }
     {
@@ -58,9 +58,16 @@ impl MemDoor {
             waiting: links,
             accepted: 0,
             room: 0,
-            listens: false,
+            port: None,
             plan: Plan::new(fails),
         }
+    }
+
+    /// The port that it listens at.
+    pub fn port(&self) -> Option<u16>
+        ensures { result ≡ self.now.port }
+    {
+        self.port
     }
 
     /// The bytes that were written on the link that was closed as number `i`, counted from 0.
@@ -79,15 +86,13 @@ impl Door for MemDoor {
 
     ghost accepted = { λ d. d.accepted };
 
-    ghost ended = { λ d. map ended_of d.closed };
-
-    ghost listens = { λ d. d.listens };
+    ghost doorway = { λ d. doorway_of d };
 
     ghost room = { λ d. d.room };
 
-    /// Fails exactly at the calls with the listed numbers, where memory is there. The port plays no part.
-    fn listen(&mut self, _port: u16, links: u32) -> Result<(), DoorFault>
-        ensures ok { OnOk result (self.new ≡ record self.old { room = links; listens = true; calls = called self.old.calls }) }
+    /// Fails exactly at the calls with the listed numbers, if there is memory. Any port is free.
+    fn listen(&mut self, port: u16, links: u32) -> Result<(), DoorFault>
+        ensures ok { OnOk result (self.new ≡ record self.old { room = links; port = Some port; calls = called self.old.calls }) }
         ensures failed { result ≡ Err DoorFault.Failed → self.new ≡ record self.old { calls = failed (called self.old.calls) } }
         ensures unchanged { result ≡ Err DoorFault.OutOfMemory → self.new ≡ self.old }
         ensures fails { result ≢ Err DoorFault.OutOfMemory → is_err result ≡ next_fails self.old.calls }
@@ -97,16 +102,18 @@ impl Door for MemDoor {
             return Err(self.plan.fail().into());
         }
         self.room = links;
-        self.listens = true;
+        self.port = Some(port);
         Ok(())
     }
 
-    /// Fails exactly at the calls with the listed numbers and where no link is left.
+    /// Fails exactly at the calls with the listed numbers and when no link is left.
     fn accept(&mut self) -> Result<MemLink, Failed>
-        requires { self.old.listens ≡ true }
+        requires { IsSome self.old.port }
         ensures untouched { IfOk result (λ link. IfSome (Some link.traffic) IsUntouched) }
         ensures count { IfOk result (λ link. link.calls.faults ≡ 0) }
         ensures cause { HasCause self.old.calls.faults self.new.calls.faults result }
+        ensures arrives { IfOk result (λ link. Arrive (doorway_of self.old) (doorway_of self.new) (text_of (Some link.traffic) ∷ [])) }
+        ensures none { OnErr result (doorway_of self.new ≡ doorway_of self.old) }
         ensures first { IfOk result (λ link. self.old.waiting ≡ link ∷ self.new.waiting) }
         ensures fails { is_err result ≡ cannot_accept self.old }
         ensures door { self.new ≡ after_accept self.old }

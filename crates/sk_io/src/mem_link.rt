@@ -13,8 +13,8 @@ use sk_model::OutOfMemory;
 use std::alloc::Global;
 use std::marker::Model;
 
-/// A link in memory: bytes that come, and room for those that go. It fails where it is told to and
-/// where the room is full.
+/// A link in memory: bytes that come, and room for those that go. It fails at the calls that it is
+/// given and when the room is full.
 #[derive(Drop)]
 pub struct MemLink {
     bytes: Vec<u8>,
@@ -101,7 +101,7 @@ impl Link for MemLink {
         Ok(n)
     }
 
-    /// Fails exactly at the calls with the listed numbers and where the room is full.
+    /// Fails exactly at the calls with the listed numbers and when the room is full.
     fn write(&mut self, bytes: &[u8]) -> Result<usize, Failed>
         requires { 0 < length bytes.now }
         ensures bound { WritesAtMost result bytes.now }

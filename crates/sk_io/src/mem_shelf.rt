@@ -1,33 +1,37 @@
-ghost use Rattle.std.specs.Prelude.{◌≡◌, ◌+◌, ◌<◌, ◌≤◌, Some, IfOk, is_err, IsErr, IsNone, position, length, drop, min, bytes_eq, string_bytes};
+ghost use Rattle.std.specs.Prelude.{◌≡◌, ◌+◌, ◌<◌, ◌≤◌, [], ◌∷◌, ◌++◌, Some, IfOk, is_err, IsErr, IsNone, position, length, map, drop, min, bytes_eq, string_bytes};
 ghost use Rattle.std.specs.Io.{ReadsAtMost};
 ghost use Rattle.std.specs.Io.KnownBytes.{ReadConsumes};
+ghost use Rattle.std.specs.Option.{option_map};
 ghost use Rattle.sk_model.specs.Causes.{HasCause};
-ghost use Rattle.sk_io.specs.Files.{file_named};
-ghost use Rattle.sk_io.specs.Memory.{planned, next_fails, cannot_open, after_open, after_shelf_read, unread, bytes_of, stored};
+ghost use Rattle.sk_io.specs.Files.{file_named, Opens};
+ghost use Rattle.sk_io.specs.Memory.{planned, next_fails, cannot_open, after_open, after_shelf_read, unread, bytes_of, stored, names_in};
 
 use crate::plan::Plan;
 use crate::rest::give;
 use crate::shelf::Shelf;
 use crate::stream::Failed;
+use sk_model::OutOfMemory;
 use std::marker::Model;
 
-/// Files in memory, which fail where they are told to and at a name that is not theirs.
+/// Files in memory, which fail at the calls that they are given and at a name that is not theirs.
 #[derive(Drop)]
 pub struct MemShelf {
     files: Vec<(String, Vec<u8>)>,
     opens: Plan,
     reads: Plan,
+    // the names that were opened, as long as there was memory for them
+    opened: Option<Vec<String>>,
     // the file that was opened or read last
     last: MemFile,
 }
 
 impl Model for MemShelf {
-    ghost use Rattle.sk_io.specs.Memory.{ShelfState, stored};
+    ghost use Rattle.sk_io.specs.Memory.{ShelfState, stored, names_in};
 
     ghost Value = { ShelfState };
 
     ghost view = { λ s.
-        record { files = stored s.files.items; opens = s.opens; reads = s.reads; last = s.last } };
+        record { files = stored s.files.items; opens = s.opens; reads = s.reads; opened = names_in s.opened; last = s.last } };
 }
 
 /// An open file of a `MemShelf`: its number there, from 0, and how many bytes it has given.
@@ -38,21 +42,33 @@ pub struct MemFile {
 }
 
 impl MemShelf {
-    /// A shelf of these files, each beside its name. Of two with one name the first is opened. The
+    /// A shelf of these files, each with its name. Of two with one name the first is opened. The
     /// calls of `open` and of `read` with the numbers in the lists, each counted from 0, fail.
     pub fn new(files: Vec<(String, Vec<u8>)>, open_fails: Vec<u64>, read_fails: Vec<u64>) -> Self
         ensures { result ≡ record {
           files = stored files.items;
           opens = planned open_fails.items;
           reads = planned read_fails.items;
+          opened = Some [];
           last = result.last;
         } }
     {
         MemShelf {
+            opened: Some(Vec::new(*files.allocator())),
             files,
             opens: Plan::new(open_fails),
             reads: Plan::new(read_fails),
             last: MemFile { number: 0, at: 0 },
+        }
+    }
+
+    /// The names that `open` was called with, in order. `None` once there was no memory for one.
+    pub fn opened(&self) -> Option<&[String]>
+        ensures { option_map (λ names. map (λ name. string_bytes name) names.now) result ≡ self.now.opened }
+    {
+        match &self.opened {
+            Some(names) => Some(names),
+            None => None,
         }
     }
 }
@@ -66,6 +82,8 @@ impl Shelf for MemShelf {
 
     ghost files = { λ s. Some s.files };
 
+    ghost opened = { λ s. s.opened };
+
     ghost left = { λ s file. Some (unread s file) };
 
     ghost rest = { λ s. Some (unread s s.last) };
@@ -75,10 +93,12 @@ impl Shelf for MemShelf {
         ensures content { IfOk result (λ file. Some (unread self.new file) ≡ file_named self.old.files name.now) }
         ensures last { IfOk result (λ file. self.new.last ≡ file) }
         ensures missing { IsNone (file_named self.old.files name.now) → IsErr result }
+        ensures opened { Opens self.old.opened self.new.opened (name.now ∷ []) }
         ensures cause { HasCause self.old.opens.faults self.new.opens.faults result }
         ensures fails { is_err result ≡ cannot_open self.old name.now }
-        ensures shelf { self.new ≡ record (after_open self.old name.now) { last = self.new.last } }
+        ensures shelf { self.new ≡ record (after_open self.old name.now) { opened = self.new.opened; last = self.new.last } }
     {
+        note(&mut self.opened, name);
         if self.opens.call() {
             return Err(self.opens.fail());
         }
@@ -113,6 +133,26 @@ impl Shelf for MemShelf {
         self.last = *file;
         Ok(n)
     }
+}
+
+// Keeps a name after those before it. Without memory for it none are kept from then on.
+fn note(names: &mut Option<Vec<String>>, name: &str)
+    ensures { Opens (names_in names.old) (names_in names.new) (name.now ∷ []) }
+{
+    *names = match names.take() {
+        Some(kept) => with_name(kept, name).ok(),
+        None => None,
+    };
+}
+
+// These names, and one more.
+fn with_name(names: Vec<String>, name: &str) -> Result<Vec<String>, OutOfMemory>
+    ensures { IfOk result (λ all. map (λ n. string_bytes n) all.items ≡ map (λ n. string_bytes n) names.items ++ name.now ∷ []) }
+{
+    let mut names = names;
+    let name = name.to_string(*names.allocator())?;
+    names.push(name)?;
+    Ok(names)
 }
 
 // The number of the first file of this name.

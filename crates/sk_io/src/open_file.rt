@@ -1,14 +1,14 @@
 // A file that the source that reads it owns.
 ghost use Rattle.std.specs.Prelude.{◌≡◌, [], ◌∷◌, None, IfOk, IsErr};
 ghost use Rattle.sk_model.specs.Causes.{HasCause};
-ghost use Rattle.sk_io.specs.Files.{told_file, IsMissing};
+ghost use Rattle.sk_io.specs.Files.{told_file, IsMissing, Opens};
 
 use crate::shelf::Shelf;
 use crate::stream::{Failed, Source};
 
 /// An open file that borrows its shelf, as a source. Nothing else is read of the shelf meanwhile, so
-/// what the shelf tells last is what this file has left. It stands on the borrow and on what the shelf
-/// has beside its count of failed reads.
+/// what the shelf has left last is what this file has left. It stands on the borrow and on all of the shelf
+/// but its count of failed reads.
 pub struct OpenFile<'a, F: Shelf> {
     pub shelf: &'a mut F,
     pub file: F::File,
@@ -30,6 +30,7 @@ impl<'a, F: Shelf> OpenFile<'a, F> {
         ensures content { IfOk result (λ file.
             F.left file.shelf.now file.file ≡ told_file (F.files shelf.old) name.now) }
         ensures missing { IsMissing (F.files shelf.old) name.now → IsErr result }
+        ensures opened { Opens (F.opened shelf.old) (F.opened (shelf_in result).now) (name.now ∷ []) }
         ensures cause { HasCause (F.open_faults shelf.old) (F.open_faults (shelf_in result).now) result }
         ensures reads { F.read_faults (shelf_in result).now ≡ F.read_faults shelf.old }
         ensures files { F.files (shelf_in result).now ≡ F.files shelf.old }
@@ -59,6 +60,7 @@ impl<F: Shelf> Source for OpenFile<'_, F> {
       borrows = s.shelf.ghost_name ∷ [];
       counts = F.open_faults s.shelf.now ∷ [];
       files = F.files s.shelf.now;
+      opened = F.opened s.shelf.now;
       sides = None;
     } };
 

@@ -4,7 +4,7 @@ ghost use Rattle.std.specs.Io.{ReadsAtMost};
 ghost use Rattle.std.specs.Io.KnownBytes.{ReadConsumes};
 ghost use Rattle.sk_model.specs.Causes.{HasCause};
 ghost use Rattle.sk_io.specs.Base.{Base};
-ghost use Rattle.sk_io.specs.Files.{told_file, IsMissing};
+ghost use Rattle.sk_io.specs.Files.{told_file, IsMissing, Opens};
 
 use crate::stream::{Failed, Source};
 
@@ -18,10 +18,14 @@ pub trait Shelf {
     /// How often a `read` has failed. The count stops at the largest `u64`.
     ghost read_faults: { Self → ℕ };
 
-    /// The bytes of each file beside its name, where the shelf tells them.
+    /// The bytes of each file with its name, if the shelf knows them.
     ghost files: { Self → Option (List (List ℕ × List ℕ)) };
 
-    /// The bytes that reads of an open file will give from here on, where the shelf tells them.
+    /// The names that `open` was called with, in order, also of files that could not be opened, as long as
+    /// the shelf keeps them.
+    ghost opened: { Self → Option (List (List ℕ)) };
+
+    /// The bytes that reads of an open file will give from here on, if the shelf knows them.
     ghost left: { Self → Self.File → Option (List ℕ) };
 
     /// The same of the file that was opened or read last: what a caller sees once that file is closed.
@@ -32,23 +36,24 @@ pub trait Shelf {
         ensures content { IfOk result (λ file. left self.new file ≡ told_file (files self.old) name.now) }
         ensures last { IfOk result (λ file. rest self.new ≡ left self.new file) }
         ensures missing { IsMissing (files self.old) name.now → IsErr result }
+        ensures opened { Opens (opened self.old) (opened self.new) (name.now ∷ []) }
         ensures cause { HasCause (open_faults self.old) (open_faults self.new) result }
         ensures reads { read_faults self.new ≡ read_faults self.old }
         ensures files { files self.new ≡ files self.old };
 
-    /// Reads some bytes into the front of `buf`, none only at the end. A read that fails takes none.
+    /// Reads some bytes to the start of `buf`, none only at the end. A read that fails takes none.
     fn read(&mut self, file: &mut Self::File, buf: &mut [u8]) -> Result<usize, Failed>
         requires { 0 < length buf.old }
         ensures bound { ReadsAtMost result buf.new }
         ensures bytes { ReadConsumes (left self.old file.old) (left self.new file.new) result buf.new }
         ensures last { rest self.new ≡ left self.new file.new }
         ensures cause { HasCause (read_faults self.old) (read_faults self.new) result }
-        ensures opens { open_faults self.new ≡ open_faults self.old }
+        ensures opens { (open_faults self.new ≡ open_faults self.old) × (opened self.new ≡ opened self.old) }
         ensures files { files self.new ≡ files self.old };
 }
 
-/// An open file of a shelf as a source, also one of several. It stands on both borrows and on what the
-/// shelf has beside its count of failed reads.
+/// An open file of a shelf as a source, also one of several. It stands on both borrows and on all of the
+/// shelf but its count of failed reads.
 #[derive(Drop)]
 pub struct OnShelf<'a, F: Shelf> {
     pub shelf: &'a mut F,
@@ -76,6 +81,7 @@ impl<F: Shelf> Source for OnShelf<'_, F> {
       borrows = s.shelf.ghost_name ∷ s.file.ghost_name ∷ [];
       counts = F.open_faults s.shelf.now ∷ [];
       files = F.files s.shelf.now;
+      opened = F.opened s.shelf.now;
       sides = None;
     } };
 

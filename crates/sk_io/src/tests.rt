@@ -1,8 +1,8 @@
-ghost use Rattle.std.specs.Prelude.{◌≡◌, ◌<◌, ◌⊎◌, length, take, IfOk, IsErr, OnOk, OnErr};
+ghost use Rattle.std.specs.Prelude.{◌≡◌, ◌<◌, ◌⊎◌, [], ◌∷◌, length, take, IfOk, IsErr, OnOk, OnErr};
 ghost use Rattle.std.specs.Io.{ReadsAtMost};
 ghost use Rattle.std.specs.Io.KnownBytes.{Consumes, ReadConsumes};
 ghost use Rattle.sk_model.specs.Causes.{HasCause, Rose};
-ghost use Rattle.sk_io.specs.Files.{told_file, IsMissing};
+ghost use Rattle.sk_io.specs.Files.{told_file, IsMissing, Opens};
 
 mod links;
 mod words;
@@ -128,6 +128,7 @@ fn front_of<F: Shelf>(shelf: &mut F, name: &str, piece: &mut [u8]) -> Result<usi
     ensures content { IfOk result (λ n.
         Consumes (told_file (F.files shelf.old) name.now) (F.rest shelf.new) (take n piece.new)) }
     ensures missing { IsMissing (F.files shelf.old) name.now → IsErr result }
+    ensures opened { Opens (F.opened shelf.old) (F.opened shelf.new) (name.now ∷ []) }
     ensures steady { OnOk result ((F.open_faults shelf.new ≡ F.open_faults shelf.old)
         × (F.read_faults shelf.new ≡ F.read_faults shelf.old)) }
     ensures cause { OnErr result (
@@ -170,6 +171,28 @@ fn a_shelf_in_memory_opens_what_it_has(rt: HostRuntime) -> Result<(), Fail> {
     assert_eq!(rt; front_of(&mut shelf, "three", &mut piece), Err(Failed));
     let text = text_of(alloc, &mut shelf, "one")?;
     assert_eq!(rt; text.as_slice(), b"first".as_slice());
+    Ok(())
+}
+
+// A shelf keeps each name that it was asked for, also of a file that is missing or could not be opened.
+#[test]
+fn a_shelf_keeps_the_names_that_were_opened(rt: HostRuntime) -> Result<(), Fail> {
+    let alloc = rt.alloc();
+    let names = ["two", "one", "none", "", "one"];
+    let fails = [1].to_vec(alloc)?;
+    let mut shelf = MemShelf::new(two_files(alloc)?, fails, Vec::new(alloc));
+    for i in 0..=names.len() {
+        let kept = shelf.opened().ok_or("no memory")?;
+        assert_eq!(rt; kept.len(), i);
+        assert!(rt;
+            kept.iter()
+                .zip(&names)
+                .all(|(kept, name)| kept.as_str() == *name)
+        );
+        if let Some(name) = names.get(i) {
+            let _ = shelf.open(name);
+        }
+    }
     Ok(())
 }
 

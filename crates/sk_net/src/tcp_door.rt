@@ -1,7 +1,7 @@
 // Where connections over TCP are accepted.
-ghost use Rattle.std.specs.Prelude.{◌≡◌, ◌+◌, ◌≤◌, [], All, IfOk, IfSome, OnOk, OnErr, None, false, true, is_some, length, vec_len, vec_capacity};
+ghost use Rattle.std.specs.Prelude.{◌≡◌, ◌+◌, ◌≤◌, [], ◌∷◌, All, IfOk, IfSome, OnOk, OnErr, None, IsSome, length, vec_len, vec_capacity};
 ghost use Rattle.sk_model.specs.Causes.{HasCause, Rose};
-ghost use Rattle.sk_io.specs.Traffic.{IsUntouched};
+ghost use Rattle.sk_io.specs.Traffic.{IsUntouched, Arrive};
 ghost use Rattle.sk_net.specs.Doors.{all_ended};
 ghost use Rattle.sk_net.specs.Links.{waiting_of};
 ghost use Rattle.sk_net.specs.Waiting.{IsUnused};
@@ -25,13 +25,20 @@ pub struct ClosedLink {
     pub waiting: usize,
 }
 
-/// A door over TCP at a port of 127.0.0.1. Where it listens it takes the memory of so many links, and
-/// links beyond them hold nothing back.
+// A listener, and the port that was asked for.
+#[derive(Drop)]
+struct Listening<L> {
+    listener: L,
+    port: u16,
+}
+
+/// A door over TCP at a port of 127.0.0.1, at port 0 one that the system chooses. When it listens it takes
+/// the memory of so many links, and links beyond them hold nothing back. It knows of no link before it comes.
 #[derive(Drop)]
 pub struct TcpDoor<R: Net> {
     rt: R,
     alloc: Global,
-    listener: Option<R::Listener>,
+    listening: Option<Listening<R::Listener>>,
     spare: Vec<Replies>,
     closed: Vec<ClosedLink>,
     accepted: u64,
@@ -46,14 +53,13 @@ impl<R: Net> TcpDoor<R> {
     pub fn new(rt: R, alloc: Global) -> Self
         ensures faults { ⟦<TcpDoor<R> as Door>⟧.faults result ≡ 0 }
         ensures accepted { ⟦<TcpDoor<R> as Door>⟧.accepted result ≡ 0 }
-        ensures ended { ⟦<TcpDoor<R> as Door>⟧.ended result ≡ [] }
+        ensures doorway { ⟦<TcpDoor<R> as Door>⟧.doorway result ≡ record { port = None; coming = None; closed = [] } }
         ensures room { ⟦<TcpDoor<R> as Door>⟧.room result ≡ 0 }
-        ensures listens { ⟦<TcpDoor<R> as Door>⟧.listens result ≡ false }
     {
         TcpDoor {
             rt,
             alloc,
-            listener: None,
+            listening: None,
             spare: Vec::new(alloc),
             closed: Vec::new(alloc),
             accepted: 0,
@@ -62,12 +68,12 @@ impl<R: Net> TcpDoor<R> {
         }
     }
 
-    /// The port at which it listens, where the system tells it.
+    /// The port at which the system says that it listens.
     pub fn port(&self) -> Option<u16>
-        ensures { ⟦<TcpDoor<R> as Door>⟧.listens self.now ≡ false → result ≡ None }
+        ensures { (⟦<TcpDoor<R> as Door>⟧.doorway self.now).port ≡ None → result ≡ None }
     {
-        let listener = self.listener.as_ref()?;
-        match listener.local_addr() {
+        let listening = self.listening.as_ref()?;
+        match listening.listener.local_addr() {
             Ok(addr) => Some(addr.port()),
             Err(_) => None,
         }
@@ -75,7 +81,7 @@ impl<R: Net> TcpDoor<R> {
 
     /// What is known of the links that were closed, in order.
     pub fn closed(&self) -> &[ClosedLink]
-        ensures { all_ended result.now ≡ ⟦<TcpDoor<R> as Door>⟧.ended self.now }
+        ensures { all_ended result.now ≡ (⟦<TcpDoor<R> as Door>⟧.doorway self.now).closed }
     {
         &self.closed
     }
@@ -88,9 +94,9 @@ impl<R: Net> Door for TcpDoor<R> {
 
     ghost accepted = { λ d. d.accepted };
 
-    ghost ended = { λ d. all_ended d.closed.items };
+    ghost use Rattle.sk_net.specs.Doors.{doorway_of};
 
-    ghost listens = { λ d. is_some d.listener };
+    ghost doorway = { λ d. doorway_of d.listening d.closed.items };
 
     ghost room = { λ d. d.room };
 
@@ -101,31 +107,30 @@ impl<R: Net> Door for TcpDoor<R> {
         let Ok(listener) = self.rt.bind(addr) else {
             return Err(count_fault(&mut self.faults).into());
         };
-        self.listener = Some(listener);
+        self.listening = Some(Listening { listener, port });
         self.spare = spare;
         self.room = links;
         Ok(())
     }
 
     fn accept(&mut self) -> Result<TcpLink<R::Stream>, Failed>
-        requires { ⟦<TcpDoor<R> as Door>⟧.listens self.old ≡ true }
+        requires { IsSome (⟦<TcpDoor<R> as Door>⟧.doorway self.old).port }
         ensures untouched { IfOk result (λ link. IfSome None IsUntouched) }
         ensures count { IfOk result (λ link. ⟦<TcpLink<R::Stream> as Link>⟧.faults link ≡ 0) }
         ensures cause { let faults = ⟦<TcpDoor<R> as Door>⟧.faults in HasCause (faults self.old) (faults self.new) result }
         ensures accepts { let accepted = ⟦<TcpDoor<R> as Door>⟧.accepted in OnOk result (Rose (accepted self.old) (accepted self.new)) }
-        ensures none { let accepted = ⟦<TcpDoor<R> as Door>⟧.accepted in OnErr result (accepted self.new ≡ accepted self.old) }
-        ensures ended { let ended = ⟦<TcpDoor<R> as Door>⟧.ended in ended self.new ≡ ended self.old }
-        ensures listens { let listens = ⟦<TcpDoor<R> as Door>⟧.listens in listens self.new ≡ listens self.old }
+        ensures arrives { let doorway = ⟦<TcpDoor<R> as Door>⟧.doorway in IfOk result (λ link. Arrive (doorway self.old) (doorway self.new) (None ∷ [])) }
+        ensures none { let door = ⟦<TcpDoor<R> as Door>⟧ in OnErr result ((door.doorway self.new ≡ door.doorway self.old) × (door.accepted self.new ≡ door.accepted self.old)) }
         ensures room { let room = ⟦<TcpDoor<R> as Door>⟧.room in room self.new ≡ room self.old }
         ensures sent { IfOk result (λ link. length (waiting_of link) ≡ 0) }
     {
-        let Some(listener) = &self.listener else {
+        let Some(listening) = &self.listening else {
             unreachable!()
         };
-        let Ok(stream) = next_stream(listener) else {
+        let Ok(stream) = next_stream(&listening.listener) else {
             return Err(count_fault(&mut self.faults));
         };
-        // Where the peer is gone already, the first read tells.
+        // If the peer is gone already, the first read fails.
         let _ = stream.set_nodelay(true);
         let replies = self.spare.pop().unwrap_or(Replies::none(self.alloc));
         self.accepted = self.accepted.saturating_add(1);

@@ -1,4 +1,4 @@
-ghost use Rattle.std.specs.Prelude.{◌≡◌, ◌<◌, IfOk, true};
+ghost use Rattle.std.specs.Prelude.{◌≡◌, ◌<◌, Some, IfOk};
 
 use crate::{ClosedLink, TcpDoor, TcpLink};
 use sk_io::{Door, DoorFault, Failed, Link, send_all};
@@ -28,7 +28,7 @@ pub(crate) fn expect<R: Abort, T: PartialEq + Debug + Copy>(rt: &R, got: T, want
 
 // A door that listens at a free port, for this many links.
 fn door_for<R: Net + Drop>(rt: R, alloc: Global, links: u32) -> Result<TcpDoor<R>, DoorFault>
-    ensures listens { IfOk result (λ door. ⟦<TcpDoor<R> as Door>⟧.listens door ≡ true) }
+    ensures port { IfOk result (λ door. (⟦<TcpDoor<R> as Door>⟧.doorway door).port ≡ Some 0) }
     ensures room { IfOk result (λ door. ⟦<TcpDoor<R> as Door>⟧.room door ≡ links) }
 {
     let mut door = TcpDoor::new(rt, alloc);

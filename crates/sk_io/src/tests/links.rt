@@ -1,9 +1,9 @@
 // Links and doors: by their traits alone, and in memory.
-ghost use Rattle.std.specs.Prelude.{◌≡◌, ◌+◌, ◌<◌, [], ◌∷◌, ◌++◌, ℕ, List, IfSome, length, take, IfOk, OnOk};
+ghost use Rattle.std.specs.Prelude.{◌≡◌, ◌+◌, ◌<◌, [], ◌∷◌, ◌++◌, ℕ, List, Some, IfSome, length, take, IfOk, OnOk};
 ghost use Rattle.std.specs.Io.{ReadsAtMost};
 ghost use Rattle.sk_model.specs.Causes.{HasCause};
 ghost use Rattle.sk_io.specs.Memory.{IsNew};
-ghost use Rattle.sk_io.specs.Traffic.{Ended, IsUntouched, Exchanges, Receives};
+ghost use Rattle.sk_io.specs.Traffic.{Ended, IsUntouched, Exchanges, Pass, Receives, text_of};
 
 use super::piece_of;
 use crate::{Door, DoorFault, Failed, Link, MemDoor, MemLink, OnLink, OutOfMemory, send_all};
@@ -32,13 +32,15 @@ fn echo<L: Link>(link: &mut L) -> Result<(), Failed>
     send_all(link, &piece[..n])
 }
 
-// Echoes a piece on a link that was just accepted, and closes it. What was sent back is a front of what
-// was read, and all of that where no call failed.
+// Echoes a piece on a link that was just accepted, and closes it. What was sent back is a prefix of what
+// was read, and all of that if no call failed.
+#[tactic(auto, using(crate::proofs::Links::text_kept))]
 fn echo_and_close<D: Door>(door: &mut D, mut link: D::Link)
     requires room { 0 < D.room door.old }
     requires untouched { IfSome (D.Link.traffic link) IsUntouched }
     requires count { D.Link.faults link ≡ 0 }
-    ensures ended { (e : Ended) × (D.ended door.new ≡ D.ended door.old ++ e ∷ [])
+    ensures ended { (e : Ended) × (D.doorway door.new ≡ record (D.doorway door.old) { closed = (D.doorway door.old).closed ++ e ∷ [] })
+        × (text_of e.traffic ≡ text_of (D.Link.traffic link))
         × IfSome e.traffic (λ t. (n : ℕ) × (t.written ≡ take n t.taken))
         × (e.faults ≡ 0 → IfSome e.traffic (λ t. t.written ≡ t.taken)) }
     ensures room { D.room door.new + 1 ≡ D.room door.old }
@@ -47,10 +49,11 @@ fn echo_and_close<D: Door>(door: &mut D, mut link: D::Link)
     door.close(link);
 }
 
-// Echoes a piece on each of two links that are open at once, and closes them in order.
+// Echoes a piece on each of two links that are open at once, and closes them in the order in which they came.
 fn echo_two<D: Door>(door: &mut D, port: u16) -> Result<(), DoorFault>
-    ensures ended { OnOk result ((one : Ended) × (two : Ended)
-        × (D.ended door.new ≡ D.ended door.old ++ one ∷ two ∷ [])
+    ensures port { OnOk result ((D.doorway door.new).port ≡ Some port) }
+    ensures closed { OnOk result ((one : Ended) × (two : Ended)
+        × Pass (D.doorway door.old) (D.doorway door.new) (one ∷ two ∷ [])
         × (one.faults ≡ 0 → IfSome one.traffic (λ t. t.written ≡ t.taken))
         × (two.faults ≡ 0 → IfSome two.traffic (λ t. t.written ≡ t.taken))) }
 {
@@ -110,6 +113,19 @@ fn a_door_gives_its_links_in_order(rt: HostRuntime) -> Result<(), Fail> {
     assert_eq!(rt; door.written(1), b"fo".as_slice());
     // No link is left.
     assert_eq!(rt; echo_two(&mut door, 7000), Err(DoorFault::Failed));
+    Ok(())
+}
+
+// A door listens at the port that it was given, unless that call fails.
+#[test]
+fn a_door_listens_at_its_port(rt: HostRuntime) -> Result<(), Fail> {
+    let alloc = rt.alloc();
+    for (fails, port, listens) in [(9, 7000, Some(7000)), (1, 1, Some(1)), (0, 7000, None)] {
+        let mut door = door_of(alloc, [fails].to_vec(alloc)?)?;
+        assert_eq!(rt; door.port(), None);
+        let _ = door.listen(port, 2);
+        assert_eq!(rt; door.port(), listens, "at {port}, call {fails} fails");
+    }
     Ok(())
 }
 
