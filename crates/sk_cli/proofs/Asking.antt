@@ -6,7 +6,7 @@ use Rattle.sk_io.specs.Files.{IsMissing, told_file}
 use Rattle.sk_cli.specs.Beside.{Beside}
 use Rattle.sk_cli.specs.Command.{OneText, Asked, OfText, OfImages, OfLinks, behaviour_of, command_of, takes_file, IsInOrder, reads_input, opens_files, writes_last_of}
 use Rattle.sk_cli.specs.Fault.{status_of}
-use Rattle.sk_cli.specs.Outside.{Outside, Closed}
+use Rattle.sk_cli.specs.Outside.{Outside, Doorways}
 use Rattle.sk_cli.specs.Run.{HasCauses, Over, FailsText, PerformsText, Succeeds, Fails, read_faults_over, RunsMake, IsFineFor, IsRefusedFor, IsOfCalls, IsOfReads}
 use Rattle.sk_cli.specs.Values.{Word}
 use Rattle.sk_cli.specs.commands.Join.{TwoImages, Files, EndsFile, EndsAtOne, EndsJoin, IsToldImage, JoinsSo}
@@ -28,7 +28,7 @@ some_is a b is = cc
 none_is : (a : Command) → None ≡ Some a → ⊥
 none_is a is = cc
 
-module _ (most : ℕ) (from to : Beside) (old new : Outside) (links : Closed) where
+module _ (most : ℕ) (from to : Beside) (old new : Outside) (links : Doorways) where
   no_usage : (two : TwoImages) → EndsAtOne two most old.files new.file_left fault.Usage → ⊥
   no_usage two (inl ends) = ends
   no_usage two (inr (image, is, ends)) = ends

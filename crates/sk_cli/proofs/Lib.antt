@@ -15,6 +15,7 @@ pub mod Making
 pub mod Moves
 pub mod Numbers
 pub mod OnTheWay
+pub mod Opening
 pub mod OptionLaws
 pub mod Performing
 pub mod RankDeciding

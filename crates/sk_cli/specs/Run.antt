@@ -1,20 +1,20 @@
 -- How a run goes: what it reads and writes, and why it ends.
-use Rattle.std.specs.Prelude.{◌≡◌, ◌≢◌, ◌⊎◌, ℕ, ◌<◌, ◌≤◌, List, ◌++◌, length, take, true, Option, None, Some, IsSomeAnd, Result, MatchResult}
+use Rattle.std.specs.Prelude.{◌≡◌, ◌≢◌, ◌⊎◌, ℕ, ◌<◌, ◌≤◌, List, [], ◌∷◌, ◌++◌, length, take, true, Option, None, Some, IsSomeAnd, Result, MatchResult}
 use Rattle.std.specs.Bool.{OnTrue}
 use Rattle.std.specs.Io.KnownBytes.{Appends, Consumes, IsAtEnd}
 use Rattle.sk_model.specs.Causes.{Rose, HasCauseIn, AppendsFront, AppendsPart}
 use Rattle.sk_model.specs.Lines.{lines_of}
 use Rattle.sk_model.specs.Missing.{Begins}
-use Rattle.sk_io.specs.Files.{told_file, IsMissing}
+use Rattle.sk_io.specs.Files.{told_file, IsMissing, Opens}
 use Rattle.sk_io.specs.declared.stream.Sink as sink
 use Rattle.sk_read.specs.Reads.{piece_limit, IsSettled}
 use Rattle.sk_cli.specs.Behaviour.{Behaviour}
 use Rattle.sk_cli.specs.Beside.{Beside}
 use Rattle.sk_cli.specs.Values.{Word}
-use Rattle.sk_cli.specs.Outside.{Streams, Outside, Closed, over_input, over_file}
+use Rattle.sk_cli.specs.Outside.{Streams, Outside, Doorways, over_input, over_file}
 use Rattle.sk_cli.specs.Command.{OneText, Asked, OfText, OfImages, OfLinks, behaviour_of}
 use Rattle.sk_cli.specs.commands.Count.{LeavesHub}
-use Rattle.sk_cli.specs.commands.Join.{ReadsBoth, WritesBoth, EndsJoin, IsToldImage, AreFineFiles, AreRefused}
+use Rattle.sk_cli.specs.commands.Join.{ReadsBoth, OpensBoth, WritesBoth, EndsJoin, IsToldImage, AreFineFiles, AreRefused}
 use Rattle.sk_cli.specs.commands.Serve.{ServesAll, EndsServing}
 use Rattle.sk_cli.specs.commands.Make.{text_by, counted_by, made_report}
 use Rattle.sk_cli.specs.declared.commands.make.MakePlan.{MakePlan}
@@ -158,19 +158,19 @@ PerformsText asked most from to old new result = MatchResult result (λ _. Succe
 -- ---- a run
 
 -- what was asked was done whole: a command over at most one text, a join, or a server
-abbrev pub Succeeds : Asked → ℕ → Beside → Beside → Outside → Outside → Closed → Type 0
+abbrev pub Succeeds : Asked → ℕ → Beside → Beside → Outside → Outside → Doorways → Type 0
 Succeeds (OfText one) most from to old new links = SucceedsText one most from to old new
 Succeeds (OfImages two) most from to old new links = ReadsBoth two most old.files new.file_left (WritesBoth two.as_image old.written new.written)
 Succeeds (OfLinks plan) most from to old new links = ServesAll plan most from to old.written new.written links
 
 -- where a run may end by a fault, once its words are accepted
-abbrev pub Fails : Asked → ℕ → Beside → Beside → Outside → Outside → Closed → Fault → Type 0
+abbrev pub Fails : Asked → ℕ → Beside → Beside → Outside → Outside → Doorways → Fault → Type 0
 Fails (OfText one) most from to old new links fault = FailsText one most from old new fault
 Fails (OfImages two) most from to old new links fault = EndsJoin two most old.files new.file_left old.written new.written fault
 Fails (OfLinks plan) most from to old new links fault = EndsServing plan most from to old.written new.written links fault
 
 -- how a run went
-abbrev pub Performs : Asked → ℕ → Beside → Beside → Outside → Outside → Closed → Result (Unit {0}) Fault → Type 0
+abbrev pub Performs : Asked → ℕ → Beside → Beside → Outside → Outside → Doorways → Result (Unit {0}) Fault → Type 0
 Performs asked most from to old new links result =
     MatchResult result (λ _. Succeeds asked most from to old new links) (λ fault. Fails asked most from to old new links fault)
 
@@ -184,6 +184,24 @@ abbrev pub read_faults_of : Asked → Outside → ℕ
 read_faults_of (OfText one) o = read_faults_over one.file o
 read_faults_of (OfImages two) o = o.file_faults
 read_faults_of (OfLinks plan) o = o.input_faults
+
+-- ---- the files of a run
+
+-- the files that a command over at most one text opens
+abbrev pub named : Option Word → List Word
+named None = []
+named (Some name) = name ∷ []
+
+-- what is opened for this, each file once
+abbrev pub OpensFor : Asked → ℕ → Outside → Outside → Type 0
+OpensFor (OfText one) most old new = Opens old.opened new.opened (named one.file)
+OpensFor (OfImages two) most old new = OpensBoth two most old.files old.opened new.opened
+OpensFor (OfLinks plan) most old new = Opens old.opened new.opened []
+
+-- no file changes, and no other file is opened
+pub record UsesFiles (asked : Asked) (most : ℕ) (old new : Outside) : Type 0 where
+  pub files : new.files ≡ old.files
+  pub opened : OpensFor asked most old new
 
 -- ---- what contracts see of a status
 

@@ -3,12 +3,12 @@ ghost use Rattle.std.specs.Prelude.{◌≡◌, ◌≢◌, ◌≤◌, All, IsSome
 ghost use Rattle.std.specs.Option.{option_copied};
 ghost use Rattle.sk_model.specs.Causes.{HasCauseIn};
 ghost use Rattle.sk_model.specs.Limits.{source_limit};
-ghost use Rattle.sk_io.specs.Files.{IsMissing};
+ghost use Rattle.sk_io.specs.Files.{IsMissing, Opens};
 ghost use Rattle.sk_cli.specs.Beside.{beside_of, board_places, cleared, SameHub, SameRanks};
 ghost use Rattle.sk_cli.specs.Command.{asked_of, behaviour_of, alarms_of, alarms_asked, makes_hub, makes_ranks, leaves_hub, leaves_ranks, reads_input, opens_files, accepts_links, writes_last_of, IsWithin, IsInOrder};
 ghost use Rattle.sk_cli.specs.Fault.{status_of};
-ghost use Rattle.sk_cli.specs.Outside.{streams_of, outside_of, closed_in};
-ghost use Rattle.sk_cli.specs.Run.{Executes, HasCauses, Over, PerformsText, Performs, MissesFirst, MissesSecond, IsOfCalls, read_faults_of, IsOfReads};
+ghost use Rattle.sk_cli.specs.Outside.{streams_of, outside_of, doorways};
+ghost use Rattle.sk_cli.specs.Run.{Executes, HasCauses, Over, PerformsText, Performs, MissesFirst, MissesSecond, IsOfCalls, read_faults_of, IsOfReads, UsesFiles, named};
 ghost use Rattle.sk_serve.specs.Served.{AreClosed};
 
 use crate::command::{Command, Request};
@@ -55,23 +55,23 @@ fn perform_text<'r, R: Threads + Wait + Sync, S: Source, O: Sink, F: Shelf, B: S
         PerformsText (record { command = command; file = option_copied file.entry }) most
         (beside_of (B.places board.old) remains.old) (beside_of (B.places board.new) remains.new) old new result }
 
-    // A count rises by one at its own fault, and stands else.
+    // A count rises by one at its own fault, and stays otherwise.
     ensures causes { let old = outside_of S.Source O.Sink F.Shelf input.old out.old shelf.old in
         let new = outside_of S.Source O.Sink F.Shelf input.new out.new shelf.new in
         Over (option_copied file.entry) (λ a b. HasCauses a b result) old new }
     ensures opens { HasCauseIn Fault.OpenFault (F.open_faults shelf.old) (F.open_faults shelf.new) result }
     ensures missing { IfSome (option_copied file.entry) (λ name. IsMissing (F.files shelf.old) name → result ≡ Err Fault.OpenFault) }
 
-    // Only what the command reads is touched, and the output only where there is something to write.
+    // Only what the command reads is touched, and the output only if there is something to write.
     ensures with_file { OnSome (option_copied file.entry) (input.new ≡ input.old) }
     ensures without_file { IfNone (option_copied file.entry) (shelf.new ≡ shelf.old) }
     ensures idle { (behaviour_of command).reads ≡ false → input.new ≡ input.old }
     ensures last { (behaviour_of command).writes_last ≡ true → IfErr result (λ fault. fault ≢ Fault.WriteFault → out.new ≡ out.old) }
     ensures closed { result ≡ Err Fault.OpenFault → out.new ≡ out.old }
-    ensures files { F.files shelf.new ≡ F.files shelf.old }
+    ensures files { (F.files shelf.new ≡ F.files shelf.old) × Opens (F.opened shelf.old) (F.opened shelf.new) (named (option_copied file.entry)) }
     ensures stays { S.stands_on input.new ≡ S.stands_on input.old }
 
-    // Watchers stay for alarms alone, and a hub is left where a count or a ranking ended well.
+    // Watchers stay for alarms alone, and a hub is left if a count or a ranking ended well.
     ensures board { alarms_of command ≡ [] → B.places board.new ≡ cleared (B.places board.old) }
     ensures remains { IfErr result (λ _. remains.new ≡ remains.old) }
     ensures no_hub { makes_hub command ≡ false → SameHub remains.old remains.new }
@@ -112,9 +112,9 @@ where
     ensures done { let old = outside_of S.Source O.Sink F.Shelf input.old out.old shelf.old in
         let new = outside_of S.Source O.Sink F.Shelf input.new out.new shelf.new in
         Performs (asked_of request.now) most (beside_of (B.places board.old) remains.old) (beside_of (B.places board.new) remains.new) old new
-        (closed_in (D.ended door.old) (D.ended door.new)) result }
+        (doorways (D.doorway door.old) (D.doorway door.new)) result }
 
-    // A count rises by one at its own fault, and stands else.
+    // A count rises by one at its own fault, and stays otherwise.
     ensures reads { let old = outside_of S.Source O.Sink F.Shelf input.old out.old shelf.old in
         let new = outside_of S.Source O.Sink F.Shelf input.new out.new shelf.new in
         HasCauseIn Fault.ReadFault (read_faults_of (asked_of request.now) old) (read_faults_of (asked_of request.now) new) result }
@@ -126,17 +126,19 @@ where
     ensures second_missing { let old = outside_of S.Source O.Sink F.Shelf input.old out.old shelf.old in
         MissesSecond (asked_of request.now) most old → IsErrAnd result (λ fault. IsOfReads (status_of fault)) }
 
-    // Only what is read is touched, and the output only where there is something to write.
+    // Only what is read is touched, and the output only if there is something to write.
     ensures input { reads_input (asked_of request.now) ≡ false → input.new ≡ input.old }
     ensures shelf { opens_files (asked_of request.now) ≡ false → shelf.new ≡ shelf.old }
     ensures door { accepts_links (asked_of request.now) ≡ false → door.new ≡ door.old }
-    ensures links { AreClosed (D.accepted door.old) (D.accepted door.new) (D.ended door.old) (D.ended door.new) }
+    ensures links { AreClosed (D.accepted door.old) (D.accepted door.new) (D.doorway door.old) (D.doorway door.new) }
     ensures last { writes_last_of (asked_of request.now) ≡ true → IfErr result (λ fault. fault ≢ Fault.WriteFault → out.new ≡ out.old) }
     ensures closed { result ≡ Err Fault.OpenFault → out.new ≡ out.old }
-    ensures files { F.files shelf.new ≡ F.files shelf.old }
+    ensures files { let old = outside_of S.Source O.Sink F.Shelf input.old out.old shelf.old in
+        let new = outside_of S.Source O.Sink F.Shelf input.new out.new shelf.new in
+        UsesFiles (asked_of request.now) most old new }
     ensures stays { S.stands_on input.new ≡ S.stands_on input.old }
 
-    // Watchers stay for alarms alone, and a hub is left where a count or a ranking ended well.
+    // Watchers stay for alarms alone, and a hub is left if a count or a ranking ended well.
     ensures board { alarms_asked (asked_of request.now) ≡ [] → B.places board.new ≡ cleared (B.places board.old) }
     ensures remains { IfErr result (λ _. remains.new ≡ remains.old) }
     ensures no_hub { leaves_hub (asked_of request.now) ≡ false → SameHub remains.old remains.new }

@@ -5,8 +5,8 @@ ghost use Rattle.sk_cli.specs.Beside.{beside_of, board_places, cleared, SameHub,
 ghost use Rattle.sk_cli.specs.Options.{texts_of};
 ghost use Rattle.sk_cli.specs.Command.{request_of, command_of, reads_input, opens_files, accepts_links, writes_last_of, alarms_asked, leaves_hub, leaves_ranks};
 ghost use Rattle.sk_cli.specs.Fault.{message_of, status_of};
-ghost use Rattle.sk_cli.specs.Outside.{outside_of, closed_in};
-ghost use Rattle.sk_cli.specs.Run.{Succeeds, Fails, Reports, RisesAt, RiseAtTheirs, RunsMake, IsFineFor, IsRefusedFor, MissesFirst, MissesSecond, IsOfCalls, IsOfReads};
+ghost use Rattle.sk_cli.specs.Outside.{outside_of, doorways};
+ghost use Rattle.sk_cli.specs.Run.{Succeeds, Fails, Reports, RisesAt, RiseAtTheirs, RunsMake, UsesFiles, IsFineFor, IsRefusedFor, MissesFirst, MissesSecond, IsOfCalls, IsOfReads};
 ghost use Rattle.sk_cli.specs.declared.command.Command.TheVariants as command;
 ghost use Rattle.sk_cli.specs.declared.commands.make.MakePlan.{MakePlan};
 ghost use Rattle.sk_cli.specs.declared.fault.Fault.{Fault};
@@ -54,7 +54,7 @@ where
     // What the command reads was read to its end, nothing of it is refused, and the whole text was written.
     ensures ok { result ≡ 0 → IfSome (request_of (texts_of words.now)) (λ asked. let old = outside_of S.Source O.Sink F.Shelf input.old out.old shelf.old in
         let new = outside_of S.Source O.Sink F.Shelf input.new out.new shelf.new in
-        Succeeds asked source_limit (beside_of (B.places board.old) remains.old) (beside_of (B.places board.new) remains.new) old new (closed_in (D.ended door.old) (D.ended door.new))) }
+        Succeeds asked source_limit (beside_of (B.places board.old) remains.old) (beside_of (B.places board.new) remains.new) old new (doorways (D.doorway door.old) (D.doorway door.new))) }
     ensures quiet { result ≡ 0 → err.new ≡ err.old }
 
     // Every other status is that of a fault, which has its place, and of which standard error is told.
@@ -62,7 +62,7 @@ where
         × MatchOption (request_of (texts_of words.now)) (f ≡ fault.Usage) (λ asked. let old = outside_of S.Source O.Sink F.Shelf input.old out.old shelf.old in
         let new = outside_of S.Source O.Sink F.Shelf input.new out.new shelf.new in
         Fails asked source_limit (beside_of (B.places board.old) remains.old) (beside_of (B.places board.new) remains.new) old new
-        (closed_in (D.ended door.old) (D.ended door.new)) f) }
+        (doorways (D.doorway door.old) (D.doorway door.new)) f) }
 
     // A count of faults rises by one at the status of its fault, and stands at every other.
     ensures causes { IfSome (request_of (texts_of words.now)) (λ asked. let old = outside_of S.Source O.Sink F.Shelf input.old out.old shelf.old in
@@ -78,7 +78,7 @@ where
     ensures refused { IfSome (request_of (texts_of words.now)) (λ asked. let old = outside_of S.Source O.Sink F.Shelf input.old out.old shelf.old in
         (f : Fault) → IsRefusedFor asked source_limit f old → (result ≡ status_of f) ⊎ IsOfCalls result) }
 
-    // A file that is known not to be there can't be opened. A second one is opened only behind a first that is an image.
+    // A file that is known not to be there can't be opened.
     ensures missing { IfSome (request_of (texts_of words.now)) (λ asked. let old = outside_of S.Source O.Sink F.Shelf input.old out.old shelf.old in
         MissesFirst asked old → result ≡ 8) }
     ensures second_missing { IfSome (request_of (texts_of words.now)) (λ asked. let old = outside_of S.Source O.Sink F.Shelf input.old out.old shelf.old in
@@ -89,20 +89,23 @@ where
         → (input.new ≡ input.old) × (shelf.new ≡ shelf.old)
         × RunsMake plan (beside_of (B.places board.old) remains.old) (beside_of (B.places board.new) remains.new) (O.written out.old) (O.written out.new) result) }
 
-    // Only what the command reads is touched, no file changes, and each link that was accepted is closed.
+    // Only what the command reads is touched, and each link that was accepted is closed. No file changes, and each file
+    // that is read is opened once: the second of a join only if the first is an image.
     ensures input { IfSome (request_of (texts_of words.now)) (λ asked. reads_input asked ≡ false → input.new ≡ input.old) }
     ensures shelf { IfSome (request_of (texts_of words.now)) (λ asked. opens_files asked ≡ false → shelf.new ≡ shelf.old) }
     ensures door { IfSome (request_of (texts_of words.now)) (λ asked. accepts_links asked ≡ false → door.new ≡ door.old) }
-    ensures links { AreClosed (D.accepted door.old) (D.accepted door.new) (D.ended door.old) (D.ended door.new) }
+    ensures files { IfSome (request_of (texts_of words.now)) (λ asked. let old = outside_of S.Source O.Sink F.Shelf input.old out.old shelf.old in
+        let new = outside_of S.Source O.Sink F.Shelf input.new out.new shelf.new in
+        UsesFiles asked source_limit old new) }
+    ensures links { AreClosed (D.accepted door.old) (D.accepted door.new) (D.doorway door.old) (D.doorway door.new) }
     ensures stays { S.stands_on input.new ≡ S.stands_on input.old }
 
     // A file that can't be opened leaves the output untouched, and so does what ends a command that writes last.
     ensures closed { result ≡ 8 → out.new ≡ out.old }
     ensures last { IfSome (request_of (texts_of words.now)) (λ asked. writes_last_of asked ≡ true
         → result ≢ 0 → result ≢ 4 → out.new ≡ out.old) }
-    ensures files { F.files shelf.new ≡ F.files shelf.old }
 
-    // Watchers stay for alarms alone, and a hub is left where a count or a ranking ended well.
+    // Watchers stay for alarms alone, and a hub is left if a count or a ranking ended well.
     ensures board { IfSome (request_of (texts_of words.now)) (λ asked. alarms_asked asked ≡ [] → B.places board.new ≡ cleared (B.places board.old)) }
     ensures remains { result ≢ 0 → remains.new ≡ remains.old }
     ensures no_hub { IfSome (request_of (texts_of words.now)) (λ asked. leaves_hub asked ≡ false → SameHub remains.old remains.new) }

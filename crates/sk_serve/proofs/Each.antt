@@ -1,5 +1,5 @@
 -- What holds of each member of a list, at its place counted from some number on.
-use Rattle.std.proofs.Common.{◌≡◌, ◌⊎◌, inl, inr, ℕ, ◌+◌, ◌-◌, ◌<◌, ◌≤◌, zero, suc, List, [], ◌∷◌, ◌++◌, length, get_or, refl, sym, ◌∙◌, ap, subst, arith, append-nil, length-append}
+use Rattle.std.proofs.Common.{◌≡◌, ◌⊎◌, inl, inr, ℕ, ◌+◌, ◌-◌, ◌<◌, ◌≤◌, zero, suc, List, [], ◌∷◌, ◌++◌, length, map, get_or, refl, sym, ◌∙◌, ap, subst, arith, append-nil, length-append}
 use Rattle.std.proofs.lemmas.Bool.{cases_lt}
 use Rattle.std.proofs.lemmas.List.{get_or_append_left, get_or-append_right, get_or_at}
 
@@ -29,7 +29,7 @@ each_last P from xs x first last = each_append P from xs (x ∷ []) first (each_
 pub each_so : {A : Type 0} (P Q : ℕ → A → Type 0) (from : ℕ) (xs : List A) → ((i : ℕ) (x : A) → P i x → Q i x) → Each P from xs → Each Q from xs
 each_so P Q from xs so each i d within = so (from + i) (get_or xs i d) (each i d within)
 
--- of all members, the next behind those before it
+-- of all members, the next after those before it
 pub each_next : {A : Type 0} (P : ℕ → A → Type 0) (from : ℕ) (xs before rest : List A) (x : A) → before ++ x ∷ rest ≡ xs → Each P from xs → P (from + length before) x
 each_next P from xs before rest x all each =
     let inside : length before < length xs = omega (arith, ap length all, length-append before (x ∷ rest)) in
@@ -39,7 +39,16 @@ pub at_some : {A P : Type 0} (xs : List A) (i : ℕ) → i < length xs → (A �
 at_some [] i within f = absurd (omega arith)
 at_some (x ∷ xs) i within f = f x
 
--- those that came are all, where none is left
+-- those that came are all, if none is left
 pub nothing_left : {A : Type 0} (before rest all : List A) → before ++ rest ≡ all → length rest ≡ 0 → before ≡ all
 nothing_left before [] all is none = sym (append-nil before) ∙ is
 nothing_left before (x ∷ rest) all is none = absurd (omega (arith, none))
+
+-- lists of which each two members at one place have the same of this
+pub same_by_places : {A B : Type 0} (f : A → B) (xs ys : List A) → length xs ≡ length ys → ((i : ℕ) (d : A) → i < length xs → f (get_or xs i d) ≡ f (get_or ys i d)) → map f xs ≡ map f ys
+same_by_places f [] [] len each = refl
+same_by_places f [] (y ∷ ys) len each = absurd (omega (arith, len))
+same_by_places f (x ∷ xs) [] len each = absurd (omega (arith, len))
+same_by_places f (x ∷ xs) (y ∷ ys) len each =
+    let first : f x ≡ f y = each 0 x (omega arith) in
+    ap (λ b. b ∷ map f xs) first ∙ ap (λ l. f y ∷ l) (same_by_places f xs ys (omega (arith, len)) (λ i d within. each (suc i) d (omega (arith, within))))

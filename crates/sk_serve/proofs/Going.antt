@@ -11,7 +11,7 @@ use Rattle.sk_line.specs.declared.sessions.End.TheVariants as end
 use Rattle.sk_line.proofs.Updaters.{none_pumped}
 use Rattle.sk_serve.specs.Served.{answered_in}
 
--- these lines were answered; behind them a pumping may have come
+-- these lines were answered; after them a pumping may have come
 pub record Answers (shape : Sizes) (u : UpdaterState) (answered : List Answered) (v : UpdaterState) : Type 0 where
   pub last : UpdaterState
   pub takes : AnswersEach shape u answered last

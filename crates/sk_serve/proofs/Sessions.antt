@@ -1,15 +1,17 @@
 -- A session from its accept to its close.
-use Rattle.std.proofs.Common.{◌≡◌, ℕ, ◌+◌, ◌-◌, ◌^◌, ◌<◌, min, All, get_or, unwrap_or, List, [], ◌∷◌, ◌++◌, length, map, Option, Some, refl, sym, ap, subst, ◌∙◌, arith, append-nil, append_assoc, length-append}
+use Rattle.std.proofs.Common.{◌≡◌, ℕ, ◌+◌, ◌-◌, ◌^◌, ◌<◌, min, All, get_or, unwrap_or, inl, inr, List, [], ◌∷◌, ◌++◌, length, map, Option, Some, refl, sym, ap, subst, ◌∙◌, arith, append-nil, append_assoc, length-append}
 use Rattle.std.proofs.lemmas.List.{map-append, length-map}
 use Rattle.atomic_table.specs.Seated.{TableId}
 use Rattle.sk_model.specs.Causes.{Rose}
-use Rattle.sk_io.specs.Traffic.{Traffic, Ended}
+use Rattle.sk_io.specs.Traffic.{Traffic, Ended, Doorway, SendsPart, text_of}
+use Rattle.sk_io.proofs.Links.{text_kept}
 use Rattle.sk_theta.specs.Sizes.{Sizes}
 use Rattle.sk_hub.specs.Updaters.{UpdaterState}
 use Rattle.sk_hub.specs.Calls.{GoesOn}
 use Rattle.sk_line.specs.Jobs.{IsJobDone}
-use Rattle.sk_line.specs.Sessions.{session_state, SessionEnds}
+use Rattle.sk_line.specs.Sessions.{SessionState, session_state, ComesTo, SessionEnds}
 use Rattle.sk_line.specs.declared.sessions.End.{End}
+use Rattle.sk_line.specs.declared.sessions.End.TheVariants as end
 use Rattle.sk_line.proofs.Added.{answers_keep}
 use Rattle.sk_hub.proofs.Calls.{goes_trans}
 use Rattle.sk_serve.specs.declared.plan.ServePlan.{ServePlan}
@@ -23,6 +25,21 @@ pub session_goes : (shape : Sizes) (most pumps pumps' : ℕ) (link link' : Optio
 session_goes shape most pumps pumps' link link' u v e ends =
     let a = answers_of shape most (session_state link u pumps) (session_state link' v pumps') ends.due ends.comes in
     goes_trans u a.last v (answers_keep shape u _ a.last a.takes).0 a.then.goes
+
+-- ---- its link
+
+came_over : (shape : Sizes) (most : ℕ) (a b : SessionState) (e : End) → ComesTo shape most a b e → text_of b.traffic ≡ text_of a.traffic
+came_over shape most a b end.Quit went = text_kept a.traffic b.traffic _ _ went.went.exchanges
+came_over shape most a b end.Closed went = text_kept a.traffic b.traffic _ _ went.went.exchanges
+came_over shape most a b end.LinkFault (inl went) = text_kept a.traffic b.traffic _ _ went.went.exchanges
+came_over shape most a b end.LinkFault (inr went) = text_kept went.before b.traffic _ _ went.part.2 ∙ text_kept a.traffic went.before _ _ went.exchanges
+came_over shape most a b (end.Long n) went = text_kept a.traffic b.traffic _ _ went.went.exchanges
+came_over shape most a b end.TooMuch went = text_kept a.traffic b.traffic _ _ went.went.exchanges
+came_over shape most a b end.OutOfMemory same = ap (λ s. text_of s.traffic) same
+
+-- a session changes nothing of what comes over its link
+pub same_text : (shape : Sizes) (most pumps pumps' : ℕ) (link link' : Option Traffic) (u v : UpdaterState) (before now waiting : ℕ) (told : Option End) → IsJobDone shape most (session_state link u pumps) (session_state link' v pumps') before now waiting told → text_of link' ≡ text_of link
+same_text shape most pumps pumps' link link' u v before now waiting told done = came_over shape most (session_state link u pumps) (session_state link' v pumps') done.ends.due done.ends.comes
 
 -- ---- a session that was run
 
@@ -59,28 +76,33 @@ ready_run plan shape most table i v v' shape_is ready done =
 
 -- ---- links that are closed
 
-pub none_closed : (plan : ServePlan) (most : ℕ) (table : TableId) (from : ℕ) (before : List Ended) (ends : List End) (us : List UpdaterState) → us ≡ [] → ClosesLinks plan most table from 0 before before ends ends us
+pub none_closed : (plan : ServePlan) (most : ℕ) (table : TableId) (from : ℕ) (before : Doorway) (ends : List End) (us : List UpdaterState) → us ≡ [] → ClosesLinks plan most table from 0 [] before before ends ends us
 none_closed plan most table from before ends us none = record {
   sessions = [];
   as_many = refl;
   served = each_none (IsServed plan most) from;
-  closed = sym (append-nil before);
+  are = refl;
+  coming = refl;
+  closed = sym (append-nil before.closed);
   ended = sym (append-nil ends);
   updaters = none;
   of_hub = record { tables = λ i d within. absurd (let no : ⊥ = omega (arith, within, ap length none) in no); numbers = λ i d within. absurd (let no : ⊥ = omega (arith, within, ap length none) in no) };
 }
 
-pub one_closed : (plan : ServePlan) (most : ℕ) (table : TableId) (from n : ℕ) (before mid now : List Ended) (ends ends1 ends2 : List End) (us us2 : List UpdaterState) (v : Visit) (e : End)
-    → ClosesLinks plan most table from n before mid ends ends1 us → WasRun plan most table (from + n) v → v.told ≡ Some e → now ≡ mid ++ v.link ∷ [] → ends2 ≡ ends1 ++ e ∷ [] → us2 ≡ us ++ v.updater ∷ [] → ClosesLinks plan most table from (n + 1) before now ends ends2 us2
-one_closed plan most table from n before mid now ends ends1 ends2 us us2 v e c run told closed ended updaters =
+pub one_closed : (plan : ServePlan) (most : ℕ) (table : TableId) (from n : ℕ) (texts : List (Option (List ℕ))) (before mid now : Doorway) (ends ends1 ends2 : List End) (us us2 : List UpdaterState) (v : Visit) (e : End)
+    → ClosesLinks plan most table from n texts before mid ends ends1 us → WasRun plan most table (from + n) v → v.told ≡ Some e → now ≡ record mid { closed = mid.closed ++ v.link ∷ [] } → ends2 ≡ ends1 ++ e ∷ [] → us2 ≡ us ++ v.updater ∷ [] → ClosesLinks plan most table from (n + 1) (texts ++ text_of v.link.traffic ∷ []) before now ends ends2 us2
+one_closed plan most table from n texts before mid now ends ends1 ends2 us us2 v e c run told closed ended updaters =
     let s = run.session in
     let same : e ≡ s.end = ap (λ (o : Option End). unwrap_or o e) (sym told ∙ run.told_is) in
+    let links : links_of (c.sessions ++ s ∷ []) ≡ links_of c.sessions ++ v.link ∷ [] = map-append (λ (z : Served). z.ended) c.sessions (s ∷ []) ∙ ap (λ x. links_of c.sessions ++ x ∷ []) (sym run.link_is) in
     let count : length us ≡ n = ap length c.updaters ∙ length-map c.sessions (λ (z : Served). z.updater) ∙ c.as_many in
     record {
       sessions = c.sessions ++ s ∷ [];
       as_many = length-append c.sessions (s ∷ []) ∙ ap (λ m. m + 1) c.as_many;
       served = each_last (IsServed plan most) from c.sessions s c.served (subst (λ m. IsServed plan most (from + m) s) (sym c.as_many) run.served);
-      closed = closed ∙ ap (λ l. l ++ v.link ∷ []) c.closed ∙ append_assoc before (links_of c.sessions) (v.link ∷ []) ∙ ap (λ l. before ++ l) (ap (λ x. links_of c.sessions ++ x ∷ []) run.link_is ∙ sym (map-append (λ (z : Served). z.ended) c.sessions (s ∷ [])));
+      are = ap (λ l. map (λ (z : Ended). text_of z.traffic) l) links ∙ map-append (λ (z : Ended). text_of z.traffic) (links_of c.sessions) (v.link ∷ []) ∙ ap (λ l. l ++ text_of v.link.traffic ∷ []) c.are;
+      coming = ap (λ d. d.coming) closed ∙ c.coming;
+      closed = ap (λ d. d.closed) closed ∙ ap (λ l. l ++ v.link ∷ []) c.closed ∙ append_assoc before.closed (links_of c.sessions) (v.link ∷ []) ∙ ap (λ l. before.closed ++ l) (sym links);
       ended = ended ∙ ap (λ l. l ++ e ∷ []) c.ended ∙ append_assoc ends (ends_of c.sessions) (e ∷ []) ∙ ap (λ l. ends ++ l) (ap (λ x. ends_of c.sessions ++ x ∷ []) same ∙ sym (map-append (λ (z : Served). z.end) c.sessions (s ∷ [])));
       updaters = updaters ∙ ap (λ l. l ++ v.updater ∷ []) c.updaters ∙ ap (λ x. map (λ z. z.updater) c.sessions ++ x ∷ []) run.updater_is ∙ sym (map-append (λ (z : Served). z.updater) c.sessions (s ∷ []));
       of_hub = record {

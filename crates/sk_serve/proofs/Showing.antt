@@ -1,4 +1,4 @@
--- What a heart shows behind its last ask, and what is due for it.
+-- What a heart shows after its last ask, and what is due for it.
 use Rattle.std.proofs.Common.{◌≡◌, ◌≢◌, ℕ, ◌+◌, ◌<◌, List, [], ◌∷◌, ◌++◌, length, map, get_or, All, Contains, Option, Some, Result, Ok, Err, IsErrAnd, refl, sym, ap, subst, ◌∙◌, arith}
 use Rattle.std.specs.List.{range_with_len}
 use Rattle.std.specs.Io.KnownBytes.{Appends}
@@ -19,7 +19,8 @@ use Rattle.sk_gate.specs.Hands.{TokenState}
 use Rattle.sk_gate.specs.Views.{known_of}
 use Rattle.sk_hub.specs.Hearts.{HeartState, IsWholeHeart}
 use Rattle.sk_hub.specs.Replies.{IsRelaxedReply, HasDrained}
-use Rattle.sk_io.specs.Traffic.{Ended}
+use Rattle.sk_io.specs.Traffic.{Doorway}
+use Rattle.sk_io.proofs.Doors.{pass_from}
 use Rattle.sk_theta.specs.declared.reply.Reply.{Reply}
 use Rattle.sk_watch.specs.Masks.{mask_of}
 use Rattle.sk_watch.specs.Places.{Place, answers_at, told}
@@ -68,21 +69,25 @@ shows plan sessions h h' word count d whole hub r drained = record {
     listed_at : (i : ℕ) → i < plan.sessions → entries_by i h'.view.seen ≡ known_of h.view i
     listed_at i below = drained i (subst (λ l. Contains l i) (sym all_drained) (in_range plan.sessions i below))
 
--- no session ended for want of memory
+-- no session ran out of memory
 pub had_memory : (sessions : List Served) (ends : List End) → ends ≡ ends_of sessions → All (λ e. e ≢ OutOfMemory) ends → All (λ s. s.end ≢ OutOfMemory) sessions
 had_memory sessions ends are all i d within =
     let inside : i < length ends = omega (arith, within, ap length are, length-map sessions (λ (s : Served). s.end)) in
     subst (λ (e : End). e ≢ OutOfMemory) (ap (λ l. get_or l i d.end) are ∙ get_or-map (λ (s : Served). s.end) sessions i d d.end within) (all i d.end inside)
 
-pub all_served : (plan : ServePlan) (most : ℕ) (before now : List Ended) (ends : List End) (sessions : List Served) (h h' : HeartState) (word : ℕ) → length sessions ≡ plan.sessions → ServesSome plan most before now ends sessions h → All (λ e. e ≢ OutOfMemory) ends → IsWholeHeart h → IsHeartOf plan h → IsRelaxedReply packed h.view word h'.view → HasDrained h.view h'.view
+pub all_served : (plan : ServePlan) (most : ℕ) (before now : Doorway) (ends : List End) (sessions : List Served) (h h' : HeartState) (word : ℕ) → now.port ≡ Some plan.port → length sessions ≡ plan.sessions → ServesSome plan most before now ends sessions h → All (λ e. e ≢ OutOfMemory) ends → IsWholeHeart h → IsHeartOf plan h → IsRelaxedReply packed h.view word h'.view → HasDrained h.view h'.view
     → ServesSessions plan most before now sessions h'
-all_served plan most before now ends sessions h h' word count s memory whole hub r drained = record {
+all_served plan most before now ends sessions h h' word listens count s memory whole hub r drained = record {
+  listens = listens;
   count = count;
   served = s.served;
   memory = had_memory sessions ends s.ended memory;
-  closed = s.closed;
+  passes = s.passes;
   shows = shows plan sessions h h' word count s.heart whole hub r drained;
 }
+
+pub served_from : (plan : ServePlan) (most : ℕ) (before before' now : Doorway) (sessions : List Served) (h : HeartState) → before'.coming ≡ before.coming → before'.closed ≡ before.closed → ServesSessions plan most before' now sessions h → ServesSessions plan most before now sessions h
+served_from plan most before before' now sessions h coming closed s = record { listens = s.listens; count = s.count; served = s.served; memory = s.memory; passes = pass_from before before' now _ coming closed s.passes; shows = s.shows }
 
 -- ---- the reply
 
@@ -118,7 +123,7 @@ pub ends_by : (plan : ServePlan) (most : ℕ) (old new : Surroundings) (remains 
 ends_by plan most old new remains (Ok x) f is ends = absurd is
 ends_by plan most old new remains (Err e) f is ends = subst (ServeEnds plan most old new) (sym is) ends
 
-module _ (plan : ServePlan) (most : ℕ) (w w' : Option (List ℕ)) (places armed places' : List Place) (before now : List Ended) (ends : List End) (sessions : List Served) (h : HeartState) (word : ℕ) (reply : Reply) (gone : ℕ) (estimate : ℕ × ℕ)
+module _ (plan : ServePlan) (most : ℕ) (w w' : Option (List ℕ)) (places armed places' : List Place) (before now : Doorway) (ends : List End) (sessions : List Served) (h : HeartState) (word : ℕ) (reply : Reply) (gone : ℕ) (estimate : ℕ × ℕ)
     (armed_is : armed ≡ armed_with plan.k plan.alarms places) (serves : ServesSessions plan most before now sessions h) (ends_are : ends ≡ ends_of sessions) (word_of : word ≡ packed_of plan.k (items_of_entries h.view.seen)) (reads : pair_of reply ≡ unpacked plan.k word)
     (gone_is : gone ≡ mask_of (map (answers_at reply) armed)) (places_is : places' ≡ map (told reply) armed) (estimate_is : estimate ≡ fraction_of plan.k reply.count reply.theta) where
   text : session_lines 0 ends ++ (alarm_lines gone ++ estimate_line estimate) ≡ served_text plan.k (armed_with plan.k plan.alarms places) (ends_of sessions) h.view.seen

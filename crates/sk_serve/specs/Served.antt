@@ -1,11 +1,11 @@
 -- The sessions of a server: each from its link's accept to its close, and what becomes of what its updater kept.
-use Rattle.std.specs.Prelude.{◌≡◌, ◌≢◌, ℕ, ◌+◌, ◌*◌, ◌<◌, List, [], ◌∷◌, ◌++◌, length, All, Option, IfSome, slice_index_or, map, flat_map, ◌-◌, ◌^◌, min}
+use Rattle.std.specs.Prelude.{◌≡◌, ◌≢◌, ℕ, ◌+◌, ◌*◌, ◌<◌, List, [], ◌∷◌, ◌++◌, length, All, Option, Some, IfSome, slice_index_or, map, flat_map, ◌-◌, ◌^◌, min}
 use Rattle.std.specs.List.{range_with_len}
 use Rattle.std.proofs.Common.{inl, inr}
 use Rattle.sk_model.specs.Entries.{Entry, entries_by, items_of_entries}
 use Rattle.sk_model.specs.Missing.{Begins}
 use Rattle.sk_model.specs.Sketch.{packed_of}
-use Rattle.sk_io.specs.Traffic.{Traffic, Ended, IsUntouched}
+use Rattle.sk_io.specs.Traffic.{Traffic, Ended, Doorway, Pass, IsUntouched}
 use Rattle.sk_theta.specs.Sizes.{Sizes}
 use Rattle.sk_compose.specs.Numbers.{k_of}
 use Rattle.sk_machine.specs.Coarse.{IsEntry}
@@ -55,7 +55,7 @@ pub record Served : Type 0 where
   pub answered : List Answered
 
 -- it was number i of the plan: run over a link of which nothing was read, by a fresh updater; the link's count of faults
--- tells exactly the fault that ended it, and without one all that was written was sent before the link was closed
+-- is of exactly the fault that ended it, and without one all that was written was sent before the link was closed
 pub record IsServed (plan : ServePlan) (most i : ℕ) (s : Served) : Type 0 where
   pub link : Option Traffic
   pub untouched : IfSome link IsUntouched
@@ -74,7 +74,7 @@ AreServed plan most from sessions = (i : ℕ) (d : Served) → i < length sessio
 
 -- ---- what a heart shows of them
 
--- the list has of number i exactly what the session's updater kept, and goes on from all that this saw and filtered by
+-- the list has of number i exactly what the session's updater kept, and continues all that this saw and filtered by
 pub record IsListed (i : ℕ) (s : Served) (list : List Entry) : Type 0 where
   pub kept : entries_by i list ≡ kept_of s.updater
   pub seen : Begins s.updater.view.seen list
@@ -102,24 +102,25 @@ ends_of sessions = map (λ s. s.end) sessions
 abbrev pub all_offered : ℕ → List Served → List ℕ
 all_offered seed sessions = flat_map (λ s. items_offered seed s.answered) sessions
 
--- all sessions of the plan were served, none for want of memory; the door closed their links in number order, and the
--- heart shows them
-pub record ServesSessions (plan : ServePlan) (most : ℕ) (before now : List Ended) (sessions : List Served) (h : HeartState) : Type 0 where
+-- all sessions of the plan were served at its port, none out of memory; their links, in number order, are those that
+-- came, in order, and were closed so, and the heart shows them
+pub record ServesSessions (plan : ServePlan) (most : ℕ) (before now : Doorway) (sessions : List Served) (h : HeartState) : Type 0 where
+  pub listens : now.port ≡ Some plan.port
   pub count : length sessions ≡ plan.sessions
   pub served : AreServed plan most 0 sessions
   pub memory : All (λ s. s.end ≢ OutOfMemory) sessions
-  pub closed : now ≡ before ++ links_of sessions
+  pub passes : Pass before now (links_of sessions)
   pub shows : ShowsSessions plan sessions h
 
 -- ---- links that were accepted
 
--- each link that a door accepted between was closed, by all that its count of them can tell
-pub record AreClosed (accepted accepted' : ℕ) (before now : List Ended) : Type 0 where
+-- each link that a door accepted between was closed, as far as its count of them can say
+pub record AreClosed (accepted accepted' : ℕ) (before now : Doorway) : Type 0 where
   pub closed : List Ended
-  pub records : now ≡ before ++ closed
+  pub records : now.closed ≡ before.closed ++ closed
   pub as_many : min accepted' (2 ^ 64 - 1) ≡ min (accepted + length closed) (2 ^ 64 - 1)
 
--- ---- where an accept fails
+-- ---- when an accept fails
 
 -- nothing was read of the link or written on it
 pub record IsUnread (ended : Ended) : Type 0 where
@@ -127,8 +128,9 @@ pub record IsUnread (ended : Ended) : Type 0 where
   pub faults : ended.faults ≡ 0
   pub waiting : ended.waiting ≡ 0
 
--- so many whole waves of sessions were served, and of the next one some links were accepted and closed unread
-pub record StopsAccepting (plan : ServePlan) (most : ℕ) (before now : List Ended) : Type 0 where
+-- so many whole waves of sessions were served, and of the next one some links were accepted and closed unread, all in
+-- the order in which they came
+pub record StopsAccepting (plan : ServePlan) (most : ℕ) (before now : Doorway) : Type 0 where
   pub sessions : List Served
   pub unread : List Ended
   pub fewer : length sessions + length unread < plan.sessions
@@ -137,4 +139,4 @@ pub record StopsAccepting (plan : ServePlan) (most : ℕ) (before now : List End
   pub whole : length sessions ≡ waves * plan.wave
   pub served : AreServed plan most 0 sessions
   pub none : All IsUnread unread
-  pub closed : now ≡ before ++ (links_of sessions ++ unread)
+  pub passes : Pass before now (links_of sessions ++ unread)

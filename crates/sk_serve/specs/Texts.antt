@@ -9,7 +9,7 @@ use Rattle.sk_line.specs.declared.sessions.End.{End}
 use Rattle.sk_line.specs.declared.sessions.End.TheVariants.{Quit, Closed, LinkFault, Long, TooMuch, OutOfMemory}
 use Rattle.sk_count.specs.Texts.{alarm_lines, reply_of}
 
--- how a session ended. Where memory was wanting nothing is written
+-- how a session ended. If memory was out nothing is written
 abbrev pub end_text : End → List ℕ
 end_text Quit = codes "quit"
 end_text Closed = codes "closed"
@@ -26,7 +26,7 @@ unfoldable pub session_lines : ℕ → List End → List ℕ
 session_lines from [] = []
 session_lines from (end ∷ ends) = session_line from end ++ session_lines (from + 1) ends
 
--- what is written behind them: a line for each alarm that the list's reply sets off, and its estimate
+-- what is written after them: a line for each alarm that the list's reply sets off, and its estimate
 abbrev pub reply_lines : ℕ → List Place → List Entry → List ℕ
 reply_lines k places list = alarm_lines (mask_of (map (answers_at (reply_of k list)) places)) ++ estimate_line (estimate_of k (items_of_entries list))
 

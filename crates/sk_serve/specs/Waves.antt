@@ -3,7 +3,7 @@ use Rattle.std.specs.Prelude.{◌≡◌, ℕ, ◌+◌, ◌<◌, List, ◌++◌, 
 use Rattle.std.specs.List.{range_with_len}
 use Rattle.atomic_table.specs.Seated.{TableId}
 use Rattle.sk_model.specs.Missing.{Begins}
-use Rattle.sk_io.specs.Traffic.{Traffic, Ended}
+use Rattle.sk_io.specs.Traffic.{Traffic, Ended, Doorway, Pass, text_of}
 use Rattle.sk_compose.specs.Numbers.{k_of}
 use Rattle.sk_hub.specs.Drains.{HasTakenIn}
 use Rattle.sk_hub.specs.Hearts.{HeartState}
@@ -58,24 +58,34 @@ WereRun plan most table from visit_of jobs = (i : ℕ) (d : _) → i < length jo
 
 -- ---- links that were closed
 
--- so many links of which nothing was read were closed
-pub record ClosesUnread (count : ℕ) (before now : List Ended) : Type 0 where
+-- links over these texts, of which nothing was read, were closed
+pub record ClosesUnread (texts : List (Option (List ℕ))) (before now : Doorway) : Type 0 where
   pub unread : List Ended
-  pub as_many : length unread ≡ count
   pub none : All IsUnread unread
-  pub closed : now ≡ before ++ unread
+  pub are : map (λ e. text_of e.traffic) unread ≡ texts
+  pub coming : now.coming ≡ before.coming
+  pub closed : now.closed ≡ before.closed ++ unread
+
+-- fewer links than so many came, and were closed unread in the order in which they came
+pub record StopsShort (count : ℕ) (before now : Doorway) : Type 0 where
+  pub unread : List Ended
+  pub fewer : length unread < count
+  pub none : All IsUnread unread
+  pub passes : Pass before now unread
 
 -- the updaters of this hub, from this number on
 pub record AreOfHub (table : TableId) (from : ℕ) (us : List UpdaterState) : Type 0 where
   pub tables : All (λ u. u.table ≡ table) us
   pub numbers : (i : ℕ) (d : UpdaterState) → i < length us → (slice_index_or us i d).number ≡ from + i
 
--- the links of so many sessions were closed, in order; these are their ends, and their updaters
-pub record ClosesLinks (plan : ServePlan) (most : ℕ) (table : TableId) (from count : ℕ) (before now : List Ended) (ends ends' : List End) (us : List UpdaterState) : Type 0 where
+-- the links of so many sessions, over these texts, were closed, in order; these are their ends, and their updaters
+pub record ClosesLinks (plan : ServePlan) (most : ℕ) (table : TableId) (from count : ℕ) (texts : List (Option (List ℕ))) (before now : Doorway) (ends ends' : List End) (us : List UpdaterState) : Type 0 where
   pub sessions : List Served
   pub as_many : length sessions ≡ count
   pub served : AreServed plan most from sessions
-  pub closed : now ≡ before ++ links_of sessions
+  pub are : map (λ e. text_of e.traffic) (links_of sessions) ≡ texts
+  pub coming : now.coming ≡ before.coming
+  pub closed : now.closed ≡ before.closed ++ links_of sessions
   pub ended : ends' ≡ ends ++ ends_of sessions
   pub updaters : us ≡ map (λ s. s.updater) sessions
   pub of_hub : AreOfHub table from us
@@ -98,12 +108,12 @@ pub record DrainsFrom (from : ℕ) (h : HeartState) (us : List UpdaterState) (h'
 
 -- ---- a whole wave
 
--- the heart and the door behind so many sessions, the first of them with the number of the updater that is admitted next
-pub record ServesWave (plan : ServePlan) (most count : ℕ) (h h' : HeartState) (before now : List Ended) (ends ends' : List End) : Type 0 where
+-- the heart and the door after so many sessions, the first of them with the number of the updater that is admitted next
+pub record ServesWave (plan : ServePlan) (most count : ℕ) (h h' : HeartState) (before now : Doorway) (ends ends' : List End) : Type 0 where
   pub sessions : List Served
   pub as_many : length sessions ≡ count
   pub served : AreServed plan most h.admitted sessions
-  pub closed : now ≡ before ++ links_of sessions
+  pub passes : Pass before now (links_of sessions)
   pub ended : ends' ≡ ends ++ ends_of sessions
   pub drains : DrainsFrom h.admitted (record h { admitted = h.admitted + count }) (map (λ s. s.updater) sessions) h'
 
@@ -116,8 +126,8 @@ pub record HasDrainedThem (sessions : List Served) (h : HeartState) : Type 0 whe
   pub numbered : (i : ℕ) (d : Served) → i < length sessions → (slice_index_or sessions i d).updater.number ≡ i
   pub taken_in : All (λ s. HasTakenIn h s.updater) sessions
 
-pub record ServesSome (plan : ServePlan) (most : ℕ) (before now : List Ended) (ends : List End) (sessions : List Served) (h : HeartState) : Type 0 where
+pub record ServesSome (plan : ServePlan) (most : ℕ) (before now : Doorway) (ends : List End) (sessions : List Served) (h : HeartState) : Type 0 where
   pub served : AreServed plan most 0 sessions
-  pub closed : now ≡ before ++ links_of sessions
+  pub passes : Pass before now (links_of sessions)
   pub ended : ends ≡ ends_of sessions
   pub heart : HasDrainedThem sessions h

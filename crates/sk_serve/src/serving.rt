@@ -32,7 +32,7 @@ use std::thread::Threads;
 
 /// Accepts as many links as the plan has sessions, answers the requests of each, fewer than `most` bytes,
 /// by an updater of one hub, and then writes how each session ended and the estimate of all that was kept,
-/// which it also shows to the board. Where it ends well the handles of its hub are left behind.
+/// which it also shows to the board. If it ends well the handles of its hub are left.
 pub fn serve<O: Sink, D: Door, B: Seen, R: Threads + Wait + Sync>(
     rt: &R,
     alloc: Global,
@@ -48,9 +48,9 @@ where
     requires within { IsServable plan.now }
     requires bound { most ≤ most_kept }
     requires live { (i : ℕ) → i < length plan.now.alarms → IsLive i (B.places board.old) }
-    ensures serves { ServesPlan plan.now most (surroundings (O.written out.old) (B.places board.old) (D.ended door.old))
-        (surroundings (O.written out.new) (B.places board.new) (D.ended door.new)) remains.new result }
-    ensures closed { AreClosed (D.accepted door.old) (D.accepted door.new) (D.ended door.old) (D.ended door.new) }
+    ensures serves { ServesPlan plan.now most (surroundings (O.written out.old) (B.places board.old) (D.doorway door.old))
+        (surroundings (O.written out.new) (B.places board.new) (D.doorway door.new)) remains.new result }
+    ensures closed { AreClosed (D.accepted door.old) (D.accepted door.new) (D.doorway door.old) (D.doorway door.new) }
     ensures nothing { IfErr result (λ _. remains.new ≡ remains.old) }
     ensures quiet { IfErr result (λ fault. fault ≢ ServeFault.WriteFault → out.new ≡ out.old) }
     ensures net { HasCauseIn ServeFault.NetFault (D.faults door.old) (D.faults door.new) result }
@@ -106,11 +106,11 @@ where
     requires admitted { heart.old.admitted ≡ 0 }
     requires drained { heart.old.view.drained ≡ [] }
     ensures serves { IfOk result (λ told. (sessions : List Served)
-        × ServesSessions plan.now most (D.ended door.old) (D.ended door.new) sessions heart.new × (told.0.items ≡ ends_of sessions)) }
+        × ServesSessions plan.now most (D.doorway door.old) (D.doorway door.new) sessions heart.new × (told.0.items ≡ ends_of sessions)) }
     ensures word { IfOk result (λ told. told.1 ≡ packed_of plan.now.k (items_of_entries heart.new.view.seen)) }
     ensures table { IfOk result (λ _. heart.new.table ≡ heart.old.table) }
-    ensures stops { IfErr result (λ fault. fault ≡ ServeFault.NetFault → StopsAccepting plan.now most (D.ended door.old) (D.ended door.new)) }
-    ensures closed { AreClosed (D.accepted door.old) (D.accepted door.new) (D.ended door.old) (D.ended door.new) }
+    ensures stops { IfErr result (λ fault. fault ≡ ServeFault.NetFault → StopsAccepting plan.now most (D.doorway door.old) (D.doorway door.new)) }
+    ensures closed { AreClosed (D.accepted door.old) (D.accepted door.new) (D.doorway door.old) (D.doorway door.new) }
     ensures write { IfErr result (λ fault. fault ≢ ServeFault.WriteFault) }
     ensures cause { HasCauseIn ServeFault.NetFault (D.faults door.old) (D.faults door.new) result }
 {
@@ -123,7 +123,7 @@ where
     Ok((ends, word))
 }
 
-// Whether no session ended for want of memory.
+// Whether no session ran out of memory.
 fn had_memory(ends: &[End]) -> Result<(), OutOfMemory>
     ensures { OnOk result (All (λ end. end ≢ End.OutOfMemory) ends.now) }
 {

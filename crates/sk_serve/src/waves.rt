@@ -1,13 +1,14 @@
 //! Sessions in waves: those of one run at once, and the next begins once all their updaters are drained.
-ghost use Rattle.std.specs.Prelude.{◌≡◌, ◌≢◌, ℕ, ◌+◌, ◌<◌, ◌≤◌, [], true, length, vec_capacity, is_some, List, All, IfOk, OnOk, IfErr};
+ghost use Rattle.std.specs.Prelude.{◌≡◌, ◌≢◌, ℕ, ◌+◌, ◌<◌, ◌≤◌, [], true, length, map, vec_capacity, is_some, List, Some, All, IfOk, OnOk, IfErr};
 ghost use Rattle.atomic_table.specs.Seated.{TableId};
 ghost use Rattle.sk_compose.specs.Numbers.{k_of};
 ghost use Rattle.sk_hub.specs.Updaters.{kept_of};
+ghost use Rattle.sk_io.specs.Traffic.{text_of};
 ghost use Rattle.sk_model.specs.Causes.{HasCauseIn};
 ghost use Rattle.sk_model.specs.Limits.{most_kept};
 ghost use Rattle.sk_serve.specs.Plans.{IsServable};
 ghost use Rattle.sk_serve.specs.Served.{AreClosed, Served, StopsAccepting};
-ghost use Rattle.sk_serve.specs.Waves.{IsHeartOf, visit, AreReady, WereRun, ClosesUnread, AreOfHub, ClosesLinks, DrainsFrom, ServesWave, ServesSome};
+ghost use Rattle.sk_serve.specs.Waves.{IsHeartOf, visit, AreReady, WereRun, StopsShort, AreOfHub, ClosesLinks, DrainsFrom, ServesWave, ServesSome};
 
 use crate::accepting::accept_wave;
 use crate::fault::ServeFault;
@@ -36,12 +37,13 @@ where
     requires hub { IsHeartOf plan.now heart.old }
     requires admitted { heart.old.admitted ≡ 0 }
     requires drained { heart.old.view.drained ≡ [] }
-    requires listens { D.listens door.old ≡ true }
+    requires listens { (D.doorway door.old).port ≡ Some plan.now.port }
     requires room { D.room door.old ≡ plan.now.sessions }
     ensures serves { IfOk result (λ ends. (sessions : List Served) × (length sessions ≡ plan.now.sessions)
-        × ServesSome plan.now most (D.ended door.old) (D.ended door.new) ends.items sessions heart.new) }
-    ensures stops { IfErr result (λ fault. fault ≡ ServeFault.NetFault → StopsAccepting plan.now most (D.ended door.old) (D.ended door.new)) }
-    ensures closed { AreClosed (D.accepted door.old) (D.accepted door.new) (D.ended door.old) (D.ended door.new) }
+        × ServesSome plan.now most (D.doorway door.old) (D.doorway door.new) ends.items sessions heart.new) }
+    ensures stops { IfErr result (λ fault. fault ≡ ServeFault.NetFault → StopsAccepting plan.now most (D.doorway door.old) (D.doorway door.new)) }
+    ensures closed { AreClosed (D.accepted door.old) (D.accepted door.new) (D.doorway door.old) (D.doorway door.new) }
+    ensures listens { IfOk result (λ _. (D.doorway door.new).port ≡ Some plan.now.port) }
     ensures hub { IfOk result (λ _. IsHeartOf plan.now heart.new) }
     ensures table { IfOk result (λ _. heart.new.table ≡ heart.old.table) }
     ensures write { IfErr result (λ fault. fault ≢ ServeFault.WriteFault) }
@@ -57,7 +59,7 @@ where
     Ok(ends)
 }
 
-// Serves the next so many sessions at once, closes their links, and drains their updaters.
+// Serves the next `count` sessions at once, closes their links, and drains their updaters.
 fn serve_wave<D: Door, R: Threads + Wait + Sync>(
     rt: &R,
     alloc: Global,
@@ -75,15 +77,15 @@ where
     requires hub { IsHeartOf plan.now heart.old }
     requires vacant { heart.old.admitted + count ≤ plan.now.sessions }
     requires some { 0 < count }
-    requires listens { D.listens door.old ≡ true }
+    requires listens { (D.doorway door.old).port ≡ Some plan.now.port }
     requires room { count ≤ D.room door.old }
     requires reserved { length ends.old.items + count ≤ vec_capacity ends.old }
-    ensures serves { IfOk result (λ _. ServesWave plan.now most count heart.old heart.new (D.ended door.old) (D.ended door.new) ends.old.items ends.new.items) }
-    ensures unread { IfErr result (λ fault. fault ≡ ServeFault.NetFault → (n : ℕ) × (n < count) × ClosesUnread n (D.ended door.old) (D.ended door.new)) }
-    ensures closed { AreClosed (D.accepted door.old) (D.accepted door.new) (D.ended door.old) (D.ended door.new) }
+    ensures serves { IfOk result (λ _. ServesWave plan.now most count heart.old heart.new (D.doorway door.old) (D.doorway door.new) ends.old.items ends.new.items) }
+    ensures unread { IfErr result (λ fault. fault ≡ ServeFault.NetFault → StopsShort count (D.doorway door.old) (D.doorway door.new)) }
+    ensures closed { AreClosed (D.accepted door.old) (D.accepted door.new) (D.doorway door.old) (D.doorway door.new) }
     ensures room { OnOk result (D.room door.new + count ≡ D.room door.old) }
     ensures reserved { OnOk result (vec_capacity ends.new ≡ vec_capacity ends.old) }
-    ensures listens { D.listens door.new ≡ true }
+    ensures listens { (D.doorway door.new).port ≡ Some plan.now.port }
     ensures write { IfErr result (λ fault. fault ≢ ServeFault.WriteFault) }
     ensures cause { HasCauseIn ServeFault.NetFault (D.faults door.old) (D.faults door.new) result }
 {
@@ -107,6 +109,7 @@ fn run_wave<L: Link + Drop + Send, R: Threads + Wait + Sync>(
     requires bound { most ≤ most_kept }
     requires fresh { All (λ job. (k_of job.updater.view.numbers ≡ plan.now.k) × (kept_of job.updater ≡ [])) jobs.items }
     ensures count { length result.items ≡ length jobs.items }
+    ensures texts { map (λ job. text_of (L.traffic job.link)) result.items ≡ map (λ job. text_of (L.traffic job.link)) jobs.items }
     ensures run { (table : TableId) (from : ℕ)
         → AreReady plan.now table from (λ job. visit (L.traffic job.link) (L.faults job.link) (L.waiting job.link) job.updater job.pump.count job.end) jobs.items
         → WereRun plan.now most table from (λ job. visit (L.traffic job.link) (L.faults job.link) (L.waiting job.link) job.updater job.pump.count job.end) result.items }
@@ -116,7 +119,7 @@ fn run_wave<L: Link + Drop + Send, R: Threads + Wait + Sync>(
     jobs
 }
 
-// The same, over the jobs where they lie.
+// The same, over the jobs in place.
 fn run_all<L: Link + Drop + Send, R: Threads + Wait + Sync>(
     rt: &R,
     alloc: Global,
@@ -128,6 +131,7 @@ fn run_all<L: Link + Drop + Send, R: Threads + Wait + Sync>(
     requires bound { most ≤ most_kept }
     requires fresh { All (λ job. (k_of job.updater.view.numbers ≡ plan.now.k) × (kept_of job.updater ≡ [])) jobs.old }
     ensures count { length jobs.new ≡ length jobs.old }
+    ensures texts { map (λ job. text_of (L.traffic job.link)) jobs.new ≡ map (λ job. text_of (L.traffic job.link)) jobs.old }
     ensures run { (table : TableId) (from : ℕ)
         → AreReady plan.now table from (λ job. visit (L.traffic job.link) (L.faults job.link) (L.waiting job.link) job.updater job.pump.count job.end) jobs.old
         → WereRun plan.now most table from (λ job. visit (L.traffic job.link) (L.faults job.link) (L.waiting job.link) job.updater job.pump.count job.end) jobs.new }
@@ -136,7 +140,7 @@ fn run_all<L: Link + Drop + Send, R: Threads + Wait + Sync>(
     serve_links(rt, alloc, &shape, jobs, most);
 }
 
-// Closes the links of a wave, in order, and answers their updaters behind their ends.
+// Closes the links of a wave, in order, and answers how their sessions ended and their updaters.
 fn close_links<D: Door>(
     door: &mut D,
     jobs: Vec<Job<HeapTheta, D::Link, HelpPump>>,
@@ -150,12 +154,13 @@ fn close_links<D: Door>(
     requires none { updaters.old.items ≡ [] }
     ensures closes { (plan : ServePlan) (most : ℕ) (table : TableId) (from : ℕ)
         → WereRun plan most table from (λ job. visit (D.Link.traffic job.link) (D.Link.faults job.link) (D.Link.waiting job.link) job.updater job.pump.count job.end) jobs.items
-        → ClosesLinks plan most table from (length jobs.items) (D.ended door.old) (D.ended door.new) ends.old.items ends.new.items updaters.new.items }
+        → ClosesLinks plan most table from (length jobs.items)
+        (map (λ job. text_of (D.Link.traffic job.link)) jobs.items) (D.doorway door.old) (D.doorway door.new) ends.old.items ends.new.items updaters.new.items }
     ensures room { D.room door.new + length jobs.items ≡ D.room door.old }
     ensures reserved { vec_capacity ends.new ≡ vec_capacity ends.old }
     ensures accepted { D.accepted door.new ≡ D.accepted door.old }
     ensures faults { D.faults door.new ≡ D.faults door.old }
-    ensures listens { D.listens door.new ≡ D.listens door.old }
+    ensures listens { (D.doorway door.new).port ≡ (D.doorway door.old).port }
 {
     'job: for job in jobs {
         let Job {

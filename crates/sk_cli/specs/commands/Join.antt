@@ -1,10 +1,10 @@
 -- What `join` is asked, and how it goes.
-use Rattle.std.specs.Prelude.{◌≡◌, ◌≢◌, ◌⊎◌, ℕ, ◌<◌, ◌≤◌, Bool, if◌then◌else◌, List, ◌++◌, length, take, Option, Some, IfSome, option_and_then, option_map, Result, MatchResult}
+use Rattle.std.specs.Prelude.{◌≡◌, ◌≢◌, ◌⊎◌, ℕ, ◌<◌, ◌≤◌, Bool, if◌then◌else◌, List, [], ◌∷◌, ◌++◌, length, take, Option, Some, IfSome, option_and_then, option_map, Result, MatchResult}
 use Rattle.std.specs.Io.KnownBytes.{Appends, Consumes, IsAtEnd}
 use Rattle.sk_model.specs.Causes.{AppendsPart}
 use Rattle.sk_model.specs.Sketch.{k_smallest, estimate_to}
 use Rattle.sk_lines.specs.Fractions.{estimate_line}
-use Rattle.sk_io.specs.Files.{told_file}
+use Rattle.sk_io.specs.Files.{told_file, Opens}
 use Rattle.sk_image.specs.Images.{text_of}
 use Rattle.sk_image.specs.Versions.{end_of}
 use Rattle.sk_image.specs.Reading.{IsBadAt, IsGoodSoFar, IsImageText}
@@ -38,15 +38,15 @@ images_by given =
 
 -- ---- one file
 
--- files as they are told: each its name beside its bytes
+-- files as far as they are known: each its name with its bytes
 abbrev pub Files : Type 0
 Files = Option (List (List ℕ × List ℕ))
 
--- a file is the text of this image, and has fewer than so many bytes, where its bytes are told
+-- a file is the text of this image, and has fewer than so many bytes, if its bytes are known
 abbrev pub IsFileOf : ℕ → Image → Option (List ℕ) → Type 0
 IsFileOf most image told = IfSome told (λ text. (text ≡ image_text image) × (length text < most))
 
--- line n of a file is its first bad one, where its bytes are told, and so it is among its first `most` bytes
+-- line n of a file is its first bad one, if its bytes are known, and so it is among its first `most` bytes
 abbrev pub IsBadFile : ℕ → ℕ → Option (List ℕ) → Type 0
 IsBadFile most n told = IfSome told (λ text. IsBadAt n text × (most ≤ length text → ¬ IsGoodSoFar (take most text)))
 
@@ -77,6 +77,12 @@ abbrev pub joined_text : Bool → Image → Image → List ℕ
 joined_text as_image left right =
     let hashes = left.hashes.items ++ right.hashes.items in
     if as_image then text_of left.version left.k left.seed (k_smallest left.k hashes) else estimate_line (estimate_to (end_of left.version) left.k hashes)
+
+-- the left file was opened, and nothing more, or then the right one, if the left one is an image
+abbrev pub OpensBoth : TwoImages → ℕ → Files → Option (List Word) → Option (List Word) → Type 0
+OpensBoth asked most files old new =
+    Opens old new (asked.left ∷ [])
+    ⊎ ((left : Image) × IsFileOf most left (told_file files asked.left) × Opens old new (asked.left ∷ asked.right ∷ []))
 
 -- both files were read to their ends as images, and this is so of them
 pub record ReadsBoth (asked : TwoImages) (most : ℕ) (files : Files) (file_left : Option (List ℕ)) (P : Image → Image → Type 0) : Type 0 where
@@ -110,13 +116,13 @@ EndsBoth as_image old new left right other = ⊥
 abbrev pub WritesBoth : Bool → Option (List ℕ) → Option (List ℕ) → Image → Image → Type 0
 WritesBoth as_image old new left right = Fit left right × Appends old new (joined_text as_image left right)
 
--- it ended at the left file, or, where that one is an image, at the right one
+-- it ended at the left file, or, if that one is an image, at the right one
 abbrev pub EndsAtOne : TwoImages → ℕ → Files → Option (List ℕ) → Fault → Type 0
 EndsAtOne asked most files file_left fault =
     EndsFile most 1 (told_file files asked.left) file_left fault
     ⊎ ((left : Image) × IsFileOf most left (told_file files asked.left) × EndsFile most 2 (told_file files asked.right) file_left fault)
 
--- where it may end by a fault: with nothing written save at a failed write
+-- how it may end by a fault: with nothing written but at a failed write
 abbrev pub EndsJoin : TwoImages → ℕ → Files → Option (List ℕ) → Option (List ℕ) → Option (List ℕ) → Fault → Type 0
 EndsJoin asked most files file_left old new OutOfMemory = new ≡ old
 EndsJoin asked most files file_left old new WriteFault =
@@ -125,21 +131,21 @@ EndsJoin asked most files file_left old new (Mixed a b) =
     ReadsBoth asked most files file_left (λ left right. EndsBoth asked.as_image old new left right (Mixed a b))
 EndsJoin asked most files file_left old new other = EndsAtOne asked most files file_left other × (new ≡ old)
 
--- how it went, where this is left of the file that was read last
+-- how it went, when this is left of the file that was read last
 abbrev pub JoinsSo : TwoImages → ℕ → Files → Option (List ℕ) → Option (List ℕ) → Option (List ℕ) → Result (Unit {0}) Fault → Type 0
 JoinsSo asked most files file_left old new result =
     MatchResult result (λ _. ReadsBoth asked most files file_left (WritesBoth asked.as_image old new)) (λ fault. EndsJoin asked most files file_left old new fault)
 
--- ---- what told files decide
+-- ---- what known files decide
 
--- a file is told, is the text of an image, and has fewer than so many bytes
+-- a file is known, is the text of an image, and has fewer than so many bytes
 pub record IsToldImage (most : ℕ) (told : Option (List ℕ)) : Type 0 where
   pub text : List ℕ
   pub is : told ≡ Some text
   pub image : IsImageText text
   pub size : length text < most
 
--- a file is told, its first bad line is line n, and it has fewer than so many bytes
+-- a file is known, its first bad line is line n, and it has fewer than so many bytes
 pub record IsToldBad (most n : ℕ) (told : Option (List ℕ)) : Type 0 where
   pub text : List ℕ
   pub is : told ≡ Some text
@@ -167,13 +173,13 @@ pub record AreMixed (asked : TwoImages) (most : ℕ) (files : Files) (a b : Stam
   pub right_stamp : b ≡ stamp_in told.right.text told.right.image
   pub differ : a ≢ b
 
--- the left file is refused, or the right one behind a left image
+-- the left file is refused, or the right one after a left image
 abbrev pub IsBadOne : TwoImages → ℕ → Files → ℕ → ℕ → Type 0
 IsBadOne asked most files file n =
     ((file ≡ 1) × IsToldBad most n (told_file files asked.left))
     ⊎ ((file ≡ 2) × IsToldImage most (told_file files asked.left) × IsToldBad most n (told_file files asked.right))
 
--- told files are refused by this fault
+-- known files are refused by this fault
 abbrev pub AreRefused : TwoImages → ℕ → Files → Fault → Type 0
 AreRefused asked most files (BadImage file n) = IsBadOne asked most files file n
 AreRefused asked most files (Mixed a b) = AreMixed asked most files a b

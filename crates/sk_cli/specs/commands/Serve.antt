@@ -8,7 +8,7 @@ use Rattle.sk_serve.specs.declared.plan.ServePlan.{ServePlan}
 use Rattle.sk_count.specs.declared.remains.Remains.{Remains}
 use Rattle.sk_cli.specs.Beside.{Beside, Left, board_places}
 use Rattle.sk_cli.specs.Options.{Given, value_behind, number_in, required_in, seed_by, sizes_by, eager_by, alarms_by}
-use Rattle.sk_cli.specs.Outside.{Closed}
+use Rattle.sk_cli.specs.Outside.{Doorways}
 use Rattle.sk_cli.specs.declared.options.Name.TheVariants as name
 use Rattle.sk_cli.specs.declared.fault.Fault.{Fault}
 use Rattle.sk_cli.specs.declared.fault.Fault.TheVariants.{OutOfMemory, WriteFault, NetFault}
@@ -40,12 +40,12 @@ abbrev pub counted_left : Left → Remains
 counted_left left = record { heart = left.heart; token = left.token }
 
 -- all its sessions were served, and all that is due for them was written
-abbrev pub ServesAll : ServePlan → ℕ → Beside → Beside → Option (List ℕ) → Option (List ℕ) → Closed → Type 0
+abbrev pub ServesAll : ServePlan → ℕ → Beside → Beside → Option (List ℕ) → Option (List ℕ) → Doorways → Type 0
 ServesAll plan most from to old new links =
     TellsSessions plan most (surroundings old from.board links.before) (surroundings new to.board links.after) (counted_left to.remains)
 
 -- where it may end by a fault: with nothing written save at a failed write
-abbrev pub EndsServing : ServePlan → ℕ → Beside → Beside → Option (List ℕ) → Option (List ℕ) → Closed → Fault → Type 0
+abbrev pub EndsServing : ServePlan → ℕ → Beside → Beside → Option (List ℕ) → Option (List ℕ) → Doorways → Fault → Type 0
 EndsServing plan most from to old new links WriteFault =
     ServeEnds plan most (surroundings old from.board links.before) (surroundings new to.board links.after) serve.WriteFault
 EndsServing plan most from to old new links NetFault =
@@ -55,6 +55,6 @@ EndsServing plan most from to old new links OutOfMemory =
 EndsServing plan most from to old new links other = ⊥
 
 -- how it went
-abbrev pub ServesSo : ServePlan → ℕ → Beside → Beside → Option (List ℕ) → Option (List ℕ) → Closed → Result (Unit {0}) Fault → Type 0
+abbrev pub ServesSo : ServePlan → ℕ → Beside → Beside → Option (List ℕ) → Option (List ℕ) → Doorways → Result (Unit {0}) Fault → Type 0
 ServesSo plan most from to old new links result =
     MatchResult result (λ _. ServesAll plan most from to old new links) (λ fault. EndsServing plan most from to old new links fault)

@@ -1,10 +1,10 @@
 // The command that joins two images.
-ghost use Rattle.std.specs.Prelude.{◌≡◌, ◌≢◌, ◌⊎◌, false, Err, OnOk, IfOk, IfErr, IsErrAnd, IsErrOf, MatchResult};
+ghost use Rattle.std.specs.Prelude.{◌≡◌, ◌≢◌, ◌⊎◌, [], ◌∷◌, false, Err, OnOk, IfOk, IfErr, IsErrAnd, IsErrOf, MatchResult};
 ghost use Rattle.std.specs.Io.KnownBytes.{Appends, IsAtEnd};
 ghost use Rattle.std.specs.Option.{option_map};
 ghost use Rattle.sk_model.specs.Causes.{HasCause, HasCauseIn, AppendsPart};
-ghost use Rattle.sk_io.specs.Files.{told_file, IsMissing};
-ghost use Rattle.sk_cli.specs.commands.Join.{images_of, images_by, image_or_line, IsFileOf, EndsFile, WritesBoth, EndsBoth, JoinsSo, stamp_of};
+ghost use Rattle.sk_io.specs.Files.{told_file, IsMissing, Opens};
+ghost use Rattle.sk_cli.specs.commands.Join.{images_of, images_by, image_or_line, IsFileOf, EndsFile, WritesBoth, EndsBoth, JoinsSo, OpensBoth, stamp_of};
 
 use crate::commands::image::write_image;
 use crate::fault::{Fault, Stamp};
@@ -24,7 +24,7 @@ pub struct JoinPlan<'a> {
 }
 
 impl<'a> JoinPlan<'a> {
-    /// The plan that the options spell. `None` where a name is not given, or is empty.
+    /// The plan that the options spell. `None` if a name is not given, or is empty.
     pub fn of(options: &Options<'a>) -> Option<JoinPlan<'a>>
         ensures { option_map images_of result ≡ images_by options.now }
     {
@@ -69,6 +69,7 @@ fn read_image<F: Shelf>(
     ensures opens { HasCauseIn Fault.OpenFault (F.open_faults shelf.old) (F.open_faults shelf.new) result }
     ensures reads { HasCauseIn Fault.ReadFault (F.read_faults shelf.old) (F.read_faults shelf.new) result }
     ensures files { F.files shelf.new ≡ F.files shelf.old }
+    ensures opened { Opens (F.opened shelf.old) (F.opened shelf.new) (name.now ∷ []) }
 {
     match OpenFile::open(shelf, name) {
         Ok(mut file) => examine(alloc, number, most, &mut file),
@@ -158,6 +159,7 @@ pub fn join<O: Sink, F: Shelf>(
     ensures reads { HasCauseIn Fault.ReadFault (F.read_faults shelf.old) (F.read_faults shelf.new) result }
     ensures writes { HasCauseIn Fault.WriteFault (O.faults out.old) (O.faults out.new) result }
     ensures files { F.files shelf.new ≡ F.files shelf.old }
+    ensures opened { OpensBoth (images_of plan.now) most (F.files shelf.old) (F.opened shelf.old) (F.opened shelf.new) }
 {
     let left = read_image(alloc, 1, plan.left, most, shelf)?;
     let right = read_image(alloc, 2, plan.right, most, shelf)?;

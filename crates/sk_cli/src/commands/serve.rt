@@ -4,7 +4,7 @@ ghost use Rattle.sk_model.specs.Causes.{HasCauseIn};
 ghost use Rattle.sk_model.specs.Limits.{source_limit};
 ghost use Rattle.sk_cli.specs.Beside.{beside_of, board_places, cleared, SameRanks};
 ghost use Rattle.sk_cli.specs.Fault.{fault_by_serve};
-ghost use Rattle.sk_cli.specs.Outside.{closed_in};
+ghost use Rattle.sk_cli.specs.Outside.{doorways};
 ghost use Rattle.sk_cli.specs.commands.Serve.{plan_by, IsWithin, ServesSo};
 ghost use Rattle.sk_serve.specs.Served.{AreClosed};
 
@@ -73,14 +73,14 @@ where
     requires places { length (B.places board.old) ≡ board_places }
     requires live { All IsSome (B.places board.old) }
     ensures done { ServesSo plan.now most (beside_of (B.places board.old) remains.old) (beside_of (B.places board.new) remains.new)
-        (O.written out.old) (O.written out.new) (closed_in (D.ended door.old) (D.ended door.new)) result }
+        (O.written out.old) (O.written out.new) (doorways (D.doorway door.old) (D.doorway door.new)) result }
     ensures last { IfErr result (λ fault. fault ≢ Fault.WriteFault → out.new ≡ out.old) }
     ensures board { plan.now.alarms ≡ [] → B.places board.new ≡ cleared (B.places board.old) }
     ensures remains { IfErr result (λ _. remains.new ≡ remains.old) }
     ensures ranks { SameRanks remains.old remains.new }
     ensures writes { HasCauseIn Fault.WriteFault (O.faults out.old) (O.faults out.new) result }
     ensures net { HasCauseIn Fault.NetFault (D.faults door.old) (D.faults door.new) result }
-    ensures links { AreClosed (D.accepted door.old) (D.accepted door.new) (D.ended door.old) (D.ended door.new) }
+    ensures links { AreClosed (D.accepted door.old) (D.accepted door.new) (D.doorway door.old) (D.doorway door.new) }
 {
     let mut left = remains.take_counted();
     let served = sk_serve::serve(rt, alloc, plan, most, out, door, board, &mut left);

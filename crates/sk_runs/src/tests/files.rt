@@ -1,6 +1,6 @@
 // Commands over files.
-use super::rows::check_rows;
-use super::stage::{FINE, Streams, alarms, expect, run_beside};
+use super::rows::{check_rows, shelf_of};
+use super::stage::{FINE, Streams, alarms, expect, run_beside, words_of};
 use sk_io::FileShelf;
 use std::test::Fail;
 
@@ -26,6 +26,32 @@ read=0 file=1 | hash --file quick | | 3 | 65ec53d9a0decd81;1a17d6311d2f5e47;66cc
 #[test]
 fn files(rt: HostRuntime) -> Result<(), Fail> {
     check_rows(&rt, rt.alloc(), FILES, 15)
+}
+
+// Each file is opened once, and the second of a join only after a first that is an image.
+#[test]
+fn files_are_opened_once_and_in_order(rt: HostRuntime) -> Result<(), Fail> {
+    let alloc = rt.alloc();
+    'line: for (line, names) in [
+        ("count --raw", ""),
+        ("count --file quick", "quick"),
+        ("image --file none", "none"),
+        ("make --n 2", ""),
+        ("join --left one --right two", "one two"),
+        ("join --left one --right one", "one one"),
+        ("join --left one --right none", "one none"),
+        ("join --left quick --right two", "quick"),
+        ("join --left none --right two", "none"),
+        ("join --left one", ""),
+    ] {
+        let mut shelf = shelf_of(alloc, &FINE, b"")?;
+        let mut board = alarms(alloc)?;
+        let text = Vec::new(alloc);
+        let _ = run_beside(&rt, alloc, &FINE, line, text, &mut shelf, &mut board)?;
+        let opened = shelf.opened().ok_or("no memory")?;
+        assert_eq!(rt; opened, words_of(alloc, names)?.as_slice(), "at {line}");
+    }
+    Ok(())
 }
 
 // A folder opens, and gives no bytes.

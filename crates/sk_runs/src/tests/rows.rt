@@ -97,7 +97,7 @@ pub fn due_of(alloc: Global, column: &str, written: &[u8]) -> Result<Vec<u8>, Fa
     bytes_of(alloc, column, digit)
 }
 
-// The files that lie beside each run, each by its name; `=` stands for the text of the row.
+// The files that each run finds, each by its name; `=` stands for the text of the row.
 const FILES: &str = "\
 quick | hello;hello, world;The quick brown fox jumps over the lazy dog.;
 ids | 5;3;
@@ -144,7 +144,7 @@ pub fn shelf_of(alloc: Global, streams: &Streams, text: &[u8]) -> Result<MemShel
     Ok(MemShelf::new(files, opens, reads))
 }
 
-/// Runs the program over a text, beside the files and alarms.
+/// Runs the program over a text, with the files and alarms.
 pub fn run_alone<R: Threads + Wait + Sync>(
     rt: &R,
     alloc: Global,

@@ -108,8 +108,28 @@ fn faults_of_doors_and_links(rt: HostRuntime) -> Result<(), Fail> {
     Ok(())
 }
 
-// Two sessions at once.
-fn two_sessions() -> ServePlan
+// A server listens at the port that its words name, whatever fails later.
+#[test]
+fn servers_listen_at_their_ports(rt: HostRuntime) -> Result<(), Fail> {
+    let alloc = rt.alloc();
+    'line: for (line, fails, port) in [
+        ("serve --port 7000", NEVER, Some(7000)),
+        ("serve --sessions 2 --port 65535", NEVER, Some(65_535)),
+        ("serve --port 1", 1, Some(1)),
+        ("serve --port 7000", 0, None),
+        ("serve --port 0", NEVER, None),
+        ("count", NEVER, None),
+    ] {
+        let mut door = door_of(alloc, NEVER, fails)?;
+        let _ = serve(&rt, alloc, line, &mut door)?;
+        assert_eq!(rt; door.port(), port, "at {line}, call {fails} fails");
+    }
+    Ok(())
+}
+
+// Two sessions, so many of them at once.
+fn two_sessions(wave: u32) -> ServePlan
+    requires { 1 ≤ wave }
     ensures within { IsServable result }
     ensures alarms { result.alarms ≡ [] }
     ensures two { result.sessions ≡ 2 }
@@ -124,7 +144,7 @@ fn two_sessions() -> ServePlan
         seed: 0,
         eager: true,
         alarms: Numbers::new(),
-        wave: 2,
+        wave,
     }
 }
 
@@ -156,13 +176,17 @@ fn replies_of<R: Threads + Wait + Sync, B: Seen>(
     }
 }
 
+// However many sessions run at once, each is over the link that came in its place.
 #[test]
-fn each_add_is_answered(rt: HostRuntime) -> Result<(), Fail> {
+fn each_add_is_answered_on_its_link(rt: HostRuntime) -> Result<(), Fail> {
     let alloc = rt.alloc();
-    let mut board = alarms(alloc)?;
-    let mut door = door_of(alloc, NEVER, NEVER)?;
-    let (first, second) = replies_of(&rt, alloc, &two_sessions(), &mut door, &mut board)?;
-    assert_eq!(rt; first.as_slice(), b"kept\n".as_slice());
-    assert_eq!(rt; second.as_slice(), b"kept\nkept\n".as_slice());
+    'wave: for wave in [1, 2, 3] {
+        let mut board = alarms(alloc)?;
+        let mut door = door_of(alloc, NEVER, NEVER)?;
+        let plan = two_sessions(wave);
+        let (first, second) = replies_of(&rt, alloc, &plan, &mut door, &mut board)?;
+        assert_eq!(rt; first.as_slice(), b"kept\n".as_slice());
+        assert_eq!(rt; second.as_slice(), b"kept\nkept\n".as_slice());
+    }
     Ok(())
 }

@@ -2,11 +2,12 @@ use Rattle.std.proofs.Common.{◌≡◌, false, Err, refl, sym, subst}
 use Rattle.sk_model.specs.Causes.{HasCauseIn}
 use Rattle.sk_cli.specs.Beside.{Beside, beside_of}
 use Rattle.sk_cli.specs.Command.{asked_of, reads_input, opens_files}
-use Rattle.sk_cli.specs.Outside.{Outside, outside_of, closed_in}
-use Rattle.sk_cli.specs.Run.{Performs, MissesFirst, MissesSecond, read_faults_of}
+use Rattle.sk_cli.specs.Outside.{Outside, outside_of, doorways}
+use Rattle.sk_cli.specs.Run.{Performs, MissesFirst, MissesSecond, read_faults_of, UsesFiles}
 use Rattle.sk_cli.specs.declared.command.Request.{Request}
 use Rattle.sk_cli.specs.declared.fault.Fault.TheVariants as fault
 use Rattle.sk_cli.proofs.Asking.{over_causes, misses_first, untouched_input, untouched_files, text_no_net, join_no_net}
+use Rattle.sk_cli.proofs.Opening.{opens_none}
 use Rattle.sk_serve.proofs.Closed.{closed_none}
 use Rattle.sk_cli.proofs.execute.perform.Goals as goal
 
@@ -16,7 +17,7 @@ returns-in-OverText-clause-done g c =
     let to : Beside = beside_of (g.B.Seen.places c.perform_text.new.board) c.perform_text.new.remains in
     let old : Outside = outside_of g.S.Source g.O.Sink g.F.Shelf c.args.input.now c.args.out.now c.args.shelf.now in
     let new : Outside = outside_of g.S.Source g.O.Sink g.F.Shelf c.perform_text.new.input c.perform_text.new.out c.perform_text.new.shelf in
-    subst (λ (r : Request). Performs (asked_of r) c.args.most from to old new (closed_in (g.D.Door.ended c.args.door.now) (g.D.Door.ended c.args.door.now)) c.perform_text.result) (sym c.in-OverText.is) c.perform_text.ensures.done
+    subst (λ (r : Request). Performs (asked_of r) c.args.most from to old new (doorways (g.D.Door.doorway c.args.door.now) (g.D.Door.doorway c.args.door.now)) c.perform_text.result) (sym c.in-OverText.is) c.perform_text.ensures.done
 
 pub returns-in-OverText-clause-reads : goal.returns-in-OverText-clause-reads
 returns-in-OverText-clause-reads g c =
@@ -63,3 +64,22 @@ returns-in-OverText-clause-links g c = closed_none _ _ _ _ refl refl
 
 pub returns-in-Join-clause-links : goal.returns-in-Join-clause-links
 returns-in-Join-clause-links g c = closed_none _ _ _ _ refl refl
+
+pub returns-in-OverText-clause-files : goal.returns-in-OverText-clause-files
+returns-in-OverText-clause-files g c =
+    let old : Outside = outside_of g.S.Source g.O.Sink g.F.Shelf c.args.input.now c.args.out.now c.args.shelf.now in
+    let new : Outside = outside_of g.S.Source g.O.Sink g.F.Shelf c.perform_text.new.input c.perform_text.new.out c.perform_text.new.shelf in
+    let used = c.perform_text.ensures.files in
+    subst (λ (r : Request). UsesFiles (asked_of r) c.args.most old new) (sym c.in-OverText.is) (record { files = used.0; opened = used.1 })
+
+pub returns-in-Join-clause-files : goal.returns-in-Join-clause-files
+returns-in-Join-clause-files g c =
+    let old : Outside = outside_of g.S.Source g.O.Sink g.F.Shelf c.args.input.now c.args.out.now c.args.shelf.now in
+    let new : Outside = outside_of g.S.Source g.O.Sink g.F.Shelf c.args.input.now c.join.new.out c.join.new.shelf in
+    subst (λ (r : Request). UsesFiles (asked_of r) c.args.most old new) (sym c.in-Join.is) (record { files = c.join.ensures.files; opened = c.join.ensures.opened })
+
+pub returns-in-Serve-clause-files : goal.returns-in-Serve-clause-files
+returns-in-Serve-clause-files g c =
+    let old : Outside = outside_of g.S.Source g.O.Sink g.F.Shelf c.args.input.now c.args.out.now c.args.shelf.now in
+    let new : Outside = outside_of g.S.Source g.O.Sink g.F.Shelf c.args.input.now c.serve.new.out c.args.shelf.now in
+    subst (λ (r : Request). UsesFiles (asked_of r) c.args.most old new) (sym c.in-Serve.is) (record { files = refl; opened = opens_none _ _ refl })

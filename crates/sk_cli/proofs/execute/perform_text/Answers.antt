@@ -3,8 +3,10 @@ use Rattle.std.specs.Option.{option_copied}
 use Rattle.sk_cli.specs.Beside.{Beside, beside_of}
 use Rattle.sk_cli.specs.Command.{behaviour_of}
 use Rattle.sk_cli.specs.Outside.{Streams, Outside, outside_of}
-use Rattle.sk_cli.specs.Run.{Executes, PerformsText}
+use Rattle.sk_io.specs.Files.{Opens}
+use Rattle.sk_cli.specs.Run.{Executes, PerformsText, named}
 use Rattle.sk_cli.specs.Values.{Word}
+use Rattle.sk_cli.proofs.Opening.{opens_none}
 use Rattle.sk_cli.proofs.Performing.{performs_over_input, opened_performs}
 use Rattle.sk_cli.proofs.execute.perform_text.Goals as goal
 
@@ -31,3 +33,8 @@ returns-in-Ok-clause-done g c =
     let went : Executes (behaviour_of c.args.command) c.args.most from to a b c.execute-in-Ok.result = c.execute-in-Ok.ensures.done in
     opened_performs c.args.command c.args.most from to _ _ (option_copied c.args.file) name a b c.execute-in-Ok.result (ap (λ o. option_copied o) c.in-Some.is) c.in-Ok.ensures.content c.in-Ok.ensures.reads refl refl
     (search rules) (search rules) refl refl went
+
+pub returns-in-None-clause-files : goal.returns-in-None-clause-files
+returns-in-None-clause-files g c =
+    let opened = g.F.Shelf.opened c.args.shelf.now in
+    (refl, subst (λ (name : Option Word). Opens opened opened (named name)) (sym (ap (λ o. option_copied o) c.in-None.is)) (opens_none opened opened refl))

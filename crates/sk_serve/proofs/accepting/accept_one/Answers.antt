@@ -15,7 +15,7 @@ returns-in-Admitted-clause-ready g c =
     }
 
 pub returns-in_err-link-clause-closed : goal.returns-in_err-link-clause-closed
-returns-in_err-link-clause-closed g c = where_err c.from_residual.result _ (closed_none _ _ _ _ c.in_err-link.ensures.none c.accept.ensures.ended)
+returns-in_err-link-clause-closed g c = where_err c.from_residual.result _ (closed_none _ _ _ _ c.in_err-link.ensures.none.1 (ap (λ d. d.closed) c.in_err-link.ensures.none.0))
 
 pub returns-in-OutOfMemory-clause-closed : goal.returns-in-OutOfMemory-clause-closed
-returns-in-OutOfMemory-clause-closed g c = closed_one _ _ _ _ _ _ _ c.in_ok-link.ensures.accepts c.close.ensures.accepted c.accept.ensures.ended c.close.ensures.ended
+returns-in-OutOfMemory-clause-closed g c = closed_one _ _ _ _ (g.D.Door.doorway c.accept.new.self) _ _ c.in_ok-link.ensures.accepts c.close.ensures.accepted c.in_ok-link.ensures.arrives.closed (ap (λ d. d.closed) c.close.ensures.closed)

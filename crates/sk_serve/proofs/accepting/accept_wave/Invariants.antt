@@ -1,4 +1,5 @@
-use Rattle.std.proofs.Common.{◌≡◌, ◌+◌, ◌≤◌, true, length, vec_capacity}
+use Rattle.std.proofs.Common.{◌≡◌, ◌+◌, ◌≤◌, Some, length, map, vec_capacity}
+use Rattle.sk_io.specs.Traffic.{Arrive, text_of}
 use Rattle.sk_serve.specs.Waves.{visit, AreReady}
 use Rattle.sk_serve.proofs.Closed.{HasCounted}
 use Rattle.sk_serve.proofs.accepting.accept_wave.Given as goal
@@ -10,8 +11,8 @@ invariant-link g l = let door = g.D.Door in let link = g.D.Link.Link in record {
   ready : AreReady l.plan l.fn.heart.table l.fn.heart.admitted (λ job. visit (link.traffic job.link) (link.faults job.link) (link.waiting job.link) job.updater job.pump.count job.end) l.jobs.items;
   heart : l.heart ≡ record l.fn.heart { admitted = l.fn.heart.admitted + l.counter };
   accepted : HasCounted (door.accepted l.fn.door) l.counter (door.accepted l.door);
-  ended : door.ended l.door ≡ door.ended l.fn.door;
+  arrive : Arrive (door.doorway l.fn.door) (door.doorway l.door) (map (λ job. text_of (link.traffic job.link)) l.jobs.items);
   room : door.room l.door ≡ door.room l.fn.door;
-  listens : door.listens l.door ≡ true;
+  listens : (door.doorway l.door).port ≡ Some l.plan.port;
   faults : door.faults l.door ≡ door.faults l.fn.door;
 }

@@ -1,13 +1,15 @@
-use Rattle.std.proofs.Common.{◌≡◌, ◌+◌, ◌++◌, ◌∷◌, [], length, true, false, is_some, sym, ap, subst, refl, ◌∙◌, arith, append_assoc, length-append}
+use Rattle.std.proofs.Common.{◌≡◌, ◌+◌, ◌++◌, ◌∷◌, [], length, map, true, false, is_some, sym, ap, subst, refl, ◌∙◌, arith, append_assoc, length-append}
+use Rattle.std.proofs.lemmas.List.{map-append}
+use Rattle.sk_io.specs.Traffic.{text_of}
 use Rattle.sk_serve.specs.Waves.{visit, WasRun, ClosesLinks}
-use Rattle.sk_serve.proofs.Each.{each_next}
+use Rattle.sk_serve.proofs.Each.{each_next, nothing_left}
 use Rattle.sk_serve.proofs.Sessions.{none_closed, one_closed}
 use Rattle.sk_serve.proofs.waves.close_links.Goals as goal
 
 pub job-init : goal.job-init
 job-init g c = let door = g.D.Door in record {
   all = c.into_iter-job-iterator.ensures.into_iter_gives.0;
-  closes = λ plan most table from run. none_closed plan most table from (door.ended c.args.door.now) c.args.ends.now.items c.args.updaters.now.items c.requires.none;
+  closes = λ plan most table from run. none_closed plan most table from (door.doorway c.args.door.now) c.args.ends.now.items c.args.updaters.now.items c.requires.none;
   room = omega arith;
   ends = omega arith;
   updaters = ap length c.requires.none;
@@ -36,11 +38,13 @@ job-preserved g c =
     record {
       all = append_assoc before (job ∷ []) rest ∙ all;
       closes = λ plan most table from run.
-          subst (λ n. ClosesLinks plan most table from n (door.ended c.args.door.now) (door.ended c.close.new.self) c.args.ends.now.items c.push_reserved.new.self.items c.push_reserved-in-job.new.self.items) count
-          (one_closed plan most table from (length before) (door.ended c.args.door.now) (door.ended c.job.door) (door.ended c.close.new.self) c.args.ends.now.items c.job.ends.items c.push_reserved.new.self.items c.job.updaters.items c.push_reserved-in-job.new.self.items
+          subst (λ l. ClosesLinks plan most table from (length (before ++ job ∷ [])) l (door.doorway c.args.door.now) (door.doorway c.close.new.self) c.args.ends.now.items c.push_reserved.new.self.items c.push_reserved-in-job.new.self.items)
+          (sym (map-append (λ job. text_of (link.traffic job.link)) before (job ∷ [])))
+          (subst (λ n. ClosesLinks plan most table from n (map (λ job. text_of (link.traffic job.link)) before ++ text_of (link.traffic job.link) ∷ []) (door.doorway c.args.door.now) (door.doorway c.close.new.self) c.args.ends.now.items c.push_reserved.new.self.items c.push_reserved-in-job.new.self.items) count
+          (one_closed plan most table from (length before) (map (λ job. text_of (link.traffic job.link)) before) (door.doorway c.args.door.now) (door.doorway c.job.door) (door.doorway c.close.new.self) c.args.ends.now.items c.job.ends.items c.push_reserved.new.self.items c.job.updaters.items c.push_reserved-in-job.new.self.items
           (visit (link.traffic job.link) (link.faults job.link) (link.waiting job.link) job.updater job.pump.count job.end) e (i.closes plan most table from run)
           (each_next (λ n job. WasRun plan most table n (visit (link.traffic job.link) (link.faults job.link) (link.waiting job.link) job.updater job.pump.count job.end)) from c.args.jobs.items before rest job all run)
-          c.in-Some-end.is c.close.ensures.ended c.push_reserved.ensures.items c.push_reserved-in-job.ensures.items);
+          c.in-Some-end.is c.close.ensures.closed c.push_reserved.ensures.items c.push_reserved-in-job.ensures.items));
       room = let r = c.close.ensures.room in omega (arith, r, i.room, count);
       ends = omega (arith, ended, length-append c.job.ends.items (e ∷ []), i.ends, count);
       updaters = omega (arith, kept, length-append c.job.updaters.items (job.updater ∷ []), i.updaters, count);
@@ -48,5 +52,12 @@ job-preserved g c =
       place = c.push_reserved-in-job.ensures.capacity ∙ i.place;
       accepted = c.close.ensures.accepted ∙ i.accepted;
       faults = c.close.ensures.faults ∙ i.faults;
-      listens = c.close.ensures.listens ∙ i.listens;
+      listens = ap (λ d. d.port) c.close.ensures.closed ∙ i.listens;
     }
+
+pub returns-clause-closes : goal.returns-clause-closes
+returns-clause-closes g c = λ plan most table from run.
+    let door = g.D.Door in let link = g.D.Link.Link in
+    subst (λ l. ClosesLinks plan most table from (length l) (map (λ job. text_of (link.traffic job.link)) l) (door.doorway c.args.door.now) (door.doorway c.job.door) c.args.ends.now.items c.job.ends.items c.job.updaters.items)
+    (nothing_left c.job.yielded c.job.job-iterator.rest.items c.args.jobs.items c.job.invariant.all (sym c.job.job-iterator.rest.ok.0 ∙ c.in-None.ensures.steps.0))
+    (c.job.invariant.closes plan most table from run)

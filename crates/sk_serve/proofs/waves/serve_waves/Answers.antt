@@ -8,8 +8,8 @@ use Rattle.sk_serve.proofs.waves.serve_waves.Goals as goal
 
 pub returns-in_err-ends-clause-stops : goal.returns-in_err-ends-clause-stops
 returns-in_err-ends-clause-stops g c =
-    let ended = g.D.Door.ended c.args.door.now in
-    if_err_is c.from_residual.result fault.OutOfMemory (λ f. f ≡ fault.NetFault → StopsAccepting c.args.plan.now c.args.most ended ended) c.from_residual.ensures.1 (λ _. none_accepted c.args.plan.now c.args.most ended ended c.requires.within refl)
+    let doorway = g.D.Door.doorway c.args.door.now in
+    if_err_is c.from_residual.result fault.OutOfMemory (λ f. f ≡ fault.NetFault → StopsAccepting c.args.plan.now c.args.most doorway doorway) c.from_residual.ensures.1 (λ _. none_accepted c.args.plan.now c.args.most doorway doorway c.requires.within refl)
 
 pub wave-init : goal.wave-init
 wave-init g c = record {
@@ -18,7 +18,7 @@ wave-init g c = record {
   as_many = refl;
   waves = 0;
   in_waves = omega arith;
-  some = none_served c.args.plan.now c.args.most (g.D.Door.ended c.args.door.now) c.in_ok-ends.ends.items c.args.heart.now c.in_ok-ends.ensures.items c.requires.admitted c.requires.drained;
+  some = none_served c.args.plan.now c.args.most (g.D.Door.doorway c.args.door.now) c.in_ok-ends.ends.items c.args.heart.now c.in_ok-ends.ensures.items c.requires.admitted c.requires.drained;
   hub = c.requires.hub;
   table = refl;
   listens = c.requires.listens;
@@ -39,7 +39,7 @@ wave-preserved g c =
       as_many = length-append i.sessions w.sessions ∙ ap (λ n. n + length w.sessions) i.as_many ∙ ap (λ n. c.wave.served + n) w.as_many;
       waves = suc i.waves;
       in_waves = next_wave i.waves plan.wave c.wave.served plan.sessions count i.in_waves (omega (arith, c.wave-test.true)) c.min-count.ensures;
-      some = wave_more plan c.args.most count c.wave.heart c.serve_wave.new.heart (door.ended c.args.door.now) (door.ended c.wave.door) (door.ended c.serve_wave.new.door) c.wave.ends.items c.serve_wave.new.ends.items i.sessions i.some w;
+      some = wave_more plan c.args.most count c.wave.heart c.serve_wave.new.heart (door.doorway c.args.door.now) (door.doorway c.wave.door) (door.doorway c.serve_wave.new.door) c.wave.ends.items c.serve_wave.new.ends.items i.sessions i.some w;
       hub = drained_hub plan c.wave.heart.admitted c.wave.heart c.serve_wave.new.heart _ (c.wave.heart.admitted + count) i.hub w.drains;
       table = w.drains.table ∙ i.table;
       listens = c.serve_wave.ensures.listens;
@@ -55,8 +55,8 @@ returns-in_err-serve_wave-clause-stops g c =
     let small : count ≤ plan.wave = omega (arith, c.min-count.ensures) in
     let few : length i.sessions + count ≤ plan.sessions = omega (arith, c.min-count.ensures, i.as_many, c.wave-test.true) in
     let whole : length i.sessions ≡ i.waves * plan.wave = omega (arith, i.as_many, i.in_waves, c.wave-test.true) in
-    if_err_is c.from_residual-in_err-serve_wave.result c.in_err-serve_wave.field-0.0 (λ f. f ≡ fault.NetFault → StopsAccepting plan c.args.most (door.ended c.args.door.now) (door.ended c.serve_wave.new.door)) c.from_residual-in_err-serve_wave.ensures.1
-    (λ is. let u = c.in_err-serve_wave.ensures.unread is in stops plan c.args.most count (door.ended c.args.door.now) (door.ended c.wave.door) (door.ended c.serve_wave.new.door) c.wave.ends.items i.sessions c.wave.heart i.some small few u.0 u.1 u.2 i.waves whole)
+    if_err_is c.from_residual-in_err-serve_wave.result c.in_err-serve_wave.field-0.0 (λ f. f ≡ fault.NetFault → StopsAccepting plan c.args.most (door.doorway c.args.door.now) (door.doorway c.serve_wave.new.door)) c.from_residual-in_err-serve_wave.ensures.1
+    (λ is. let u = c.in_err-serve_wave.ensures.unread is in stops plan c.args.most count (door.doorway c.args.door.now) (door.doorway c.wave.door) (door.doorway c.serve_wave.new.door) c.wave.ends.items i.sessions c.wave.heart i.some small few u i.waves whole)
 
 pub returns-in_err-ends-clause-closed : goal.returns-in_err-ends-clause-closed
 returns-in_err-ends-clause-closed g c = closed_none _ _ _ _ refl refl

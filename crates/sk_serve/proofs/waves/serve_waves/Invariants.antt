@@ -1,4 +1,4 @@
-use Rattle.std.proofs.Common.{◌≡◌, ℕ, ◌+◌, ◌*◌, ◌-◌, ◌≤◌, min, List, true, length, vec_capacity}
+use Rattle.std.proofs.Common.{◌≡◌, ℕ, ◌+◌, ◌*◌, ◌-◌, ◌≤◌, min, List, Some, length, vec_capacity}
 use Rattle.sk_serve.specs.Served.{AreClosed, Served}
 use Rattle.sk_serve.specs.Waves.{IsHeartOf, ServesSome}
 use Rattle.sk_serve.proofs.waves.serve_waves.Given as goal
@@ -10,13 +10,13 @@ invariant-wave g l = let door = g.D.Door in record {
   as_many : length sessions ≡ l.served;
   waves : ℕ;
   in_waves : l.served ≡ min (waves * l.plan.wave) l.plan.sessions;
-  some : ServesSome l.plan l.most (door.ended l.fn.door) (door.ended l.door) l.ends.items sessions l.heart;
+  some : ServesSome l.plan l.most (door.doorway l.fn.door) (door.doorway l.door) l.ends.items sessions l.heart;
   hub : IsHeartOf l.plan l.heart;
   table : l.heart.table ≡ l.fn.heart.table;
-  listens : door.listens l.door ≡ true;
+  listens : (door.doorway l.door).port ≡ Some l.plan.port;
   room : door.room l.door + l.served ≡ l.plan.sessions;
   reserved : l.plan.sessions ≤ vec_capacity l.ends;
-  closed : AreClosed (door.accepted l.fn.door) (door.accepted l.door) (door.ended l.fn.door) (door.ended l.door);
+  closed : AreClosed (door.accepted l.fn.door) (door.accepted l.door) (door.doorway l.fn.door) (door.doorway l.door);
   faults : door.faults l.door ≡ door.faults l.fn.door;
 }
 
