@@ -1,0 +1,128 @@
+//! The end of a hub: the heart takes in its updaters, and a reader learns all that they kept.
+ghost use Rattle.std.specs.Prelude.{◌≡◌, ◌<◌, ℕ, [], All, length, IfOk, IfErr, OnOk, OnErr};
+ghost use Rattle.sk_hub.specs.Updaters.{UpdaterState, kept_of};
+ghost use Rattle.sk_snap.specs.History.{entries_in, name_of};
+ghost use Rattle.sk_snap.specs.Versions.{IsRank, items_in};
+ghost use Rattle.sk_learn.specs.Learning.{ReaderGoesOn};
+ghost use Rattle.sk_learn.specs.Closing.{AreApart, counted, TakesIn, TakesFirst, GivesBack, GivesFirstBack, TakesInAll, StopsEarly, Closes};
+
+use sk_hub::{Drain, Heart, Updater};
+use sk_model::OutOfMemory;
+use sk_snap::{QuantReader, Rank, VersionedQuant};
+use std::sync::Wait;
+
+/// Takes in updaters of a hub, in order, and reads the rank of a number in exactly what they kept. It waits for ever
+/// if others have kept items too. On out of memory those that were not taken in are left, in order; whoever goes on with
+/// them uses `take_in_all`, which counts over several calls.
+pub fn close<W: Wait + Drop, R: Wait>(
+    rt: &R,
+    heart: &mut Heart<VersionedQuant<W>>,
+    updaters: &mut Vec<Updater<VersionedQuant<W>>>,
+    reader: &mut QuantReader,
+    x: u64,
+) -> Result<Rank, OutOfMemory>
+    requires table { All (λ (u : UpdaterState). u.table ≡ heart.old.table) updaters.old.items }
+    requires apart { AreApart updaters.old.items }
+    requires name { heart.old.view.name ≡ name_of reader.old.known.book }
+    ensures closed { IfOk result (λ rank. Closes heart.old updaters.old.items reader.old x rank heart.new reader.new) }
+    ensures none { OnOk result (updaters.new.items ≡ []) }
+    ensures early { OnErr result ((n : ℕ) × StopsEarly heart.old updaters.old.items reader.old 0 heart.new updaters.new.items reader.new n) }
+{
+    let mut taken = 0;
+    take_in_all(rt, heart, updaters, reader, &mut taken)?;
+    Ok(read_whole(rt, reader, x, taken))
+}
+
+/// Takes in updaters of a hub, in order, learns what the last parcel of each told, and counts the items that they kept.
+/// On out of memory those that were not taken in are left, in order.
+pub fn take_in_all<W: Wait + Drop, R: Wait>(
+    rt: &R,
+    heart: &mut Heart<VersionedQuant<W>>,
+    updaters: &mut Vec<Updater<VersionedQuant<W>>>,
+    reader: &mut QuantReader,
+    taken: &mut u64,
+) -> Result<(), OutOfMemory>
+    requires table { All (λ (u : UpdaterState). u.table ≡ heart.old.table) updaters.old.items }
+    requires apart { AreApart updaters.old.items }
+    requires name { heart.old.view.name ≡ name_of reader.old.known.book }
+    ensures all { OnOk result (TakesInAll heart.old updaters.old.items reader.old heart.new reader.new) }
+    ensures none { OnOk result (updaters.new.items ≡ []) }
+    ensures count { OnOk result (taken.new ≡ counted taken.old updaters.old.items) }
+    ensures early { OnErr result (StopsEarly heart.old updaters.old.items reader.old taken.old heart.new updaters.new.items reader.new taken.new) }
+{
+    // It tells the proof that the count is a word.
+    let _before = *taken;
+    'updater: while !updaters.is_empty() {
+        let kept = take_in_first(rt, heart, updaters, reader)?;
+        // A sum past the largest number is of no list that a reader can have.
+        *taken = taken.saturating_add(kept);
+    }
+    Ok(())
+}
+
+// Takes in the first updater, and returns how many items it kept. On out of memory it is again the first.
+fn take_in_first<W: Wait + Drop, R: Wait>(
+    rt: &R,
+    heart: &mut Heart<VersionedQuant<W>>,
+    updaters: &mut Vec<Updater<VersionedQuant<W>>>,
+    reader: &mut QuantReader,
+) -> Result<u64, OutOfMemory>
+    requires some { 0 < length updaters.old.items }
+    requires table { All (λ (u : UpdaterState). u.table ≡ heart.old.table) updaters.old.items }
+    requires name { heart.old.view.name ≡ name_of reader.old.known.book }
+    ensures taken { IfOk result (λ kept. TakesFirst heart.old updaters.old.items reader.old kept heart.new updaters.new.items reader.new) }
+    ensures back { OnErr result (GivesFirstBack heart.old updaters.old.items heart.new updaters.new.items) }
+    ensures reader { OnErr result (reader.new ≡ reader.old) }
+{
+    let updater = updaters.remove(0);
+    let kept = updater.taken();
+    let Err(back) = take_in(rt, heart, updater, reader) else {
+        return Ok(kept);
+    };
+    // Its place is free.
+    let Ok(()) = updaters.insert(0, back) else {
+        unreachable!()
+    };
+    Err(OutOfMemory)
+}
+
+// Takes in an updater, and learns what its last parcel told. On out of memory it comes back.
+fn take_in<W: Wait + Drop, R: Wait>(
+    rt: &R,
+    heart: &mut Heart<VersionedQuant<W>>,
+    u: Updater<VersionedQuant<W>>,
+    reader: &mut QuantReader,
+) -> Result<(), Updater<VersionedQuant<W>>>
+    requires table { u.table ≡ heart.old.table }
+    requires name { heart.old.view.name ≡ name_of reader.old.known.book }
+    ensures taken { OnOk result (TakesIn heart.old u reader.old heart.new reader.new) }
+    ensures back { IfErr result (GivesBack heart.old u heart.new) }
+    ensures reader { OnErr result (reader.new ≡ reader.old) }
+{
+    // These tell the proof that the updater is one of the hub's.
+    let number = u.number();
+    let _admitted = heart.admitted();
+    match heart.drain(rt, u) {
+        Drain::Drained => {}
+        Drain::OutOfMemory(back) => return Err(back),
+    }
+    if let Some(told) = heart.told(number) {
+        reader.learn(told);
+    }
+    Ok(())
+}
+
+/// The rank of a number in a list of exactly `total` items, for which it waits.
+pub fn read_whole<R: Wait>(rt: &R, reader: &mut QuantReader, x: u64, total: u64) -> Rank
+    ensures rank { IsRank x reader.new.k reader.new.key (items_in reader.new.known) result.n result.below result.within }
+    ensures total { length (entries_in reader.new.known) ≡ total }
+    ensures goes { ReaderGoesOn reader.old reader.new }
+{
+    'again: for _ in rt.forever() {
+        let rank = reader.read(rt, x);
+        if rank.n == total {
+            return rank;
+        }
+    }
+    unreachable!()
+}

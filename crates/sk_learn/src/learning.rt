@@ -1,0 +1,36 @@
+//! How a reader learns what the updaters of a hub were told.
+ghost use Rattle.std.specs.Prelude.{◌≡◌, All, length, false};
+ghost use Rattle.sk_hub.specs.Updaters.{UpdaterState};
+ghost use Rattle.sk_snap.specs.History.{name_of};
+ghost use Rattle.sk_learn.specs.Learning.{LearnsOf, LearnsFirst, AreAsked, untold};
+
+use sk_hub::Updater;
+use sk_snap::{QuantReader, VersionedQuant};
+use std::sync::Wait;
+
+/// Learns what each updater was told, in order.
+pub fn learn_all<W: Wait + Drop>(
+    reader: &mut QuantReader,
+    updaters: &mut [Updater<VersionedQuant<W>>],
+)
+    requires names { All (λ (u : UpdaterState). u.view.name ≡ name_of reader.old.known.book) updaters.old }
+    ensures learns { LearnsFirst reader.old updaters.old (length updaters.old) reader.new }
+    ensures asked { AreAsked updaters.old (length updaters.old) updaters.new }
+{
+    'updater: for place in 0..updaters.len() {
+        learn(reader, &mut updaters[place]);
+    }
+}
+
+// Learns what an updater was told.
+fn learn<W: Wait + Drop>(reader: &mut QuantReader, u: &mut Updater<VersionedQuant<W>>)
+    requires name { u.old.view.name ≡ name_of reader.old.known.book }
+    ensures learns { LearnsOf reader.old u.old reader.new }
+    ensures asked { u.new ≡ untold u.old }
+{
+    // It tells the proof how much may lie in its buffers.
+    let _number = u.number();
+    if let Some(told) = u.told() {
+        reader.learn(told);
+    }
+}

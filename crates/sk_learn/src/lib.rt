@@ -1,0 +1,10 @@
+//! How a reader of versions learns what the updaters of a hub were told, and in the end all that they kept.
+#![tactic(auto)]
+
+mod closing;
+pub mod laws;
+mod learning;
+
+pub use closing::{close, read_whole, take_in_all};
+pub use learning::learn_all;
+pub use sk_model::OutOfMemory;

@@ -1,0 +1,4 @@
+pub mod Fronts
+pub mod Results
+pub mod MaskLines
+pub mod Arming

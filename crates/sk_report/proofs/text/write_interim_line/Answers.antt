@@ -1,0 +1,14 @@
+use Rattle.sk_model.specs.Causes.{AppendsPart}
+use Rattle.sk_lines.specs.Fractions.{estimate_line}
+use Rattle.sk_report.specs.Texts.{at_units}
+use Rattle.sk_report.proofs.Fronts.{part_longer, part_behind, on_err, on_err_then}
+use Rattle.sk_report.proofs.text.write_interim_line.Goals as goal
+
+pub returns-in_err-write_at-clause-part : goal.returns-in_err-write_at-clause-part
+returns-in_err-write_at-clause-part g c = on_err _ _ (part_longer _ _ (at_units c.args.units) (estimate_line c.args.estimate) c.in_err-write_at.ensures.part)
+
+pub returns-clause-part : goal.returns-clause-part
+returns-clause-part g c = on_err_then c.write_estimate.result
+    (AppendsPart (g.O.Sink.written c.write_at.new.out) (g.O.Sink.written c.write_estimate.new.out) (estimate_line c.args.estimate)) _
+    (λ part. part_behind _ _ _ (at_units c.args.units) (estimate_line c.args.estimate) c.in_ok-write_at.ensures.ok part)
+    c.write_estimate.ensures.part

@@ -1,0 +1,5 @@
+pub mod Limits
+pub mod Rows
+pub mod Sizes
+pub mod Texts
+pub mod Boards
