@@ -1,6 +1,7 @@
 //! One short proved caller for each handle of the library.
 #![tactic(auto)]
 
+mod draining;
 mod feeding;
 mod greatest;
 mod joins;
@@ -9,6 +10,7 @@ mod ranks;
 mod schedule;
 mod streams;
 
+pub use draining::drain_last_first;
 pub use feeding::{feed_all, feed_item};
 pub use greatest::{Greatest, greatest_item};
 pub use joins::{estimate_again, estimate_of_both, list_of_both};
