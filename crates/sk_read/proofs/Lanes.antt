@@ -1,13 +1,13 @@
 -- Lemmas on the lanes of a block: what stands before a line is 0, and then come its bytes less the first digit.
-use Rattle.std.proofs.Common.{◌≡◌, ℕ, zero, suc, ◌+◌, ◌-◌, ◌*◌, ◌%◌, ◌^◌, ◌<◌, ◌≤◌, ◌&&◌, not, Bool, true, false, cond, bit_and, List, [], ◌∷◌, ◌++◌, length, take, drop, take-add, map, replicate, get_or, slice_index, sym, refl, ap, ◌∙◌, arith, nat_eq, nat_lt, nat_le, ⊎_elim, take_all, Some, None, true≢false, eqb-true, eq-eqb, lt-ltb, le-ltb, le-leb}
+use Rattle.std.proofs.Common.{◌≡◌, ℕ, zero, suc, ◌+◌, ◌-◌, ◌*◌, ◌%◌, ◌^◌, ◌<◌, ◌≤◌, ◌&&◌, Bool, true, false, cond, bit_and, bit_or, List, [], ◌∷◌, ◌++◌, length, take, drop, take-add, map, replicate, get_or, slice_index, sym, refl, ap, ◌∙◌, arith, nat_eq, nat_lt, nat_le, ⊎_elim, take_all, Some, None, Fits, w8, true≢false, lt-ltb, le-ltb, le-leb}
 use borrow.Author.Tests.{lt-leb, ne_eqb}
 use Rattle.std.proofs.Math.ListN.{get_or-map}
 use Rattle.std.specs.List.{list_all, slice_range}
 use Rattle.std.specs.Char.{is_ascii_digit}
-use Rattle.std.specs.Simd.Lanes.{mask_l, top, zip2, chunk}
-use Rattle.std.specs.Int.Bits.{and_zero_r}
-use Rattle.std.proofs.lemmas.Nat.{and_mask}
-use Rattle.std.proofs.lemmas.Simd.{mask_l-mod, zip2_splat, zip2_splat_left, length-zip2, get_or-zip2, length-chunk, get_or-chunk}
+use Rattle.std.specs.Simd.Lanes.{Each1, top, sel_l, fold_l, zip2, chunk}
+use Rattle.std.specs.Int.Bits.{and_zero_r, or_zero_r, or_add_and}
+use Rattle.std.proofs.lemmas.Nat.{and_mask, and_le_l}
+use Rattle.std.proofs.lemmas.Simd.{Each1-get_or, zip2_splat, length-zip2, get_or-zip2, length-chunk, get_or-chunk}
 use Rattle.std.proofs.lemmas.Bool.{cases_Bool, cases_lt, leb-true, and_parts}
 use Rattle.std.proofs.lemmas.List.{drop-drop, length-map, get_or_past, get_or_default, get_or_append_left, get_or-append_right, length-replicate, get_or-replicate}
 use Rattle.std.proofs.lemmas.List.Folds.{list_all_at, list_all-append}
@@ -19,33 +19,94 @@ use Rattle.sk_read.proofs.Spelling.{value_of_parts, spelled_by_digits, spelled_b
 
 -- ---- whether all lanes are digits
 
-abbrev marked : ℕ → ℕ
-marked y = cond (nat_lt 9 y) 255 0
-
 abbrev is_small : ℕ → Bool
 is_small y = nat_le y 9
 
-small_or_marked : (y : ℕ) → is_small y ≡ not (nat_lt 9 y)
-small_or_marked y = ⊎_elim
-    (λ (high : 9 < y). lt-leb y 9 high ∙ ap not (sym (lt-ltb 9 y high)))
-    (λ (low : y ≤ 9). le-leb y 9 low ∙ ap not (sym (le-ltb 9 y low)))
+-- by how much a lane is above 9
+abbrev excess : ℕ → ℕ
+excess y = (cond (top 7 (cond (nat_lt y 9) 255 0)) 9 y + (256 - 9)) % 256
+
+abbrev excesses : ℕ → List ℕ → List ℕ
+excesses n ys = zip2 (λ a b. (a + (256 - b)) % 256) (sel_l (map (top 7) (zip2 (λ a b. cond (nat_lt a b) 255 0) ys (replicate n 9))) (replicate n 9) ys) (replicate n 9)
+
+no_excess : (y : ℕ) → y ≤ 9 → excess y ≡ 0
+no_excess y low = ⊎_elim
+    (λ (less : y < 9). ap (λ (b : Bool). (cond (top 7 (cond b 255 0)) 9 y + (256 - 9)) % 256) (lt-ltb y 9 less))
+    (λ (same : 9 ≤ y). ap (λ (b : Bool). (cond (top 7 (cond b 255 0)) 9 y + (256 - 9)) % 256) (le-ltb y 9 same) ∙ omega arith)
+    (cases_lt y 9)
+
+some_excess : (y : ℕ) → 9 < y → y < 256 → 0 < excess y
+some_excess y high small =
+    let is : excess y ≡ (y + 247) % 256 = ap (λ (b : Bool). (cond (top 7 (cond b 255 0)) 9 y + (256 - 9)) % 256) (le-ltb y 9 (omega arith)) in
+    omega (arith, is)
+
+and_false : (b : Bool) → (b && false) ≡ false
+and_false true = refl
+and_false false = refl
+
+and_true : (b : Bool) → (b && true) ≡ b
+and_true true = refl
+and_true false = refl
+
+and_thrice : (a b c : Bool) → ((a && b) && c) ≡ (a && (b && c))
+and_thrice true b c = refl
+and_thrice false b c = refl
+
+one_more : (v y : ℕ) → y < 256 → nat_eq (bit_or v (excess y)) 0 ≡ (nat_eq v 0 && is_small y)
+one_more v y small = ⊎_elim
+    (λ (high : 9 < y).
+    ne_eqb (bit_or v (excess y)) 0 (λ e. omega (arith, e, or_add_and v (excess y), and_le_l v (excess y), some_excess y high small))
+    ∙ sym (ap (λ (b : Bool). nat_eq v 0 && b) (lt-leb y 9 high) ∙ and_false (nat_eq v 0)))
+    (λ (low : y ≤ 9).
+    ap (λ (e : ℕ). nat_eq (bit_or v e) 0) (no_excess y low) ∙ ap (λ (m : ℕ). nat_eq m 0) (or_zero_r v)
+    ∙ sym (ap (λ (b : Bool). nat_eq v 0 && b) (le-leb y 9 low) ∙ and_true (nat_eq v 0)))
     (cases_lt 9 y)
 
-none_of : (b rest : Bool) (m : ℕ) → nat_eq m 0 ≡ rest → nat_eq (cond (top 7 (cond b 255 0)) 1 0 + 2 * m) 0 ≡ (not b && rest)
-none_of true rest m is = ne_eqb (1 + 2 * m) 0 (λ e. omega (arith, e))
-none_of false true m is = eq-eqb (0 + 2 * m) 0 (omega (arith, eqb-true m 0 is))
-none_of false false m is = ne_eqb (0 + 2 * m) 0 (λ e. true≢false (sym (eq-eqb m 0 (omega (arith, e))) ∙ is))
+all_small : (n v : ℕ) (ys : List ℕ) → length ys ≡ n → ((k : ℕ) → slice_index ys k < 256) → nat_eq (fold_l bit_or v (excesses n ys)) 0 ≡ (nat_eq v 0 && list_all is_small ys)
+all_small zero v [] size bytes = sym (and_true (nat_eq v 0))
+all_small zero v (y ∷ ys) size bytes = absurd (omega (arith, size))
+all_small (suc n) v [] size bytes = absurd (omega (arith, size))
+all_small (suc n) v (y ∷ ys) size bytes =
+    all_small n (bit_or v (excess y)) ys (omega (arith, size)) (λ k. bytes (suc k))
+    ∙ ap (λ (b : Bool). b && list_all is_small ys) (one_more v y (bytes 0)) ∙ and_thrice (nat_eq v 0) (is_small y) (list_all is_small ys)
 
-none_marked : (ys : List ℕ) → nat_eq (mask_l (map (top 7) (map marked ys))) 0 ≡ list_all is_small ys
-none_marked [] = refl
-none_marked (y ∷ ys) = none_of (nat_lt 9 y) (list_all is_small ys) (mask_l (map (top 7) (map marked ys))) (none_marked ys) ∙ ap (λ (b : Bool). b && list_all is_small ys) (sym (small_or_marked y))
+pub are_small : (ys : List ℕ) → length ys ≡ 16 → Each1 (Fits w8) ys → nat_eq (fold_l bit_or 0 (excesses 16 ys)) 0 ≡ list_all is_small ys
+are_small ys size fit = all_small 16 0 ys size (λ k. ⊎_elim
+    (λ (inside : k < length ys). omega (arith, (Each1-get_or (Fits w8) ys k 0 inside fit).fits))
+    (λ (past : length ys ≤ k). omega (arith, get_or_past ys k 0 past))
+    (cases_lt k (length ys)))
 
-pub are_small : (ys : List ℕ) → length ys ≡ 16
-    → nat_eq (mask_l (map (top 7) (zip2 (λ a b. cond (nat_lt a b) 255 0) (replicate 16 9) ys)) % 2 ^ 64) 0 ≡ list_all is_small ys
-are_small ys size =
-    let short : length (map (top 7) (map marked ys)) ≤ 64 = omega (arith, length-map (map marked ys) (top 7), length-map ys marked, size) in
-    ap (λ (l : List ℕ). nat_eq (mask_l (map (top 7) l) % 2 ^ 64) 0) (zip2_splat_left (λ (a b : ℕ). cond (nat_lt a b) 255 0) 9 16 ys size)
-    ∙ ap (λ (m : ℕ). nat_eq m 0) (mask_l-mod (map (top 7) (map marked ys)) 64 short) ∙ none_marked ys
+-- the greater of two lanes, in each place
+abbrev greater : List ℕ → List ℕ → List ℕ
+greater xs ys = sel_l (map (top 7) (zip2 (λ a b. cond (nat_lt a b) 255 0) xs ys)) ys xs
+
+greater_small : (x y : ℕ) → is_small (cond (top 7 (cond (nat_lt x y) 255 0)) y x) ≡ (is_small x && is_small y)
+greater_small x y = ⊎_elim
+    (λ (less : x < y). ap (λ (b : Bool). is_small (cond (top 7 (cond b 255 0)) y x)) (lt-ltb x y less) ∙ ⊎_elim
+    (λ (high : 9 < y). lt-leb y 9 high ∙ sym (ap (λ (b : Bool). is_small x && b) (lt-leb y 9 high) ∙ and_false (is_small x)))
+    (λ (low : y ≤ 9). sym (ap (λ (b : Bool). b && is_small y) (le-leb x 9 (omega arith))))
+    (cases_lt 9 y))
+    (λ (most : y ≤ x). ap (λ (b : Bool). is_small (cond (top 7 (cond b 255 0)) y x)) (le-ltb x y most) ∙ ⊎_elim
+    (λ (high : 9 < x). lt-leb x 9 high ∙ sym (ap (λ (b : Bool). b && is_small y) (lt-leb x 9 high)))
+    (λ (low : x ≤ 9). sym (ap (λ (b : Bool). is_small x && b) (le-leb y 9 (omega arith)) ∙ and_true (is_small x)))
+    (cases_lt 9 x))
+    (cases_lt x y)
+
+and_across : (a b c d : Bool) → ((a && b) && (c && d)) ≡ ((a && c) && (b && d))
+and_across true true c d = refl
+and_across true false c d = sym (and_false c)
+and_across false b c d = refl
+
+pub both_small : (n : ℕ) (xs ys : List ℕ) → length xs ≡ n → length ys ≡ n → list_all is_small (greater xs ys) ≡ (list_all is_small xs && list_all is_small ys)
+both_small zero [] [] sx sy = refl
+both_small zero (x ∷ xs) ys sx sy = absurd (omega (arith, sx))
+both_small zero [] (y ∷ ys) sx sy = absurd (omega (arith, sy))
+both_small (suc n) [] ys sx sy = absurd (omega (arith, sx))
+both_small (suc n) (x ∷ xs) [] sx sy = absurd (omega (arith, sy))
+both_small (suc n) (x ∷ xs) (y ∷ ys) sx sy =
+    ap (λ (b : Bool). b && list_all is_small (greater xs ys)) (greater_small x y)
+    ∙ ap (λ (b : Bool). (is_small x && is_small y) && b) (both_small n xs ys (omega (arith, sx)) (omega (arith, sy)))
+    ∙ and_across (is_small x) (is_small y) (list_all is_small xs) (list_all is_small ys)
 
 pub each_small : (ys : List ℕ) → list_all is_small ys ≡ true → (k : ℕ) → slice_index ys k < 10
 each_small ys all k = ⊎_elim
@@ -55,6 +116,11 @@ each_small ys all k = ⊎_elim
     (cases_Bool (is_small (get_or ys k 0))))
     (λ (past : length ys ≤ k). omega (arith, get_or_past ys k 0 past))
     (cases_lt k (length ys))
+
+pub each_of_both : (xs ys : List ℕ) → length xs ≡ 16 → length ys ≡ 16 → list_all is_small (greater xs ys) ≡ true → ((k : ℕ) → slice_index xs k < 10) × ((k : ℕ) → slice_index ys k < 10)
+each_of_both xs ys sx sy all =
+    let parts = and_parts (list_all is_small xs) (list_all is_small ys) (sym (both_small 16 xs ys sx sy) ∙ all) in
+    (each_small xs parts.0, each_small ys parts.1)
 
 -- ---- the lanes of a line
 

@@ -1,5 +1,5 @@
 // Numbers out of the bytes before a place, 16 at a time: no loop, and whatever stands before the number.
-ghost use Rattle.std.specs.Prelude.{◌≡◌, ℕ, List, ◌+◌, ◌<◌, ◌≤◌, length, slice_index, nat_le};
+ghost use Rattle.std.specs.Prelude.{◌≡◌, ℕ, ◌+◌, ◌<◌, ◌≤◌, length, slice_index, nat_le};
 ghost use Rattle.std.specs.List.{list_all, slice_range};
 ghost use Rattle.sk_model.specs.Numbers.{number_of};
 ghost use Rattle.sk_read.specs.Wide.{EndIn, pairs, joined, spelled};
@@ -16,6 +16,9 @@ const MASKS: [u8; 2 * WIDE] = [
     255, 255, 255, 255, 255, 255, 255,
 ];
 
+// Any 19 digits spell a number of 64 bits.
+const MOST_DIGITS: usize = 19;
+
 // What a 1 before 16 digits counts.
 const WEIGHT: u64 = 10_000_000_000_000_000;
 
@@ -28,25 +31,31 @@ pub fn read_number_at(text: &[u8], from: usize, to: usize, below: u64) -> Option
     requires end { 1 ≤ below }
     ensures { result ≡ number_of below (slice_range text.now from to) }
 {
-    match to - from {
-        1..=16 if to >= WIDE => number_below(few_digits_at(text, from, to), to - from, below),
-        17..=19 if to >= 2 * WIDE => number_below(many_digits_at(text, from, to), to - from, below),
-        _ => read_number(&text[from..to], below),
-    }
-}
-
-// What a line of `len` bytes, which spells this number or none, spells below `below`.
-#[inline(always)]
-fn number_below(number: Option<u64>, len: usize, below: u64) -> Option<u64>
-    requires end { 1 ≤ below }
-    requires some { 1 ≤ len }
-    ensures { (line : List ℕ) → length line ≡ len → number ≡ spelled line → result ≡ number_of below line }
-{
-    if len > decimal_len(below - 1) {
+    let len = to - from;
+    if len == 0 || len > decimal_len(below - 1) {
         return None;
     }
-    let value = number?;
+    if to < 2 * WIDE || len > MOST_DIGITS {
+        return read_number(&text[from..to], below);
+    }
+    let value = digits_at(text, from, to)?;
     if value < below { Some(value) } else { None }
+}
+
+// The number that 1 to 19 digits spell.
+#[inline(always)]
+fn digits_at(text: &[u8], from: usize, to: usize) -> Option<u64>
+    requires some { from < to }
+    requires few { to ≤ from + 19 }
+    requires room { 32 ≤ to }
+    requires within { to ≤ length text.now }
+    ensures { result ≡ spelled (slice_range text.now from to) }
+{
+    if to - from <= WIDE {
+        few_digits_at(text, from, to)
+    } else {
+        many_digits_at(text, from, to)
+    }
 }
 
 // The number that 1 to 16 digits spell.
@@ -77,7 +86,7 @@ fn many_digits_at(text: &[u8], from: usize, to: usize) -> Option<u64>
     let middle = to - WIDE;
     let high = lanes_before(text, from, middle);
     let low = lanes_before(text, middle, to);
-    if !(are_digits(high) & are_digits(low)) {
+    if !are_digits(high.simd_max(low)) {
         return None;
     }
     Some(value_of_last_lanes(high) * WEIGHT + value_of_lanes(low))
@@ -101,7 +110,7 @@ fn lanes_before(text: &[u8], from: usize, to: usize) -> u8x16
 fn are_digits(lanes: u8x16) -> bool
     ensures { result ≡ list_all (λ digit. nat_le digit 9) lanes }
 {
-    lanes.simd_gt(u8x16::splat(9)).to_bitmask() == 0
+    lanes.saturating_sub(u8x16::splat(9)).reduce_or() == 0
 }
 
 // The number that 16 digits spell: by twos, by fours, and then all.
