@@ -1,13 +1,10 @@
 -- Lines whose items an updater takes.
-use Rattle.std.proofs.Common.{◌≡◌, ◌≢◌, ◌⊎◌, inl, inr, ⊎_elim, ℕ, ◌+◌, ◌-◌, ◌<◌, ◌≤◌, List, [], ◌∷◌, length, get_or, set, slice_range, Bool, Some, None, subst, sym, ap, ◌∙◌, arith}
-use Rattle.std.proofs.lemmas.List.{get_or-set_same, get_or-set_other, get_or_read}
-use Rattle.std.proofs.lemmas.Bool.{cases_lt}
+use Rattle.std.proofs.Common.{◌≡◌, ◌⊎◌, inl, inr, ℕ, ◌+◌, ◌-◌, ◌<◌, ◌≤◌, List, [], ◌∷◌, length, get_or, slice_range, Bool, Some, None, subst, sym, ap, ◌∙◌, arith}
 use Rattle.sk_model.specs.Entries.{Entry}
 use Rattle.sk_read.specs.declared.kind.Kind.{Kind}
 use Rattle.sk_hub.specs.Updaters.{UpdaterState, kept_of}
 use Rattle.sk_fill.specs.Windows.{item_in, items_in}
 use Rattle.sk_hub.specs.Calls.{KeepsNone, Takes}
-use Rattle.sk_fill.specs.Blocks.{block_of}
 use Rattle.sk_fill.proofs.Items.{range_none, range_split, no_items, next_item, next_empty, items_append}
 use Rattle.sk_hub.proofs.Calls.{none_refl, takes_none, takes_trans, takes_then_none, takes_few}
 
@@ -46,22 +43,3 @@ room_after keeps hint_of v w item at to most taken below room = let few = takes_
 
 pub room_passed : (kept at to most : ℕ) → kept + (to - at) ≤ most → kept + (to - (at + 1)) ≤ most
 room_passed kept at to most room = omega arith
-
--- ---- one updater after another
-
--- of updaters, those before this one took their blocks, and the others are as they were; this one takes its block
-pub next_took : (keeps : ℕ → ℕ → Bool) (hint_of : List ℕ → List Entry → ℕ) (kind : Kind) (lines : List (List ℕ)) (i : ℕ) (us vs : List UpdaterState) (u u' : UpdaterState) → length vs ≡ length us → i < length us → u ≡ get_or vs i u
-    → ((j : ℕ) (d : UpdaterState) → j < i → Takes keeps hint_of (get_or us j d) (items_in kind (block_of lines j (length us))) (get_or vs j d)) → ((j : ℕ) (d : UpdaterState) → i ≤ j → get_or vs j d ≡ get_or us j d)
-    → Takes keeps hint_of u (items_in kind (block_of lines i (length us))) u' → (j : ℕ) (d : UpdaterState) → j < i + 1 → Takes keeps hint_of (get_or us j d) (items_in kind (block_of lines j (length us))) (get_or (set vs i u') j d)
-next_took keeps hint_of kind lines i us vs u u' count within is taken later takes = λ j d below. ⊎_elim
-    (λ before. let other : j ≢ i = omega arith in subst (Takes keeps hint_of (get_or us j d) (items_in kind (block_of lines j (length us)))) (sym (get_or-set_other vs i j u' d other)) (taken j d before))
-    (λ behind.
-    let same : i ≡ j = omega arith in
-    let inside : i < length vs = omega arith in
-    let was : u ≡ get_or us i d = get_or_read vs i u inside is d ∙ later i d (omega arith) in
-    subst (λ m. Takes keeps hint_of (get_or us m d) (items_in kind (block_of lines m (length us))) (get_or (set vs i u') m d)) same
-    (subst (Takes keeps hint_of (get_or us i d) (items_in kind (block_of lines i (length us)))) (sym (get_or-set_same vs i u' d inside)) (subst (λ z. Takes keeps hint_of z (items_in kind (block_of lines i (length us))) u') was takes)))
-    (cases_lt j i)
-
-pub others_wait : (i : ℕ) (us vs : List UpdaterState) (u' : UpdaterState) → ((j : ℕ) (d : UpdaterState) → i ≤ j → get_or vs j d ≡ get_or us j d) → (j : ℕ) (d : UpdaterState) → i + 1 ≤ j → get_or (set vs i u') j d ≡ get_or us j d
-others_wait i us vs u' later = λ j d behind. let other : j ≢ i = omega arith in get_or-set_other vs i j u' d other ∙ later j d (omega arith)

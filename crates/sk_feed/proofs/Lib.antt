@@ -1,4 +1,5 @@
 pub mod Shares
+pub mod Done
 pub mod Feeding
 pub mod Rounds
 pub mod Calls
@@ -11,3 +12,4 @@ pub mod Between
 pub mod Filtered
 pub mod OnItsWay
 pub mod DeliveryLaws
+pub mod TakingLaws

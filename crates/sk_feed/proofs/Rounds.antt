@@ -1,4 +1,4 @@
--- Blocks that are fed at once.
+-- Blocks that are fed in threads.
 use Rattle.std.proofs.Common.{◌≡◌, ℕ, ◌+◌, ◌-◌, ◌<◌, ◌≤◌, Bool, List, [], ◌∷◌, length, get_or, drop, slice_range, map, Result, Ok, Err, OnOk, OnErr, IfOk, IsOk, IsErr, sym, ap, subst, ◌∙◌, arith}
 use Rattle.std.proofs.lemmas.Bool.{false≢true}
 use Rattle.std.proofs.lemmas.List.{get_or-map, length-map, length-take-le, length-drop, take-take, take_all}
@@ -86,9 +86,11 @@ all_take f fed keeps hint_of kind lines xs ys same all each =
 pub all_front : {A : Type 0} (f : A → UpdaterState) (keeps : ℕ → ℕ → Bool) (hint_of : List ℕ → List Entry → ℕ) (kind : Kind) (lines : List (List ℕ)) (xs ys : List A) → length ys ≡ length xs
     → ((i : ℕ) (d : A) → i < length xs → TakesFront keeps hint_of kind (block_of lines i (length xs)) (f (get_or xs i d)) (f (get_or ys i d)))
     → TakeFronts keeps hint_of kind lines (map f xs) (map f ys)
-all_front f keeps hint_of kind lines xs ys same each =
-    of_images f (λ i. TakesFront keeps hint_of kind (block_of lines i (length (map f xs)))) xs ys same
-    (λ i d inside. subst (λ n. TakesFront keeps hint_of kind (block_of lines i n) (f (get_or xs i d)) (f (get_or ys i d))) (sym (length-map xs f)) (each i d inside))
+all_front f keeps hint_of kind lines xs ys same each = record {
+  count = length-map ys f ∙ same ∙ sym (length-map xs f);
+  each = of_images f (λ i. TakesFront keeps hint_of kind (block_of lines i (length (map f xs)))) xs ys same
+      (λ i d inside. subst (λ n. TakesFront keeps hint_of kind (block_of lines i n) (f (get_or xs i d)) (f (get_or ys i d))) (sym (length-map xs f)) (each i d inside));
+}
 
 -- ---- its block
 

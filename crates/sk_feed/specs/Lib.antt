@@ -4,4 +4,5 @@ pub mod Shares
 pub mod Drained
 pub mod Hubs
 pub mod OnItsWay
+pub mod Takings
 pub mod Deliveries

@@ -1,5 +1,5 @@
 -- What it means that the blocks of a window were fed, one to each updater.
-use Rattle.std.specs.Prelude.{ℕ, Bool, ◌+◌, ◌<◌, ◌≤◌, List, length, take, slice_index_or}
+use Rattle.std.specs.Prelude.{◌≡◌, ℕ, Bool, ◌+◌, ◌<◌, ◌≤◌, List, length, take, slice_index_or}
 use Rattle.sk_fill.specs.Blocks.{block_of, blocks_of}
 use Rattle.sk_model.specs.Entries.{Entry}
 use Rattle.sk_hub.specs.Updaters.{UpdaterState, kept_of}
@@ -34,6 +34,6 @@ TakeBlocks keeps hint_of kind lines us us' = (i : ℕ) (d : UpdaterState) → i 
     → Takes keeps hint_of (slice_index_or us i d) (items_in kind (block_of lines i (length us))) (slice_index_or us' i d)
 
 -- each took the items of the first lines of its block
-abbrev pub TakeFronts : (ℕ → ℕ → Bool) → (List ℕ → List Entry → ℕ) → Kind → List (List ℕ) → List UpdaterState → List UpdaterState → Type 0
-TakeFronts keeps hint_of kind lines us us' = (i : ℕ) (d : UpdaterState) → i < length us
-    → TakesFront keeps hint_of kind (block_of lines i (length us)) (slice_index_or us i d) (slice_index_or us' i d)
+pub record TakeFronts (keeps : ℕ → ℕ → Bool) (hint_of : List ℕ → List Entry → ℕ) (kind : Kind) (lines : List (List ℕ)) (us us' : List UpdaterState) : Type 0 where
+  pub count : length us' ≡ length us
+  pub each : (i : ℕ) (d : UpdaterState) → i < length us → TakesFront keeps hint_of kind (block_of lines i (length us)) (slice_index_or us i d) (slice_index_or us' i d)

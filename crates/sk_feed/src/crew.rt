@@ -8,8 +8,8 @@ use std::sync::Wait;
 use std::sync::atomic::{AtomicBool, AtomicU64, Ordering};
 use std::thread::{Parker, yield_now};
 
-// How often the reader looks again for feeders that have not begun: where no threads can be made they begin when it
-// has ended.
+// How often the reader looks again for feeders that have not begun: if no threads can be made they begin when it has
+// ended.
 const PATIENCE: u32 = 4_096;
 
 /// One reader and some feeders, each in a thread of its own.
@@ -17,8 +17,8 @@ const PATIENCE: u32 = 4_096;
 pub struct Crew {
     // whether nothing more is given
     ended: AtomicBool,
-    // whether a feeder ended before that
-    failed: AtomicBool,
+    // whether a feeder has ended
+    left: AtomicBool,
     // how many feeders have begun
     begun: AtomicU64,
     reader: Parker,
@@ -26,7 +26,7 @@ pub struct Crew {
 }
 
 impl Crew {
-    /// A reader and so many feeders, none of which has begun. An error comes only for want of memory.
+    /// A reader and this many feeders, none of which has begun. An error comes only when out of memory.
     pub fn new(alloc: Global, feeders: usize) -> Result<Crew, OutOfMemory> {
         let mut parkers = Vec::new(alloc);
         'feeder: for _ in 0..feeders {
@@ -34,25 +34,25 @@ impl Crew {
         }
         Ok(Crew {
             ended: AtomicBool::new(false),
-            failed: AtomicBool::new(false),
+            left: AtomicBool::new(false),
             begun: AtomicU64::new(0),
             reader: Parker::new(),
             feeders: parkers,
         })
     }
 
-    /// A feeder tells that it begins.
+    /// A feeder begins.
     pub fn begin(&self) {
         self.begun.fetch_add(1, Ordering::SeqCst);
     }
 
-    /// A feeder tells that it ends early, and wakes the reader.
-    pub fn fail(&self) {
-        self.failed.store(true, Ordering::SeqCst);
+    /// A feeder ends, and wakes the reader, which gives nothing more then.
+    pub fn leave(&self) {
+        self.left.store(true, Ordering::SeqCst);
         self.wake_reader();
     }
 
-    /// The reader tells that it gives nothing more, and wakes the feeders.
+    /// The reader gives nothing more, and wakes the feeders.
     pub fn end(&self) {
         self.ended.store(true, Ordering::SeqCst);
         self.wake_feeders();
@@ -63,9 +63,9 @@ impl Crew {
         self.ended.load(Ordering::SeqCst)
     }
 
-    /// Whether a feeder has ended before the reader.
-    pub fn has_failed(&self) -> bool {
-        self.failed.load(Ordering::SeqCst)
+    /// Whether a feeder has ended.
+    pub fn has_left(&self) -> bool {
+        self.left.load(Ordering::SeqCst)
     }
 
     /// Wakes the reader if it sleeps.
@@ -92,10 +92,10 @@ impl Crew {
         }
     }
 
-    /// The reader waits for feeders, the so manieth time, or answers `false` where it should end: one has ended, or
-    /// they do not begin.
+    /// The reader waits for feeders, after it did so `times` times, or answers `false` if it should end: one has ended,
+    /// or they do not begin.
     pub fn wait_for_feeders<R: Wait>(&self, rt: &R, times: u32) -> bool {
-        if self.has_failed() {
+        if self.has_left() {
             return false;
         }
         if self.begun.load(Ordering::SeqCst) == self.feeders.len() as u64 {

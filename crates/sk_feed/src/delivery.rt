@@ -26,7 +26,7 @@ impl Model for Delivery {
 }
 
 impl Delivery {
-    /// A stretch to be shared. An error comes only for want of memory.
+    /// A stretch to be shared. An error comes only when out of memory.
     pub fn of(alloc: Global, stretch: Stretch) -> Result<Delivery, OutOfMemory>
         ensures { IfOk result (λ d. d ≡ stretch) }
     {
@@ -35,7 +35,7 @@ impl Delivery {
         })
     }
 
-    /// The same, for a further thread. An error comes only for want of memory.
+    /// The same, for a further thread. An error comes only when out of memory.
     pub fn share(&self) -> Result<Delivery, OutOfMemory>
         ensures { IfOk result (λ d. d ≡ self.now) }
     {

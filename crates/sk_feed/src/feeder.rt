@@ -1,11 +1,11 @@
-//! An updater on its way through a window, and the feeding of all at once.
+//! An updater on its way through a window, and the feeding of all in threads.
 ghost use Rattle.std.specs.Prelude.{◌≡◌, ℕ, ◌+◌, ◌-◌, ◌<◌, ◌≤◌, length, map, slice_index_or, slice_range, OnOk, OnErr, IfOk, IsOk, IsErr, IsTrue};
 ghost use Rattle.sk_hub.specs.Updaters.{kept_of};
 ghost use Rattle.sk_fill.specs.Windows.{items_in};
 ghost use Rattle.sk_hub.specs.Calls.{KeepsNone, Takes};
 ghost use Rattle.sk_fill.specs.Blocks.{block_of, blocks_of};
-ghost use Rattle.sk_feed.specs.Rounds.{HaveRoom, HaveRoomFor, TakesFront, TakeBlocks, TakeFronts};
-ghost use Rattle.sk_feed.specs.Shares.{share, TakeShares};
+ghost use Rattle.sk_feed.specs.Rounds.{HaveRoom, TakesFront, TakeBlocks, TakeFronts};
+ghost use Rattle.sk_feed.specs.Shares.{share};
 ghost use Rattle.sk_model.specs.Limits.{most_updaters, most_kept};
 
 use crate::block_items::BlockItems;
@@ -38,9 +38,16 @@ impl<C: Composable> Feeder<C> {
         }
     }
 
-    // Feeds block i of n. With `help` the updater propagates where it is busy or eager, else where it is busy for
-    // long.
-    fn feed<R: Wait>(&mut self, rt: &R, window: &Window, kind: Kind, i: usize, n: usize, help: bool)
+    // Feeds block i of n.
+    fn feed<R: Wait>(
+        &mut self,
+        rt: &R,
+        window: &Window,
+        kind: Kind,
+        i: usize,
+        n: usize,
+        by: Propagation,
+    )
         requires few { n ≤ most_updaters }
         requires within { i < n }
         requires room { length (kept_of self.old.updater) + length (block_of window.now.lines i n) ≤ most_kept }
@@ -49,30 +56,11 @@ impl<C: Composable> Feeder<C> {
         ensures cause { OnErr self.new.place (IsTrue C.TAKES_MEMORY) }
     {
         let block = Block::of(window.len(), i as u32, n as u32);
-        self.place = feed_whole(rt, &mut self.updater, window, kind, block, help);
-    }
-
-    // Feeds block i of n of each window, in order.
-    fn feed_windows<R: Wait>(
-        &mut self,
-        rt: &R,
-        windows: &[Window],
-        kind: Kind,
-        i: usize,
-        n: usize,
-        by: Propagation,
-    )
-        requires few { n ≤ most_updaters }
-        requires within { i < n }
-        requires room { length (kept_of self.old.updater) + length (blocks_of (map (λ w. w.lines) windows.now) i n) ≤ most_kept }
-        ensures taken { OnOk self.new.place (Takes C.keeps_of C.hint_of self.old.updater (share kind (map (λ w. w.lines) windows.now) n i) self.new.updater) }
-        ensures cause { OnErr self.new.place (IsTrue C.TAKES_MEMORY) }
-    {
-        self.place = feed_blocks(rt, &mut self.updater, windows, kind, i, n, by);
+        self.place = feed_whole(rt, &mut self.updater, window, kind, block, by);
     }
 }
 
-// Feeds block i of n of each window, in order, and answers the place behind the last.
+// Feeds block i of n of each window, in order, and answers the place after the last.
 pub(crate) fn feed_blocks<C: Composable, R: Wait>(
     rt: &R,
     u: &mut Updater<C>,
@@ -92,38 +80,14 @@ pub(crate) fn feed_blocks<C: Composable, R: Wait>(
     'window: for at in 0..windows.len() {
         let window = &windows[at];
         let block = Block::of(window.len(), i as u32, n as u32);
-        place = feed_patiently(rt, u, window, kind, block, by)?;
+        place = feed_whole(rt, u, window, kind, block, by)?;
     }
     Ok(place)
 }
 
-// Feeds a block, and propagates as `Feeder::feed` says.
+// Feeds a block, by items if the updater helps after each, else by groups of lines. When the updater is busy it
+// propagates: if the heart does, only after it waited long.
 fn feed_whole<C: Composable, R: Wait>(
-    rt: &R,
-    u: &mut Updater<C>,
-    window: &Window,
-    kind: Kind,
-    block: Block,
-    help: bool,
-) -> Result<u32, OutOfMemory>
-    requires order { block.from ≤ block.to }
-    requires within { block.to ≤ length window.now.lines }
-    requires room { length (kept_of u.old) + (block.to - block.from) ≤ most_kept }
-    ensures place { IfOk result (λ place. (block.from ≤ place) × (place ≤ block.to)) }
-    ensures taken { IfOk result (λ place. Takes C.keeps_of C.hint_of u.old (items_in kind (slice_range window.now.lines block.from place)) u.new) }
-    ensures all { IfOk result (λ place. place ≡ block.to) }
-    ensures refused { OnErr result ((place : ℕ) × (block.from ≤ place) × (place ≤ block.to)
-        × Takes C.keeps_of C.hint_of u.old (items_in kind (slice_range window.now.lines block.from place)) u.new) }
-    ensures cause { OnErr result (IsTrue C.TAKES_MEMORY) }
-{
-    if help {
-        return feed_block(rt, u, window, block.from, block.to, kind, true);
-    }
-    feed_patiently(rt, u, window, kind, block, Propagation::ByHeart)
-}
-
-// Feeds a block. Where the updater is busy it propagates: if the heart does, only where it waited long.
-fn feed_patiently<C: Composable, R: Wait>(
     rt: &R,
     u: &mut Updater<C>,
     window: &Window,
@@ -141,6 +105,9 @@ fn feed_patiently<C: Composable, R: Wait>(
         × Takes C.keeps_of C.hint_of u.old (items_in kind (slice_range window.now.lines block.from place)) u.new) }
     ensures cause { OnErr result (IsTrue C.TAKES_MEMORY) }
 {
+    if by.helps() {
+        return feed_block(rt, u, window, block.from, block.to, kind, true);
+    }
     let backoff = Backoff::new();
     let mut items = BlockItems::of(window, block, kind);
     'again: for _ in rt.forever() {
@@ -152,7 +119,7 @@ fn feed_patiently<C: Composable, R: Wait>(
     unreachable!()
 }
 
-// Waits for the heart, if that propagates. Else, and behind some such calls, the updater propagates once itself; where
+// Waits for the heart, if that propagates. Else, and after some such calls, the updater propagates once itself; if
 // another seat does, that may have served it.
 fn wait_or_help<C: Composable, R: Wait>(
     rt: &R,
@@ -175,39 +142,11 @@ fn wait_or_help<C: Composable, R: Wait>(
     Ok(())
 }
 
-// Feeds a window to its feeders at once, in at most so many threads. With `help` each propagates where it is busy.
+// Feeds a window to its feeders in threads, at most this many.
 pub(crate) fn feed_each<C: Composable + Send, R: Threads + Wait + Sync>(
     rt: &R,
     feeders: &mut [Feeder<C>],
     window: &Window,
-    kind: Kind,
-    help: bool,
-    threads: u32,
-) -> Result<(), OutOfMemory>
-where
-    C::Told: Send,
-    requires threads { 0 < threads }
-    requires most { length feeders.old ≤ most_updaters }
-    requires room { HaveRoom window.now.lines (map (λ f. f.updater) feeders.old) }
-    ensures taken { OnOk result (TakeBlocks C.keeps_of C.hint_of kind window.now.lines (map (λ f. f.updater) feeders.old) (map (λ f. f.updater) feeders.new)) }
-    ensures refused { OnErr result (TakeFronts C.keeps_of C.hint_of kind window.now.lines (map (λ f. f.updater) feeders.old) (map (λ f. f.updater) feeders.new)) }
-    ensures cause { OnErr result (IsTrue C.TAKES_MEMORY) }
-{
-    let n = feeders.len();
-    thread::for_each_mut(
-        rt,
-        feeders,
-        threads as usize,
-        &|i, feeder| feeder.feed(rt, window, kind, i, n, help),
-    );
-    outcome(feeders)
-}
-
-// Feeds windows to their feeders at once, one after another to each, in at most so many threads.
-pub(crate) fn feed_windows_each<C: Composable + Send, R: Threads + Wait + Sync>(
-    rt: &R,
-    feeders: &mut [Feeder<C>],
-    windows: &[Window],
     kind: Kind,
     by: Propagation,
     threads: u32,
@@ -216,8 +155,9 @@ where
     C::Told: Send,
     requires threads { 0 < threads }
     requires most { length feeders.old ≤ most_updaters }
-    requires room { HaveRoomFor (map (λ w. w.lines) windows.now) (map (λ f. f.updater) feeders.old) }
-    ensures taken { OnOk result (TakeShares C.keeps_of C.hint_of kind (map (λ w. w.lines) windows.now) (map (λ f. f.updater) feeders.old) (map (λ f. f.updater) feeders.new)) }
+    requires room { HaveRoom window.now.lines (map (λ f. f.updater) feeders.old) }
+    ensures taken { OnOk result (TakeBlocks C.keeps_of C.hint_of kind window.now.lines (map (λ f. f.updater) feeders.old) (map (λ f. f.updater) feeders.new)) }
+    ensures fronts { TakeFronts C.keeps_of C.hint_of kind window.now.lines (map (λ f. f.updater) feeders.old) (map (λ f. f.updater) feeders.new) }
     ensures cause { OnErr result (IsTrue C.TAKES_MEMORY) }
 {
     let n = feeders.len();
@@ -225,7 +165,7 @@ where
         rt,
         feeders,
         threads as usize,
-        &|i, feeder| feeder.feed_windows(rt, windows, kind, i, n, by),
+        &|i, feeder| feeder.feed(rt, window, kind, i, n, by),
     );
     outcome(feeders)
 }

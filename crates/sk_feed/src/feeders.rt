@@ -1,12 +1,12 @@
-//! How a window is fed to the updaters of a hub, at once.
+//! How a window is fed to the updaters of a hub in threads.
 ghost use Rattle.std.specs.Prelude.{◌≡◌, ◌∷◌, ◌<◌, ◌≤◌, [], length, map, reverse, vec_capacity, OnOk, OnErr, IfOk, IsTrue};
 ghost use Rattle.sk_feed.specs.Hubs.{HeartGoesOn};
-ghost use Rattle.sk_feed.specs.Rounds.{HaveRoom, HaveRoomFor, TakeBlocks, TakeFronts};
+ghost use Rattle.sk_feed.specs.Rounds.{HaveRoom, TakeBlocks, TakeFronts};
 ghost use Rattle.sk_feed.specs.Shares.{TakeShares};
 ghost use Rattle.sk_model.specs.Limits.{most_updaters};
 
 use crate::beside::run_beside;
-use crate::feeder::{Feeder, feed_each, feed_windows_each};
+use crate::feeder::{Feeder, feed_each};
 use crate::propagation::Propagation;
 use sk_compose::Composable;
 use sk_fill::Window;
@@ -19,7 +19,7 @@ use std::sync::Wait;
 use std::sync::atomic::{AtomicBool, Ordering};
 use std::thread::Threads;
 
-/// Room in which updaters are fed at once. Between two windows it holds none.
+/// Room in which updaters are fed in threads. Between two windows it holds none.
 #[derive(Drop)]
 pub struct Feeders<C: Composable> {
     feeders: Vec<Feeder<C>>,
@@ -39,7 +39,7 @@ impl<C: Composable> Model for Feeders<C> {
 }
 
 impl<C: Composable> Feeders<C> {
-    /// Room for so many updaters, which are fed in at most so many threads. All its memory is taken here.
+    /// Room for this many updaters, which are fed in at most this many threads. All its memory is taken here.
     pub fn new(alloc: Global, most: u32, threads: u32) -> Result<Feeders<C>, OutOfMemory>
         requires threads { 0 < threads }
         ensures { IfOk result (λ feeders. feeders.most ≡ most) }
@@ -58,42 +58,14 @@ impl<C: Composable> Feeders<C> {
         self.threads
     }
 
-    /// Feeds a window to from 1 to 64 updaters at once. Each takes its block. With `help` it propagates where it is
-    /// busy or eager; else it waits for a propagator, and propagates where it is busy for long.
+    /// Feeds a window to from 1 to 64 updaters in threads: to each its block. Meanwhile the heart propagates, and an
+    /// updater that is busy for long; or each does when it is busy, and after each item if it is eager.
     pub fn feed_window<R: Threads + Wait + Sync>(
-        &mut self,
-        rt: &R,
-        updaters: &mut Vec<Updater<C>>,
-        window: &Window,
-        kind: Kind,
-        help: bool,
-    ) -> Result<(), OutOfMemory>
-    where
-        C: Send,
-        C::Told: Send,
-        requires most { length updaters.old.items ≤ most_updaters }
-        requires places { length updaters.old.items ≤ self.old.most }
-        requires room { HaveRoom window.now.lines updaters.old.items }
-        ensures taken { OnOk result (TakeShares C.keeps_of C.hint_of kind (window.now.lines ∷ []) updaters.old.items updaters.new.items) }
-        ensures refused { OnErr result (TakeFronts C.keeps_of C.hint_of kind window.now.lines updaters.old.items updaters.new.items) }
-        ensures cause { OnErr result (IsTrue C.TAKES_MEMORY) }
-        ensures count { length updaters.new.items ≡ length updaters.old.items }
-        ensures stays { self.new ≡ self.old }
-    {
-        lend(updaters, &mut self.feeders);
-        let fed = feed_all(rt, &mut self.feeders, window, kind, help, self.threads);
-        give_back(&mut self.feeders, updaters);
-        fed
-    }
-
-    /// Feeds windows to from 1 to 64 updaters at once: to each its block of one after another. The heart propagates
-    /// beside them, or each where it is busy.
-    pub fn feed_windows<R: Threads + Wait + Sync>(
         &mut self,
         rt: &R,
         heart: &mut Heart<C>,
         updaters: &mut Vec<Updater<C>>,
-        windows: &[Window],
+        window: &Window,
         kind: Kind,
         by: Propagation,
     ) -> Result<(), OutOfMemory>
@@ -102,120 +74,44 @@ impl<C: Composable> Feeders<C> {
         C::Told: Send,
         requires most { length updaters.old.items ≤ most_updaters }
         requires places { length updaters.old.items ≤ self.old.most }
-        requires room { HaveRoomFor (map (λ w. w.lines) windows.now) updaters.old.items }
-        ensures taken { OnOk result (TakeShares C.keeps_of C.hint_of kind (map (λ w. w.lines) windows.now) updaters.old.items updaters.new.items) }
+        requires room { HaveRoom window.now.lines updaters.old.items }
+        ensures taken { OnOk result (TakeShares C.keeps_of C.hint_of kind (window.now.lines ∷ []) updaters.old.items updaters.new.items) }
+        ensures fronts { TakeFronts C.keeps_of C.hint_of kind window.now.lines updaters.old.items updaters.new.items }
         ensures heart { HeartGoesOn heart.old heart.new }
         ensures cause { OnErr result (IsTrue C.TAKES_MEMORY) }
-        ensures count { length updaters.new.items ≡ length updaters.old.items }
         ensures stays { self.new ≡ self.old }
     {
         lend(updaters, &mut self.feeders);
-        let fed = feed_all_windows(
-            rt,
-            heart,
-            &mut self.feeders,
-            windows,
-            kind,
-            by,
-            self.threads,
-        );
+        let fed = feed_by(rt, heart, &mut self.feeders, window, kind, by, self.threads);
         give_back(&mut self.feeders, updaters);
         fed
     }
 }
 
-// Feeds a window to its feeders at once, in at most so many threads.
-fn feed_all<C: Composable + Send, R: Threads + Wait + Sync>(
+// Feeds a window to its feeders in threads, at most this many, and propagates as `Feeders::feed_window` says.
+fn feed_by<C: Composable + Send, R: Threads + Wait + Sync>(
     rt: &R,
+    heart: &mut Heart<C>,
     feeders: &mut Vec<Feeder<C>>,
     window: &Window,
     kind: Kind,
-    help: bool,
+    by: Propagation,
     threads: u32,
 ) -> Result<(), OutOfMemory>
 where
     C::Told: Send,
-    requires threads { 0 < threads }
-    requires most { length feeders.old.items ≤ most_updaters }
     requires room { HaveRoom window.now.lines (map (λ f. f.updater) feeders.old.items) }
+    requires most { length feeders.old.items ≤ most_updaters }
+    requires threads { 0 < threads }
+    ensures heart { HeartGoesOn heart.old heart.new }
+    ensures cause { OnErr result (IsTrue C.TAKES_MEMORY) }
+    ensures places { vec_capacity feeders.new ≡ vec_capacity feeders.old }
     ensures taken { OnOk result (TakeBlocks C.keeps_of C.hint_of kind window.now.lines (map (λ f. f.updater) feeders.old.items) (map (λ f. f.updater) feeders.new.items)) }
-    ensures refused { OnErr result (TakeFronts C.keeps_of C.hint_of kind window.now.lines (map (λ f. f.updater) feeders.old.items) (map (λ f. f.updater) feeders.new.items)) }
-    ensures cause { OnErr result (IsTrue C.TAKES_MEMORY) }
-    ensures count { length feeders.new.items ≡ length feeders.old.items }
-    ensures places { vec_capacity feeders.new ≡ vec_capacity feeders.old }
+    ensures fronts { TakeFronts C.keeps_of C.hint_of kind window.now.lines (map (λ f. f.updater) feeders.old.items) (map (λ f. f.updater) feeders.new.items) }
 {
-    feed_each(rt, feeders.as_mut_slice(), window, kind, help, threads)
-}
-
-// Feeds windows to their feeders at once, while the heart propagates or each does where it is busy.
-fn feed_all_windows<C: Composable + Send, R: Threads + Wait + Sync>(
-    rt: &R,
-    heart: &mut Heart<C>,
-    feeders: &mut Vec<Feeder<C>>,
-    windows: &[Window],
-    kind: Kind,
-    by: Propagation,
-    threads: u32,
-) -> Result<(), OutOfMemory>
-where
-    C::Told: Send,
-    requires threads { 0 < threads }
-    requires most { length feeders.old.items ≤ most_updaters }
-    requires room { HaveRoomFor (map (λ w. w.lines) windows.now) (map (λ f. f.updater) feeders.old.items) }
-    ensures taken { OnOk result (TakeShares C.keeps_of C.hint_of kind (map (λ w. w.lines) windows.now) (map (λ f. f.updater) feeders.old.items) (map (λ f. f.updater) feeders.new.items)) }
-    ensures heart { HeartGoesOn heart.old heart.new }
-    ensures cause { OnErr result (IsTrue C.TAKES_MEMORY) }
-    ensures count { length feeders.new.items ≡ length feeders.old.items }
-    ensures places { vec_capacity feeders.new ≡ vec_capacity feeders.old }
-{
-    if by.is_by_heart() {
-        return feed_windows_beside(rt, heart, feeders, windows, kind, threads);
+    if !by.is_by_heart() {
+        return feed_all(rt, feeders, window, kind, by, threads);
     }
-    feed_windows_alone(rt, feeders, windows, kind, by, threads)
-}
-
-// Feeds windows to their feeders at once, in at most so many threads.
-fn feed_windows_alone<C: Composable + Send, R: Threads + Wait + Sync>(
-    rt: &R,
-    feeders: &mut Vec<Feeder<C>>,
-    windows: &[Window],
-    kind: Kind,
-    by: Propagation,
-    threads: u32,
-) -> Result<(), OutOfMemory>
-where
-    C::Told: Send,
-    requires threads { 0 < threads }
-    requires most { length feeders.old.items ≤ most_updaters }
-    requires room { HaveRoomFor (map (λ w. w.lines) windows.now) (map (λ f. f.updater) feeders.old.items) }
-    ensures taken { OnOk result (TakeShares C.keeps_of C.hint_of kind (map (λ w. w.lines) windows.now) (map (λ f. f.updater) feeders.old.items) (map (λ f. f.updater) feeders.new.items)) }
-    ensures cause { OnErr result (IsTrue C.TAKES_MEMORY) }
-    ensures count { length feeders.new.items ≡ length feeders.old.items }
-    ensures places { vec_capacity feeders.new ≡ vec_capacity feeders.old }
-{
-    feed_windows_each(rt, feeders.as_mut_slice(), windows, kind, by, threads)
-}
-
-// The same while the heart propagates.
-fn feed_windows_beside<C: Composable + Send, R: Threads + Wait + Sync>(
-    rt: &R,
-    heart: &mut Heart<C>,
-    feeders: &mut Vec<Feeder<C>>,
-    windows: &[Window],
-    kind: Kind,
-    threads: u32,
-) -> Result<(), OutOfMemory>
-where
-    C::Told: Send,
-    requires threads { 0 < threads }
-    requires most { length feeders.old.items ≤ most_updaters }
-    requires room { HaveRoomFor (map (λ w. w.lines) windows.now) (map (λ f. f.updater) feeders.old.items) }
-    ensures taken { OnOk result (TakeShares C.keeps_of C.hint_of kind (map (λ w. w.lines) windows.now) (map (λ f. f.updater) feeders.old.items) (map (λ f. f.updater) feeders.new.items)) }
-    ensures heart { HeartGoesOn heart.old heart.new }
-    ensures cause { OnErr result (IsTrue C.TAKES_MEMORY) }
-    ensures count { length feeders.new.items ≡ length feeders.old.items }
-    ensures places { vec_capacity feeders.new ≡ vec_capacity feeders.old }
-{
     let done = AtomicBool::new(false);
     let (propagated, fed) = run_beside(
         rt,
@@ -224,13 +120,13 @@ where
         &mut ||
             requires threads { 0 < threads }
             requires most { length feeders.now.items ≤ most_updaters }
-            requires room { HaveRoomFor (map (λ w. w.lines) windows.now) (map (λ f. f.updater) feeders.now.items) }
-            ensures taken { OnOk result (TakeShares C.keeps_of C.hint_of kind (map (λ w. w.lines) windows.entry.now) (map (λ f. f.updater) feeders.entry.now.items) (map (λ f. f.updater) feeders.exit.now.items)) }
+            requires room { HaveRoom window.now.lines (map (λ f. f.updater) feeders.now.items) }
+            ensures taken { OnOk result (TakeBlocks C.keeps_of C.hint_of kind window.entry.now.lines (map (λ f. f.updater) feeders.entry.now.items) (map (λ f. f.updater) feeders.exit.now.items)) }
+            ensures fronts { TakeFronts C.keeps_of C.hint_of kind window.entry.now.lines (map (λ f. f.updater) feeders.entry.now.items) (map (λ f. f.updater) feeders.exit.now.items) }
             ensures cause { OnErr result (IsTrue C.TAKES_MEMORY) }
-            ensures count { length feeders.exit.now.items ≡ length feeders.entry.now.items }
             ensures places { vec_capacity feeders.exit.now ≡ vec_capacity feeders.entry.now }
         {
-            let fed = feed_windows_alone(rt, feeders, windows, kind, Propagation::ByHeart, threads);
+            let fed = feed_all(rt, feeders, window, kind, by, threads);
             done.store(true, Ordering::SeqCst);
             fed
         },
@@ -239,9 +135,31 @@ where
     fed
 }
 
-/// Turns elements round: the last is the first.
-pub fn turn<T>(elements: &mut Vec<T>)
-    ensures turned { elements.new.items ≡ reverse elements.old.items }
+// Feeds a window to its feeders in threads, at most this many.
+fn feed_all<C: Composable + Send, R: Threads + Wait + Sync>(
+    rt: &R,
+    feeders: &mut Vec<Feeder<C>>,
+    window: &Window,
+    kind: Kind,
+    by: Propagation,
+    threads: u32,
+) -> Result<(), OutOfMemory>
+where
+    C::Told: Send,
+    requires threads { 0 < threads }
+    requires most { length feeders.old.items ≤ most_updaters }
+    requires room { HaveRoom window.now.lines (map (λ f. f.updater) feeders.old.items) }
+    ensures taken { OnOk result (TakeBlocks C.keeps_of C.hint_of kind window.now.lines (map (λ f. f.updater) feeders.old.items) (map (λ f. f.updater) feeders.new.items)) }
+    ensures fronts { TakeFronts C.keeps_of C.hint_of kind window.now.lines (map (λ f. f.updater) feeders.old.items) (map (λ f. f.updater) feeders.new.items) }
+    ensures cause { OnErr result (IsTrue C.TAKES_MEMORY) }
+    ensures places { vec_capacity feeders.new ≡ vec_capacity feeders.old }
+{
+    feed_each(rt, feeders.as_mut_slice(), window, kind, by, threads)
+}
+
+// The last element comes first.
+fn back_to_front<T>(elements: &mut Vec<T>)
+    ensures reversed { elements.new.items ≡ reverse elements.old.items }
     ensures capacity { vec_capacity elements.new ≡ vec_capacity elements.old }
 {
     elements.as_mut_slice().reverse();
@@ -256,7 +174,7 @@ fn lend<C: Composable>(updaters: &mut Vec<Updater<C>>, feeders: &mut Vec<Feeder<
     ensures places { vec_capacity feeders.new ≡ vec_capacity feeders.old }
     ensures capacity { vec_capacity updaters.new ≡ vec_capacity updaters.old }
 {
-    turn(updaters);
+    back_to_front(updaters);
     'lend: while let Some(updater) = updaters.pop() {
         feeders.push_reserved(Feeder::new(updater));
     }
@@ -270,7 +188,7 @@ fn give_back<C: Composable>(feeders: &mut Vec<Feeder<C>>, updaters: &mut Vec<Upd
     ensures left { feeders.new.items ≡ [] }
     ensures places { vec_capacity feeders.new ≡ vec_capacity feeders.old }
 {
-    turn(feeders);
+    back_to_front(feeders);
     'back: while let Some(feeder) = feeders.pop() {
         updaters.push_reserved(feeder.updater);
     }

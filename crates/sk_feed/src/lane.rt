@@ -1,60 +1,53 @@
-//! An updater that is fed the stretches that come for it through a ring.
-ghost use Rattle.std.specs.Prelude.{◌≡◌, ℕ, ◌+◌, ◌<◌, ◌≤◌, [], ◌∷◌, length, OnOk, OnErr, IfOk, IsTrue};
+//! A taker that is fed the stretches that come for it through a ring.
+ghost use Rattle.std.specs.Prelude.{◌≡◌, ℕ, ◌+◌, ◌<◌, ◌≤◌, [], length, OnOk, OnErr, IfOk, IsTrue};
 ghost use Rattle.rtrb.specs.Ring.{sent, received, IsPair, SameConsumer};
-ghost use Rattle.sk_hub.specs.Updaters.{kept_of};
-ghost use Rattle.sk_hub.specs.Calls.{Takes};
-ghost use Rattle.sk_fill.specs.Blocks.{blocks_of};
-ghost use Rattle.sk_feed.specs.Shares.{share};
+ghost use Rattle.sk_fill.specs.Windows.{all_lines};
 ghost use Rattle.sk_feed.specs.Deliveries.{IsNext, IsUpTo, HasFed, IsOpen};
+ghost use Rattle.sk_feed.specs.Takings.{TakesOn};
 ghost use Rattle.sk_model.specs.Limits.{most_updaters, most_kept};
 
 use crate::crew::Crew;
 use crate::delivery::{Delivery, InOrder, Inlet, Outlet};
-use crate::feeder::feed_blocks;
-use crate::propagation::Propagation;
+use crate::taking::TakesStretches;
 use crossbeam_utils::Backoff;
 use rtrb::RingBuffer;
-use sk_compose::Composable;
-use sk_hub::Updater;
 use sk_model::OutOfMemory;
 use sk_read::Kind;
 use std::alloc::Global;
 use std::sync::Wait;
 
-/// As many stretches may wait in a ring.
-pub const RING: usize = 8;
+/// At most so many stretches are given at a time. A ring has room for all of them, so that nobody waits for room.
+pub const MOST_GIVEN: usize = 8;
 
-/// An updater, and the ring through which stretches come for it.
+/// What takes stretches, and the ring through which they come for it.
 #[derive(Drop)]
-pub struct Lane<C: Composable> {
-    /// The updater that is fed.
-    pub updater: Updater<C>,
+pub struct Lane<T: TakesStretches> {
+    /// What takes them.
+    pub taker: T,
     /// The end of its ring where stretches come.
     pub inlet: Inlet,
     /// Whether memory was found so far.
     pub fed: Result<(), OutOfMemory>,
 }
 
-impl<C: Composable> Lane<C> {
-    /// A lane, and the other end of its ring, to which a first stretch was given. An error comes only for want of memory.
-    pub fn open(
-        alloc: Global,
-        updater: Updater<C>,
-        first: &Delivery,
-    ) -> Result<(Lane<C>, Outlet), OutOfMemory>
+impl<T: TakesStretches> Lane<T> {
+    /// A lane, and the other end of its ring, to which a first stretch was given. An error comes only when out of memory.
+    pub fn open(alloc: Global, taker: T, first: &Delivery) -> Result<(Lane<T>, Outlet), OutOfMemory>
         requires next { IsNext [] first.now }
-        requires few { length (kept_of updater) ≤ first.now.first }
-        ensures updater { IfOk result (λ r. r.0.updater ≡ updater) }
-        ensures open { IfOk result (λ r. IsOpen first.now r.1 r.0.inlet r.0.updater) }
+        requires few { T.keeps_at_most taker first.now.first }
+        ensures taker { IfOk result (λ r. r.0.taker ≡ taker) }
+        ensures open { IfOk result (λ r. IsOpen T.keeps_at_most first.now r.1 r.0.inlet r.0.taker) }
         ensures fed { IfOk result (λ r. OnOk r.0.fed Unit) }
     {
-        let (mut outlet, mut inlet) = RingBuffer::with_protocol::<Global, InOrder>(alloc, RING)?;
+        let (mut outlet, mut inlet) = RingBuffer::with_protocol::<Global, InOrder>(
+            alloc, MOST_GIVEN,
+        )?;
         outlet.push_reserved(first.share()?);
         // It tells the proof that the first stretch comes first.
         inlet.slots_beside(&mut outlet);
         Ok((
             Lane {
-                updater,
+                taker,
                 inlet,
                 fed: Ok(()),
             },
@@ -62,23 +55,21 @@ impl<C: Composable> Lane<C> {
         ))
     }
 
-    /// Feeds block i of n of each window that comes, until nothing more does.
+    /// Takes, as number i of n, what comes, until nothing more does or the taker ends. The reader learns that it ended.
     pub fn run<R: Wait>(&mut self, rt: &R, crew: &Crew, kind: Kind, i: usize, n: usize)
         requires few { n ≤ most_updaters }
         requires within { i < n }
-        requires behind { IsUpTo self.old.inlet self.old.updater }
+        requires behind { IsUpTo T.keeps_at_most self.old.inlet self.old.taker }
         ensures ring { SameConsumer self.old.inlet self.new.inlet }
-        ensures taken { OnOk self.new.fed (HasFed C.keeps_of C.hint_of kind i n self.old.inlet self.old.updater self.new.inlet self.new.updater) }
-        ensures cause { OnErr self.new.fed (IsTrue C.TAKES_MEMORY) }
+        ensures taken { OnOk self.new.fed (HasFed (T.took kind i n) T.keeps_at_most self.old.inlet self.old.taker self.new.inlet self.new.taker) }
+        ensures cause { OnErr self.new.fed (IsTrue T.TAKES_MEMORY) }
     {
         crew.begin();
-        self.fed = feed_deliveries(rt, &mut self.updater, &mut self.inlet, crew, kind, i, n);
-        if self.fed.is_err() {
-            crew.fail();
-        }
+        self.fed = feed_deliveries(rt, &mut self.taker, &mut self.inlet, crew, kind, i, n);
+        crew.leave();
     }
 
-    /// Feeds what is left, once nothing more is given.
+    /// Takes what is left, once nothing more is given.
     pub fn finish<R: Wait>(
         &mut self,
         rt: &R,
@@ -90,19 +81,19 @@ impl<C: Composable> Lane<C> {
         requires few { n ≤ most_updaters }
         requires within { i < n }
         requires pair { IsPair outlet.old self.old.inlet }
-        requires behind { IsUpTo self.old.inlet self.old.updater }
-        ensures taken { OnOk result (HasFed C.keeps_of C.hint_of kind i n self.old.inlet self.old.updater self.new.inlet self.new.updater) }
+        requires behind { IsUpTo T.keeps_at_most self.old.inlet self.old.taker }
+        ensures taken { OnOk result (HasFed (T.took kind i n) T.keeps_at_most self.old.inlet self.old.taker self.new.inlet self.new.taker) }
         ensures all { OnOk result (received self.new.inlet ≡ sent outlet.old) }
-        ensures cause { OnErr result (IsTrue C.TAKES_MEMORY) }
+        ensures cause { OnErr result (IsTrue T.TAKES_MEMORY) }
     {
-        feed_rest(rt, &mut self.updater, &mut self.inlet, outlet, kind, i, n)
+        feed_rest(rt, &mut self.taker, &mut self.inlet, outlet, kind, i, n)
     }
 }
 
-// Feeds the stretches that come, until nothing more does.
-fn feed_deliveries<C: Composable, R: Wait>(
+// Gives a taker the stretches that come, until nothing more does or it ends.
+fn feed_deliveries<T: TakesStretches, R: Wait>(
     rt: &R,
-    u: &mut Updater<C>,
+    taker: &mut T,
     inlet: &mut Inlet,
     crew: &Crew,
     kind: Kind,
@@ -111,17 +102,19 @@ fn feed_deliveries<C: Composable, R: Wait>(
 ) -> Result<(), OutOfMemory>
     requires few { n ≤ most_updaters }
     requires within { i < n }
-    requires behind { IsUpTo inlet.old u.old }
+    requires behind { IsUpTo T.keeps_at_most inlet.old taker.old }
     ensures ring { SameConsumer inlet.old inlet.new }
-    ensures taken { OnOk result (HasFed C.keeps_of C.hint_of kind i n inlet.old u.old inlet.new u.new) }
-    ensures cause { OnErr result (IsTrue C.TAKES_MEMORY) }
+    ensures taken { OnOk result (HasFed (T.took kind i n) T.keeps_at_most inlet.old taker.old inlet.new taker.new) }
+    ensures cause { OnErr result (IsTrue T.TAKES_MEMORY) }
 {
     let backoff = Backoff::new();
     'delivery: for _ in rt.forever() {
         let ended = crew.has_ended();
         match inlet.pop() {
             Ok(delivery) => {
-                feed_delivery(rt, u, delivery, kind, i, n)?;
+                if !take_delivery(rt, taker, delivery, kind, i, n)? {
+                    return Ok(());
+                }
                 crew.wake_reader();
                 backoff.reset();
             }
@@ -136,55 +129,47 @@ fn feed_deliveries<C: Composable, R: Wait>(
     unreachable!()
 }
 
-// Feeds what is left in a ring to which nothing more is given.
-fn feed_rest<C: Composable, R: Wait>(
+// Gives a taker what is left in a ring to which nothing more is given.
+fn feed_rest<T: TakesStretches, R: Wait>(
     rt: &R,
-    u: &mut Updater<C>,
+    taker: &mut T,
     inlet: &mut Inlet,
     outlet: &mut Outlet,
     kind: Kind,
     i: usize,
     n: usize,
 ) -> Result<(), OutOfMemory>
+    requires pair { IsPair outlet.old inlet.old }
+    requires behind { IsUpTo T.keeps_at_most inlet.old taker.old }
     requires few { n ≤ most_updaters }
     requires within { i < n }
-    requires pair { IsPair outlet.old inlet.old }
-    requires behind { IsUpTo inlet.old u.old }
-    ensures taken { OnOk result (HasFed C.keeps_of C.hint_of kind i n inlet.old u.old inlet.new u.new) }
+    ensures taken { OnOk result (HasFed (T.took kind i n) T.keeps_at_most inlet.old taker.old inlet.new taker.new) }
     ensures all { OnOk result (received inlet.new ≡ sent outlet.old) }
-    ensures cause { OnErr result (IsTrue C.TAKES_MEMORY) }
+    ensures cause { OnErr result (IsTrue T.TAKES_MEMORY) }
 {
     let left = inlet.slots_beside(outlet);
     'rest: for _ in 0..left {
         let delivery = inlet.pop_known();
-        feed_delivery(rt, u, delivery, kind, i, n)?;
+        take_delivery(rt, taker, delivery, kind, i, n)?;
     }
     Ok(())
 }
 
-// Feeds block i of n of each window of a stretch, in order.
-fn feed_delivery<C: Composable, R: Wait>(
+// Gives a taker the windows of a stretch, which is let go then.
+fn take_delivery<T: TakesStretches, R: Wait>(
     rt: &R,
-    u: &mut Updater<C>,
+    taker: &mut T,
     delivery: Delivery,
     kind: Kind,
     i: usize,
     n: usize,
-) -> Result<(), OutOfMemory>
+) -> Result<bool, OutOfMemory>
     requires few { n ≤ most_updaters }
     requires within { i < n }
-    requires room { length (kept_of u.old) + length (blocks_of delivery.windows i n) ≤ most_kept }
-    ensures taken { OnOk result (Takes C.keeps_of C.hint_of u.old (share kind delivery.windows n i) u.new) }
-    ensures cause { OnErr result (IsTrue C.TAKES_MEMORY) }
+    requires room { (count : ℕ) × T.keeps_at_most taker.old count × (count + length (all_lines delivery.windows) ≤ most_kept) }
+    ensures took { OnOk result (TakesOn (T.took kind i n) taker.old delivery.windows taker.new) }
+    ensures kept { OnOk result ((count : ℕ) → T.keeps_at_most taker.old count → T.keeps_at_most taker.new (count + length (all_lines delivery.windows))) }
+    ensures cause { OnErr result (IsTrue T.TAKES_MEMORY) }
 {
-    feed_blocks(
-        rt,
-        u,
-        delivery.windows(),
-        kind,
-        i,
-        n,
-        Propagation::WhereBusy,
-    )?;
-    Ok(())
+    taker.take(rt, delivery.windows(), kind, i, n)
 }

@@ -1,4 +1,4 @@
-//! Blocks of windows, fed to the updaters of a hub: one after another, or at once in threads.
+//! Blocks of windows, fed to the updaters of a hub: one after another, or in threads.
 #![tactic(auto)]
 
 mod beside;
@@ -12,13 +12,15 @@ mod feeders;
 mod lane;
 pub mod laws;
 mod propagation;
+mod taking;
 mod turns;
 
 pub use crew::Crew;
 pub use delivery::{Delivery, InOrder, Inlet, Outlet};
 pub use drain::drain_all;
 pub use feed::{feed_block, offer};
-pub use feeders::{Feeders, turn};
-pub use lane::{Lane, RING};
+pub use feeders::Feeders;
+pub use lane::{Lane, MOST_GIVEN};
 pub use propagation::{Propagation, propagate};
+pub use taking::{TakesStretches, are_eager};
 pub use turns::feed_in_turn;

@@ -10,46 +10,46 @@ use sk_model::OutOfMemory;
 use sk_read::Intake;
 use std::sync::Wait;
 
-/// Who propagates, and where.
+/// Who propagates, and when.
 #[derive(Clone, Copy)]
 pub enum Propagation {
-    /// The heart, where an updater is busy.
+    /// The heart, when an updater is busy.
     ByHeart,
     /// The updater that is busy.
-    WhereBusy,
-    /// The updater that is busy or eager: the hub may be asked before it is busy.
-    AtOnce,
+    WhenBusy,
+    /// The updater that is busy, and an eager one after each item: the hub may be asked before it is busy.
+    AfterEachItem,
 }
 
 impl Propagation {
-    /// The way of a plan. An eager updater need not propagate where nobody asks in between.
+    /// The way of a plan. An eager updater need not propagate if nobody asks in between.
     pub fn of(plan: &Intake) -> Propagation {
         if plan.propagator {
             Propagation::ByHeart
         } else if plan.interim {
-            Propagation::AtOnce
+            Propagation::AfterEachItem
         } else {
-            Propagation::WhereBusy
+            Propagation::WhenBusy
         }
     }
 
     pub(crate) fn is_by_heart(self) -> bool {
         match self {
             Propagation::ByHeart => true,
-            Propagation::WhereBusy | Propagation::AtOnce => false,
+            Propagation::WhenBusy | Propagation::AfterEachItem => false,
         }
     }
 
     // Whether an updater helps with each item that it is fed.
     pub(crate) fn helps(self) -> bool {
         match self {
-            Propagation::AtOnce => true,
-            Propagation::ByHeart | Propagation::WhereBusy => false,
+            Propagation::AfterEachItem => true,
+            Propagation::ByHeart | Propagation::WhenBusy => false,
         }
     }
 }
 
-/// Propagates where an updater is busy. An error comes only for want of memory, where the sketch takes some.
+/// Propagates when an updater is busy. An error comes only when out of memory, if the sketch takes some.
 pub fn propagate<C: Composable, R: Wait>(
     rt: &R,
     heart: &mut Heart<C>,
@@ -62,7 +62,7 @@ pub fn propagate<C: Composable, R: Wait>(
 {
     match by {
         Propagation::ByHeart => sweep(rt, heart),
-        Propagation::WhereBusy | Propagation::AtOnce => help_until_served(rt, u),
+        Propagation::WhenBusy | Propagation::AfterEachItem => help_until_served(rt, u),
     }
 }
 

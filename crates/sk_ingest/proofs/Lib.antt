@@ -2,7 +2,7 @@ pub mod Untold
 pub mod StretchLaws
 pub mod Ingestion
 pub mod WindowLaws
-pub mod AtOnceLaws
+pub mod OneByOneLaws
 pub mod SupplyLaws
 pub mod LaneLaws
-pub mod TurnLaneLaws
+pub mod TakerLaws

@@ -1,48 +1,55 @@
--- Lanes, each with an updater and the ring through which stretches come for it.
-use Rattle.std.specs.Prelude.{Result, ◌≡◌, ℕ, ◌<◌, Bool, List, length, slice_index_or, OnOk, IsOk}
+-- Lanes, each with what takes stretches and the ring through which they come for it.
+use Rattle.std.specs.Prelude.{Result, ◌≡◌, ℕ, ◌<◌, List, length, slice_index_or, OnOk, IsOk}
 use Rattle.rtrb.specs.Ring.{SameConsumer, sent, received}
+use Rattle.rtrb.specs.declared.consumer.Consumer.{Consumer}
 use Rattle.rtrb.specs.declared.producer.Producer.{Producer}
 use Rattle.std.specs.declared.alloc.Global.{Global}
-use Rattle.sk_model.specs.Entries.{Entry}
-use Rattle.sk_read.specs.declared.kind.Kind.{Kind}
 use Rattle.sk_feed.specs.declared.delivery.InOrder.{InOrder}
 use Rattle.sk_feed.specs.declared.lane.Lane.{Lane}
 use Rattle.sk_fill.specs.Stretches.{StretchState}
 use Rattle.sk_feed.specs.Deliveries.{IsUpTo, IsOpen, HasFed}
-use Rattle.sk_hub.specs.Updaters.{UpdaterState}
-use Rattle.rtrb.specs.declared.consumer.Consumer.{Consumer}
+use Rattle.sk_feed.specs.Takings.{TakesOn}
 
 -- the end of a ring where stretches are given
 abbrev pub Outlet : Type 0
 Outlet = Producer StretchState Global InOrder
 
 -- each has a ring to which one stretch was given
-pub record AreOpen {C T : Type 0} (first : StretchState) (lanes : List (Lane C T)) (outlets : List Outlet) : Type 0 where
+pub record AreOpen {T : Type 0} (at_most : T → ℕ → Type 0) (first : StretchState) (lanes : List (Lane T)) (outlets : List Outlet) : Type 0 where
   pub count : length outlets ≡ length lanes
-  pub each : (i : ℕ) (d : Lane C T) (e : Outlet) → i < length lanes → IsOpen first (slice_index_or outlets i e) (slice_index_or lanes i d).inlet (slice_index_or lanes i d).updater
+  pub each : (i : ℕ) (d : Lane T) (e : Outlet) → i < length lanes → IsOpen at_most first (slice_index_or outlets i e) (slice_index_or lanes i d).inlet (slice_index_or lanes i d).taker
 
--- no updater has kept more than there were lines
-abbrev pub AreBehind : {C T : Type 0} → List (Lane C T) → Type 0
-AreBehind {C} {T} lanes = (i : ℕ) (d : Lane C T) → i < length lanes → IsUpTo (slice_index_or lanes i d).inlet (slice_index_or lanes i d).updater
+-- no taker has kept more than there were lines
+abbrev pub AreBehind : {T : Type 0} → (T → ℕ → Type 0) → List (Lane T) → Type 0
+AreBehind {T} at_most lanes = (i : ℕ) (d : Lane T) → i < length lanes → IsUpTo at_most (slice_index_or lanes i d).inlet (slice_index_or lanes i d).taker
 
 -- so it is of those for which memory was found
-abbrev pub AreBehindIfFed : {C T : Type 0} → List (Lane C T) → Type 0
-AreBehindIfFed {C} {T} lanes = (i : ℕ) (d : Lane C T) → i < length lanes → OnOk (slice_index_or lanes i d).fed (IsUpTo (slice_index_or lanes i d).inlet (slice_index_or lanes i d).updater)
+abbrev pub AreBehindIfFed : {T : Type 0} → (T → ℕ → Type 0) → List (Lane T) → Type 0
+AreBehindIfFed {T} at_most lanes = (i : ℕ) (d : Lane T) → i < length lanes → OnOk (slice_index_or lanes i d).fed (IsUpTo at_most (slice_index_or lanes i d).inlet (slice_index_or lanes i d).taker)
 
--- the updater of a lane was fed what came, as long as there was memory
-pub record RunsLane {C T A P : Type 0} (keeps : ℕ → ℕ → Bool) (hint_of : List ℕ → List Entry → ℕ) (kind : Kind) (i n : ℕ) (inlet : Consumer StretchState A P) (u : UpdaterState) (inlet' : Consumer StretchState A P) (u' : UpdaterState) (fed : Result T C) : Type 0 where
+-- the taker of a lane took what came, as long as there was memory
+pub record RunsLane {T A P B E : Type 0} (took : T → T → List (List (List ℕ)) → Type 0) (at_most : T → ℕ → Type 0) (inlet : Consumer StretchState A P) (t : T) (inlet' : Consumer StretchState A P) (t' : T) (fed : Result B E) : Type 0 where
   pub ring : SameConsumer inlet inlet'
-  pub taken : OnOk fed (HasFed keeps hint_of kind i n inlet u inlet' u')
+  pub taken : OnOk fed (HasFed took at_most inlet t inlet' t')
 
--- each updater was fed what came
-pub record HaveRun {C T : Type 0} (keeps : ℕ → ℕ → Bool) (hint_of : List ℕ → List Entry → ℕ) (kind : Kind) (lanes lanes' : List (Lane C T)) : Type 0 where
+-- each took what came, as number i of all
+pub record HaveRun {T : Type 0} (took : ℕ → ℕ → T → T → List (List (List ℕ)) → Type 0) (at_most : T → ℕ → Type 0) (lanes lanes' : List (Lane T)) : Type 0 where
   pub count : length lanes' ≡ length lanes
-  pub each : (i : ℕ) (d : Lane C T) → i < length lanes → RunsLane keeps hint_of kind i (length lanes) (slice_index_or lanes i d).inlet (slice_index_or lanes i d).updater (slice_index_or lanes' i d).inlet (slice_index_or lanes' i d).updater (slice_index_or lanes' i d).fed
+  pub each : (i : ℕ) (d : Lane T) → i < length lanes
+      → RunsLane (took i (length lanes)) at_most (slice_index_or lanes i d).inlet (slice_index_or lanes i d).taker (slice_index_or lanes' i d).inlet (slice_index_or lanes' i d).taker (slice_index_or lanes' i d).fed
 
--- each, for which memory was found, was fed all that was left, and nothing is
-pub record HaveFinished {C T : Type 0} (keeps : ℕ → ℕ → Bool) (hint_of : List ℕ → List Entry → ℕ) (kind : Kind) (lanes : List (Lane C T)) (outlets : List Outlet) (lanes' : List (Lane C T)) : Type 0 where
+-- a lane, for which memory was found, took all that was left in its ring, and nothing is
+pub record Finishes {T : Type 0} (took : T → T → List (List (List ℕ)) → Type 0) (at_most : T → ℕ → Type 0) (lane : Lane T) (outlet : Outlet) (lane' : Lane T) : Type 0 where
+  pub ok : IsOk lane.fed
+  pub fed : HasFed took at_most lane.inlet lane.taker lane'.inlet lane'.taker
+  pub all : received lane'.inlet ≡ sent outlet
+
+-- so did each
+pub record HaveFinished {T : Type 0} (took : ℕ → ℕ → T → T → List (List (List ℕ)) → Type 0) (at_most : T → ℕ → Type 0) (lanes : List (Lane T)) (outlets : List Outlet) (lanes' : List (Lane T)) : Type 0 where
   pub count : length lanes' ≡ length lanes
-  pub each : (i : ℕ) (d : Lane C T) (e : Outlet) → i < length lanes
-      → IsOk (slice_index_or lanes i d).fed
-      × HasFed keeps hint_of kind i (length lanes) (slice_index_or lanes i d).inlet (slice_index_or lanes i d).updater (slice_index_or lanes' i d).inlet (slice_index_or lanes' i d).updater
-      × (received (slice_index_or lanes' i d).inlet ≡ sent (slice_index_or outlets i e))
+  pub each : (i : ℕ) (d : Lane T) (e : Outlet) → i < length lanes → Finishes (took i (length lanes)) at_most (slice_index_or lanes i d) (slice_index_or outlets i e) (slice_index_or lanes' i d)
+
+-- each taker took these windows, as number i of all
+pub record TakeAll {T : Type 0} (took : ℕ → ℕ → T → T → List (List (List ℕ)) → Type 0) (windows : List (List (List ℕ))) (ts ts' : List T) : Type 0 where
+  pub count : length ts' ≡ length ts
+  pub each : (i : ℕ) (d : T) → i < length ts → TakesOn (took i (length ts)) (slice_index_or ts i d) windows (slice_index_or ts' i d)

@@ -4,4 +4,3 @@ pub mod Takers
 pub mod FedAndRead
 pub mod Supplies
 pub mod Lanes
-pub mod TurnLanes

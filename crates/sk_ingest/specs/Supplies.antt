@@ -1,12 +1,19 @@
 -- What it means that stretches were read and given to rings.
-use Rattle.std.specs.Prelude.{◌≡◌, ℕ, ◌<◌, Bool, List, ◌++◌, length, slice_index_or, Option, Result, OnOk}
+use Rattle.std.specs.Prelude.{◌≡◌, ℕ, ◌<◌, Bool, List, ◌++◌, length, slice_index_or, All, Option, Result, OnOk}
 use Rattle.rtrb.specs.Ring.{sent, SameProducer}
 use Rattle.rtrb.specs.declared.producer.Producer.{Producer}
-use Rattle.sk_read.specs.Reading.{Reading}
+use Rattle.sk_read.specs.Reading.{Reading, HasRead}
 use Rattle.sk_read.specs.declared.fault.Fault.{Fault}
 use Rattle.sk_read.specs.declared.kind.Kind.{Kind}
 use Rattle.sk_fill.specs.Stretches.{StretchState, StretchGoes, ReadsStretch}
-use Rattle.sk_feed.specs.Deliveries.{windows_of}
+use Rattle.sk_feed.specs.Deliveries.{windows_of, EndAt}
+
+-- what was read of a source was given to these rings: all end with its last line
+pub record HasGiven {A P : Type 0} (os : List (Producer StretchState A P)) (r : Reading) (left : Option (List ℕ)) : Type 0 where
+  pub given : List (List ℕ)
+  pub taken : List ℕ
+  pub read : HasRead r left given taken
+  pub ends : All (λ o. EndAt (sent o) (length given)) os
 
 -- each of these rings was given these stretches, too
 pub record GaveEach {A P : Type 0} (os os' : List (Producer StretchState A P)) (more : List StretchState) : Type 0 where

@@ -2,17 +2,14 @@
 ghost use Rattle.std.specs.Prelude.{◌≡◌, ◌<◌, ◌≤◌, true, IfSome, OnOk};
 ghost use Rattle.sk_fill.specs.Windows.{most_lines};
 
-use sk_feed::{Crew, Delivery};
+use sk_feed::{Crew, Delivery, MOST_GIVEN};
 use sk_fill::Stretch;
 use sk_model::OutOfMemory;
 use std::alloc::Global;
 use std::marker::Model;
 use std::sync::Wait;
 
-// At most so many stretches are given at a time.
-const MOST: usize = 8;
-
-// Beyond the first there are no more than have so many bytes, about: a page that is touched for the first time is dear.
+// After the first there are no more than have this many bytes, about: a page that is touched for the first time is dear.
 const FULL_BYTES: usize = 16_777_216;
 
 // The stretches that were given last.
@@ -93,10 +90,10 @@ impl Pool {
     // Whether there may be one more.
     fn has_room(&self) -> bool {
         let count = self.given.len();
-        count == 0 || (count < MOST && self.size < FULL_BYTES / MOST)
+        count == 0 || (count < MOST_GIVEN && self.size < FULL_BYTES / MOST_GIVEN)
     }
 
-    // Waits for a stretch from which nobody feeds. None comes where feeders ended or do not begin.
+    // Waits for a stretch from which nobody feeds. None comes if a feeder ended, or they do not begin.
     pub(crate) fn wait_for_one<R: Wait>(&mut self, rt: &R, crew: &Crew) -> Option<Stretch>
         ensures most { IfSome result (λ s. s.most ≡ self.new.most) }
         ensures stays { self.new.most ≡ self.old.most }
@@ -104,7 +101,7 @@ impl Pool {
         let mut times = 0;
         'wait: for _ in rt.forever() {
             // What is read for a feeder that has ended is fed by one thread alone.
-            if crew.has_failed() {
+            if crew.has_left() {
                 return None;
             }
             if let Some(stretch) = self.take() {

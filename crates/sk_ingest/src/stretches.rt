@@ -1,23 +1,21 @@
 //! The lines of a source, read a stretch of windows at a time while those before are fed.
-ghost use Rattle.std.specs.Prelude.{◌≡◌, ◌<◌, ◌≤◌, ◌+◌, ◌++◌, ℕ, List, [], length, false, OnOk, IfOk, IfErr};
+ghost use Rattle.std.specs.Prelude.{◌≡◌, ◌≤◌, [], false, OnOk, IfOk, IfErr};
 ghost use Rattle.sk_model.specs.Causes.{HasCauseIn};
 ghost use Rattle.sk_model.specs.Limits.{source_limit, IsFrom};
-ghost use Rattle.sk_read.specs.Reading.{HasRead};
 ghost use Rattle.sk_read.specs.Reads.{ReadsAll};
 ghost use Rattle.sk_read.specs.Units.{units_by};
-ghost use Rattle.sk_fill.specs.Windows.{most_lines, all_lines};
+ghost use Rattle.sk_fill.specs.Windows.{most_lines};
 ghost use Rattle.sk_feed.specs.Rounds.{HaveFew};
-ghost use Rattle.sk_feed.specs.Hubs.{hub_of, IsHub};
+ghost use Rattle.sk_feed.specs.Hubs.{hub_of, IsHub, FeedsWindows};
 ghost use Rattle.sk_ingest.specs.Ingests.{Ingests, EndsEarly};
 ghost use Rattle.sk_ingest.specs.Takers.{untold};
-ghost use Rattle.sk_feed.specs.Hubs.{FeedsWindows};
-ghost use Rattle.sk_ingest.specs.FedAndRead.{FeedsAndReads};
+ghost use Rattle.sk_ingest.specs.FedAndRead.{FeedsAndReads, HasStarted};
 
-use crate::lanes::feed_in_lanes;
+use crate::lanes::{feed_in_lanes, feed_in_one_lane};
 use crate::supply::ENOUGH;
-use crate::turn_lane::feed_in_one_lane;
-use crate::ways::{feed_stretch, is_early, is_short};
+use crate::ways::{feed_stretch, is_short};
 use sk_compose::Composable;
+use sk_feed::are_eager;
 use sk_fill::{Stretch, fill_stretch};
 use sk_hub::Opened;
 use sk_io::Source;
@@ -26,7 +24,7 @@ use std::alloc::Global;
 use std::sync::Wait;
 use std::thread::Threads;
 
-// Feeds the lines of a source to a hub of which nobody is told before the end. A stretch is fed while the next is read.
+// Feeds the lines of a source to a hub that nobody asks before the end. A stretch is fed while the next is read.
 pub(crate) fn ingest_stretches<S: Source, C: Composable + Send, R: Threads + Wait + Sync>(
     rt: &R,
     alloc: Global,
@@ -61,7 +59,7 @@ where
 }
 
 // Feeds a stretch, reads the next one into its place, and answers whether that is full. One that is not short goes to
-// threads, and so do those that come behind it, as many as they take.
+// threads, and so do those that come after it, as many as they take.
 fn feed_on<S: Source, C: Composable + Send, R: Threads + Wait + Sync>(
     rt: &R,
     alloc: Global,
@@ -75,10 +73,7 @@ where
     C::Told: Send,
     requires hub { IsHub (hub_of opened.old) }
     requires few { HaveFew stretch.old.first [] opened.old.updaters.items }
-    requires least { 1 ≤ stretch.old.most }
-    requires highest { stretch.old.most ≤ most_lines }
-    requires started { (given : List (List ℕ)) × (taken : List ℕ) × HasRead reader.old (S.left source.old) given taken
-        × (length given ≡ stretch.old.first + length (all_lines stretch.old.windows)) }
+    requires started { HasStarted stretch.old reader.old (S.left source.old) }
     ensures goes { FeedsAndReads (λ windows. FeedsWindows C.keeps_of C.hint_of plan.now.kind windows (hub_of opened.old) (hub_of opened.new))
         plan.now.kind stretch.old.most stretch.old stretch.new reader.old reader.new (S.left source.old) (S.left source.new) result }
     ensures most { OnOk result (stretch.new.most ≡ stretch.old.most) }
@@ -86,34 +81,14 @@ where
     ensures stays { S.stands_on source.new ≡ S.stands_on source.old }
 {
     if is_short(stretch) {
-        return feed_and_read(rt, plan, opened, reader, source, stretch);
+        feed_stretch(rt, opened, stretch, plan)?;
+        return fill_stretch(reader, source, stretch, plan.kind, ENOUGH);
     }
-    if is_early(&opened.updaters) {
-        return feed_in_one_lane(rt, alloc, plan, opened, reader, source, stretch);
+    // It tells the proof how many updaters a hub has at most.
+    let _admitted = opened.heart.admitted();
+    let updaters = &mut opened.updaters;
+    if are_eager(updaters.as_slice()) {
+        return feed_in_one_lane(rt, alloc, plan.kind, updaters, reader, source, stretch);
     }
-    feed_in_lanes(rt, alloc, plan, opened, reader, source, stretch)
-}
-
-// Feeds a stretch to one updater after another, and then reads the next one into its place.
-fn feed_and_read<S: Source, C: Composable, R: Wait>(
-    rt: &R,
-    plan: &Intake,
-    opened: &mut Opened<C>,
-    reader: &mut LineReader,
-    source: &mut S,
-    stretch: &mut Stretch,
-) -> Result<bool, Fault>
-    requires hub { IsHub (hub_of opened.old) }
-    requires few { HaveFew stretch.old.first [] opened.old.updaters.items }
-    requires least { 1 ≤ stretch.old.most }
-    requires started { (given : List (List ℕ)) × (taken : List ℕ) × HasRead reader.old (S.left source.old) given taken
-        × (length given ≡ stretch.old.first + length (all_lines stretch.old.windows)) }
-    ensures goes { FeedsAndReads (λ windows. FeedsWindows C.keeps_of C.hint_of plan.now.kind windows (hub_of opened.old) (hub_of opened.new))
-        plan.now.kind stretch.old.most stretch.old stretch.new reader.old reader.new (S.left source.old) (S.left source.new) result }
-    ensures most { OnOk result (stretch.new.most ≡ stretch.old.most) }
-    ensures cause { HasCauseIn Fault.ReadFault (S.faults source.old) (S.faults source.new) result }
-    ensures stays { S.stands_on source.new ≡ S.stands_on source.old }
-{
-    feed_stretch(rt, opened, stretch, plan)?;
-    fill_stretch(reader, source, stretch, plan.kind, ENOUGH)
+    feed_in_lanes(rt, alloc, plan.kind, updaters, reader, source, stretch)
 }

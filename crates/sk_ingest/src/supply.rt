@@ -1,11 +1,10 @@
-//! Stretches that are read and given to feeders in other threads.
-ghost use Rattle.std.specs.Prelude.{◌≡◌, ℕ, ◌<◌, ◌≤◌, ◌∷◌, ◌++◌, [], List, length, slice_index_or, All, OnOk};
+//! Stretches that are read and given to takers in other threads.
+ghost use Rattle.std.specs.Prelude.{◌≡◌, ℕ, ◌<◌, ◌≤◌, ◌∷◌, ◌++◌, [], List, length, slice_index_or, All, OnOk, IfOk};
 ghost use Rattle.rtrb.specs.Ring.{sent, SameProducer};
 ghost use Rattle.sk_model.specs.Causes.{HasCauseIn};
-ghost use Rattle.sk_read.specs.Reading.{HasRead};
-ghost use Rattle.sk_fill.specs.Stretches.{ReadsStretch};
-ghost use Rattle.sk_feed.specs.Deliveries.{EndAt, IsNext};
-ghost use Rattle.sk_ingest.specs.Supplies.{GaveEach, Supplies};
+ghost use Rattle.sk_fill.specs.Windows.{most_lines};
+ghost use Rattle.sk_feed.specs.Deliveries.{IsNext};
+ghost use Rattle.sk_ingest.specs.Supplies.{GaveEach, HasGiven, Supplies};
 
 use crate::pool::Pool;
 use rtrb::PushError;
@@ -22,24 +21,29 @@ use std::thread::yield_now;
 // As many lines are enough for a stretch, so that it stays in a processor's cache.
 pub(crate) const ENOUGH: usize = 32_768;
 
-// Reads stretches and gives each to all feeders, until the source ends, or a feeder does, or they do not begin. The
-// last one that was read was not given.
-pub(crate) fn supply<S: Source, R: Wait>(
+// Where stretches are given, and those that are read anew once nobody takes from them.
+#[derive(Drop)]
+pub(crate) struct Supply {
+    pub(crate) alloc: Global,
+    pub(crate) pool: Pool,
+    pub(crate) outlets: Vec<Outlet>,
+}
+
+// Reads stretches and gives each to all takers, until the source ends, or a taker does, or they do not begin. The last
+// one that was read was not given.
+pub(crate) fn read_and_give<S: Source, R: Wait>(
     rt: &R,
-    alloc: Global,
+    kind: Kind,
     reader: &mut LineReader,
     source: &mut S,
-    kind: Kind,
     next: &mut Stretch,
-    pool: &mut Pool,
-    outlets: &mut Vec<Outlet>,
+    supply: &mut Supply,
     crew: &Crew,
 ) -> Result<bool, Fault>
-    requires started { (given : List (List ℕ)) × (taken : List ℕ) × HasRead reader.old (S.left source.old) given taken
-        × All (λ o. EndAt (sent o) (length given)) outlets.old.items }
+    requires given { HasGiven supply.old.outlets.items reader.old (S.left source.old) }
     requires least { 1 ≤ next.old.most }
-    requires same { pool.old.most ≡ next.old.most }
-    ensures supplies { Supplies kind next.old.most outlets.old.items outlets.new.items next.new reader.old reader.new (S.left source.old) (S.left source.new) result }
+    requires same { supply.old.pool.most ≡ next.old.most }
+    ensures supplies { Supplies kind next.old.most supply.old.outlets.items supply.new.outlets.items next.new reader.old reader.new (S.left source.old) (S.left source.new) result }
     ensures most { next.new.most ≡ next.old.most }
     ensures cause { HasCauseIn Fault.ReadFault (S.faults source.old) (S.faults source.new) result }
     ensures stays { S.stands_on source.new ≡ S.stands_on source.old }
@@ -48,33 +52,27 @@ pub(crate) fn supply<S: Source, R: Wait>(
         if !fill_stretch(reader, source, next, kind, ENOUGH)? {
             return Ok(false);
         }
-        let Some(free) = pool.wait_for_one(rt, crew) else {
+        let Some(free) = supply.pool.wait_for_one(rt, crew) else {
             return Ok(true);
         };
         let full = replace(next, free);
-        give(rt, alloc, full, pool, outlets)?;
+        give(rt, full, supply)?;
         crew.wake_feeders();
     }
     unreachable!()
 }
 
-// Gives a stretch to all feeders.
-fn give<R: Wait>(
-    rt: &R,
-    alloc: Global,
-    stretch: Stretch,
-    pool: &mut Pool,
-    outlets: &mut Vec<Outlet>,
-) -> Result<(), OutOfMemory>
-    requires next { All (λ o. IsNext (sent o) stretch) outlets.old.items }
-    requires most { stretch.most ≡ pool.old.most }
-    ensures gave { OnOk result (GaveEach outlets.old.items outlets.new.items (stretch ∷ [])) }
-    ensures most { pool.new.most ≡ pool.old.most }
+// Gives a stretch to all takers.
+fn give<R: Wait>(rt: &R, stretch: Stretch, supply: &mut Supply) -> Result<(), OutOfMemory>
+    requires next { All (λ o. IsNext (sent o) stretch) supply.old.outlets.items }
+    requires most { stretch.most ≡ supply.old.pool.most }
+    ensures gave { OnOk result (GaveEach supply.old.outlets.items supply.new.outlets.items (stretch ∷ [])) }
+    ensures most { supply.new.pool.most ≡ supply.old.pool.most }
 {
     let size = stretch.size();
-    let delivery = Delivery::of(alloc, stretch)?;
-    give_each(rt, &delivery, outlets)?;
-    pool.keep(delivery, size)
+    let delivery = Delivery::of(supply.alloc, stretch)?;
+    give_each(rt, &delivery, &mut supply.outlets)?;
+    supply.pool.keep(delivery, size)
 }
 
 // Puts a stretch into each ring.

@@ -5,20 +5,19 @@ ghost use Rattle.sk_feed.specs.Rounds.{HaveRoom, HaveRoomFor};
 ghost use Rattle.sk_feed.specs.Hubs.{hub_of, IsHub, FeedsWindow, FeedsWindows};
 
 use sk_compose::Composable;
-use sk_feed::{Feeders, Propagation, feed_in_turn};
+use sk_feed::{Feeders, Propagation, are_eager, feed_in_turn};
 use sk_fill::{Stretch, Window};
-use sk_hub::{Opened, Updater};
+use sk_hub::Opened;
 use sk_model::OutOfMemory;
 use sk_model::limits::MOST_UPDATERS;
-use sk_read::{Intake, Kind};
+use sk_read::Intake;
 use std::alloc::Global;
 use std::num::NonZeroUsize;
-use std::slice::from_ref;
 use std::sync::Wait;
 use std::thread::{Threads, available_parallelism};
 
 // A window of fewer lines is fed sooner than threads are started.
-const LEAST_AT_ONCE: u32 = 4_096;
+const LEAST_IN_THREADS: u32 = 4_096;
 
 // Feeds a window to all updaters, one after another: to each its block.
 pub(crate) fn feed_window<C: Composable, R: Wait>(
@@ -33,25 +32,26 @@ pub(crate) fn feed_window<C: Composable, R: Wait>(
 {
     // It tells the proof how many updaters a hub has at most.
     let _admitted = opened.heart.admitted();
-    feed_in_turn(
-        rt,
-        &mut opened.heart,
-        &mut opened.updaters,
-        window,
-        plan.kind,
-        Propagation::of(plan),
-    )
+    let by = Propagation::of(plan);
+    let updaters = &mut opened.updaters;
+    feed_in_turn(rt, &mut opened.heart, updaters, window, plan.kind, by)
 }
 
-// Room in which any number of updaters is fed at once, in as many threads as there are processors.
+// Room in which any number of updaters is fed: lines in as many threads as there are processors, fields in one.
 pub(crate) fn feeders_for<C: Composable, R: Threads>(
     rt: &R,
     alloc: Global,
+    plan: &Intake,
     updaters: usize,
 ) -> Result<Feeders<C>, OutOfMemory>
     ensures places { IfOk result (λ feeders. most_updaters ≤ feeders.most) }
 {
-    Feeders::new(alloc, MOST_UPDATERS, threads_for(rt, updaters))
+    let threads = if plan.column == 0 {
+        threads_for(rt, updaters)
+    } else {
+        1
+    };
+    Feeders::new(alloc, MOST_UPDATERS, threads)
 }
 
 // As many threads as there are processors, and no more than updaters.
@@ -63,16 +63,8 @@ pub(crate) fn threads_for<R: Threads>(rt: &R, updaters: usize) -> u32
     threads as u32
 }
 
-// Whether each item that an updater keeps is handed over: at once they would only wait for one another.
-pub(crate) fn is_early<C: Composable>(updaters: &[Updater<C>]) -> bool {
-    match updaters.first() {
-        Some(updater) => updater.is_eager(),
-        None => false,
-    }
-}
-
-// Feeds a window to all updaters as `feed_window` does, but at once where that is faster.
-pub(crate) fn feed_at_once<C: Composable + Send, R: Threads + Wait + Sync>(
+// Feeds a window to all updaters as `feed_window` does, but in threads if that is faster.
+pub(crate) fn feed_in_threads<C: Composable + Send, R: Threads + Wait + Sync>(
     rt: &R,
     opened: &mut Opened<C>,
     feeders: &mut Feeders<C>,
@@ -81,65 +73,22 @@ pub(crate) fn feed_at_once<C: Composable + Send, R: Threads + Wait + Sync>(
 ) -> Result<(), OutOfMemory>
 where
     C::Told: Send,
-    requires hub { IsHub (hub_of opened.old) }
     requires places { most_updaters ≤ feeders.old.most }
     requires room { HaveRoom window.now.lines opened.old.updaters.items }
+    requires hub { IsHub (hub_of opened.old) }
     ensures fed { OnOk result (FeedsWindow C.keeps_of C.hint_of plan.now.kind window.now.lines (hub_of opened.old) (hub_of opened.new)) }
     ensures stays { feeders.new ≡ feeders.old }
 {
-    if window.len() < LEAST_AT_ONCE || feeders.threads() < 2 || is_early(&opened.updaters) {
+    if window.len() < LEAST_IN_THREADS || feeders.threads() < 2 || are_eager(&opened.updaters) {
         return feed_window(rt, opened, window, plan);
     }
-    if !plan.propagator {
-        return feed_helping(rt, opened, feeders, window, plan.kind);
-    }
-    feed_windows_at_once(rt, opened, feeders, from_ref(window), plan)
-}
-
-// Feeds a window to all updaters at once. Each propagates where it is busy or eager.
-fn feed_helping<C: Composable + Send, R: Threads + Wait + Sync>(
-    rt: &R,
-    opened: &mut Opened<C>,
-    feeders: &mut Feeders<C>,
-    window: &Window,
-    kind: Kind,
-) -> Result<(), OutOfMemory>
-where
-    C::Told: Send,
-    requires hub { IsHub (hub_of opened.old) }
-    requires places { most_updaters ≤ feeders.old.most }
-    requires room { HaveRoom window.now.lines opened.old.updaters.items }
-    ensures fed { OnOk result (FeedsWindow C.keeps_of C.hint_of kind window.now.lines (hub_of opened.old) (hub_of opened.new)) }
-    ensures stays { feeders.new ≡ feeders.old }
-{
     // It tells the proof how many updaters a hub has at most.
     let _admitted = opened.heart.admitted();
-    feeders.feed_window(rt, &mut opened.updaters, window, kind, true)
-}
-
-// Feeds windows to all updaters at once: to each its block of one after another.
-fn feed_windows_at_once<C: Composable + Send, R: Threads + Wait + Sync>(
-    rt: &R,
-    opened: &mut Opened<C>,
-    feeders: &mut Feeders<C>,
-    windows: &[Window],
-    plan: &Intake,
-) -> Result<(), OutOfMemory>
-where
-    C::Told: Send,
-    requires hub { IsHub (hub_of opened.old) }
-    requires places { most_updaters ≤ feeders.old.most }
-    requires room { HaveRoomFor (map (λ w. w.lines) windows.now) opened.old.updaters.items }
-    ensures fed { OnOk result (FeedsWindows C.keeps_of C.hint_of plan.now.kind (map (λ w. w.lines) windows.now) (hub_of opened.old) (hub_of opened.new)) }
-    ensures stays { feeders.new ≡ feeders.old }
-{
-    // It tells the proof how many updaters a hub has at most.
-    let _admitted = opened.heart.admitted();
-    feeders.feed_windows(
+    feeders.feed_window(
         rt,
         &mut opened.heart,
         &mut opened.updaters,
-        windows,
+        window,
         plan.kind,
         Propagation::of(plan),
     )
@@ -160,7 +109,7 @@ pub(crate) fn feed_stretch<C: Composable, R: Wait>(
 }
 
 // Feeds windows to all updaters, one after another.
-pub(crate) fn feed_windows_in_turn<C: Composable, R: Wait>(
+fn feed_windows_in_turn<C: Composable, R: Wait>(
     rt: &R,
     opened: &mut Opened<C>,
     windows: &[Window],
@@ -178,5 +127,5 @@ pub(crate) fn feed_windows_in_turn<C: Composable, R: Wait>(
 
 // Whether a stretch is fed sooner than threads are started.
 pub(crate) fn is_short(stretch: &Stretch) -> bool {
-    stretch.lines() < LEAST_AT_ONCE as usize
+    stretch.lines() < LEAST_IN_THREADS as usize
 }

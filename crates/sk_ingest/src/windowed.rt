@@ -1,21 +1,24 @@
 //! A source's units that are gathered in a window, which is fed and reported each time it is full.
 ghost use Rattle.std.specs.Prelude.{◌≡◌, ◌+◌, ◌<◌, ◌≤◌, ℕ, List, [], ◌∷◌, ◌++◌, Some, OnOk, IfErr, IfSome, IsNone, length, true, false};
 ghost use Rattle.sk_model.specs.Causes.{HasCauseIn};
-ghost use Rattle.sk_model.specs.Limits.{line_limit, most_kept};
+ghost use Rattle.sk_model.specs.Limits.{source_limit, line_limit, most_kept};
 ghost use Rattle.sk_read.specs.Faults.{IsOfTaker};
 ghost use Rattle.sk_read.specs.Items.{item_of, IsGood};
-ghost use Rattle.sk_feed.specs.Hubs.{Hub, hub_of, IsHub, FeedsWindow};
-ghost use Rattle.sk_feed.specs.Rounds.{HaveRoom};
-ghost use Rattle.sk_ingest.specs.Ingests.{terms_of, IsReported, StopsAtUnit};
-ghost use Rattle.sk_ingest.specs.Takers.{IsSetUp, WindowsWent, SameReport, ReportStops, StopsPassing};
+ghost use Rattle.sk_read.specs.Reads.{Reads};
+ghost use Rattle.sk_read.specs.Units.{units_by};
+ghost use Rattle.sk_feed.specs.Hubs.{Hub, hub_of};
+ghost use Rattle.sk_ingest.specs.Ingests.{terms_of, StopsAtUnit};
+ghost use Rattle.sk_ingest.specs.Takers.{IsSetUp, WindowsWent, SameReport, ReportStops};
 
-use crate::report::{Report, Stop};
-use crate::ways::feed_window;
+use crate::passing::pass_in_turn;
+use crate::report::Report;
 use sk_compose::Composable;
 use sk_fill::{Window, is_good};
 use sk_hub::Opened;
+use sk_io::Source;
 use sk_lines::Span;
-use sk_read::{Fault, Intake, Kind, UnitTaker};
+use sk_read::{Fault, Intake, UnitTaker, Units, read_units};
+use std::alloc::Global;
 use std::sync::Wait;
 
 // Takes units into a window, and feeds and reports it each time it is full.
@@ -63,7 +66,7 @@ impl<C: Composable, P: Report<C>, R: Wait> UnitTaker for Windowed<'_, '_, '_, '_
     }
 }
 
-// Puts a unit into the window. Where that is full then, it is fed and reported.
+// Puts a unit into the window. If that is full then, it is fed and reported.
 fn take_unit<C: Composable, P: Report<C>, R: Wait>(
     rt: &R,
     plan: &Intake,
@@ -97,55 +100,38 @@ fn take_unit<C: Composable, P: Report<C>, R: Wait>(
     if !window.is_full() {
         return Ok(());
     }
-    pass_on(rt, plan, window, opened, report, number)
+    pass_in_turn(rt, plan, window, opened, report, number)
 }
 
-// Feeds and reports a window, and takes its lines out.
-fn pass_on<C: Composable, P: Report<C>, R: Wait>(
+// Reads the fields of a source into a window, which is fed and reported each time it is full.
+pub(crate) fn read_field_windows<S: Source, C: Composable, P: Report<C>, R: Wait>(
     rt: &R,
+    alloc: Global,
     plan: &Intake,
+    source: &mut S,
     window: &mut Window,
     opened: &mut Opened<C>,
     report: &mut P,
-    line: u64,
-) -> Result<(), Fault>
+) -> Result<u64, Fault>
+    requires start { WindowsWent (terms_of C.keeps_of C.hint_of P.reports P.breaks plan.now) [] (hub_of opened.old) report.old window.old.lines (hub_of opened.old) report.old }
     requires setup { IsSetUp plan.now window.old (hub_of opened.old) (P.sketch report.old) }
-    requires hub { IsHub (hub_of opened.old) }
-    requires room { HaveRoom window.old.lines opened.old.updaters.items }
-    ensures passed { OnOk result ((x : Hub) × FeedsWindow C.keeps_of C.hint_of plan.now.kind window.old.lines (hub_of opened.old) x
-        × IsReported plan.now.interim P.reports line x report.old (hub_of opened.new) report.new) }
-    ensures stopped { IfErr result (StopsPassing (terms_of C.keeps_of C.hint_of P.reports P.breaks plan.now) window.old.lines line (hub_of opened.old) report.old report.new) }
-    ensures cleared { OnOk result (window.new.lines ≡ []) }
+    requires bound { plan.now.most ≤ source_limit }
+    ensures stays { S.stands_on source.new ≡ S.stands_on source.old }
+    ensures report { P.stands_on report.new ≡ P.stands_on report.old }
+    ensures named { P.sketch report.new ≡ P.sketch report.old }
     ensures setup { OnOk result (IsSetUp plan.now window.new (hub_of opened.new) (P.sketch report.new)) }
-    ensures cause { HasCauseIn Fault.WriteFault (P.faults report.old) (P.faults report.new) result }
-    ensures stays { P.stands_on report.new ≡ P.stands_on report.old }
-    ensures named { P.sketch report.new ≡ P.sketch report.old }
+    ensures read { Reads (units_by plan.now.column) plan.now.most
+        (λ units. WindowsWent (terms_of C.keeps_of C.hint_of P.reports P.breaks plan.now) units (hub_of opened.old) report.old window.new.lines (hub_of opened.new) report.new)
+        (StopsAtUnit (terms_of C.keeps_of C.hint_of P.reports P.breaks plan.now) (hub_of opened.old) report.old report.new) (S.left source.old) (S.left source.new) result }
+    ensures reads { HasCauseIn Fault.ReadFault (S.faults source.old) (S.faults source.new) result }
+    ensures writes { HasCauseIn Fault.WriteFault (P.faults report.old) (P.faults report.new) result }
 {
-    feed_window(rt, opened, window, plan)?;
-    window.clear();
-    report_at(plan.interim, line, opened, report)?;
-    Ok(())
-}
-
-// Reports the hub, where interim replies are wanted.
-pub(crate) fn report_at<C: Composable, P: Report<C>>(
-    interim: bool,
-    line: u64,
-    opened: &mut Opened<C>,
-    report: &mut P,
-) -> Result<(), Stop>
-    requires hub { IsHub (hub_of opened.old) }
-    requires sketch { IfSome (P.sketch report.old) (λ name. opened.old.heart.view.name ≡ name) }
-    ensures reported { OnOk result (IsReported interim P.reports line (hub_of opened.old) report.old (hub_of opened.new) report.new) }
-    ensures stopped { IfErr result (λ stop. (interim ≡ true) × P.breaks report.old stop line (hub_of opened.old) (hub_of opened.new) report.new) }
-    ensures cause { HasCauseIn Stop.Failed (P.faults report.old) (P.faults report.new) result }
-    ensures stays { P.stands_on report.new ≡ P.stands_on report.old }
-    ensures named { P.sketch report.new ≡ P.sketch report.old }
-    ensures name { opened.new.heart.view.name ≡ opened.old.heart.view.name }
-    ensures count { length opened.new.updaters.items ≡ length opened.old.updaters.items }
-{
-    if interim {
-        report.at(line, opened)?;
-    }
-    Ok(())
+    let mut taker = Windowed {
+        rt,
+        plan: *plan,
+        window,
+        opened,
+        report,
+    };
+    read_units(alloc, Units::of(plan.column), plan.most, source, &mut taker)
 }

@@ -9,8 +9,8 @@ use Rattle.sk_feed.proofs.feeder.feed_blocks.Goals as goal
 pub window-init : goal.window-init
 window-init g c = let k = g.C.Composable in sets_out k.keeps_of k.hint_of c.args.kind (map (λ w. w.lines) c.args.windows.now) c.args.i c.args.n c.args.u.now c.requires.room
 
-pub feed_patiently-requires-clause-room : goal.feed_patiently-requires-clause-room
-feed_patiently-requires-clause-room g c =
+pub feed_whole-requires-clause-room : goal.feed_whole-requires-clause-room
+feed_whole-requires-clause-room g c =
     let k = g.C.Composable in let i = c.args.i in let n = c.args.n in let w = c.index-windows-at.result in
     let from : c.of-block.result.from ≡ place_of (length w.lines) i n = c.of-block.ensures.from ∙ ap (λ m. place_of m i n) c.len.ensures.value in
     let to : c.of-block.result.to ≡ place_of (length w.lines) (i + 1) n = c.of-block.ensures.to ∙ ap (λ m. place_of m (i + 1) n) c.len.ensures.value in
@@ -19,7 +19,7 @@ feed_patiently-requires-clause-room g c =
 
 pub window-preserved : goal.window-preserved
 window-preserved g c =
-    let k = g.C.Composable in let i = c.args.i in let n = c.args.n in let w = c.index-windows-at.result in let u = c.window.u in let u' = c.feed_patiently.new.u in
+    let k = g.C.Composable in let i = c.args.i in let n = c.args.n in let w = c.index-windows-at.result in let u = c.window.u in let u' = c.feed_whole.new.u in
     let from : c.of-block.result.from ≡ place_of (length w.lines) i n = c.of-block.ensures.from ∙ ap (λ m. place_of m i n) c.len.ensures.value in
     let to : c.of-block.result.to ≡ place_of (length w.lines) (i + 1) n = c.of-block.ensures.to ∙ ap (λ m. place_of m (i + 1) n) c.len.ensures.value in
     let taken : Takes k.keeps_of k.hint_of u (items_in c.args.kind (block_of w.lines i n)) u'

@@ -5,7 +5,6 @@ use Rattle.sk_fill.specs.Windows.{items_in}
 use Rattle.sk_hub.specs.Calls.{Takes}
 use Rattle.sk_fill.specs.Blocks.{block_of}
 use Rattle.sk_feed.specs.Rounds.{TakesFront}
-use Rattle.sk_hub.proofs.Calls.{on_err}
 use Rattle.sk_feed.proofs.Rounds.{ok_then, err_then, one_refused, room_at, all_take, all_front}
 use Rattle.sk_feed.proofs.feeder.feed_each.Goals as goal
 use Rattle.sk_model.specs.Limits.{most_kept}
@@ -23,12 +22,12 @@ returns-clause-taken g c =
     = λ i d inside. let call = (c.for_each_mut.ensures i d inside).1 in grind arith in
     ok_then c.outcome.result c.outcome.ensures.all (λ all. all_take (λ f. f.updater) (λ f. f.place) k.keeps_of k.hint_of c.args.kind lines fs fs' (omega (arith, c.for_each_mut.auto.s)) all each)
 
-pub returns-clause-refused : goal.returns-clause-refused
-returns-clause-refused g c =
+pub returns-clause-fronts : goal.returns-clause-fronts
+returns-clause-fronts g c =
     let k = g.C.Composable in let lines = c.args.window.now.lines in let fs = c.args.feeders.now in let fs' = c.for_each_mut.new.s in
     let each : (i : ℕ) (d : Feeder g.row.C.Denot g.row.C-Told.Denot) → i < length fs → TakesFront k.keeps_of k.hint_of c.args.kind (block_of lines i (length fs)) (get_or fs i d).updater (get_or fs' i d).updater
     = λ i d inside. let call = (c.for_each_mut.ensures i d inside).1 in grind arith in
-    on_err c.outcome.result (all_front (λ f. f.updater) k.keeps_of k.hint_of c.args.kind lines fs fs' (omega (arith, c.for_each_mut.auto.s)) each)
+    all_front (λ f. f.updater) k.keeps_of k.hint_of c.args.kind lines fs fs' (omega (arith, c.for_each_mut.auto.s)) each
 
 pub returns-clause-cause : goal.returns-clause-cause
 returns-clause-cause g c =

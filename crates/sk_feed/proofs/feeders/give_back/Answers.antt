@@ -5,11 +5,11 @@ use Rattle.sk_feed.proofs.feeders.give_back.Goals as goal
 
 pub back-init : goal.back-init
 back-init g c =
-    let fs = c.args.feeders.now.items in let turned = c.turn.ensures.turned in record {
-      moved = ap (λ l. l ++ reverse (map (λ f. f.updater) c.turn.new.elements.items)) c.requires.none
+    let fs = c.args.feeders.now.items in let turned = c.back_to_front.ensures.reversed in record {
+      moved = ap (λ l. l ++ reverse (map (λ f. f.updater) c.back_to_front.new.elements.items)) c.requires.none
           ∙ ap (λ l. reverse (map (λ f. f.updater) l)) turned ∙ ap (λ l. reverse l) (map_reverse (λ f. f.updater) fs) ∙ reverse-reverse (map (λ f. f.updater) fs);
       count = omega (arith, ap length c.requires.none, ap length turned, length-reverse fs);
-      places = c.turn.ensures.capacity;
+      places = c.back_to_front.ensures.capacity;
       capacity = refl;
     }
 

@@ -3,7 +3,7 @@ use Rattle.sk_feed.specs.Deliveries.{HasFed}
 use Rattle.sk_feed.proofs.lane.feed_deliveries.Given as goal
 
 abbrev pub invariant-delivery : goal.invariant-delivery
-invariant-delivery g l = let k = g.C.Composable in record {
+invariant-delivery g l = let k = g.T.TakesStretches in record {
   ring : SameConsumer l.initial.inlet l.inlet;
-  fed : HasFed k.keeps_of k.hint_of l.kind l.i l.n l.initial.inlet l.initial.u l.inlet l.u;
+  fed : HasFed (k.took l.kind l.i l.n) k.keeps_at_most l.initial.inlet l.initial.taker l.inlet l.taker;
 }

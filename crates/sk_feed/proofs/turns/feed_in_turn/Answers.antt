@@ -1,9 +1,8 @@
 use Rattle.std.proofs.Common.{◌≡◌, ◌+◌, ◌<◌, length, slice_range, ap, subst, ◌∙◌, arith}
-use Rattle.std.proofs.lemmas.List.{length-set}
 use Rattle.sk_fill.specs.Blocks.{place_of, block_of}
 use Rattle.sk_fill.specs.Windows.{items_in}
 use Rattle.sk_hub.specs.Calls.{Takes}
-use Rattle.sk_feed.proofs.Feeding.{next_took, others_wait}
+use Rattle.sk_feed.proofs.Done.{done_next, done_all}
 use Rattle.sk_feed.proofs.Shares.{one_window}
 use Rattle.sk_feed.proofs.HubLaws.{heart_goes}
 use Rattle.sk_feed.proofs.turns.feed_in_turn.Goals as goal
@@ -19,15 +18,12 @@ updater-preserved g c =
     = subst (λ p. Takes k.keeps_of k.hint_of c.index_mut-updater.result.now (items_in c.args.kind (slice_range lines p (place_of (length lines) (i + 1) (length us)))) u') from
     (subst (λ p. Takes k.keeps_of k.hint_of c.index_mut-updater.result.now (items_in c.args.kind (slice_range lines c.of-block.result.from p)) u') to c.in_ok-feed_through.ensures.taken) in
     record {
-      count = length-set c.updater.updaters.items i u' ∙ inv.count;
-      taken = next_took k.keeps_of k.hint_of c.args.kind lines i us c.updater.updaters.items c.index_mut-updater.result.now u' inv.count within c.index_mut-updater.ensures.value inv.taken inv.later taken;
-      later = others_wait i us c.updater.updaters.items u' inv.later;
+      fed = done_next _ us c.updater.updaters.items i c.index_mut-updater.result.now u' inv.fed within c.index_mut-updater.ensures.value taken;
       heart = heart_goes c.args.heart.now c.updater.heart c.feed_through.new.heart inv.heart c.feed_through.ensures.heart;
     }
 
 pub returns-clause-taken : goal.returns-clause-taken
 returns-clause-taken g c =
     let k = g.C.Composable in let inv = c.updater.invariant in let us = c.args.updaters.now.items in
-    let n : c.len-n.result ≡ length us = omega (arith, c.len-n.ensures) in
-    one_window k.keeps_of k.hint_of c.args.kind c.args.window.now.lines us c.updater.updaters.items inv.count
-    (λ j d inside. inv.taken j d (omega (arith, c.updater-test.false, n)))
+    let n : c.updater.i ≡ length us = omega (arith, c.len-n.ensures, c.updater-test.false) in
+    one_window k.keeps_of k.hint_of c.args.kind c.args.window.now.lines us c.updater.updaters.items inv.fed.count (done_all _ us c.updater.updaters.items c.updater.i n inv.fed)

@@ -65,20 +65,16 @@ feed_on-requires-clause-few g c κs within =
     let k = g.C.Composable in
     stretches_few k.keeps_of k.hint_of c.args.plan.now c.stretch.stretch.windows c.stretch.stretch.first c.stretch.more (hub_of c.args.opened.now) (hub_of c.stretch.opened) c.stretch.reader (g.S.Source.left c.args.source.now) (g.S.Source.left c.stretch.source) c.stretch.invariant.went c.requires.few
 
-pub feed_on-requires-clause-least : goal.feed_on-requires-clause-least
-feed_on-requires-clause-least g c κs within = subst (λ m. 1 ≤ m) (sym c.stretch.invariant.stretch) c.requires.window.0
-
-pub feed_on-requires-clause-highest : goal.feed_on-requires-clause-highest
-feed_on-requires-clause-highest g c κs within = subst (λ m. m ≤ most_lines) (sym c.stretch.invariant.stretch) c.requires.window.1
-
 pub feed_on-requires-clause-started : goal.feed_on-requires-clause-started
 feed_on-requires-clause-started g c κs within =
-    let k = g.C.Composable in let went = c.stretch.invariant.went in (
-      all_lines went.fed ++ all_lines c.stretch.stretch.windows,
-      went.taken,
-      went.read,
-      stretches_lines k.keeps_of k.hint_of c.args.plan.now c.stretch.stretch.windows c.stretch.stretch.first c.stretch.more (hub_of c.args.opened.now) (hub_of c.stretch.opened) c.stretch.reader (g.S.Source.left c.args.source.now) (g.S.Source.left c.stretch.source) went,
-    )
+    let k = g.C.Composable in let went = c.stretch.invariant.went in record {
+      least = subst (λ m. 1 ≤ m) (sym c.stretch.invariant.stretch) c.requires.window.0;
+      highest = subst (λ m. m ≤ most_lines) (sym c.stretch.invariant.stretch) c.requires.window.1;
+      given = all_lines went.fed ++ all_lines c.stretch.stretch.windows;
+      taken = went.taken;
+      read = went.read;
+      count = stretches_lines k.keeps_of k.hint_of c.args.plan.now c.stretch.stretch.windows c.stretch.stretch.first c.stretch.more (hub_of c.args.opened.now) (hub_of c.stretch.opened) c.stretch.reader (g.S.Source.left c.args.source.now) (g.S.Source.left c.stretch.source) went;
+    }
 
 pub returns-in_err-more-2-clause-refused : goal.returns-in_err-more-2-clause-refused
 returns-in_err-more-2-clause-refused g c =

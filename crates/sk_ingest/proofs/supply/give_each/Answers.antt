@@ -1,7 +1,8 @@
 use Rattle.std.proofs.Common.{◌∷◌, [], ◌++◌, ◌<◌, length, sym, ap, ◌∙◌, subst, arith}
 use Rattle.rtrb.specs.Ring.{sent}
 use Rattle.sk_feed.specs.Deliveries.{IsNext}
-use Rattle.sk_ingest.proofs.SupplyLaws.{Gave, done_at, done_next}
+use Rattle.sk_feed.proofs.Done.{done_at, done_next}
+use Rattle.sk_ingest.proofs.SupplyLaws.{Gave}
 use Rattle.sk_ingest.proofs.supply.give_each.Goals as goal
 
 pub push_waiting-requires : goal.push_waiting-requires

@@ -1,5 +1,6 @@
 use Rattle.std.proofs.Common.{◌∷◌, []}
-use Rattle.sk_ingest.proofs.SupplyLaws.{DoneTo, Gave}
+use Rattle.sk_feed.proofs.Done.{DoneTo}
+use Rattle.sk_ingest.proofs.SupplyLaws.{Gave}
 use Rattle.sk_ingest.proofs.supply.give_each.Given as goal
 
 abbrev pub invariant-outlet : goal.invariant-outlet

@@ -1,9 +1,0 @@
-use Rattle.sk_hub.specs.Calls.{KeepsNone}
-use Rattle.sk_feed.specs.Hubs.{HeartGoesOn}
-use Rattle.sk_ingest.proofs.at_once.propagate_until_taken.Given as goal
-
-abbrev pub invariant-again : goal.invariant-again
-invariant-again g l = record {
-  none : KeepsNone l.initial.u l.u;
-  heart : HeartGoesOn l.initial.heart l.heart;
-}

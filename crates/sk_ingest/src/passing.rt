@@ -1,0 +1,106 @@
+//! A full window, which is fed and reported.
+ghost use Rattle.std.specs.Prelude.{◌≡◌, ◌≤◌, [], ℕ, List, OnOk, IfErr, IfSome, length, true};
+ghost use Rattle.sk_model.specs.Causes.{HasCauseIn};
+ghost use Rattle.sk_model.specs.Limits.{most_updaters};
+ghost use Rattle.sk_feed.specs.Hubs.{Hub, hub_of, IsHub, FeedsWindow};
+ghost use Rattle.sk_feed.specs.Rounds.{HaveRoom};
+ghost use Rattle.sk_ingest.specs.Ingests.{terms_of, IsReported};
+ghost use Rattle.sk_ingest.specs.Takers.{IsSetUp, StopsPassing};
+
+use crate::report::{Report, Stop};
+use crate::ways::{feed_in_threads, feed_window};
+use sk_compose::Composable;
+use sk_feed::Feeders;
+use sk_fill::Window;
+use sk_hub::Opened;
+use sk_read::{Fault, Intake};
+use std::sync::Wait;
+use std::thread::Threads;
+
+// A window that is filled, and room in which its blocks are fed.
+#[derive(Drop)]
+pub(crate) struct Round<C: Composable> {
+    pub(crate) window: Window,
+    pub(crate) feeders: Feeders<C>,
+}
+
+// Feeds and reports a window, and takes its lines out.
+pub(crate) fn pass_on<C: Composable + Send, P: Report<C>, R: Threads + Wait + Sync>(
+    rt: &R,
+    plan: &Intake,
+    round: &mut Round<C>,
+    opened: &mut Opened<C>,
+    report: &mut P,
+    line: u64,
+) -> Result<(), Fault>
+where
+    C::Told: Send,
+    requires setup { IsSetUp plan.now round.old.window (hub_of opened.old) (P.sketch report.old) }
+    requires places { most_updaters ≤ round.old.feeders.most }
+    requires hub { IsHub (hub_of opened.old) }
+    requires room { HaveRoom round.old.window.lines opened.old.updaters.items }
+    ensures passed { OnOk result ((x : Hub) × FeedsWindow C.keeps_of C.hint_of plan.now.kind round.old.window.lines (hub_of opened.old) x
+        × IsReported plan.now.interim P.reports line x report.old (hub_of opened.new) report.new) }
+    ensures stopped { IfErr result (StopsPassing (terms_of C.keeps_of C.hint_of P.reports P.breaks plan.now) round.old.window.lines line (hub_of opened.old) report.old report.new) }
+    ensures cleared { OnOk result (round.new.window.lines ≡ []) }
+    ensures setup { OnOk result (IsSetUp plan.now round.new.window (hub_of opened.new) (P.sketch report.new)) }
+    ensures feeders { round.new.feeders ≡ round.old.feeders }
+    ensures cause { HasCauseIn Fault.WriteFault (P.faults report.old) (P.faults report.new) result }
+    ensures stays { P.stands_on report.new ≡ P.stands_on report.old }
+    ensures named { P.sketch report.new ≡ P.sketch report.old }
+{
+    feed_in_threads(rt, opened, &mut round.feeders, &round.window, plan)?;
+    round.window.clear();
+    report_at(plan.interim, line, opened, report)?;
+    Ok(())
+}
+
+// The same in one thread: a method of a trait, as a taker's, starts none.
+pub(crate) fn pass_in_turn<C: Composable, P: Report<C>, R: Wait>(
+    rt: &R,
+    plan: &Intake,
+    window: &mut Window,
+    opened: &mut Opened<C>,
+    report: &mut P,
+    line: u64,
+) -> Result<(), Fault>
+    requires hub { IsHub (hub_of opened.old) }
+    requires room { HaveRoom window.old.lines opened.old.updaters.items }
+    requires setup { IsSetUp plan.now window.old (hub_of opened.old) (P.sketch report.old) }
+    ensures cleared { OnOk result (window.new.lines ≡ []) }
+    ensures setup { OnOk result (IsSetUp plan.now window.new (hub_of opened.new) (P.sketch report.new)) }
+    ensures passed { OnOk result ((x : Hub) × FeedsWindow C.keeps_of C.hint_of plan.now.kind window.old.lines (hub_of opened.old) x
+        × IsReported plan.now.interim P.reports line x report.old (hub_of opened.new) report.new) }
+    ensures stopped { IfErr result (StopsPassing (terms_of C.keeps_of C.hint_of P.reports P.breaks plan.now) window.old.lines line (hub_of opened.old) report.old report.new) }
+    ensures stays { P.stands_on report.new ≡ P.stands_on report.old }
+    ensures named { P.sketch report.new ≡ P.sketch report.old }
+    ensures cause { HasCauseIn Fault.WriteFault (P.faults report.old) (P.faults report.new) result }
+{
+    feed_window(rt, opened, window, plan)?;
+    window.clear();
+    report_at(plan.interim, line, opened, report)?;
+    Ok(())
+}
+
+// Reports the hub, where interim replies are wanted.
+fn report_at<C: Composable, P: Report<C>>(
+    interim: bool,
+    line: u64,
+    opened: &mut Opened<C>,
+    report: &mut P,
+) -> Result<(), Stop>
+    requires hub { IsHub (hub_of opened.old) }
+    requires sketch { IfSome (P.sketch report.old) (λ name. opened.old.heart.view.name ≡ name) }
+    ensures reported { OnOk result (IsReported interim P.reports line (hub_of opened.old) report.old (hub_of opened.new) report.new) }
+    ensures stopped { IfErr result (λ stop. (interim ≡ true) × P.breaks report.old stop line (hub_of opened.old) (hub_of opened.new) report.new) }
+    ensures cause { HasCauseIn Stop.Failed (P.faults report.old) (P.faults report.new) result }
+    ensures stays { P.stands_on report.new ≡ P.stands_on report.old }
+    ensures named { P.sketch report.new ≡ P.sketch report.old }
+    ensures name { opened.new.heart.view.name ≡ opened.old.heart.view.name }
+    ensures count { length opened.new.updaters.items ≡ length opened.old.updaters.items }
+{
+    if interim {
+        report.at(line, opened)?;
+    }
+    Ok(())
+}
