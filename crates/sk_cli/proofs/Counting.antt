@@ -7,9 +7,9 @@ use Rattle.sk_read.specs.declared.fault.Fault.{Fault as ReadingFault}
 use Rattle.sk_read.specs.declared.fault.Fault.TheVariants as reading
 use Rattle.sk_watch.specs.Places.{Place}
 use Rattle.sk_count.specs.declared.plan.Plan.{Plan}
-use Rattle.sk_count.specs.declared.remains.Remains.{Remains}
+use Rattle.sk_report.specs.declared.remains.Remains.{Remains}
 use Rattle.sk_count.specs.Counts.{Setting, setting, interim_by, last_lines, TellsSoFar, TellsAll, TellsPartOfAll, StopsFor, EndsBefore, EndsBehind, Counts}
-use Rattle.sk_count.proofs.Endings.{ends_so, all_so}
+use Rattle.sk_ingest.proofs.Endings.{ends_so, all_so}
 use Rattle.sk_cli.specs.Beside.{Beside}
 use Rattle.sk_cli.specs.commands.Count.{counted, counting, IsInterim, IsWhole, LeavesHub}
 use Rattle.sk_cli.specs.Fault.{fault_by}

@@ -12,7 +12,7 @@ use Rattle.sk_snap.specs.Versions.{Learnt, items_in}
 use Rattle.sk_rank.specs.declared.plan.Plan.{Plan}
 use Rattle.sk_rank.specs.Ranks.{Setting, setting, TellsSoFar, TellsAll, TellsPartOfAll, StopsFor, EndsBefore, EndsBehind}
 use Rattle.sk_rank.specs.Texts.{interim_text, rank_line}
-use Rattle.sk_count.proofs.Endings.{ends_so, all_so}
+use Rattle.sk_ingest.proofs.Endings.{ends_so, all_so}
 use Rattle.sk_cli.specs.Beside.{Beside}
 use Rattle.sk_cli.specs.commands.Quantile.{ranking, IsInterim, IsWhole, LeavesRanks}
 use Rattle.sk_cli.specs.Fault.{fault_by}

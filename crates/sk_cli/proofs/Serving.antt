@@ -2,8 +2,8 @@
 use Rattle.std.proofs.Common.{◌≡◌, ℕ, List, [], map, Result, Ok, Err, refl, ap, ◌∙◌}
 use Rattle.sk_model.specs.Entries.{Entry}
 use Rattle.sk_watch.specs.Places.{Place, told}
-use Rattle.sk_count.specs.declared.remains.Remains.{Remains}
-use Rattle.sk_count.specs.Texts.{armed_with, reply_of}
+use Rattle.sk_report.specs.declared.remains.Remains.{Remains}
+use Rattle.sk_report.specs.Texts.{armed_with, reply_of}
 use Rattle.sk_serve.specs.Serves.{Surroundings, ServesPlan}
 use Rattle.sk_serve.specs.declared.fault.ServeFault.{ServeFault}
 use Rattle.sk_serve.specs.declared.fault.ServeFault.TheVariants as serve

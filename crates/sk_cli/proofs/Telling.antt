@@ -10,7 +10,7 @@ use Rattle.sk_cli.specs.Run.{Finishes, Ends, Executes}
 use Rattle.sk_cli.specs.declared.fault.Fault.{Fault}
 use Rattle.sk_cli.specs.declared.fault.Fault.TheVariants as fault
 use Rattle.sk_cli.proofs.Endings.{ends_writing, on_ok_then}
-use Rattle.sk_count.proofs.Fronts.{on_err_then}
+use Rattle.sk_report.proofs.Fronts.{on_err_then}
 
 pub about_told : (page bytes : List ℕ) (most : ℕ) (from to : Beside) (a b : Streams) (r : Result (Unit {0}) Fault) → bytes ≡ page → b.left ≡ a.left → OnOk r (Appends a.written b.written bytes) → OnErr r (AppendsPart a.written b.written bytes) →
     IfErr r (λ (f : Fault). f ≡ fault.WriteFault) → Executes (about page) most from to a b r

@@ -6,7 +6,8 @@ use Rattle.std.proofs.lemmas.List.Elements.{All-map}
 use Rattle.sk_theta.specs.declared.reply.Reply.{Reply}
 use Rattle.sk_watch.specs.Places.{Place, IsLive, told}
 use Rattle.sk_count.specs.Moments.{Moment}
-use Rattle.sk_count.specs.Texts.{armed_with, places_after, reply_of}
+use Rattle.sk_report.specs.Texts.{armed_with, reply_of}
+use Rattle.sk_count.specs.Texts.{places_after}
 use Rattle.sk_cli.specs.Beside.{cleared}
 
 -- a watcher that is there is seen

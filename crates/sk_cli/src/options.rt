@@ -7,8 +7,8 @@ ghost use Rattle.sk_cli.specs.Beside.{board_places};
 ghost use Rattle.sk_cli.specs.Options.{name_of, takes_value, allows, options_of, texts_of, is_once, value_behind, given_in, spelled_by, is_given, number_in, required_in, is_yes_in, name_in, seed_by, updaters_by, sizes_by, window_by, eager_by, propagator_by, alarms_by};
 
 use crate::values::{number_from, number_list, yes_or_no};
-use sk_count::Numbers;
 use sk_model::limits::{MOST_SIZE, MOST_UPDATERS};
+use sk_report::Numbers;
 use std::marker::Model;
 
 // The greatest mark of an alarm.

@@ -1,9 +1,9 @@
 // What a run leaves behind.
 ghost use Rattle.std.specs.Prelude.{◌≡◌, None};
 
-use sk_count::Remains as Counted;
 use sk_heap::HeapTheta;
 use sk_hub::{Heart, Token};
+use sk_report::Remains as Counted;
 use sk_snap::{QuantReader, VersionedQuant};
 use std::sync::Wait;
 

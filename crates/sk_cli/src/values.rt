@@ -1,11 +1,11 @@
 //! What the value of an option spells: numbers, lists of them, and yes or no.
 ghost use Rattle.std.specs.Prelude.{◌≡◌, ◌+◌, ◌^◌, ◌<◌, ◌≤◌, ◌∷◌, All, length, IfSome, option_copied};
 ghost use Rattle.sk_model.specs.Limits.{IsFrom};
-ghost use Rattle.sk_count.specs.Limits.{most_numbers};
+ghost use Rattle.sk_report.specs.Limits.{most_numbers};
 ghost use Rattle.sk_cli.specs.Values.{number_from, number_list, parts_of, parts_in, yes_or_no};
 
-use sk_count::Numbers;
 use sk_lines::read_number;
+use sk_report::Numbers;
 
 /// The number from `low` to `high` that a word spells.
 pub fn number_from(word: &[u8], low: u64, high: u64) -> Option<u64>

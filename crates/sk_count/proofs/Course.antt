@@ -2,7 +2,6 @@
 use Rattle.std.proofs.Common.{◌≡◌, ℕ, ◌+◌, ◌*◌, ◌<◌, Bool, true, false, List, [], ◌∷◌, ◌++◌, length, map, get_or, All, refl, sym, ap, subst, ◌∙◌, arith, append-nil, append_assoc, length-append}
 use Rattle.std.specs.Io.KnownBytes.{Appends}
 use Rattle.std.proofs.KnownBytes.{Appends-nil, Appends-trans}
-use Rattle.std.proofs.lemmas.Grind.{flat_map-append}
 use Rattle.std.proofs.lemmas.List.{get_or-map}
 use Rattle.std.proofs.lemmas.List.Elements.{All-nil, All-cons, All-map}
 use Rattle.sk_model.specs.Entries.{Entry, items_of_entries, entries_by}
@@ -24,35 +23,21 @@ use Rattle.sk_watch.specs.Places.{answers_at, told}
 use Rattle.sk_read.specs.declared.kind.Kind.{Kind}
 use Rattle.sk_read.specs.declared.items.Intake.{Intake}
 use Rattle.sk_fill.specs.Windows.{items_in, all_lines}
-use Rattle.sk_fill.specs.Blocks.{block_of}
 use Rattle.sk_hub.specs.Calls.{Takes}
 use Rattle.sk_feed.specs.Shares.{share, TakeShares}
 use Rattle.sk_feed.specs.Hubs.{Hub, FeedsWindow, LeavesHub, IsLeft, HeartGoesOn}
 use Rattle.sk_ingest.specs.Ingests.{Terms, Reported}
 use Rattle.sk_count.specs.declared.plan.Plan.{Plan}
-use Rattle.sk_count.specs.Plans.{size_at}
+use Rattle.sk_report.specs.Sizes.{size_at}
 use Rattle.sk_count.specs.Moments.{Moment, kept_by, AreKeptOver, IsMoment, Follows, AreMoments}
-use Rattle.sk_count.specs.Texts.{interim_line, alarm_lines, reply_of, moment_text, places_behind, interim_text, places_after}
+use Rattle.sk_report.specs.Texts.{interim_line, alarm_lines, reply_of}
+use Rattle.sk_count.specs.Texts.{moment_text, places_behind, interim_text, places_after}
 use Rattle.sk_count.specs.Hubs.{MeetsAndAsks, AsksAtEach, AsksHub}
 use Rattle.sk_count.specs.Reports.{Showing, Reports, Breaks, BreaksBy, reply_in, reply_text}
-use Rattle.sk_count.proofs.Fronts.{part_behind}
+use Rattle.sk_report.proofs.Fronts.{part_behind}
+use Rattle.sk_fill.proofs.Cutting.{all_lines_more}
+use Rattle.sk_feed.proofs.Shares.{share_none, share_append}
 use Rattle.sk_count.specs.Steps.{intake_with, keeps, hint_of, Took, TookAll, HeartStays, KeptAll, KeepsAll, Stands, Passes}
-
--- ---- shares
-
-pub share_none : (kind : Kind) (n i : ℕ) → share kind [] n i ≡ []
-unfolding share
-share_none kind n i = refl
-
-pub share_append : (kind : Kind) (windows more : List (List (List ℕ))) (n i : ℕ) → share kind (windows ++ more) n i ≡ share kind windows n i ++ share kind more n i
-unfolding share
-share_append kind windows more n i = flat_map-append (λ lines. items_in kind (block_of lines i n)) windows more
-
-pub lines_append : (windows more : List (List (List ℕ))) → all_lines (windows ++ more) ≡ all_lines windows ++ all_lines more
-lines_append windows more = flat_map-append (λ lines. lines) windows more
-
-pub lines_one : (windows : List (List (List ℕ))) (lines : List (List ℕ)) → all_lines (windows ++ lines ∷ []) ≡ all_lines windows ++ lines
-lines_one windows lines = lines_append windows (lines ∷ []) ∙ ap (λ l. all_lines windows ++ l) (append-nil lines)
 
 at_some : {A P : Type 0} (xs : List A) (i : ℕ) → i < length xs → (A → P) → P
 at_some [] i within f = absurd (omega arith)
@@ -232,7 +217,7 @@ module _ (plan : Plan) (before : List (List (List ℕ))) (count : ℕ) (last : M
   at_x = stands_fed plan before last lines a x r stands fed
 
   pub counted : count + length lines ≡ length (all_lines (before ++ lines ∷ []))
-  counted = omega (arith, is, length-append (all_lines before) lines, ap length (lines_one before lines))
+  counted = omega (arith, is, length-append (all_lines before) lines, ap length (all_lines_more before lines))
 
   pub is_next : (word : ℕ) → AsksHub x word y → IsMoment plan (before ++ lines ∷ []) (moment_at (count + length lines) x y) × Follows plan.updaters last (moment_at (count + length lines) x y)
   is_next word asks = (
@@ -352,7 +337,7 @@ module _ {R : Type 0} (shown : R → Showing) (plan : Plan) (most : ℕ) where
   broke [] before count last lines a r b p x y s is stands done fed breaks =
       let feeds : FeedsWindow keeps hint_of plan.kind lines a x = subst (λ z. FeedsWindow keeps hint_of plan.kind lines z x) done.0 fed in
       let at = stands_fed plan before last lines a x (shown r) stands feeds in
-      let counted_as : length (all_lines (before ++ lines ∷ [])) ≡ count + length lines = omega (arith, is, length-append (all_lines before) lines, ap length (lines_one before lines)) in
+      let counted_as : length (all_lines (before ++ lines ∷ [])) ≡ count + length lines = omega (arith, is, length-append (all_lines before) lines, ap length (all_lines_more before lines)) in
       let next = is_next plan before count last lines a x y (shown r) (shown r) is stands feeds breaks.word breaks.asks in
       let text = text_asked plan (shown r) (count + length lines) x y breaks.word stands.k at.token breaks.asks in
       let part : AppendsPart (shown r).written (shown s).written (reply_text (shown r) (count + length lines) (reply_in (shown r).k breaks.word)) =

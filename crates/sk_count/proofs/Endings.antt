@@ -16,8 +16,8 @@ use Rattle.sk_machine.specs.declared.views.Move.TheVariants.{Ask}
 use Rattle.sk_hub.specs.Hearts.{HeartState}
 use Rattle.sk_hub.specs.Updaters.{UpdaterState, base_of, kept_of}
 use Rattle.sk_read.specs.Items.{items_by}
-use Rattle.sk_read.specs.Reads.{BreaksOff, StopsAt, ReadsSome, ReadsAll, Ends}
 use Rattle.sk_read.specs.Units.{units_by}
+use Rattle.sk_ingest.proofs.Endings.{all_so, ends_so}
 use Rattle.sk_read.specs.declared.units.Units.{Units}
 use Rattle.sk_read.specs.declared.fault.Fault.{Fault}
 use Rattle.sk_read.specs.declared.fault.Fault.TheVariants as fault
@@ -32,39 +32,15 @@ use Rattle.sk_fill.proofs.Items.{items_below, good_items}
 use Rattle.sk_feed.proofs.Shares.{all_items}
 use Rattle.sk_count.specs.declared.plan.Plan.{Plan}
 use Rattle.sk_count.specs.Moments.{kept_by, AreKeptOver, AreMoments, start}
-use Rattle.sk_count.specs.Texts.{interim_text, places_after, armed_with}
+use Rattle.sk_report.specs.Texts.{armed_with}
+use Rattle.sk_count.specs.Texts.{interim_text, places_after}
 use Rattle.sk_count.specs.Hubs.{ShowsAll, ShowsMoments}
 use Rattle.sk_count.specs.Reports.{Showing, showing}
 use Rattle.sk_count.specs.Steps.{keeps, TookAll, PassesUnits}
 use Rattle.sk_count.specs.Opened.{IsOpened, FeedsAll, FeedsSome, FeedsPart, FeedStops, FeedsEarly, DrainsAndAsks}
 use Rattle.sk_count.specs.Counts.{Setting, setting, Course, TellsSoFar, TellsPart, StopsFor, EndsBefore, EndsBehind}
-use Rattle.sk_count.proofs.Course.{lines_one, took_fed, keeps_more, kept_fed}
-
--- ---- ends of a reading
-
-module _ (units : Units) (most : ℕ) (G G' : List (List ℕ) → Type 0) (S S' : Fault → List (List ℕ) → List ℕ → Type 0) (gave : (given : List (List ℕ)) → G given → G' given) (stopped : (f : Fault) (given : List (List ℕ)) (unit : List ℕ) → S f given unit → S' f given unit) where
-  breaks_so : (K K' : List (List ℕ) → Type 0) (C : List (List ℕ) → List ℕ → Type 0) (old new : Option (List ℕ)) → ((given : List (List ℕ)) → K given → K' given) → BreaksOff units most K C old new → BreaksOff units most K' C old new
-  breaks_so K K' C old new so b = record { given = b.given; taken = b.taken; consumed = b.consumed; size = b.size; in_time = b.in_time; known = so b.given b.known; comes = b.comes }
-
-  stops_so : (T T' : List (List ℕ) → List ℕ → Type 0) (old new : Option (List ℕ)) → ((given : List (List ℕ)) (unit : List ℕ) → T given unit → T' given unit) → StopsAt units most T old new → StopsAt units most T' old new
-  stops_so T T' old new so s = (s.0, breaks_so (λ given. T given s.0) (λ given. T' given s.0) _ old new (λ given t. so given s.0 t) s.1)
-
-  some_so : (P : ℕ → Type 0) (old new : Option (List ℕ)) → ReadsSome units P G old new → ReadsSome units P G' old new
-  some_so P old new r = record { taken = r.taken; consumed = r.consumed; size = r.size; sound = r.sound; gave = gave _ r.gave }
-
-  pub all_so : (n : ℕ) (old new : Option (List ℕ)) → ReadsAll units most n G old new → ReadsAll units most n G' old new
-  all_so n old new r = record { taken = r.taken; consumed = r.consumed; end = r.end; size = r.size; sound = r.sound; number = r.number; gave = gave _ r.gave }
-
-  pub ends_so : (old new : Option (List ℕ)) (f : Fault) → Ends units most G S old new f → Ends units most G' S' old new f
-  ends_so old new fault.OutOfMemory (inl b) = inl (breaks_so G G' _ old new gave b)
-  ends_so old new fault.OutOfMemory (inr s) = inr (stops_so (S fault.OutOfMemory) (S' fault.OutOfMemory) old new (stopped fault.OutOfMemory) s)
-  ends_so old new fault.ReadFault r = some_so (λ size. size < most) old new r
-  ends_so old new fault.TooMuch r = some_so (λ size. size ≡ most) old new r
-  ends_so old new (fault.LongLine n) b = breaks_so G G' _ old new gave b
-  ends_so old new (fault.BadCsv n) b = breaks_so G G' _ old new gave b
-  ends_so old new (fault.BadItem n) s = stops_so (λ given unit. (n ≡ length given + 1) × S (fault.BadItem n) given unit) (λ given unit. (n ≡ length given + 1) × S' (fault.BadItem n) given unit) old new
-      (λ given unit t. (t.0, stopped (fault.BadItem n) given unit t.1)) s
-  ends_so old new fault.WriteFault s = stops_so (S fault.WriteFault) (S' fault.WriteFault) old new (stopped fault.WriteFault) s
+use Rattle.sk_fill.proofs.Cutting.{all_lines_more}
+use Rattle.sk_count.proofs.Course.{took_fed, keeps_more, kept_fed}
 
 -- ---- the course of a count
 
@@ -145,7 +121,7 @@ module _ (plan : Plan) (a : Hub) (opened : IsOpened plan a) (some : 0 < plan.upd
   took = took_fed plan fed.passes.windows fed.rest fed.between.updaters b.updaters fed.passes.passes.stands.took fed.last.updaters
 
   lines_are : all_lines (fed.passes.windows ++ fed.rest ∷ []) ≡ units
-  lines_are = lines_one fed.passes.windows fed.rest ∙ sym fed.passes.cut.joined
+  lines_are = all_lines_more fed.passes.windows fed.rest ∙ sym fed.passes.cut.joined
 
   items_are : items_in plan.kind (all_lines (fed.passes.windows ++ fed.rest ∷ [])) ≡ items_by plan.kind units
   items_are = ap (items_in plan.kind) lines_are ∙ good_items plan.kind units fed.passes.good

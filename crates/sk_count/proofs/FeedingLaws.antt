@@ -18,7 +18,7 @@ use Rattle.sk_count.specs.Reports.{Showing, showing, Breaks}
 use Rattle.sk_count.specs.Steps.{intake_by, Stands, PassesUnits}
 use Rattle.sk_count.specs.Opened.{IsOpened, FeedsAll, FeedsSome, FeedsPart, FeedStops, FeedsEarly}
 use Rattle.sk_count.proofs.Course.{took_none, terms_at, terms_with, reported, waited, broke}
-use Rattle.sk_count.proofs.Endings.{ends_so, all_so}
+use Rattle.sk_ingest.proofs.Endings.{ends_so, all_so}
 
 -- before the first window
 pub stands_start : (plan : Plan) (a : Hub) (r : Showing) → IsOpened plan a → r.k ≡ plan.k → Stands plan [] start a r

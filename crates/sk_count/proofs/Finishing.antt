@@ -15,14 +15,15 @@ use Rattle.sk_feed.specs.Hubs.{Hub}
 use Rattle.sk_fill.proofs.Cutting.{no_units}
 use Rattle.sk_fill.proofs.Readings.{nothing_came}
 use Rattle.sk_count.specs.declared.plan.Plan.{Plan}
-use Rattle.sk_count.specs.declared.remains.Remains.{Remains}
+use Rattle.sk_report.specs.declared.remains.Remains.{Remains}
 use Rattle.sk_count.specs.Plans.{IsWithin, lines_of_window}
 use Rattle.sk_count.specs.Moments.{Moment, AreMoments, start}
-use Rattle.sk_count.specs.Texts.{interim_text, places_after, armed_with, last_text}
+use Rattle.sk_report.specs.Texts.{armed_with}
+use Rattle.sk_count.specs.Texts.{interim_text, places_after, last_text}
 use Rattle.sk_count.specs.Reports.{showing}
 use Rattle.sk_count.specs.Opened.{IsOpened, FeedsAll, DrainsAndAsks}
 use Rattle.sk_count.specs.Counts.{Setting, setting, TellsSoFar, TellsAll, TellsPartOfAll, StopsFor, EndsBefore, EndsBehind, Counts, last_lines}
-use Rattle.sk_count.proofs.Fronts.{part_behind}
+use Rattle.sk_report.proofs.Fronts.{part_behind}
 use Rattle.sk_count.proofs.Endings.{the_estimate, shows_all, shows_moments, same_hub}
 
 -- ---- before the end

@@ -1,12 +1,7 @@
-pub mod Fronts
-pub mod MaskLines
-pub mod Arming
 pub mod MeetingLaws
 pub mod Course
 pub mod FeedingLaws
 pub mod Endings
 pub mod OpeningLaws
-pub mod Results
-pub mod QuietLaws
 pub mod ReportLaws
 pub mod Finishing

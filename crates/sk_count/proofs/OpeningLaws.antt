@@ -10,7 +10,8 @@ use Rattle.sk_hub.specs.Starts.{IsNewHeart, IsNewToken, AreNew}
 use Rattle.sk_hub.specs.Drains.{IsNew}
 use Rattle.sk_hub.specs.Updaters.{UpdaterState, handed_of, kept_of}
 use Rattle.sk_count.specs.declared.plan.Plan.{Plan}
-use Rattle.sk_count.specs.Plans.{size_at, IsWithin}
+use Rattle.sk_report.specs.Sizes.{size_at}
+use Rattle.sk_count.specs.Plans.{IsWithin}
 use Rattle.sk_count.specs.Opened.{AreSizes, IsOpened}
 
 -- ---- sizes

@@ -1,4 +1,4 @@
--- How a count goes: what it wrote and left behind where it ends well, and at each other end.
+-- How a count goes: what it wrote and left behind if it ends well, and at each other end.
 use Rattle.std.specs.Prelude.{◌≡◌, ◌⊎◌, ℕ, ◌<◌, List, [], ◌∷◌, ◌++◌, length, All, Option, Some, Result, MatchResult, IsNone}
 use Rattle.std.specs.Io.KnownBytes.{Appends}
 use Rattle.sk_model.specs.Causes.{AppendsPart}
@@ -13,13 +13,14 @@ use Rattle.sk_read.specs.declared.fault.Fault.TheVariants.{OutOfMemory, BadItem,
 use Rattle.sk_watch.specs.Places.{Place}
 use Rattle.sk_fill.specs.Windows.{AreWindows}
 use Rattle.sk_count.specs.declared.plan.Plan.{Plan}
-use Rattle.sk_count.specs.declared.remains.Remains.{Remains}
+use Rattle.sk_report.specs.declared.remains.Remains.{Remains}
 use Rattle.sk_count.specs.Plans.{lines_of_window}
 use Rattle.sk_count.specs.Moments.{Moment, AreMomentsOf}
-use Rattle.sk_count.specs.Texts.{interim_text, places_after, armed_with, last_text}
+use Rattle.sk_report.specs.Texts.{armed_with}
+use Rattle.sk_count.specs.Texts.{interim_text, places_after, last_text}
 use Rattle.sk_count.specs.Hubs.{ShowsAll, ShowsMoments}
 
--- what is around a count: what its source has left, what its sink was written, both where they tell it, and the places of
+-- what is around a count: what its source has left, what its sink was written, both if they are known, and the places of
 -- its board
 pub record Setting : Type 0 where
   pub left : Option (List ℕ)
@@ -31,7 +32,7 @@ setting left written places = record { left = left; written = written; places = 
 
 -- ---- the course of it
 
--- none of these units is refused; they are cut into full windows and a rest, with a moment behind each window
+-- none of these units is refused; they are cut into full windows and a rest, with a moment after each window
 pub record Course (plan : Plan) (units : List (List ℕ)) : Type 0 where
   pub windows : List (List (List ℕ))
   pub rest : List (List ℕ)
@@ -48,7 +49,7 @@ armed_by plan places = armed_with plan.k plan.alarms places
 abbrev pub interim_by : Plan → Setting → List Moment → List ℕ
 interim_by plan old moments = interim_text plan.k (armed_by plan old.places) moments
 
--- what is due last: how many lines were made, where the plan tells that, and one thread's estimate of all items
+-- what is due last: how many lines were made, if the plan has that number, and one thread's estimate of all items
 abbrev pub last_lines : Plan → List (List ℕ) → List ℕ
 last_lines plan units = last_text plan.made (estimate_of plan.k (items_by plan.kind units))
 
@@ -85,18 +86,18 @@ pub record TellsPartOfAll (plan : Plan) (old new : Setting) (units : List (List 
   pub written : AppendsPart old.written new.written (interim_by plan old course.moments ++ last_lines plan units)
   pub places : new.places ≡ places_after plan.k (armed_by plan old.places) course.moments
 
--- what was told where a count stopped at a unit behind these: the unit is no item, or it fills a window and a write failed
+-- what was told if a count stopped at a unit after these: the unit is no item, or it fills a window and a write failed
 abbrev pub StopsFor : Plan → Setting → Setting → Fault → List (List ℕ) → List ℕ → Type 0
 StopsFor plan old new (BadItem n) units unit = TellsSoFar plan old new units × (0 < length unit) × IsNone (item_of plan.kind unit)
 StopsFor plan old new WriteFault units unit = TellsPart plan old new (units ++ unit ∷ [])
 StopsFor plan old new OutOfMemory units unit = TellsSoFar plan old new units
 StopsFor plan old new other units unit = ⊥
 
--- where a count ends before its source
+-- if a count ends before its source
 abbrev pub EndsBefore : Plan → ℕ → Setting → Setting → Fault → Type 0
 EndsBefore plan most old new fault = Ends (units_by plan.column) most (TellsSoFar plan old new) (StopsFor plan old new) old.left new.left fault
 
--- where it read all, and then found no memory, or failed to write
+-- if it read all, and then ran out of memory, or failed to write
 abbrev pub EndsBehind : Plan → ℕ → Setting → Setting → Fault → Type 0
 EndsBehind plan most old new WriteFault = (n : ℕ) × ReadsAll (units_by plan.column) most n (TellsPartOfAll plan old new) old.left new.left
 EndsBehind plan most old new OutOfMemory = (n : ℕ) × ReadsAll (units_by plan.column) most n (TellsSoFar plan old new) old.left new.left

@@ -1,9 +1,6 @@
-pub mod Limits
-pub mod Rows
 pub mod Plans
 pub mod Moments
 pub mod Texts
-pub mod Boards
 pub mod Hubs
 pub mod Meets
 pub mod Reports

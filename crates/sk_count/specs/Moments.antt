@@ -11,7 +11,7 @@ use Rattle.sk_machine.specs.Coarse.{IsEntry}
 use Rattle.sk_fill.specs.Windows.{all_lines}
 use Rattle.sk_feed.specs.Shares.{share}
 use Rattle.sk_count.specs.declared.plan.Plan.{Plan}
-use Rattle.sk_count.specs.Plans.{size_at}
+use Rattle.sk_report.specs.Sizes.{size_at}
 
 pub record Moment : Type 0 where
   -- how many units were read by then

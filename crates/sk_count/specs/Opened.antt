@@ -16,7 +16,8 @@ use Rattle.sk_feed.specs.Drained.{DrainsAll}
 use Rattle.sk_feed.specs.Shares.{HasAllOf}
 use Rattle.sk_feed.specs.Hubs.{Hub, IsHub, FeedsWindow}
 use Rattle.sk_count.specs.declared.plan.Plan.{Plan}
-use Rattle.sk_count.specs.Plans.{size_at, lines_of_window}
+use Rattle.sk_report.specs.Sizes.{size_at}
+use Rattle.sk_count.specs.Plans.{lines_of_window}
 use Rattle.sk_count.specs.Moments.{Moment, AreMoments, start}
 use Rattle.sk_count.specs.Texts.{interim_text, places_after}
 use Rattle.sk_count.specs.Reports.{Showing}
@@ -61,7 +62,7 @@ pub record FeedsPart (plan : Plan) (units : List (List ℕ)) (r s : Showing) : T
   pub written : AppendsPart r.written s.written (interim_text plan.k r.places moments)
   pub places : s.places ≡ places_after plan.k r.places moments
 
--- why the feeding of a hub stopped at a unit behind these
+-- why the feeding of a hub stopped at a unit after these
 abbrev pub FeedStops : Plan → Hub → Showing → Showing → Fault → List (List ℕ) → List ℕ → Type 0
 FeedStops plan a r s (BadItem n) units unit = FeedsSome plan a r s units × (0 < length unit) × IsNone (item_of plan.kind unit)
 FeedStops plan a r s WriteFault units unit = FeedsPart plan (units ++ unit ∷ []) r s

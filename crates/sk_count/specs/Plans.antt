@@ -1,17 +1,13 @@
 -- What a count is asked, and within which limits.
-use Rattle.std.specs.Prelude.{ℕ, ◌-◌, ◌≤◌, min, List, length, All, unwrap_or, slice_index}
+use Rattle.std.specs.Prelude.{ℕ, ◌≤◌, length, All, unwrap_or}
 use Rattle.sk_model.specs.Limits.{least_k, most_k, most_size, most_updaters, IsFrom}
 use Rattle.sk_fill.specs.Windows.{most_lines}
-use Rattle.sk_count.specs.Limits.{usual_window}
+use Rattle.sk_report.specs.Limits.{usual_window}
 use Rattle.sk_count.specs.declared.plan.Plan.{Plan}
 
 -- how many lines a window of this plan takes at most
 abbrev pub lines_of_window : Plan → ℕ
 lines_of_window plan = unwrap_or plan.window usual_window
-
--- how many items a buffer of updater i holds: number i of the list, or the last one where there are fewer
-abbrev pub size_at : List ℕ → ℕ → ℕ
-size_at sizes i = slice_index sizes (min i (length sizes - 1))
 
 -- its numbers are within their limits
 pub record IsWithin (plan : Plan) : Type 0 where

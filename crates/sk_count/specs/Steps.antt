@@ -1,4 +1,4 @@
--- Where a count stands between two windows, and what it tells of windows that were fed and reported.
+-- Where a count stands between two windows, and what it says of windows that were fed and reported.
 use Rattle.std.specs.Prelude.{◌≡◌, ℕ, ◌<◌, Bool, List, ◌++◌, length, nat_lt, All, is_some, slice_index_or}
 use Rattle.std.specs.Io.KnownBytes.{Appends}
 use Rattle.sk_model.specs.Entries.{Entry, items_of_entries}
@@ -14,7 +14,8 @@ use Rattle.sk_feed.specs.Hubs.{Hub}
 use Rattle.sk_fill.specs.Windows.{AreWindows}
 use Rattle.sk_feed.specs.Shares.{share}
 use Rattle.sk_count.specs.declared.plan.Plan.{Plan}
-use Rattle.sk_count.specs.Plans.{lines_of_window, size_at}
+use Rattle.sk_report.specs.Sizes.{size_at}
+use Rattle.sk_count.specs.Plans.{lines_of_window}
 use Rattle.sk_count.specs.Moments.{Moment, kept_by, AreKeptOver, AreMomentsOf}
 use Rattle.sk_count.specs.Texts.{interim_text, places_after}
 use Rattle.sk_count.specs.Hubs.{AsksAtEach}
@@ -26,7 +27,7 @@ use Rattle.sk_count.specs.Reports.{Showing}
 abbrev pub intake_with : Plan → ℕ → Bool → Intake
 intake_with plan most interim = record { kind = plan.kind; column = plan.column; window = lines_of_window plan; interim = interim; propagator = plan.propagator; most = most }
 
--- with reports where a window is asked for
+-- with reports if a window is asked for
 abbrev pub intake_by : Plan → ℕ → Intake
 intake_by plan most = intake_with plan most (is_some plan.window)
 
@@ -66,7 +67,7 @@ KeepsAll us m = (i : ℕ) (d : UpdaterState) → i < length us → Begins (kept_
 
 -- ---- between two windows
 
--- behind these windows, the last moment being this one
+-- after these windows, the last moment being this one
 pub record Stands (plan : Plan) (windows : List (List (List ℕ))) (last : Moment) (a : Hub) (r : Showing) : Type 0 where
   pub took : TookAll plan windows a.updaters
   pub token : k_of a.token.view.numbers ≡ plan.k

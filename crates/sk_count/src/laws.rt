@@ -4,8 +4,9 @@ ghost use Rattle.sk_model.specs.Missing.{LacksAtMost};
 ghost use Rattle.sk_model.specs.Entries.{entries_by};
 ghost use Rattle.sk_watch.specs.Alarms.{alarm};
 ghost use Rattle.sk_count.specs.Moments.{Moment};
-ghost use Rattle.sk_count.specs.Plans.{size_at};
-ghost use Rattle.sk_count.specs.Texts.{alarm_line, armed_with, interim_line, interim_text, places_after};
+ghost use Rattle.sk_report.specs.Sizes.{size_at};
+ghost use Rattle.sk_report.specs.Texts.{alarm_line, armed_with, interim_line};
+ghost use Rattle.sk_count.specs.Texts.{interim_text, places_after};
 
 /// A window of five of which two are seen, and all five; two windows of two; no window.
 pub fn worked_interim_texts()

@@ -1,7 +1,7 @@
 //! What a count is asked.
 
-use crate::numbers::Numbers;
 use sk_read::Kind;
+use sk_report::Numbers;
 
 /// What is counted, by how many hashes and by how many updaters at once.
 #[derive(Clone, Copy)]
@@ -16,7 +16,7 @@ pub struct Plan {
     pub sizes: Numbers,
     /// How many updaters there are.
     pub updaters: u32,
-    /// With a number an interim estimate is written behind each so many lines or records.
+    /// With a number n an interim estimate is written after each n lines or records.
     pub window: Option<u32>,
     /// Whether a short stream is handed over item by item.
     pub eager: bool,
@@ -24,6 +24,6 @@ pub struct Plan {
     pub propagator: bool,
     /// The marks of the alarms at the first places of the board.
     pub alarms: Numbers,
-    /// How many lines were made to be counted, where the last text tells that.
+    /// How many lines were made to be counted, if the last text is to say so.
     pub made: Option<u64>,
 }

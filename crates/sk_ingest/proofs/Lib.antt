@@ -1,6 +1,8 @@
 pub mod Untold
 pub mod StretchLaws
 pub mod Ingestion
+pub mod Endings
+pub mod QuietLaws
 pub mod WindowLaws
 pub mod OneByOneLaws
 pub mod SupplyLaws

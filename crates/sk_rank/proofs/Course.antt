@@ -18,19 +18,20 @@ use Rattle.sk_fill.specs.Windows.{all_lines}
 use Rattle.sk_hub.specs.Calls.{Takes}
 use Rattle.sk_feed.specs.Hubs.{Hub, FeedsWindow, LeavesHub, IsLeft}
 use Rattle.sk_ingest.specs.Ingests.{Terms, Reported}
-use Rattle.sk_count.proofs.Course.{share_append, lines_one}
-use Rattle.sk_count.proofs.Fronts.{part_behind}
+use Rattle.sk_feed.proofs.Shares.{share_append}
+use Rattle.sk_fill.proofs.Cutting.{all_lines_more}
+use Rattle.sk_report.proofs.Fronts.{part_behind}
 use Rattle.sk_snap.specs.History.{entries_in}
 use Rattle.sk_snap.specs.Versions.{Learnt, items_in}
 use Rattle.sk_rank.specs.declared.plan.Plan.{Plan}
 use Rattle.sk_rank.specs.Plans.{lines_of_window, share_of}
 use Rattle.sk_rank.specs.Moments.{Moment, IsMoment, AreMoments}
-use Rattle.sk_rank.specs.Learning.{ReaderGoesOn, Knows}
+use Rattle.sk_learn.specs.Learning.{ReaderGoesOn, Knows}
 use Rattle.sk_rank.specs.Nearness.{IsNear}
 use Rattle.sk_rank.specs.Reports.{Showing, LearnsHub, Reports, Breaks, BreaksBy, due_line}
 use Rattle.sk_rank.specs.Steps.{keeps, hint_of, Took, Stands, Passes}
 use Rattle.sk_rank.specs.Texts.{line_by, interim_line, moment_text, interim_text}
-use Rattle.sk_rank.proofs.LearningLaws.{goes_refl, goes_trans}
+use Rattle.sk_learn.proofs.LearningLaws.{goes_refl, goes_trans}
 
 at_some : {A P : Type 0} (xs : List A) (i : ℕ) → i < length xs → (A → P) → P
 at_some [] i within f = let none : ⊥ = omega arith in absurd none
@@ -168,7 +169,7 @@ module _ (plan : Plan) (before : List (List (List ℕ))) (count : ℕ) (last : L
   at_x = stands_fed plan before last lines a x r stands fed
 
   pub counted : count + length lines ≡ length (all_lines (before ++ lines ∷ []))
-  counted = omega (arith, is, length-append (all_lines before) lines, ap length (lines_one before lines))
+  counted = omega (arith, is, length-append (all_lines before) lines, ap length (all_lines_more before lines))
 
   pub is_next : (s : Learnt) → LearnsHub r.reader x.updaters s → IsNear r.at s.k s.key (items_in s.known) → IsMoment plan (before ++ lines ∷ []) (moment_at (count + length lines) s) × Begins last (entries_in s.known)
   is_next s learns near = (
@@ -250,7 +251,7 @@ module _ {R : Type 0} (shown : R → Showing) (plan : Plan) (most : ℕ) where
   broke [] before count last lines a r b p x y s is stands done fed breaks =
       let feeds : FeedsWindow keeps hint_of Raw lines a x = subst (λ z. FeedsWindow keeps hint_of Raw lines z x) done.0 fed in
       let at = stands_fed plan before last lines a x (shown r) stands feeds in
-      let counted_as : length (all_lines (before ++ lines ∷ [])) ≡ count + length lines = omega (arith, is, length-append (all_lines before) lines, ap length (lines_one before lines)) in
+      let counted_as : length (all_lines (before ++ lines ∷ [])) ≡ count + length lines = omega (arith, is, length-append (all_lines before) lines, ap length (all_lines_more before lines)) in
       let breaks_r : Breaks (shown r) (count + length lines) x y (shown s) = subst (λ z. Breaks (shown z) (count + length lines) x y (shown s)) done.1 (subst (λ n. Breaks (shown p) n x y (shown s)) counted_as breaks) in
       let next = is_next plan before count last lines a x y (shown r) (shown r) is stands feeds (shown s).reader breaks_r.learns breaks_r.near in
       let text = due_is plan (before ++ lines ∷ []) last (count + length lines) x (shown r) (shown s).reader at breaks_r.learns.goes in (

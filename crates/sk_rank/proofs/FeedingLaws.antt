@@ -22,9 +22,9 @@ use Rattle.sk_ingest.specs.declared.report.Stop.TheVariants as stop
 use Rattle.sk_fill.proofs.Cutting.{no_units}
 use Rattle.sk_ingest.proofs.Ingestion.{heart_by_ingest}
 use Rattle.sk_fill.proofs.Readings.{nothing_came}
-use Rattle.sk_count.proofs.Course.{share_none}
-use Rattle.sk_count.proofs.Endings.{ends_so, all_so}
-use Rattle.sk_count.proofs.QuietLaws.{quiet_early}
+use Rattle.sk_feed.proofs.Shares.{share_none}
+use Rattle.sk_ingest.proofs.Endings.{ends_so, all_so}
+use Rattle.sk_ingest.proofs.QuietLaws.{quiet_early}
 use Rattle.sk_snap.specs.History.{entries_in, name_of}
 use Rattle.sk_rank.specs.declared.plan.Plan.{Plan}
 use Rattle.sk_rank.specs.Plans.{IsWithin, lines_of_window, intake_by, share_of}

@@ -1,25 +1,29 @@
 -- Where a ranking ends, put together.
-use Rattle.std.proofs.Common.{◌≡◌, ℕ, ◌<◌, List, [], ◌∷◌, ◌++◌, length, All, Option, Result, Ok, Err, IsErrAnd, sym, ap, subst, ◌∙◌, arith}
+use Rattle.std.proofs.Common.{◌≡◌, ℕ, ◌<◌, List, [], ◌∷◌, ◌++◌, length, get_or, All, Contains, Option, Result, Ok, Err, IsErrAnd, sym, ap, subst, ◌∙◌, arith}
 use Rattle.std.specs.List.{range_with_len}
 use Rattle.std.specs.Io.KnownBytes.{Appends}
 use Rattle.std.proofs.KnownBytes.{Appends-trans}
+use Rattle.std.proofs.lemmas.List.Elements.{All-weaker}
 use Rattle.sk_model.specs.Causes.{AppendsPart}
+use Rattle.sk_model.specs.Entries.{Entry, entries_by}
 use Rattle.sk_model.proofs.Missing.{begins_trans}
+use Rattle.sk_gate.specs.Views.{known_of}
 use Rattle.sk_hub.specs.Hearts.{HeartState}
+use Rattle.sk_hub.specs.Updaters.{UpdaterState, kept_of}
 use Rattle.sk_quant.specs.Held.{ranked}
 use Rattle.sk_quant.specs.Ranks.{rank_error}
 use Rattle.sk_read.specs.declared.fault.Fault.{Fault}
 use Rattle.sk_feed.specs.Hubs.{Hub}
-use Rattle.sk_feed.proofs.Drained.{known_at}
 use Rattle.sk_read.specs.Units.{units_by}
-use Rattle.sk_count.proofs.Endings.{all_so}
-use Rattle.sk_count.proofs.Fronts.{part_behind}
+use Rattle.sk_ingest.proofs.Endings.{all_so}
+use Rattle.sk_report.proofs.Fronts.{part_behind}
 use Rattle.sk_snap.specs.History.{entries_in, name_of}
 use Rattle.sk_snap.specs.Versions.{Learnt, items_in}
 use Rattle.sk_snap.specs.declared.version.Rank.{Rank}
 use Rattle.sk_rank.specs.declared.plan.Plan.{Plan}
 use Rattle.sk_rank.specs.Nearness.{IsNear}
-use Rattle.sk_rank.specs.Ending.{Finishes}
+use Rattle.sk_learn.specs.Closing.{Closes, numbers_of}
+use Rattle.sk_learn.proofs.Numbered.{numbered_from_0, numbered_below}
 use Rattle.sk_rank.specs.Feeding.{Fed}
 use Rattle.sk_rank.specs.Ranks.{Setting, setting, ReadsLines, IsListOf, Goes, Shows, TellsSoFar, TellsAll, TellsPartOfAll, EndsAt, Ranks}
 use Rattle.sk_rank.specs.Texts.{told_line, rank_line, interim_text}
@@ -40,21 +44,32 @@ at_some : {A P : Type 0} (xs : List A) (i : ℕ) → i < length xs → (A → P)
 at_some [] i within f = let none : ⊥ = omega arith in absurd none
 at_some (x ∷ xs) i within f = f x
 
-module _ (plan : Plan) (left left' w w' w'' : Option (List ℕ)) (b : Hub) (reader s : Learnt) (rank : Rank) (h : HeartState) (units : List (List ℕ)) (fed : Fed plan w w' b reader units) (end : Finishes b.heart b.updaters reader plan.at rank h s) where
+module _ (plan : Plan) (left left' w w' w'' : Option (List ℕ)) (b : Hub) (reader s : Learnt) (rank : Rank) (h : HeartState) (units : List (List ℕ)) (fed : Fed plan w w' b reader units) (end : Closes b.heart b.updaters reader plan.at rank h s) where
+  numbers : numbers_of b.updaters ≡ range_with_len 0 (length b.updaters)
+  numbers = numbered_from_0 b.updaters (λ i d within. (fed.whole.updaters i d within).number)
+
+  -- what holds of the entries by the number of each updater holds by its place
+  each : (i : ℕ) (d : UpdaterState) → i < length b.updaters → entries_by i (entries_in s.known) ≡ kept_of (get_or b.updaters i d)
+  each i d within = subst (λ n. entries_by n (entries_in s.known) ≡ kept_of (get_or b.updaters i d)) (fed.whole.updaters i d within).number (end.exactly.each i d within)
+
+  knows : (i : ℕ) (d : UpdaterState) → i < length b.updaters → known_of h.view i ≡ kept_of (get_or b.updaters i d)
+  knows i d within = subst (λ n. known_of h.view n ≡ kept_of (get_or b.updaters i d)) (fed.whole.updaters i d within).number (end.takes.taken_in i d within).known
+
   list : IsListOf plan (fed.course.windows ++ fed.course.rest ∷ []) (entries_in s.known)
   list = record {
-    only = subst (λ n. All (λ entry. entry.0 < n) (entries_in s.known)) fed.count end.only;
-    each = λ i within. let within' : i < length b.updaters = omega (arith, fed.count) in at_some b.updaters i within' (λ d. end.each i d within' ∙ fed.kept i d within');
+    only = subst (λ n. All (λ entry. entry.0 < n) (entries_in s.known)) fed.count
+        (All-weaker (λ (e : Entry). Contains (numbers_of b.updaters) e.0) (λ (e : Entry). e.0 < length b.updaters) (λ e has. numbered_below b.updaters (λ i d within. (fed.whole.updaters i d within).number) e.0 has) (entries_in s.known) end.exactly.only);
+    each = λ i within. let within' : i < length b.updaters = omega (arith, fed.count) in at_some b.updaters i within' (λ d. each i d within' ∙ fed.kept i d within');
   }
 
   goes : Goes fed.course.moments (entries_in s.known)
-  goes = λ i m inside. begins_trans _ _ _ (fed.seen i m inside) end.goes.grows
+  goes = λ i m inside. begins_trans _ _ _ (fed.seen i m inside) end.takes.goes.grows
 
   k : s.k ≡ plan.k
-  k = end.goes.k ∙ fed.k
+  k = end.takes.goes.k ∙ fed.k
 
   key : s.key ≡ plan.key
-  key = end.goes.key ∙ fed.key
+  key = end.takes.goes.key ∙ fed.key
 
   line_is : told_line rank.n rank.below rank.within ≡ rank_line plan (items_in s.known)
   line_is =
@@ -66,9 +81,9 @@ module _ (plan : Plan) (left left' w w' w'' : Option (List ℕ)) (b : Hub) (read
 
   shows : Shows plan h s
   shows = record {
-    drained = end.drains.drained ∙ ap (λ l. l ++ range_with_len 0 (length b.updaters)) fed.drained ∙ ap (range_with_len 0) fed.count;
-    known = λ i within. let within' : i < length b.updaters = omega (arith, fed.count) in at_some b.updaters i within' (λ d. known_at end.drains i d within' ∙ sym (end.each i d within'));
-    name = end.name ∙ fed.name ∙ ap name_of (sym end.goes.book);
+    drained = end.takes.drained ∙ ap (λ l. l ++ numbers_of b.updaters) fed.drained ∙ numbers ∙ ap (range_with_len 0) fed.count;
+    known = λ i within. let within' : i < length b.updaters = omega (arith, fed.count) in at_some b.updaters i within' (λ d. knows i d within' ∙ sym (each i d within'));
+    name = end.takes.name ∙ fed.name ∙ ap name_of (sym end.takes.goes.book);
     k = k;
     key = key;
   }

@@ -1,7 +1,4 @@
-pub mod Lists
 pub mod Orders
-pub mod LearningLaws
-pub mod EndingLaws
 pub mod Course
 pub mod FeedingLaws
 pub mod Finishing

@@ -21,11 +21,11 @@ use Rattle.sk_fill.specs.Blocks.{block_of}
 use Rattle.sk_feed.specs.Shares.{share}
 use Rattle.sk_fill.proofs.Items.{items_append, no_items, good_items}
 use Rattle.sk_fill.proofs.Joined.{items_joined}
-use Rattle.sk_count.proofs.Course.{lines_one}
+use Rattle.sk_fill.proofs.Cutting.{all_lines_more}
 use Rattle.sk_rank.specs.declared.plan.Plan.{Plan}
 use Rattle.sk_rank.specs.Feeding.{Course}
 use Rattle.sk_rank.specs.Ranks.{IsListOf}
-use Rattle.sk_rank.proofs.Lists.{by_cons}
+use Rattle.sk_learn.proofs.Lists.{by_cons}
 
 -- ---- lists of a range of numbers
 
@@ -120,7 +120,7 @@ module _ (plan : Plan) (units : List (List ℕ)) (course : Course plan units) (l
   windows = course.windows ++ course.rest ∷ []
 
   items_are : items_in Raw (all_lines (course.windows ++ course.rest ∷ [])) ≡ items_by Raw units
-  items_are = ap (items_in Raw) (lines_one course.windows course.rest ∙ sym course.cut.joined) ∙ good_items Raw units course.good
+  items_are = ap (items_in Raw) (all_lines_more course.windows course.rest ∙ sym course.cut.joined) ∙ good_items Raw units course.good
 
   pub all_items : 0 < plan.updaters → IsPermutation (items_by Raw units) (items_of_entries list)
   all_items some =

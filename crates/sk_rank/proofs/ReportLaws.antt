@@ -9,11 +9,11 @@ use Rattle.sk_hub.specs.Updaters.{UpdaterState}
 use Rattle.sk_feed.specs.Hubs.{Hub, IsHub, IsUpdaterAt}
 use Rattle.sk_snap.specs.Versions.{Learnt, IsRank, items_in}
 use Rattle.sk_snap.specs.declared.version.Rank.{Rank}
-use Rattle.sk_rank.specs.Learning.{ReaderGoesOn, LearnsFirst, AreAsked}
+use Rattle.sk_learn.specs.Learning.{ReaderGoesOn, LearnsFirst, AreAsked}
 use Rattle.sk_rank.specs.Nearness.{IsNear}
 use Rattle.sk_rank.specs.Reports.{showing, LearnsHub, Reports, Breaks, due_line}
 use Rattle.sk_rank.specs.Texts.{told_line, interim_line}
-use Rattle.sk_rank.proofs.LearningLaws.{goes_trans, knows_more}
+use Rattle.sk_learn.proofs.LearningLaws.{goes_trans, knows_more}
 
 -- by another name for k and key
 pub near_so : (x k key k' key' : ℕ) (items : List ℕ) (n below within : ℕ) → k' ≡ k → key' ≡ key → IsRank x k key items n below within → IsNear x k' key' items

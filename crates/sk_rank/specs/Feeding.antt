@@ -34,7 +34,7 @@ pub record IsNewReader (plan : Plan) (name : List ℕ) (reader : Learnt) : Type 
   pub name_is : name ≡ name_of reader.known.book
   pub learnt : entries_in reader.known ≡ []
 
--- none of these lines is refused; they are cut into full windows and a rest, with a moment behind each window
+-- none of these lines is refused; they are cut into full windows and a rest, with a moment after each window
 pub record Course (plan : Plan) (units : List (List ℕ)) : Type 0 where
   pub windows : List (List (List ℕ))
   pub rest : List (List ℕ)

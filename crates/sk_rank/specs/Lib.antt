@@ -1,9 +1,6 @@
-pub mod Limits
 pub mod Plans
 pub mod Nearness
 pub mod Texts
-pub mod Learning
-pub mod Ending
 pub mod Reports
 pub mod Moments
 pub mod Steps

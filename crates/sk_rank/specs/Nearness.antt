@@ -4,6 +4,6 @@ use Rattle.std.specs.Int.{abs_diff}
 use Rattle.sk_quant.specs.Held.{ranked}
 use Rattle.sk_quant.specs.Ranks.{rank_of, rank_error}
 
--- the rank below x that the sketch with this k and key tells of a list is off by at most the error of that list
+-- the rank below x that the sketch with this k and key gives of a list is off by at most the error of that list
 abbrev pub IsNear : ℕ → ℕ → ℕ → List ℕ → Type 0
 IsNear x k key items = abs_diff (ranked x k key items) (rank_of x items) ≤ rank_error (length items) k

@@ -6,7 +6,7 @@ use Rattle.sk_read.specs.declared.items.Intake.{Intake}
 use Rattle.sk_read.specs.declared.kind.Kind.TheVariants.{Raw}
 use Rattle.sk_feed.specs.Shares.{share}
 use Rattle.sk_fill.specs.Windows.{most_lines}
-use Rattle.sk_rank.specs.Limits.{usual_window}
+use Rattle.sk_report.specs.Limits.{usual_window}
 use Rattle.sk_rank.specs.declared.plan.Plan.{Plan}
 
 -- how many lines a window of this plan takes at most
@@ -21,7 +21,7 @@ pub record IsWithin (plan : Plan) : Type 0 where
   pub size : IsFrom 1 most_size plan.size
   pub window : IsFrom 1 most_lines (lines_of_window plan)
 
--- what it reads: numbers, one a line, with reports where a window is asked for
+-- what it reads: numbers, one a line, with reports if a window is asked for
 abbrev pub intake_by : Plan → ℕ → Intake
 intake_by plan most = record { kind = Raw; column = 0; window = lines_of_window plan; interim = is_some plan.window; propagator = plan.propagator; most = most }
 

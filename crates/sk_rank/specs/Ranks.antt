@@ -1,4 +1,4 @@
--- How a ranking goes: what it wrote and left behind where it ends well, and at each other end.
+-- How a ranking goes: what it wrote and left behind if it ends well, and at each other end.
 use Rattle.std.specs.Prelude.{◌≡◌, ◌⊎◌, ℕ, ◌<◌, List, [], ◌∷◌, ◌++◌, length, All, Option, Result, MatchResult, IsNone}
 use Rattle.std.specs.List.{range_with_len}
 use Rattle.std.specs.Io.KnownBytes.{Appends}
@@ -22,7 +22,7 @@ use Rattle.sk_rank.specs.Nearness.{IsNear}
 use Rattle.sk_rank.specs.Texts.{interim_text, rank_line}
 use Rattle.sk_rank.specs.Feeding.{Course}
 
--- what is around a ranking: what its source has left, and what its sink was written, both where they tell it
+-- what is around a ranking: what its source has left, and what its sink was written, both if they are known
 pub record Setting : Type 0 where
   pub left : Option (List ℕ)
   pub written : Option (List ℕ)
@@ -34,7 +34,7 @@ setting left written = record { left = left; written = written }
 abbrev pub ReadsLines : ℕ → (List (List ℕ) → Type 0) → Option (List ℕ) → Option (List ℕ) → Type 0
 ReadsLines most Gave left left' = (n : ℕ) × ReadsAll (units_by 0) most n Gave left left'
 
--- ---- the list that all is told of
+-- ---- the list that each line is of
 
 -- it has of each updater exactly the items in its blocks of these windows, in order, and nothing else
 pub record IsListOf (plan : Plan) (windows : List (List (List ℕ))) (list : List Entry) : Type 0 where
@@ -85,18 +85,18 @@ pub record TellsPartOfAll (plan : Plan) (old new : Setting) (units : List (List 
   pub near : IsNear plan.at plan.k plan.key (items_of_entries whole)
   pub written : AppendsPart old.written new.written (interim_text plan course.moments ++ rank_line plan (items_of_entries whole))
 
--- what was told where it stopped at a line behind these: the line is no item, or it fills a window and a write failed
+-- what was told if it stopped at a line after these: the line is no item, or it fills a window and a write failed
 abbrev pub StopsFor : Plan → Setting → Setting → Fault → List (List ℕ) → List ℕ → Type 0
 StopsFor plan old new (BadItem n) units unit = TellsSoFar plan old new units × (0 < length unit) × IsNone (item_of Raw unit)
 StopsFor plan old new WriteFault units unit = TellsPart plan old new (units ++ unit ∷ [])
 StopsFor plan old new OutOfMemory units unit = TellsSoFar plan old new units
 StopsFor plan old new other units unit = ⊥
 
--- where it ends before its source
+-- if it ends before its source
 abbrev pub EndsBefore : Plan → ℕ → Setting → Setting → Fault → Type 0
 EndsBefore plan most old new fault = Ends (units_by 0) most (TellsSoFar plan old new) (StopsFor plan old new) old.left new.left fault
 
--- where it read all, and then found no memory, or failed to write
+-- if it read all, and then ran out of memory, or failed to write
 abbrev pub EndsBehind : Plan → ℕ → Setting → Setting → Fault → Type 0
 EndsBehind plan most old new WriteFault = ReadsLines most (TellsPartOfAll plan old new) old.left new.left
 EndsBehind plan most old new OutOfMemory = ReadsLines most (TellsSoFar plan old new) old.left new.left

@@ -1,4 +1,4 @@
--- What a report of an interim rank does, told by what it shows.
+-- What a report of an interim rank does, by what it shows.
 use Rattle.std.specs.Prelude.{◌≡◌, ℕ, ◌<◌, List, length, Option, slice_index_or}
 use Rattle.std.specs.Io.KnownBytes.{Appends}
 use Rattle.sk_model.specs.Causes.{AppendsPart}
@@ -7,11 +7,11 @@ use Rattle.sk_feed.specs.Hubs.{Hub}
 use Rattle.sk_ingest.specs.declared.report.Stop.{Stop}
 use Rattle.sk_ingest.specs.declared.report.Stop.TheVariants.{Failed, OutOfMemory}
 use Rattle.sk_snap.specs.Versions.{Learnt, items_in}
-use Rattle.sk_rank.specs.Learning.{ReaderGoesOn, Knows}
+use Rattle.sk_learn.specs.Learning.{ReaderGoesOn, Knows}
 use Rattle.sk_rank.specs.Nearness.{IsNear}
 use Rattle.sk_rank.specs.Texts.{line_by, interim_line}
 
--- what a report shows: whose rank it tells, what its reader knows, and what its sink was written
+-- what a report shows: whose rank it writes, what its reader knows, and what its sink was written
 pub record Showing : Type 0 where
   pub at : ℕ
   pub reader : Learnt
@@ -20,7 +20,7 @@ pub record Showing : Type 0 where
 abbrev pub showing : ℕ → Learnt → Option (List ℕ) → Showing
 showing at reader written = record { at = at; reader = reader; written = written }
 
--- what is due for what a reader knows, after so many units
+-- what is due for what a reader knows, after a number of units
 abbrev pub due_line : ℕ → ℕ → Learnt → List ℕ
 due_line lines at reader = interim_line lines (line_by at reader.k reader.key (items_in reader.known))
 
@@ -42,7 +42,7 @@ pub record Breaks (r : Showing) (lines : ℕ) (a b : Hub) (s : Showing) : Type 0
   pub near : IsNear r.at s.reader.k s.reader.key (items_in s.reader.known)
   pub written : AppendsPart r.written s.written (due_line lines r.at s.reader)
 
--- it stops where a write failed, and for nothing else
+-- it stops if a write failed, and for nothing else
 abbrev pub BreaksBy : Showing → Stop → ℕ → Hub → Hub → Showing → Type 0
 BreaksBy r Failed lines a b s = Breaks r lines a b s
 BreaksBy r OutOfMemory lines a b s = ⊥

@@ -1,4 +1,4 @@
--- Where a ranking stands between two windows, and what it tells of windows that were fed and reported.
+-- Where a ranking stands between two windows, and what it says of windows that were fed and reported.
 use Rattle.std.specs.Prelude.{◌≡◌, ℕ, ◌<◌, Bool, true, false, List, length, All, slice_index_or}
 use Rattle.std.specs.Io.KnownBytes.{Appends}
 use Rattle.sk_model.specs.Entries.{Entry, entries_by}
@@ -9,7 +9,7 @@ use Rattle.sk_snap.specs.History.{entries_in}
 use Rattle.sk_rank.specs.declared.plan.Plan.{Plan}
 use Rattle.sk_rank.specs.Plans.{share_of}
 use Rattle.sk_rank.specs.Moments.{Moment}
-use Rattle.sk_rank.specs.Learning.{ReaderGoesOn}
+use Rattle.sk_learn.specs.Learning.{ReaderGoesOn}
 use Rattle.sk_rank.specs.Reports.{Showing}
 use Rattle.sk_rank.specs.Texts.{interim_text}
 
@@ -27,7 +27,7 @@ pub record Took (plan : Plan) (windows : List (List (List ℕ))) (list : List En
   pub size : u.size ≡ plan.size
   pub knows : u.news ≡ false → Begins (earlier_of u) (entries_by i list)
 
--- behind these windows, the last list that was read being this one
+-- after these windows, the last list that was read being this one
 pub record Stands (plan : Plan) (windows : List (List (List ℕ))) (last : List Entry) (a : Hub) (r : Showing) : Type 0 where
   pub count : length a.updaters ≡ plan.updaters
   pub took : (i : ℕ) (d : UpdaterState) → i < length a.updaters → Took plan windows (entries_in r.reader.known) i (slice_index_or a.updaters i d)

@@ -3,10 +3,11 @@ use Rattle.std.specs.Prelude.{ℕ, List, [], ◌∷◌, ◌++◌, length, codes,
 use Rattle.sk_model.specs.Entries.{items_of_entries}
 use Rattle.sk_quant.specs.Held.{ranked}
 use Rattle.sk_quant.specs.Ranks.{rank_error}
+use Rattle.sk_report.specs.Texts.{at_units}
 use Rattle.sk_rank.specs.declared.plan.Plan.{Plan}
 use Rattle.sk_rank.specs.Moments.{Moment}
 
--- a word, and a number behind it
+-- a word, and a number after it
 abbrev pub labelled : List ℕ → ℕ → List ℕ
 labelled label number = label ++ decimal number
 
@@ -22,9 +23,9 @@ line_by x k key items = told_line (length items) (ranked x k key items) (rank_er
 abbrev pub rank_line : Plan → List ℕ → List ℕ
 rank_line plan items = line_by plan.at plan.k plan.key items
 
--- a line after so many units
+-- a line after a number of units
 abbrev pub interim_line : ℕ → List ℕ → List ℕ
-interim_line units line = labelled (codes "at ") units ++ (codes " " ++ line)
+interim_line units line = at_units units ++ line
 
 -- the line of a moment
 abbrev pub moment_text : Plan → Moment → List ℕ

@@ -4,15 +4,15 @@ ghost use Rattle.std.specs.Io.KnownBytes.{Appends};
 ghost use Rattle.sk_model.specs.Causes.{AppendsPart, HasCauseIn};
 ghost use Rattle.sk_rank.specs.Texts.{told_line, interim_line};
 
-use crate::learning::learn_all;
 use crate::text::write_interim;
 use sk_hub::Opened;
 use sk_ingest::{Report, Stop};
 use sk_io::Sink;
+use sk_learn::learn_all;
 use sk_snap::{QuantReader, Rank, VersionedQuant};
 use std::sync::Wait;
 
-/// Writes a rank behind each full window, of what the updaters were told by then.
+/// Writes a rank after each full window, of what the updaters were told by then.
 #[derive(Drop)]
 pub(crate) struct Interim<'o, 'q, 'r, O: Sink, R: Wait> {
     pub(crate) rt: &'r R,
@@ -39,13 +39,13 @@ impl<O: Sink, R: Wait, W: Wait + Drop> Report<VersionedQuant<W>> for Interim<'_,
     ghost sketch = { λ r. Some (name_of r.reader.now.known.book) };
 
     fn at(&mut self, line: u64, opened: &mut Opened<VersionedQuant<W>>) -> Result<(), Stop> {
-        learn_all(self.rt, self.reader, opened.updaters.as_mut_slice());
+        learn_all(self.reader, opened.updaters.as_mut_slice());
         let rank = self.reader.read(self.rt, self.at);
         write_or_stop(self.out, line, rank)
     }
 }
 
-// Writes the line of a rank, or stops where that fails.
+// Writes the line of a rank, or stops if that fails.
 fn write_or_stop<O: Sink>(out: &mut O, line: u64, rank: Rank) -> Result<(), Stop>
     ensures ok { OnOk result (Appends (O.written out.old) (O.written out.new) (interim_line line (told_line rank.n rank.below rank.within))) }
     ensures part { OnErr result (AppendsPart (O.written out.old) (O.written out.new) (interim_line line (told_line rank.n rank.below rank.within))) }

@@ -1,10 +1,8 @@
-//! The ranking command: how many numbers of a source lie below one, told by many updaters of one hub.
+//! The ranking command: how many numbers of a source lie below one, counted by many updaters of one hub.
 #![tactic(auto)]
 
-mod ending;
 mod interim;
 pub mod laws;
-mod learning;
 mod plan;
 mod ranking;
 mod text;

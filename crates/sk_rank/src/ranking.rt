@@ -10,30 +10,28 @@ ghost use Rattle.sk_rank.specs.Texts.{told_line};
 ghost use Rattle.sk_rank.specs.Feeding.{IsOpened, IsNewReader, Fed};
 ghost use Rattle.sk_rank.specs.Ranks.{setting, Ranks, EndsAt, ReadsLines};
 
-use crate::ending::finish;
 use crate::interim::Interim;
 use crate::plan::Plan;
 use crate::text::write_line;
 use sk_hub::{Heart, Opened, open};
 use sk_ingest::ingest;
 use sk_io::{Sink, Source};
+use sk_learn::close;
 use sk_model::OutOfMemory;
 use sk_model::limits::LEAST_K;
 use sk_read::{Fault, Intake, Kind};
+use sk_report::USUAL_WINDOW;
 use sk_snap::{QuantReader, Rank, VersionedQuant};
 use sk_theta::Shape;
 use std::alloc::Global;
 use std::sync::Wait;
 use std::thread::Threads;
 
-// How many lines a window has where none is asked for.
-const USUAL_WINDOW: u32 = 65_536;
-
 /// What a ranking leaves behind: the heart of its hub, and the reader of its sketch.
 pub type Ranked<W> = (Heart<VersionedQuant<W>>, QuantReader);
 
 /// Reads the numbers of a source of fewer than `most` bytes, one a line, and once it has ended writes how many there
-/// are, how many of them lie below the plan's, and by how much that may be off. Behind each full window that the plan
+/// are, how many of them lie below the plan's, and by how much that may be off. After each full window that the plan
 /// asks for it writes the same of what its updaters were told by then.
 pub fn rank<'r, S: Source, O: Sink, R: Threads + Wait + Sync>(
     rt: &'r R,
@@ -57,10 +55,10 @@ pub fn rank<'r, S: Source, O: Sink, R: Threads + Wait + Sync>(
     feed(rt, alloc, plan, most, source, out, &mut opened, &mut reader)?;
     let Opened {
         mut heart,
-        updaters,
+        mut updaters,
         token: _,
     } = opened;
-    let rank = finish(rt, &mut heart, updaters, &mut reader, plan.at)?;
+    let rank = close(rt, &mut heart, &mut updaters, &mut reader, plan.at)?;
     write_last(out, rank)?;
     Ok((heart, reader))
 }
@@ -96,7 +94,7 @@ fn feed<S: Source, O: Sink, R: Threads + Wait + Sync, W: Wait + Drop + Send>(
     feed_reported(rt, alloc, plan, most, source, opened, &mut report)
 }
 
-// The same, told by the report.
+// The same, with the report at hand.
 fn feed_reported<S: Source, O: Sink, R: Threads + Wait + Sync, W: Wait + Drop + Send>(
     rt: &R,
     alloc: Global,

@@ -7,7 +7,7 @@ use Rattle.sk_compose.specs.Numbers.{k_of}
 use Rattle.sk_hub.specs.Drains.{IsNew}
 use Rattle.sk_hub.specs.Hearts.{HeartState}
 use Rattle.sk_hub.specs.Updaters.{UpdaterState}
-use Rattle.sk_count.specs.Plans.{size_at}
+use Rattle.sk_report.specs.Sizes.{size_at}
 use Rattle.sk_serve.specs.declared.plan.ServePlan.{ServePlan}
 use Rattle.sk_serve.specs.Served.{IsFresh}
 use Rattle.sk_serve.specs.Waves.{Visit, IsHeartOf, IsReady, AreReady}

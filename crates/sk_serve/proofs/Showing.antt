@@ -26,9 +26,9 @@ use Rattle.sk_watch.specs.Masks.{mask_of}
 use Rattle.sk_watch.specs.Places.{Place, answers_at, told}
 use Rattle.sk_line.specs.declared.sessions.End.{End}
 use Rattle.sk_line.specs.declared.sessions.End.TheVariants.{OutOfMemory}
-use Rattle.sk_count.specs.Texts.{alarm_lines, reply_of, armed_with}
+use Rattle.sk_report.specs.Texts.{alarm_lines, reply_of, armed_with}
 use Rattle.sk_serve.specs.declared.plan.ServePlan.{ServePlan}
-use Rattle.sk_count.specs.declared.remains.Remains.{Remains}
+use Rattle.sk_report.specs.declared.remains.Remains.{Remains}
 use Rattle.sk_serve.specs.declared.fault.ServeFault.{ServeFault}
 use Rattle.sk_serve.specs.Served.{Served, ShowsSessions, ServesSessions, ends_of}
 use Rattle.sk_hub.proofs.Taking.{exactly_taken}

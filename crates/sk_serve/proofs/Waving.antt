@@ -12,7 +12,7 @@ use Rattle.sk_hub.specs.Drains.{HasTakenIn}
 use Rattle.sk_hub.specs.Updaters.{UpdaterState}
 use Rattle.sk_hub.proofs.Taking.{taken_with_view}
 use Rattle.sk_line.specs.declared.sessions.End.{End}
-use Rattle.sk_count.proofs.MaskLines.{range_split}
+use Rattle.sk_report.proofs.MaskLines.{range_split}
 use Rattle.sk_serve.specs.declared.plan.ServePlan.{ServePlan}
 use Rattle.sk_serve.specs.Plans.{IsServable}
 use Rattle.sk_serve.specs.Served.{Served, IsServed, AreServed, IsUnread, StopsAccepting, links_of, ends_of}

@@ -18,7 +18,7 @@ use Rattle.sk_line.specs.Serving.{Answered, items_offered}
 use Rattle.sk_line.specs.Sessions.{SessionState, session_state, ComesTo, SessionEnds}
 use Rattle.sk_line.specs.declared.sessions.End.{End}
 use Rattle.sk_line.specs.declared.sessions.End.TheVariants.{Quit, Closed, LinkFault, Long, TooMuch, OutOfMemory}
-use Rattle.sk_count.specs.Plans.{size_at}
+use Rattle.sk_report.specs.Sizes.{size_at}
 use Rattle.sk_serve.specs.declared.plan.ServePlan.{ServePlan}
 use Rattle.sk_serve.specs.Plans.{shape_of}
 

@@ -6,8 +6,8 @@ use Rattle.sk_io.specs.Traffic.{Doorway}
 use Rattle.sk_gate.specs.Hands.{TokenState}
 use Rattle.sk_hub.specs.Hearts.{HeartState}
 use Rattle.sk_watch.specs.Places.{Place, told}
-use Rattle.sk_count.specs.declared.remains.Remains.{Remains}
-use Rattle.sk_count.specs.Texts.{armed_with, reply_of}
+use Rattle.sk_report.specs.declared.remains.Remains.{Remains}
+use Rattle.sk_report.specs.Texts.{armed_with, reply_of}
 use Rattle.sk_serve.specs.declared.plan.ServePlan.{ServePlan}
 use Rattle.sk_serve.specs.declared.fault.ServeFault.{ServeFault}
 use Rattle.sk_serve.specs.declared.fault.ServeFault.TheVariants.{OutOfMemory, NetFault, WriteFault}

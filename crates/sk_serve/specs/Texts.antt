@@ -7,7 +7,7 @@ use Rattle.sk_watch.specs.Masks.{mask_of}
 use Rattle.sk_watch.specs.Places.{Place, answers_at}
 use Rattle.sk_line.specs.declared.sessions.End.{End}
 use Rattle.sk_line.specs.declared.sessions.End.TheVariants.{Quit, Closed, LinkFault, Long, TooMuch, OutOfMemory}
-use Rattle.sk_count.specs.Texts.{alarm_lines, reply_of}
+use Rattle.sk_report.specs.Texts.{alarm_lines, reply_of}
 
 -- how a session ended. If memory was out nothing is written
 abbrev pub end_text : End → List ℕ

@@ -5,7 +5,7 @@ ghost use Rattle.sk_model.specs.Entries.{entries_by, items_of_entries};
 ghost use Rattle.sk_model.specs.Sketch.{estimate_of};
 ghost use Rattle.sk_hub.specs.Hearts.{HeartState};
 ghost use Rattle.sk_line.specs.Serving.{items_kept};
-ghost use Rattle.sk_count.specs.Plans.{size_at};
+ghost use Rattle.sk_report.specs.Sizes.{size_at};
 ghost use Rattle.sk_serve.specs.Lists.{AreBusyBehind, SayOfOneList, HoldsReplies};
 ghost use Rattle.sk_serve.specs.declared.plan.ServePlan.{ServePlan};
 ghost use Rattle.sk_serve.specs.Plans.{IsServable};

@@ -1,10 +1,10 @@
 //! What a server is asked.
 ghost use Rattle.std.specs.Prelude.{◌≡◌};
-ghost use Rattle.sk_count.specs.Plans.{size_at};
+ghost use Rattle.sk_report.specs.Sizes.{size_at};
 ghost use Rattle.sk_model.specs.Limits.{most_size, IsFrom};
 ghost use Rattle.sk_serve.specs.Plans.{IsServable, shape_of};
 
-use sk_count::Numbers;
+use sk_report::Numbers;
 use sk_theta::Shape;
 
 /// How many sessions are served at which port, and by which hub.

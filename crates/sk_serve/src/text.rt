@@ -3,12 +3,12 @@ ghost use Rattle.std.specs.Prelude.{◌++◌, OnOk, OnErr};
 ghost use Rattle.std.specs.Io.KnownBytes.{Appends};
 ghost use Rattle.sk_model.specs.Causes.{HasCause, AppendsPart};
 ghost use Rattle.sk_lines.specs.Fractions.{estimate_line};
-ghost use Rattle.sk_count.specs.Texts.{alarm_lines};
+ghost use Rattle.sk_report.specs.Texts.{alarm_lines};
 ghost use Rattle.sk_serve.specs.Texts.{end_text, session_line, session_lines};
 
-use sk_count::{write_alarms, write_end, write_number};
 use sk_io::{Failed, Sink, write_all};
 use sk_line::End;
+use sk_report::{write_alarms, write_estimate, write_number};
 
 /// Writes a line for each session, for each alarm that went off, and that of an estimate.
 pub(crate) fn write_served<O: Sink>(
@@ -23,7 +23,7 @@ pub(crate) fn write_served<O: Sink>(
 {
     write_sessions(out, ends)?;
     write_alarms(out, gone)?;
-    write_end(out, None, estimate)
+    write_estimate(out, estimate)
 }
 
 // Writes a line for each session, in order.

@@ -5,7 +5,7 @@ use Rattle.sk_serve.specs.Plans.{IsServable}
 use Rattle.sk_serve.specs.Serves.{surroundings, TellsSessions, ServeEnds}
 use Rattle.sk_serve.specs.declared.fault.ServeFault.TheVariants as serve
 use Rattle.sk_serve.specs.declared.plan.ServePlan.{ServePlan}
-use Rattle.sk_count.specs.declared.remains.Remains.{Remains}
+use Rattle.sk_report.specs.declared.remains.Remains.{Remains}
 use Rattle.sk_cli.specs.Beside.{Beside, Left, board_places}
 use Rattle.sk_cli.specs.Options.{Given, value_behind, number_in, required_in, seed_by, sizes_by, eager_by, alarms_by}
 use Rattle.sk_cli.specs.Outside.{Doorways}

@@ -10,10 +10,11 @@ ghost use Rattle.sk_cli.specs.commands.Count.{what_by, how_by, plan_by, column_b
 use crate::fault::Fault;
 use crate::options::{Name, Options};
 use crate::remains::Remains;
-use sk_count::{Numbers, Plan};
+use sk_count::Plan;
 use sk_io::{Sink, Source};
 use sk_model::limits::{LEAST_K, MOST_K};
 use sk_read::{Fault as ReadingFault, Kind};
+use sk_report::Numbers;
 use sk_watch::Seen;
 use std::alloc::Global;
 use std::sync::Wait;

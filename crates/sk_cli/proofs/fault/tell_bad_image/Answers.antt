@@ -1,7 +1,7 @@
 use Rattle.std.proofs.Common.{List, ℕ, codes, ◌++◌}
 use Rattle.sk_model.specs.Causes.{AppendsPart}
 use Rattle.sk_cli.specs.Fault.{unit_message}
-use Rattle.sk_count.proofs.Fronts.{part_longer, part_behind, on_err, on_err_then}
+use Rattle.sk_report.proofs.Fronts.{part_longer, part_behind, on_err, on_err_then}
 use Rattle.sk_cli.proofs.fault.tell_bad_image.Goals as goal
 
 pub returns-in_err-tell_unit-clause-part : goal.returns-in_err-tell_unit-clause-part

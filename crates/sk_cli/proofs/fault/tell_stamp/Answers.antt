@@ -2,7 +2,7 @@ use Rattle.std.proofs.Common.{List, ℕ, ◌++◌, subst}
 use Rattle.std.specs.Io.KnownBytes.{Appends}
 use Rattle.sk_model.specs.Causes.{AppendsPart}
 use Rattle.sk_image.specs.Images.{first_line}
-use Rattle.sk_count.proofs.Fronts.{part_longer, part_behind, on_err, on_err_then}
+use Rattle.sk_report.proofs.Fronts.{part_longer, part_behind, on_err, on_err_then}
 use Rattle.sk_cli.proofs.fault.tell_stamp.Goals as goal
 
 pub returns-in_err-write_all-clause-part : goal.returns-in_err-write_all-clause-part

@@ -3,7 +3,7 @@ use Rattle.std.specs.Io.KnownBytes.{Appends}
 use Rattle.sk_model.specs.Causes.{AppendsPart}
 use Rattle.sk_lines.proofs.Digits.{decimal_is_short}
 use Rattle.sk_cli.specs.Fault.{unit_message}
-use Rattle.sk_count.proofs.Fronts.{part_longer, part_behind, on_err, on_err_then}
+use Rattle.sk_report.proofs.Fronts.{part_longer, part_behind, on_err, on_err_then}
 use Rattle.sk_cli.proofs.fault.tell_unit.Goals as goal
 
 pub put_decimal-len-requires : goal.put_decimal-len-requires

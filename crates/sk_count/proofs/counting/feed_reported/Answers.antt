@@ -2,9 +2,9 @@ use Rattle.std.proofs.Common.{◌≡◌, ℕ, false, Option, is_some, ap, ◌∙
 use Rattle.sk_read.specs.declared.items.Intake.{Intake}
 use Rattle.sk_feed.specs.Hubs.{hub_of}
 use Rattle.sk_count.specs.Reports.{showing}
-use Rattle.sk_count.proofs.Results.{if_err_is}
+use Rattle.sk_report.proofs.Results.{if_err_is}
 use Rattle.sk_count.proofs.FeedingLaws.{fed_early, fed_whole}
-use Rattle.sk_count.proofs.QuietLaws.{quiet_early}
+use Rattle.sk_ingest.proofs.QuietLaws.{quiet_early}
 use Rattle.sk_count.proofs.counting.feed_reported.Goals as goal
 
 pub returns-in_err-ingest-clause-early : goal.returns-in_err-ingest-clause-early

@@ -1,7 +1,7 @@
 use Rattle.std.proofs.Common.{ℕ, List, [], ◌∷◌, ap, subst, sym}
 use Rattle.sk_count.specs.Opened.{AreSizes}
 use Rattle.sk_count.specs.Steps.{hint_of}
-use Rattle.sk_count.proofs.Results.{if_ok_all}
+use Rattle.sk_report.proofs.Results.{if_ok_all}
 use Rattle.sk_count.proofs.OpeningLaws.{is_opened, are_fresh}
 use Rattle.sk_count.proofs.counting.open_hub.Goals as goal
 

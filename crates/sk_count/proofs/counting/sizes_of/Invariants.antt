@@ -1,5 +1,5 @@
 use Rattle.std.proofs.Common.{◌≡◌, ℕ, ◌<◌, length, slice_index}
-use Rattle.sk_count.specs.Plans.{size_at}
+use Rattle.sk_report.specs.Sizes.{size_at}
 use Rattle.sk_count.proofs.counting.sizes_of.Given as goal
 
 abbrev pub invariant-size : goal.invariant-size

@@ -3,7 +3,8 @@ use Rattle.sk_model.specs.Entries.{items_of_entries}
 use Rattle.sk_model.specs.Sketch.{placed, rising, k_smallest}
 use Rattle.sk_lines.specs.Fractions.{fraction_text}
 use Rattle.sk_watch.specs.Masks.{mask_of}
-use Rattle.sk_count.specs.Texts.{alarm_line, alarm_lines, armed_with, interim_line, interim_text, places_after}
+use Rattle.sk_report.specs.Texts.{alarm_line, alarm_lines, armed_with, interim_line}
+use Rattle.sk_count.specs.Texts.{interim_text, places_after}
 use Rattle.sk_count.proofs.laws.worked_alarms.Goals as goal
 
 pub returns : goal.returns

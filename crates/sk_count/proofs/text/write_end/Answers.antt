@@ -1,7 +1,7 @@
 use Rattle.sk_model.specs.Causes.{AppendsPart}
 use Rattle.sk_lines.specs.Fractions.{estimate_line}
 use Rattle.sk_count.specs.Texts.{made_line}
-use Rattle.sk_count.proofs.Fronts.{part_longer, part_behind, on_err, on_err_then}
+use Rattle.sk_report.proofs.Fronts.{part_longer, part_behind, on_err, on_err_then}
 use Rattle.sk_count.proofs.text.write_end.Goals as goal
 
 pub returns-in_err-write_made-clause-part : goal.returns-in_err-write_made-clause-part

@@ -1,8 +1,8 @@
 use Rattle.std.proofs.Common.{◌≡◌, ℕ, false, Option, is_some, ap, ◌∙◌}
 use Rattle.sk_read.specs.declared.items.Intake.{Intake}
 use Rattle.sk_feed.specs.Hubs.{hub_of}
-use Rattle.sk_count.proofs.Results.{if_err_is}
-use Rattle.sk_count.proofs.QuietLaws.{quiet_early}
+use Rattle.sk_report.proofs.Results.{if_err_is}
+use Rattle.sk_ingest.proofs.QuietLaws.{quiet_early}
 use Rattle.sk_rank.specs.Reports.{showing}
 use Rattle.sk_rank.proofs.FeedingLaws.{ended_early, fed_whole, quiet_whole}
 use Rattle.sk_rank.proofs.OpeningLaws.{are_fresh}

@@ -1,5 +1,5 @@
 use Rattle.std.proofs.Common.{ap}
-use Rattle.sk_count.proofs.Results.{if_ok_all}
+use Rattle.sk_report.proofs.Results.{if_ok_all}
 use Rattle.sk_rank.specs.Steps.{hint_of}
 use Rattle.sk_rank.proofs.OpeningLaws.{is_opened}
 use Rattle.sk_rank.proofs.ranking.open_hub.Goals as goal

@@ -1,6 +1,6 @@
 use Rattle.std.proofs.Common.{decimal}
 use Rattle.sk_model.specs.Causes.{AppendsPart}
-use Rattle.sk_count.proofs.Fronts.{part_behind, on_err_then}
+use Rattle.sk_report.proofs.Fronts.{part_behind, on_err_then}
 use Rattle.sk_rank.specs.Texts.{labelled}
 use Rattle.sk_rank.proofs.text.write_labelled.Goals as goal
 

@@ -1,7 +1,7 @@
 use Rattle.std.proofs.Common.{◌++◌, codes}
 use Rattle.sk_model.specs.Causes.{AppendsPart}
 use Rattle.sk_rank.specs.Texts.{labelled, told_line}
-use Rattle.sk_count.proofs.Fronts.{part_longer, part_behind, on_err, on_err_then}
+use Rattle.sk_report.proofs.Fronts.{part_longer, part_behind, on_err, on_err_then}
 use Rattle.sk_rank.proofs.text.write_line.Goals as goal
 
 pub returns-in_err-write_labelled-clause-part : goal.returns-in_err-write_labelled-clause-part

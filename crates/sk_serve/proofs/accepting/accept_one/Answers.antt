@@ -1,5 +1,5 @@
 use Rattle.std.proofs.Common.{refl, ap, ◌∙◌}
-use Rattle.sk_count.specs.Plans.{size_at}
+use Rattle.sk_report.specs.Sizes.{size_at}
 use Rattle.sk_serve.proofs.Admitting.{new_fresh}
 use Rattle.sk_serve.proofs.Closed.{closed_none, closed_one, where_err}
 use Rattle.sk_serve.proofs.accepting.accept_one.Goals as goal

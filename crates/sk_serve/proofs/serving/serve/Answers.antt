@@ -1,5 +1,5 @@
 use Rattle.std.proofs.Common.{◌≡◌, refl, sym, ap, subst, ◌∙◌}
-use Rattle.sk_count.specs.Texts.{armed_with}
+use Rattle.sk_report.specs.Texts.{armed_with}
 use Rattle.sk_serve.specs.Serves.{surroundings, ServeEnds}
 use Rattle.sk_serve.proofs.Closed.{closed_none}
 use Rattle.sk_serve.proofs.Showing.{ends_by, told_all, told_part}

@@ -5,7 +5,7 @@ use Rattle.sk_serve.specs.declared.fault.ServeFault.TheVariants as fault
 use Rattle.sk_serve.specs.Served.{StopsAccepting, ServesSessions}
 use Rattle.sk_serve.proofs.Showing.{all_served, served_from}
 use Rattle.sk_serve.proofs.Closed.{closed_none, closed_from}
-use Rattle.sk_count.proofs.Results.{if_err_is}
+use Rattle.sk_report.proofs.Results.{if_err_is}
 use Rattle.sk_serve.proofs.Waving.{none_accepted, stops_from}
 use Rattle.sk_serve.proofs.serving.serve_all.Goals as goal
 

@@ -1,7 +1,7 @@
 use Rattle.std.proofs.Common.{◌++◌, codes, decimal}
 use Rattle.sk_model.specs.Causes.{AppendsPart}
 use Rattle.sk_serve.specs.Texts.{end_text, session_line}
-use Rattle.sk_count.proofs.Fronts.{part_longer, part_behind, on_err, on_err_then}
+use Rattle.sk_report.proofs.Fronts.{part_longer, part_behind, on_err, on_err_then}
 use Rattle.sk_serve.proofs.text.write_session.Goals as goal
 
 pub returns-in_err-write_all-clause-part : goal.returns-in_err-write_all-clause-part

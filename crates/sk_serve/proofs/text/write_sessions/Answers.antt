@@ -5,7 +5,7 @@ use Rattle.std.proofs.lemmas.List.{get_or_default}
 use Rattle.sk_model.specs.Causes.{AppendsPart}
 use Rattle.sk_line.specs.declared.sessions.End.TheVariants.{Quit}
 use Rattle.sk_serve.specs.Texts.{session_line}
-use Rattle.sk_count.proofs.Fronts.{part_longer, part_behind, on_err}
+use Rattle.sk_report.proofs.Fronts.{part_longer, part_behind, on_err}
 use Rattle.sk_serve.proofs.Lines.{lines_before, lines_behind, before_none, before_more, all_split, all_before}
 use Rattle.sk_serve.proofs.text.write_sessions.Goals as goal
 

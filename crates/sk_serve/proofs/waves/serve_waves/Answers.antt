@@ -1,5 +1,5 @@
 use Rattle.std.proofs.Common.{◌≡◌, ◌+◌, ◌-◌, ◌≤◌, ◌++◌, ◌*◌, suc, length, [], refl, sym, ap, subst, ◌∙◌, arith, length-append}
-use Rattle.sk_count.proofs.Results.{if_err_is}
+use Rattle.sk_report.proofs.Results.{if_err_is}
 use Rattle.sk_serve.specs.declared.fault.ServeFault.TheVariants as fault
 use Rattle.sk_serve.specs.Served.{StopsAccepting}
 use Rattle.sk_serve.proofs.Closed.{closed_none, closed_trans}

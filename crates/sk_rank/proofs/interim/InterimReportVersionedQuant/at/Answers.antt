@@ -4,8 +4,8 @@ use Rattle.std.proofs.lemmas.List.{with_items_is}
 use Rattle.sk_hub.specs.Updaters.{UpdaterState}
 use Rattle.sk_feed.specs.Hubs.{Hub, hub_of, IsHub}
 use Rattle.sk_ingest.specs.declared.report.Stop.TheVariants as stop
-use Rattle.sk_count.proofs.Results.{on_ok_then, if_err_then}
-use Rattle.sk_rank.specs.Learning.{ReaderGoesOn, LearnsFirst, AreAsked}
+use Rattle.sk_report.proofs.Results.{on_ok_then, if_err_then}
+use Rattle.sk_learn.specs.Learning.{ReaderGoesOn, LearnsFirst, AreAsked}
 use Rattle.sk_rank.proofs.ReportLaws.{report_made, report_broke, still_hub}
 use Rattle.sk_rank.proofs.interim.InterimReportVersionedQuant.at.Goals as goal
 

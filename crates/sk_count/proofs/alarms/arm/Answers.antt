@@ -1,5 +1,0 @@
-use Rattle.sk_count.proofs.Arming.{armed_all}
-use Rattle.sk_count.proofs.alarms.arm.Goals as goal
-
-pub returns : goal.returns
-returns g c = armed_all _ _ _ _ _ c.arm_first.ensures c.let_go.ensures

@@ -1,5 +1,0 @@
-use Rattle.sk_count.specs.Boards.{ArmsFirst}
-use Rattle.sk_count.proofs.alarms.arm_first.Given as goal
-
-abbrev pub invariant-arm : goal.invariant-arm
-invariant-arm g l = ArmsFirst l.k l.marks l.place (g.B.Seen.places l.fn.board) (g.B.Seen.places l.board)
