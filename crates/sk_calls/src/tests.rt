@@ -6,6 +6,7 @@ mod ranks;
 mod read;
 mod schedules;
 mod sessions;
+mod waking;
 
 use std::fmt::Debug;
 use std::process::Abort;
