@@ -3,3 +3,4 @@ pub mod Rows
 pub mod Sizes
 pub mod Texts
 pub mod Boards
+pub mod Parts
