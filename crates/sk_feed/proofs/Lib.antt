@@ -13,3 +13,4 @@ pub mod Filtered
 pub mod OnItsWay
 pub mod DeliveryLaws
 pub mod TakingLaws
+pub mod Settling

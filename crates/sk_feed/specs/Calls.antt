@@ -46,12 +46,12 @@ pub record FindsElsewhere (u u' : UpdaterState) : Type 0 where
   pub found : IsElsewhere u.view other u'.view
   pub stays : u' ≡ record u { view = u'.view }
 
--- it found the turn with another seat so many times, and then served all
+-- it found the turn with another seat this many times, and then served all
 unfoldable pub ServesAfter : ℕ → UpdaterState → UpdaterState → Type 0
 ServesAfter zero u u' = ServesAll u u'
 ServesAfter (suc times) u u' = (v : UpdaterState) × FindsElsewhere u v × ServesAfter times v u'
 
--- it tried once to serve all where it is eager, and did nothing where it is not
+-- it tried once to serve all if it is eager, and did nothing if it is not
 abbrev pub HelpsIfEager : Filter → UpdaterState → UpdaterState → Type 0
 HelpsIfEager f u u' = MatchBool (u.eager && f.early u.hint) (ServesAll u u' ⊎ FindsElsewhere u u') (u' ≡ u)
 
@@ -61,7 +61,7 @@ HelpsIfEager f u u' = MatchBool (u.eager && f.early u.hint) (ServesAll u u' ⊎ 
 abbrev pub IsOffered : Filter → UpdaterState → ℕ → UpdaterState → Type 0
 IsOffered f u item u' = Filters f u item u' ⊎ Accepts f u item u'
 
--- it was busy so many times, and served all each time; then the item was taken, and it helped
+-- it was busy this many times, and served all each time; then the item was taken, and it helped
 unfoldable pub InsistsAfter : Filter → ℕ → UpdaterState → ℕ → UpdaterState → Type 0
 InsistsAfter f zero u item u' = Filters f u item u' ⊎ ((v : UpdaterState) × Accepts f u item v × HelpsIfEager f v u')
 InsistsAfter f (suc times) u item u' = (v : UpdaterState) × (w : UpdaterState) × (tries : ℕ) × IsBusyWith f u item v × ServesAfter tries v w × InsistsAfter f times w item u'

@@ -12,7 +12,7 @@ use Rattle.sk_fill.specs.Stretches.{StretchState}
 abbrev pub windows_of : List StretchState → List (List (List ℕ))
 windows_of stretches = flat_map (λ s. s.windows) stretches
 
--- so many lines of the source end with the first of these stretches or those that follow it
+-- the first n lines of the source end with the first of these stretches or those that follow it
 abbrev pub EndAt : List StretchState → ℕ → Type 0
 EndAt stretches n = (first : StretchState) × (rest : List StretchState) × (stretches ≡ first ∷ rest) × (n ≡ first.first + length (all_lines (windows_of stretches)))
 

@@ -1,6 +1,6 @@
--- The handles of a hub together, and how they go on while a window is fed and reported.
-use Rattle.std.specs.Prelude.{◌≡◌, ◌⊎◌, ℕ, ◌<◌, Bool, List, [], ◌∷◌, length, slice_index_or}
-use Rattle.sk_model.specs.Entries.{Entry}
+-- The handles of a hub together, and how they continue while a window is fed and reported.
+use Rattle.std.specs.Prelude.{◌≡◌, ◌⊎◌, ℕ, ◌<◌, Bool, true, ◌&&◌, List, [], ◌∷◌, length, slice_index_or, All}
+use Rattle.sk_model.specs.Entries.{Entry, entries_by}
 use Rattle.sk_model.specs.Missing.{Begins}
 use Rattle.sk_gate.specs.Hands.{TokenState}
 use Rattle.sk_gate.specs.Views.{known_of, size_of}
@@ -40,7 +40,7 @@ pub record IsHub (hub : Hub) : Type 0 where
   pub numbers : hub.token.view.numbers ≡ hub.heart.view.numbers
   pub name : hub.token.view.name ≡ hub.heart.view.name
 
--- ---- how it goes on
+-- ---- how it continues
 
 -- the same heart, which may have propagated: it has drained and admitted nobody, and knows no more of updaters
 pub record HeartGoesOn (h h' : HeartState) : Type 0 where
@@ -58,6 +58,18 @@ pub record FeedsWindows (keeps : ℕ → ℕ → Bool) (hint_of : List ℕ → L
   pub heart : HeartGoesOn a.heart b.heart
   pub updaters : TakeShares keeps hint_of kind windows a.updaters b.updaters
   pub token : b.token ≡ a.token
+
+-- all that an updater handed over is published, and its base has it
+abbrev pub HasAllPublished : UpdaterState → Type 0
+HasAllPublished u = entries_by u.number (base_of u) ≡ handed_of u
+
+-- so it is of each
+abbrev pub AreSettled : List UpdaterState → Type 0
+AreSettled us = All HasAllPublished us
+
+-- while an updater is eager, nothing waits in its fill buffer
+abbrev pub HandsOverEarly : (ℕ → Bool) → UpdaterState → Type 0
+HandsOverEarly early u = (u.eager && early u.hint) ≡ true → u.fill ≡ []
 
 -- an updater has kept and handed over nothing more, and has its hint. A told value may have been taken from it
 pub record IsLeft (u u' : UpdaterState) : Type 0 where

@@ -8,14 +8,14 @@ use Rattle.sk_read.specs.declared.kind.Kind.{Kind}
 use Rattle.sk_fill.specs.Windows.{items_in}
 use Rattle.sk_hub.specs.Calls.{Takes}
 
--- the items of a block on their way: those that wait to be taken, and the lines to come behind them
+-- the items of a block on their way: those that wait to be taken, and the lines to come after them
 pub record BlockItemsState : Type 0 where
   pub kind : Kind
   pub waiting : List ℕ
   pub rest : List (List ℕ)
 
--- of these lines an updater took the items of the first. Of the next those wait that a hint keeps which it had then or
--- earlier, and the rest comes behind
+-- of these lines an updater took the items of the first ones. Of the next ones those items wait that a hint keeps which
+-- it had then or earlier, and the rest comes after them
 pub record IsOnItsWay (keeps : ℕ → ℕ → Bool) (hint_of : List ℕ → List Entry → ℕ) (lines : List (List ℕ)) (start u : UpdaterState) (items : BlockItemsState) : Type 0 where
   pub front : List (List ℕ)
   pub next : List (List ℕ)

@@ -20,7 +20,7 @@ HaveRoom lines us = (i : ℕ) (d : UpdaterState) → i < length us → length (k
 abbrev pub HaveRoomFor : List (List (List ℕ)) → List UpdaterState → Type 0
 HaveRoomFor windows us = (i : ℕ) (d : UpdaterState) → i < length us → length (kept_of (slice_index_or us i d)) + length (blocks_of windows i (length us)) ≤ most_kept
 
--- no updater has kept more than one item each of so many units, the rest not counted
+-- no updater has kept more than one item each of this many units, the rest not counted
 abbrev pub HaveFew : ℕ → List (List ℕ) → List UpdaterState → Type 0
 HaveFew count rest us = (i : ℕ) (d : UpdaterState) → i < length us → length (kept_of (slice_index_or us i d)) + length rest ≤ count
 

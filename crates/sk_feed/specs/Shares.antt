@@ -7,7 +7,7 @@ use Rattle.sk_hub.specs.Updaters.{UpdaterState, base_of, kept_of}
 use Rattle.sk_read.specs.declared.kind.Kind.{Kind}
 use Rattle.sk_fill.specs.Windows.{items_in}
 use Rattle.sk_fill.specs.Blocks.{block_of}
-use Rattle.sk_hub.specs.Calls.{Takes}
+use Rattle.sk_hub.specs.Calls.{KeepsNone, Takes}
 
 -- what updater i of n takes of windows, in order: the items of its block of each
 unfoldable pub share : Kind → List (List (List ℕ)) → ℕ → ℕ → List ℕ
@@ -17,6 +17,11 @@ share kind windows n i = flat_map (λ lines. items_in kind (block_of lines i n))
 pub record TakeShares (keeps : ℕ → ℕ → Bool) (hint_of : List ℕ → List Entry → ℕ) (kind : Kind) (windows : List (List (List ℕ))) (us us' : List UpdaterState) : Type 0 where
   pub count : length us' ≡ length us
   pub each : (i : ℕ) (d : UpdaterState) → i < length us → Takes keeps hint_of (slice_index_or us i d) (share kind windows (length us) i) (slice_index_or us' i d)
+
+-- each updater continues, and has kept nothing more
+pub record KeepNone (us us' : List UpdaterState) : Type 0 where
+  pub count : length us' ≡ length us
+  pub each : (i : ℕ) (d : UpdaterState) → i < length us → KeepsNone (slice_index_or us i d) (slice_index_or us' i d)
 
 -- the same updater, which of these items, in order, has kept each that is not filtered by its base. A told value
 -- may have been taken from it

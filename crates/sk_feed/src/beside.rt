@@ -1,4 +1,4 @@
-//! The heart of a hub, which propagates in a thread of its own beside updaters that are fed.
+//! The heart of a hub, which propagates in a thread of its own while updaters are fed.
 ghost use Rattle.std.specs.Prelude.{OnErr, IsTrue};
 ghost use Rattle.sk_feed.specs.Hubs.{HeartGoesOn};
 
@@ -10,11 +10,11 @@ use std::sync::Wait;
 use std::sync::atomic::{AtomicBool, Ordering};
 use std::thread::{Threads, join_mut};
 
-// As many sweeps in a row that find nothing end the heart's part: updaters that stay busy then propagate themselves.
+// After this many sweeps in a row that find nothing the heart ends: updaters that stay busy then propagate themselves.
 const MOST_IDLE: u32 = 64;
 
-// What propagates, as a heart does. A closure that lends a value of a type parameter to a thread has a proof; one that
-// lends a heart has none beside one that lends its updaters.
+// What propagates, as a heart does. Split off for the proof: a closure that lends a value of a type parameter to a
+// thread has a proof; one that lends a heart has none if another lends its updaters.
 pub(crate) trait Propagates {
     // The same that has propagated.
     ghost goes_on: { Self → Self → Type 0 };
@@ -49,7 +49,7 @@ impl<C: Composable> Propagates for Heart<C> {
     }
 }
 
-// Sweeps once, and counts how many sweeps in a row found nothing. Behind such a one, and one that found another seat
+// Sweeps once, and counts how many sweeps in a row found nothing. After such a sweep, and one that found another seat
 // at work, it waits.
 fn sweep_counting<C: Composable, R: Wait>(
     rt: &R,
@@ -77,7 +77,7 @@ fn sweep_counting<C: Composable, R: Wait>(
     }
 }
 
-// Propagates in a thread of its own while the work is done here, which tells when it is done.
+// Propagates in a thread of its own while the work is done here, which sets `done` when it ends.
 pub(crate) fn run_beside<R: Threads + Wait + Sync, T: Propagates + Send, F: FnMut() -> A, A>(
     rt: &R,
     heart: &mut T,

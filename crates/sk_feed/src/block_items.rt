@@ -16,7 +16,7 @@ use sk_lines::{GROUP, Span};
 use sk_read::Kind;
 use std::marker::Model;
 
-// The items of a block on their way to an updater. Where that is busy they stay, and no line is sought again.
+// The items of a block on their way to an updater. If that is busy they stay, and no line is sought again.
 #[derive(Drop)]
 pub(crate) struct BlockItems<'a> {
     kind: Kind,
@@ -60,7 +60,7 @@ impl<'a> BlockItems<'a> {
         }
     }
 
-    // Offers them, in order, until the updater is busy with one, and answers whether all were taken.
+    // Offers them, in order, until the updater is busy with one, and returns whether all were taken.
     pub(crate) fn feed<C: Composable>(&mut self, u: &mut Updater<C>) -> bool
         requires room { length (kept_of u.old) + (length self.old.waiting + length self.old.rest) ≤ most_kept }
         ensures room { length (kept_of u.new) + (length self.new.waiting + length self.new.rest) ≤ most_kept }
@@ -79,7 +79,7 @@ impl<'a> BlockItems<'a> {
         false
     }
 
-    // Offers those that wait, in order, until the updater is busy with one, and answers whether all were taken.
+    // Offers those that wait, in order, until the updater is busy with one, and returns whether all were taken.
     fn offer_waiting<C: Composable>(&mut self, u: &mut Updater<C>) -> bool
         requires room { length (kept_of u.old) + length self.old.waiting ≤ most_kept }
         ensures taken { (items : List ℕ) × (self.old.waiting ≡ items ++ self.new.waiting) × Takes C.keeps_of C.hint_of u.old items u.new }
@@ -91,7 +91,7 @@ impl<'a> BlockItems<'a> {
         self.at == self.end
     }
 
-    // Goes on by some lines: of their items those wait that a hint keeps.
+    // Continues by some lines: of their items those wait that a hint keeps.
     fn gather_next<C: Composable>(&mut self, hint: u64)
         requires none_waits { self.old.waiting ≡ [] }
         requires some { 0 < length self.old.rest }
@@ -107,7 +107,7 @@ impl<'a> BlockItems<'a> {
     }
 }
 
-// Offers items, in order, until the updater is busy with one, and answers how many were taken.
+// Offers items, in order, until the updater is busy with one, and returns how many were taken.
 fn offer_each<C: Composable>(u: &mut Updater<C>, items: &[u64]) -> usize
     requires items { AreItems items.now }
     requires room { length (kept_of u.old) + length items.now ≤ most_kept }

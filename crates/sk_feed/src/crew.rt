@@ -92,8 +92,8 @@ impl Crew {
         }
     }
 
-    /// The reader waits for feeders, after it did so `times` times, or answers `false` if it should end: one has ended,
-    /// or they do not begin.
+    /// The reader, which has waited `times` times, waits for a feeder once more and returns `true`; or `false` if it
+    /// should end: a feeder has ended, or they do not begin.
     pub fn wait_for_feeders<R: Wait>(&self, rt: &R, times: u32) -> bool {
         if self.has_left() {
             return false;

@@ -15,8 +15,8 @@ use sk_model::OutOfMemory;
 use sk_read::Kind;
 use std::sync::Wait;
 
-/// Feeds the items of the lines from one place up to another, in order, and answers the first place that was
-/// not taken. With `help` the updater propagates where it is busy or eager, and all are taken; it then waits
+/// Feeds the items of the lines from one place up to another, in order, and returns the first place that was
+/// not taken. With `help` the updater propagates when it is busy or eager, and all are taken; it then waits
 /// while another seat propagates.
 pub fn feed_block<C: Composable, R: Wait>(
     rt: &R,
@@ -34,7 +34,7 @@ pub fn feed_block<C: Composable, R: Wait>(
     ensures taken { IfOk result (λ place. Takes C.keeps_of C.hint_of u.old (items_in kind (slice_range w.now.lines from place)) u.new) }
     ensures all { IfOk result (λ place. help ≡ true → place ≡ to) }
 
-    // Below `to` it answers exactly where the updater was busy with the item of that very line.
+    // A place below `to` is that of the line whose item the updater was busy with.
     ensures fed { IfOk result (λ place. place ≡ to
         → IsFedEach (filter_of C.keeps_of C.early_of C.hint_of) help u.old (items_in kind (slice_range w.now.lines from to)) u.new) }
     ensures busy { IfOk result (λ place. place < to
@@ -119,7 +119,7 @@ pub fn offer<C: Composable>(u: &mut Updater<C>, item: u64) -> Update
     ensures filtered { result ≡ Update.Filtered → Filters (filter_of C.keeps_of C.early_of C.hint_of) u.old item u.new }
     ensures accepted { (result ≡ Update.Kept) ⊎ (result ≡ Update.Handed) → Accepts (filter_of C.keeps_of C.early_of C.hint_of) u.old item u.new }
 {
-    // It tells the proof which list the hint is of.
+    // It shows the proof which list the hint is of.
     let _hint = u.hint();
     u.update(item)
 }
@@ -155,7 +155,7 @@ pub(crate) fn help_until_served<C: Composable, R: Wait>(
     unreachable!()
 }
 
-// Propagates once, and answers whether no other seat did.
+// Propagates once, and returns whether no other seat did.
 pub(crate) fn help_once<C: Composable, R: Wait>(
     rt: &R,
     u: &mut Updater<C>,

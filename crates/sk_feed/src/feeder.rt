@@ -60,7 +60,7 @@ impl<C: Composable> Feeder<C> {
     }
 }
 
-// Feeds block i of n of each window, in order, and answers the place after the last.
+// Feeds block i of n of each window, in order, and returns the place after the last.
 pub(crate) fn feed_blocks<C: Composable, R: Wait>(
     rt: &R,
     u: &mut Updater<C>,

@@ -16,7 +16,7 @@ use sk_read::Kind;
 use std::alloc::Global;
 use std::sync::Wait;
 
-/// At most so many stretches are given at a time. A ring has room for all of them, so that nobody waits for room.
+/// At most this many stretches are given at a time. A ring has room for all of them, so that nobody waits for room.
 pub const MOST_GIVEN: usize = 8;
 
 /// What takes stretches, and the ring through which they come for it.
@@ -43,7 +43,7 @@ impl<T: TakesStretches> Lane<T> {
             alloc, MOST_GIVEN,
         )?;
         outlet.push_reserved(first.share()?);
-        // It tells the proof that the first stretch comes first.
+        // It shows the proof that the first stretch comes first.
         inlet.slots_beside(&mut outlet);
         Ok((
             Lane {

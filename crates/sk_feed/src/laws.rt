@@ -30,7 +30,7 @@ pub fn kept_begins_later()
         → Takes keeps hint_of u items u' → Begins (kept_of u) (kept_of u') }
 {}
 
-/// Of so many items no more are kept.
+/// No more items are kept than were taken.
 pub fn takes_few()
     ensures { (keeps : ℕ → ℕ → Bool) (hint_of : List ℕ → List Entry → ℕ) (u u' : UpdaterState) (items : List ℕ)
         → Takes keeps hint_of u items u' → length (kept_of u') ≤ length (kept_of u) + length items }

@@ -12,6 +12,7 @@ mod feeders;
 mod lane;
 pub mod laws;
 mod propagation;
+mod settle;
 mod taking;
 mod turns;
 
@@ -22,5 +23,6 @@ pub use feed::{feed_block, offer};
 pub use feeders::Feeders;
 pub use lane::{Lane, MOST_GIVEN};
 pub use propagation::{Propagation, propagate};
+pub use settle::settle_all;
 pub use taking::{TakesStretches, are_eager};
 pub use turns::feed_in_turn;

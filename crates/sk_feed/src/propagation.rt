@@ -67,7 +67,7 @@ pub fn propagate<C: Composable, R: Wait>(
 }
 
 // The heart propagates once for all.
-fn sweep<C: Composable, R: Wait>(rt: &R, heart: &mut Heart<C>) -> Result<(), OutOfMemory>
+pub(crate) fn sweep<C: Composable, R: Wait>(rt: &R, heart: &mut Heart<C>) -> Result<(), OutOfMemory>
     ensures heart { HeartGoesOn heart.old heart.new }
     ensures cause { OnErr result (IsTrue C.TAKES_MEMORY) }
 {

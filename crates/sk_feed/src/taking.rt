@@ -18,16 +18,16 @@ use std::sync::Wait;
 
 /// Takes stretches of windows, one after another, as number i of n takers.
 pub trait TakesStretches: Drop {
-    /// Whether it may find no memory.
+    /// Whether it may run out of memory.
     ghost TAKES_MEMORY: { Bool };
 
     /// From one state to another number i of n took these windows, in order.
     ghost took: { Kinds → ℕ → ℕ → Self → Self → List (List (List ℕ)) → Type 0 };
 
-    /// No updater of it has kept more than so many items.
+    /// No updater of it has kept more than this many items.
     ghost keeps_at_most: { Self → ℕ → Type 0 };
 
-    /// Takes the windows of a stretch after those that it took, and answers whether it continues.
+    /// Takes the windows of a stretch after those that it took, and returns whether it continues.
     fn take<R: Wait>(
         &mut self,
         rt: &R,

@@ -18,8 +18,8 @@ use sk_model::OutOfMemory;
 use sk_read::Kind;
 use std::sync::Wait;
 
-/// Feeds a window to from 1 to 64 updaters, one after another: to each its block. An error comes only for want of
-/// memory, where the sketch takes some.
+/// Feeds a window to from 1 to 64 updaters, one after another: to each its block. An error comes only when out of
+/// memory, if the sketch takes some.
 pub fn feed_in_turn<C: Composable, R: Wait>(
     rt: &R,
     heart: &mut Heart<C>,
@@ -43,7 +43,7 @@ pub fn feed_in_turn<C: Composable, R: Wait>(
     Ok(())
 }
 
-// Feeds a block. Each time the updater is busy one propagates; where the hub may be asked before, an eager one does, too.
+// Feeds a block. Each time the updater is busy one propagates; if the hub may be asked before, an eager one does, too.
 fn feed_through<C: Composable, R: Wait>(
     rt: &R,
     heart: &mut Heart<C>,

@@ -1,4 +1,4 @@
-use Rattle.std.proofs.Common.{◌≡◌, length, map, sym, subst}
+use Rattle.std.proofs.Common.{map, sym, subst}
 use Rattle.sk_feed.specs.Rounds.{TakeBlocks, TakeFronts}
 use Rattle.sk_feed.proofs.Rounds.{ok_then}
 use Rattle.sk_feed.proofs.Shares.{one_window}
