@@ -44,12 +44,13 @@ with_last P us u first last i d within = by_place (cases_lt i (length us))
 -- ---- what the heart took in
 
 pub none_taken : (h : HeartState) → DrainsAll h [] h
-none_taken h = record { table = refl; updaters = refl; numbers = refl; seen = begins_refl h.view.seen; drained = sym (append-nil h.view.drained); numbered = λ i d within. absurd (omega arith); taken_in = All-nil (HasTakenIn h) }
+none_taken h = record { table = refl; updaters = refl; eager = refl; numbers = refl; seen = begins_refl h.view.seen; drained = sym (append-nil h.view.drained); numbered = λ i d within. absurd (omega arith); taken_in = All-nil (HasTakenIn h) }
 
 pub one_more : (h h1 h2 : HeartState) (us : List UpdaterState) (u : UpdaterState) → DrainsAll h us h1 → u.number ≡ length us → IsDrained h1 u h2 → DrainsAll h (us ++ u ∷ []) h2
 one_more h h1 h2 us u t place d = record {
   table = ap (λ z. z.table) d.stays ∙ t.table;
   updaters = ap (λ z. z.updaters) d.stays ∙ t.updaters;
+  eager = ap (λ z. z.eager) d.stays ∙ t.eager;
   numbers = d.numbers ∙ t.numbers;
   seen = begins_trans h.view.seen h1.view.seen h2.view.seen t.seen d.grows;
   drained = d.drained ∙ ap (λ l. l ++ u.number ∷ []) t.drained ∙ append_assoc h.view.drained (range_with_len 0 (length us)) (u.number ∷ []) ∙ ap (λ l. h.view.drained ++ l) ranged;
@@ -70,6 +71,7 @@ pub asked : (packed_of : List ℕ → List Entry → ℕ) (h h1 h2 : HeartState)
 asked packed_of h h1 h2 us word t r stays = record {
   table = ap (λ z. z.table) stays ∙ t.table;
   updaters = ap (λ z. z.updaters) stays ∙ t.updaters;
+  eager = ap (λ z. z.eager) stays ∙ t.eager;
   numbers = ap (λ v. v.numbers) r.stays ∙ t.numbers;
   seen = begins_trans h.view.seen h1.view.seen h2.view.seen t.seen r.grows;
   drained = ap (λ v. v.drained) r.stays ∙ t.drained;

@@ -14,6 +14,7 @@ AreNumbered us = (i : ℕ) (d : UpdaterState) → i < length us → (slice_index
 pub record DrainsAll (h : HeartState) (us : List UpdaterState) (h' : HeartState) : Type 0 where
   pub table : h'.table ≡ h.table
   pub updaters : h'.updaters ≡ h.updaters
+  pub eager : h'.eager ≡ h.eager
   pub numbers : h'.view.numbers ≡ h.view.numbers
   pub seen : Begins h.view.seen h'.view.seen
   pub drained : h'.view.drained ≡ h.view.drained ++ range_with_len 0 (length us)
