@@ -1,5 +1,6 @@
 -- Units that are fed to a hub, one after another.
-use Rattle.std.proofs.Common.{◌≡◌, inl, inr, ℕ, ◌+◌, ◌≤◌, Bool, true, false, List, [], ◌∷◌, ◌++◌, length, get_or, take, Option, Result, sym, ap, refl, ◌∙◌, subst, arith, length-append}
+use Rattle.std.proofs.Common.{◌≡◌, inl, inr, ⊎_elim, ℕ, ◌+◌, ◌≤◌, Bool, true, false, List, [], ◌∷◌, ◌++◌, length, get_or, take, Option, Result, Ok, Err, IfErr, IsErrAnd, sym, ap, refl, ◌∙◌, subst, arith, length-append}
+use Rattle.std.proofs.lemmas.Bool.{MatchBool-at_true, MatchBool-at_false, cases_Bool}
 use Rattle.std.proofs.lemmas.List.{take_all}
 use Rattle.std.proofs.lemmas.List.Elements.{All-nil, All-push}
 use Rattle.sk_model.specs.Entries.{Entry}
@@ -14,10 +15,11 @@ use Rattle.sk_read.specs.declared.kind.Kind.{Kind}
 use Rattle.sk_hub.specs.Updaters.{UpdaterState}
 use Rattle.sk_fill.specs.Windows.{fills, AreWindows, all_lines}
 use Rattle.sk_feed.specs.Rounds.{HaveFew}
-use Rattle.sk_feed.specs.Hubs.{Hub, IsHub, HeartGoesOn, IsLeft}
+use Rattle.sk_feed.specs.Hubs.{Hub, IsHub, HeartGoesOn, LeavesHub, IsLeft}
 use Rattle.sk_feed.specs.Shares.{KeepsMore, KeepShares}
-use Rattle.sk_ingest.specs.Ingests.{Terms, terms_of, Feeds, IsReported, Reported, GoesThrough, Ingests, StopsAtReport, StopsAtUnit}
+use Rattle.sk_ingest.specs.Ingests.{Terms, terms_of, Feeds, IsReady, IsReported, Reported, GoesThrough, Ingests, StopsAtReport, StopsAtUnit}
 use Rattle.sk_ingest.specs.Takers.{WindowsWent, StopsPassing}
+use Rattle.sk_ingest.specs.Stops.{fault_by}
 use Rattle.sk_ingest.specs.declared.report.Stop.{Stop}
 use Rattle.sk_ingest.specs.declared.report.Stop.TheVariants as stop
 use Rattle.sk_fill.proofs.Readings.{reads_by}
@@ -31,13 +33,13 @@ pub no_windows : {R : Type 0} (t : Terms R) (before : ℕ) (a : Hub) (r : R) →
 unfolding Reported
 no_windows t before a r = (refl, refl)
 
-pub reported_next : {R : Type 0} (t : Terms R) (before : ℕ) (windows : List (List (List ℕ))) (lines : List (List ℕ)) (a b x y : Hub) (r s p : R) → Reported t before windows a r b s → Feeds t lines b x → IsReported t.plan.interim t.reports (before + (length (all_lines windows) + length lines)) x s y p → Reported t before (windows ++ lines ∷ []) a r y p
+pub reported_next : {R : Type 0} (t : Terms R) (before : ℕ) (windows : List (List (List ℕ))) (lines : List (List ℕ)) (a b x y : Hub) (r s p : R) → Reported t before windows a r b s → Feeds t lines b x → IsReported t (before + (length (all_lines windows) + length lines)) x s y p → Reported t before (windows ++ lines ∷ []) a r y p
 unfolding Reported
 reported_next {R} t before [] lines a b x y r s p none fed told =
     let place : before + (0 + length lines) ≡ before + length lines = omega arith in
-    (x, y, p, subst (λ h. Feeds t lines h x) none.0 fed, subst (λ (z : R). IsReported t.plan.interim t.reports (before + length lines) x z y p) none.1 (subst (λ n. IsReported t.plan.interim t.reports n x s y p) place told), (refl, refl))
+    (x, y, p, subst (λ h. Feeds t lines h x) none.0 fed, subst (λ (z : R). IsReported t (before + length lines) x z y p) none.1 (subst (λ n. IsReported t n x s y p) place told), (refl, refl))
 reported_next {R} t before (first ∷ more) lines a b x y r s p has fed told =
-    (has.0, has.1, has.2, has.3, has.4, reported_next t (before + length first) more lines has.1 b x y has.2 s p has.5 fed (subst (λ n. IsReported t.plan.interim t.reports n x s y p) place told))
+    (has.0, has.1, has.2, has.3, has.4, reported_next t (before + length first) more lines has.1 b x y has.2 s p has.5 fed (subst (λ n. IsReported t n x s y p) place told))
   where
     place : before + (length (all_lines (first ∷ more)) + length lines) ≡ before + length first + (length (all_lines more) + length lines)
     place = omega (arith, length-append first (all_lines more))
@@ -74,21 +76,26 @@ pub place_is : (most : ℕ) (units : List (List ℕ)) (unit : List ℕ) (windows
 place_is most units unit windows rest cut =
     omega (arith, ap length cut.joined, length-append units (unit ∷ []), length-append (all_lines windows) rest, length-append rest (unit ∷ []))
 
--- what a report leaves where it went well
-reported_hub : {R : Type 0} (interim : Bool) (reports : R → ℕ → Hub → Hub → R → Type 0) (line count : ℕ) (x y : Hub) (s p : R) → IsHub x → HaveFew count [] x.updaters → IsReported interim reports line x s y p → IsHub y × HaveFew count [] y.updaters
-reported_hub true reports line count x y s p hub few told = (told.2, few_stay count x y few told.1)
-reported_hub false reports line count x y s p hub few told = (subst IsHub (sym told.0) hub, subst (λ h. HaveFew count [] h.updaters) (sym told.0) few)
+-- whether the hub was reported or not
+by_report : {R Q : Type 0} (t : Terms R) (line : ℕ) (x : Hub) (s : R) (y : Hub) (p : R) → IsReported t line x s y p → (IsReady t.plan x × LeavesHub x y × IsHub y × t.reports s line x y p → Q) → ((y ≡ x) × (p ≡ s) → Q) → Q
+by_report t line x s y p told reported still = ⊎_elim (λ wanted. reported (MatchBool-at_true _ _ wanted told)) (λ silent. still (MatchBool-at_false _ _ silent told)) (cases_Bool t.plan.interim)
+
+-- what a report leaves if it went well
+reported_hub : {R : Type 0} (t : Terms R) (line count : ℕ) (x y : Hub) (s p : R) → IsHub x → HaveFew count [] x.updaters → IsReported t line x s y p → IsHub y × HaveFew count [] y.updaters
+reported_hub t line count x y s p hub few told = by_report t line x s y p told
+    (λ reported. (reported.2, few_stay count x y few reported.1))
+    (λ same. (subst IsHub (sym same.0) hub, subst (λ h. HaveFew count [] h.updaters) (sym same.0) few))
 
 -- it fills the window, which is fed and reported
 pub unit_goes : {R : Type 0} (t : Terms R) (units : List (List ℕ)) (unit : List ℕ) (a b x y : Hub) (r s p : R) (rest : List (List ℕ)) → WindowsWent t units a r rest b s → length units + 1 ≤ most_kept → IsGood t.plan.kind unit → 1 ≤ t.plan.window → fills t.plan.window (rest ++ unit ∷ []) ≡ true
-    → Feeds t (rest ++ unit ∷ []) b x → IsReported t.plan.interim t.reports (length units + 1) x s y p → WindowsWent t (units ++ unit ∷ []) a r [] y p
+    → Feeds t (rest ++ unit ∷ []) b x → IsReported t (length units + 1) x s y p → WindowsWent t (units ++ unit ∷ []) a r [] y p
 unit_goes t units unit a b x y r s p rest went small good least full fed told = record {
   goes = record {
     windows = went.goes.windows ++ (rest ++ unit ∷ []) ∷ [];
     cut = unit_fills t.plan.window units unit went.goes.windows rest least went.goes.cut full;
     good = All-push (IsGood t.plan.kind) units unit went.goes.good good;
     reported = reported_next t 0 went.goes.windows (rest ++ unit ∷ []) a b x y r s p went.goes.reported fed
-        (subst (λ n. IsReported t.plan.interim t.reports n x s y p) (sym (one_unit_more units unit) ∙ place_is t.plan.window units unit went.goes.windows rest went.goes.cut) told);
+        (subst (λ n. IsReported t n x s y p) (sym (one_unit_more units unit) ∙ place_is t.plan.window units unit went.goes.windows rest went.goes.cut) told);
   };
   hub = left.0;
   small = omega (arith, small, one_unit_more units unit);
@@ -100,12 +107,12 @@ unit_goes t units unit a b x y r s p rest went small good least full fed told = 
         (subst (λ n. HaveFew n (rest ++ unit ∷ []) b.updaters) (sym (one_unit_more units unit)) (few_left (length units) rest unit b.updaters went.few)) fed.updaters
 
     left : IsHub y × HaveFew (length (units ++ unit ∷ [])) [] y.updaters
-    left = reported_hub t.plan.interim t.reports (length units + 1) (length (units ++ unit ∷ [])) x y s p (hub_fed t.keeps t.hint_of t.plan.kind (rest ++ unit ∷ []) b x went.hub fed) few told
+    left = reported_hub t (length units + 1) (length (units ++ unit ∷ [])) x y s p (hub_fed t.keeps t.hint_of t.plan.kind (rest ++ unit ∷ []) b x went.hub fed) few told
 
 -- and where its report stopped
 pub report_stops : {R : Type 0} (t : Terms R) (how : Stop) (units : List (List ℕ)) (unit : List ℕ) (a b x y : Hub) (r s p : R) (rest : List (List ℕ)) → WindowsWent t units a r rest b s → IsGood t.plan.kind unit → 1 ≤ t.plan.window → fills t.plan.window (rest ++ unit ∷ []) ≡ true
-    → Feeds t (rest ++ unit ∷ []) b x → t.plan.interim ≡ true → t.breaks s how (length units + 1) x y p → StopsAtReport t how (units ++ unit ∷ []) a r p
-report_stops t how units unit a b x y r s p rest went good least full fed interim stops = record {
+    → Feeds t (rest ++ unit ∷ []) b x → IsReady t.plan x → t.plan.interim ≡ true → t.breaks s how (length units + 1) x y p → StopsAtReport t how (units ++ unit ∷ []) a r p
+report_stops t how units unit a b x y r s p rest went good least full fed ready interim stops = record {
   windows = went.goes.windows;
   lines = rest ++ unit ∷ [];
   cut = unit_fills t.plan.window units unit went.goes.windows rest least went.goes.cut full;
@@ -116,17 +123,24 @@ report_stops t how units unit a b x y r s p rest went good least full fed interi
   reported = went.goes.reported;
   fed = x;
   feeds = fed;
-  hub = hub_fed t.keeps t.hint_of t.plan.kind (rest ++ unit ∷ []) b x went.hub fed;
+  ready = ready;
   left = y;
   stops = subst (λ n. t.breaks s how n x y p) (sym (one_unit_more units unit)) stops;
 }
 
--- so it stops where a full window is not passed on
+-- why a window whose report stopped was not passed on
+pub passing_stops : {R : Type 0} (t : Terms R) (lines : List (List ℕ)) (line : ℕ) (a x y : Hub) (r s : R) (how : Stop) (result : Result (Unit {0}) Fault)
+    → IsErrAnd result (λ why. why ≡ fault_by how) → Feeds t lines a x → IsReady t.plan x → t.plan.interim ≡ true → t.breaks r how line x y s → IfErr result (StopsPassing t lines line a r s)
+passing_stops t lines line a x y r s how (Ok none) is fed ready interim stops = tt
+passing_stops t lines line a x y r s stop.Failed (Err why) is fed ready interim stops = subst (λ (f : Fault). StopsPassing t lines line a r s f) (sym is) (x, y, fed, ready, interim, stops)
+passing_stops t lines line a x y r s stop.OutOfMemory (Err why) is fed ready interim stops = subst (λ (f : Fault). StopsPassing t lines line a r s f) (sym is) (inr (x, y, fed, ready, interim, stops))
+
+-- so it stops if a full window is not passed on
 pub pass_stops : {R : Type 0} (t : Terms R) (units : List (List ℕ)) (unit : List ℕ) (a b : Hub) (r s p : R) (rest : List (List ℕ)) (why : Fault) → WindowsWent t units a r rest b s → IsGood t.plan.kind unit → 1 ≤ t.plan.window → fills t.plan.window (rest ++ unit ∷ []) ≡ true
     → StopsPassing t (rest ++ unit ∷ []) (length units + 1) b s p why → StopsAtUnit t a r p why units unit
 pass_stops {R} t units unit a b r s p rest fault.OutOfMemory went good least full (inl same) = inl (rest, b, subst (λ (z : R). GoesThrough t units a r rest b z) (sym same) went.goes)
-pass_stops t units unit a b r s p rest fault.OutOfMemory went good least full (inr stops) = inr (report_stops t stop.OutOfMemory units unit a b stops.0 stops.1 r s p rest went good least full stops.2 stops.3 stops.4)
-pass_stops t units unit a b r s p rest fault.WriteFault went good least full stops = report_stops t stop.Failed units unit a b stops.0 stops.1 r s p rest went good least full stops.2 stops.3 stops.4
+pass_stops t units unit a b r s p rest fault.OutOfMemory went good least full (inr stops) = inr (report_stops t stop.OutOfMemory units unit a b stops.0 stops.1 r s p rest went good least full stops.2 stops.3 stops.4 stops.5)
+pass_stops t units unit a b r s p rest fault.WriteFault went good least full stops = report_stops t stop.Failed units unit a b stops.0 stops.1 r s p rest went good least full stops.2 stops.3 stops.4 stops.5
 pass_stops t units unit a b r s p rest fault.ReadFault went good least full stops = absurd stops
 pass_stops t units unit a b r s p rest fault.TooMuch went good least full stops = absurd stops
 pass_stops t units unit a b r s p rest (fault.LongLine n) went good least full stops = absurd stops
@@ -157,26 +171,29 @@ rest_fed t units a b x r s rest went fed = record {
 
 -- ---- what was kept on the way
 
-heart_told : {R : Type 0} (interim : Bool) (reports : R → ℕ → Hub → Hub → R → Type 0) (line : ℕ) (x y : Hub) (s p : R) → IsReported interim reports line x s y p → HeartGoesOn x.heart y.heart
-heart_told true reports line x y s p told = told.1.heart
-heart_told false reports line x y s p told = subst (λ h. HeartGoesOn x.heart h.heart) (sym told.0) (heart_waits x.heart)
+heart_told : {R : Type 0} (t : Terms R) (line : ℕ) (x y : Hub) (s p : R) → IsReported t line x s y p → HeartGoesOn x.heart y.heart
+heart_told t line x y s p told = by_report t line x s y p told (λ reported. reported.1.heart) (λ same. subst (λ h. HeartGoesOn x.heart h.heart) (sym same.0) (heart_waits x.heart))
 
 pub heart_by_reported : {R : Type 0} (t : Terms R) (before : ℕ) (windows : List (List (List ℕ))) (a b : Hub) (r s : R) → Reported t before windows a r b s → HeartGoesOn a.heart b.heart
 unfolding Reported
 heart_by_reported t before [] a b r s has = subst (λ h. HeartGoesOn a.heart h.heart) (sym has.0) (heart_waits a.heart)
 heart_by_reported t before (lines ∷ more) a b r s has =
     heart_goes a.heart has.0.heart b.heart has.3.heart
-    (heart_goes has.0.heart has.1.heart b.heart (heart_told t.plan.interim t.reports (before + length lines) has.0 has.1 r has.2 has.4) (heart_by_reported t (before + length lines) more has.1 b has.2 s has.5))
+    (heart_goes has.0.heart has.1.heart b.heart (heart_told t (before + length lines) has.0 has.1 r has.2 has.4) (heart_by_reported t (before + length lines) more has.1 b has.2 s has.5))
 
 left_kept : (keeps : ℕ → ℕ → Bool) (hint_of : List ℕ → List Entry → ℕ) (u u' : UpdaterState) → IsLeft u u' → KeepsMore keeps hint_of u [] u'
 left_kept keeps hint_of u u' left = keeps_left keeps hint_of u u' (ap (λ z. z.number) left.stays) (ap (λ z. z.size) left.stays) (ap (λ z. z.table) left.stays) left.numbers left.base (kept_left u u' left)
 
-kept_told : {R : Type 0} (keeps : ℕ → ℕ → Bool) (hint_of : List ℕ → List Entry → ℕ) (kind : Kind) (interim : Bool) (reports : R → ℕ → Hub → Hub → R → Type 0) (line : ℕ) (x y : Hub) (s p : R) → IsReported interim reports line x s y p → KeepShares keeps hint_of kind [] x.updaters y.updaters
-kept_told keeps hint_of kind true reports line x y s p told = record {
-  count = told.1.count;
-  each = λ i d within. subst (λ l. KeepsMore keeps hint_of (get_or x.updaters i d) l (get_or y.updaters i d)) (sym (share_none kind (length x.updaters) i)) (left_kept keeps hint_of (get_or x.updaters i d) (get_or y.updaters i d) (told.1.updaters i d within));
+kept_left_hub : (keeps : ℕ → ℕ → Bool) (hint_of : List ℕ → List Entry → ℕ) (kind : Kind) (x y : Hub) → LeavesHub x y → KeepShares keeps hint_of kind [] x.updaters y.updaters
+kept_left_hub keeps hint_of kind x y leaves = record {
+  count = leaves.count;
+  each = λ i d within. subst (λ l. KeepsMore keeps hint_of (get_or x.updaters i d) l (get_or y.updaters i d)) (sym (share_none kind (length x.updaters) i)) (left_kept keeps hint_of (get_or x.updaters i d) (get_or y.updaters i d) (leaves.updaters i d within));
 }
-kept_told keeps hint_of kind false reports line x y s p told = subst (λ h. KeepShares keeps hint_of kind [] x.updaters h.updaters) (sym told.0) (no_shares_kept keeps hint_of kind x.updaters)
+
+kept_told : {R : Type 0} (t : Terms R) (line : ℕ) (x y : Hub) (s p : R) → IsReported t line x s y p → KeepShares t.keeps t.hint_of t.plan.kind [] x.updaters y.updaters
+kept_told t line x y s p told = by_report t line x s y p told
+    (λ reported. kept_left_hub t.keeps t.hint_of t.plan.kind x y reported.1)
+    (λ same. subst (λ h. KeepShares t.keeps t.hint_of t.plan.kind [] x.updaters h.updaters) (sym same.0) (no_shares_kept t.keeps t.hint_of t.plan.kind x.updaters))
 
 -- each updater has kept of its share of all windows what is not filtered
 pub kept_by_reported : {R : Type 0} (t : Terms R) (before : ℕ) (windows : List (List (List ℕ))) (a b : Hub) (r s : R) → Reported t before windows a r b s → KeepShares t.keeps t.hint_of t.plan.kind windows a.updaters b.updaters
@@ -185,7 +202,7 @@ kept_by_reported t before [] a b r s has = subst (λ h. KeepShares t.keeps t.hin
 kept_by_reported t before (lines ∷ more) a b r s has =
     kept_add_up t.keeps t.hint_of t.plan.kind (lines ∷ []) more a.updaters has.1.updaters b.updaters
     (kept_add_up t.keeps t.hint_of t.plan.kind (lines ∷ []) [] a.updaters has.0.updaters has.1.updaters (shares_kept t.keeps t.hint_of t.plan.kind (lines ∷ []) a.updaters has.0.updaters has.3.updaters)
-    (kept_told t.keeps t.hint_of t.plan.kind t.plan.interim t.reports (before + length lines) has.0 has.1 r has.2 has.4))
+    (kept_told t (before + length lines) has.0 has.1 r has.2 has.4))
     (kept_by_reported t (before + length lines) more has.1 b has.2 s has.5)
 
 -- and so with the rest

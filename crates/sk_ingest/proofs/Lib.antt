@@ -1,4 +1,4 @@
-pub mod Untold
+pub mod Unreported
 pub mod StretchLaws
 pub mod Ingestion
 pub mod Endings

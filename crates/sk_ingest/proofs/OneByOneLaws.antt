@@ -22,7 +22,7 @@ use Rattle.sk_feed.specs.Rounds.{HaveFew}
 use Rattle.sk_feed.specs.Shares.{share, TakeShares}
 use Rattle.sk_feed.specs.Hubs.{Hub, IsHub, FeedsWindow, HeartGoesOn}
 use Rattle.sk_ingest.specs.Ingests.{Terms, Feeds, IsReported, Reported, GoesThrough, Ingests, GoesSoFar, StopsAtUnit, EndsEarly}
-use Rattle.sk_ingest.specs.Takers.{UnitsWent, IsAlone, untold}
+use Rattle.sk_ingest.specs.Takers.{UnitsWent, IsAlone, unreported}
 use Rattle.sk_fill.proofs.Units.{item_is}
 use Rattle.sk_fill.proofs.Joined.{blocks_joined}
 use Rattle.sk_fill.proofs.Items.{items_append, one_item, no_item}
@@ -34,6 +34,7 @@ use Rattle.sk_fill.proofs.Cutting.{no_units, unit_left, unit_fills}
 use Rattle.sk_feed.proofs.HubLaws.{heart_waits, heart_goes, hub_fed, few_left, few_fed, no_window}
 use Rattle.sk_fill.proofs.Readings.{reads_by, ends_by, all_by}
 use Rattle.sk_ingest.proofs.Ingestion.{one_unit_more, no_windows, reported_next}
+use Rattle.sk_ingest.proofs.Unreported.{unreported_hub, quiet_so}
 
 -- ---- one updater
 
@@ -77,7 +78,7 @@ alone_start t a r least hub few = record {
 pub unit_by_itself : {R : Type 0} (t : Terms R) (units : List (List ℕ)) (unit : List ℕ) (a b x : Hub) (r s : R) → UnitsWent t units a r b s → IsGood t.plan.kind unit → 1 ≤ t.plan.window → t.plan.interim ≡ false → length b.updaters ≡ 1
     → HeartGoesOn b.heart x.heart → x.token ≡ b.token → length x.updaters ≡ length b.updaters → ((d : UpdaterState) → Takes t.keeps t.hint_of (get_or b.updaters 0 d) (items_in t.plan.kind (unit ∷ [])) (get_or x.updaters 0 d))
     → UnitsWent t (units ++ unit ∷ []) a r x s
-unit_by_itself {R} t units unit a b x r s went good least untold one heart token same taken = go (fills t.plan.window (went.ingests.rest ++ unit ∷ [])) refl
+unit_by_itself {R} t units unit a b x r s went good least unreported one heart token same taken = go (fills t.plan.window (went.ingests.rest ++ unit ∷ [])) refl
   where
     rest : List (List ℕ)
     rest = went.ingests.rest
@@ -130,7 +131,7 @@ unit_by_itself {R} t units unit a b x r s went good least untold one heart token
           cut = unit_fills t.plan.window units unit goes.windows rest least goes.cut full;
           good = all_good;
           reported = reported_next t 0 goes.windows (rest ++ unit ∷ []) a went.ingests.between x x r s s goes.reported fed
-              (subst (λ i. IsReported i t.reports (0 + (length (all_lines goes.windows) + length (rest ++ unit ∷ []))) x s x s) (sym untold) (refl, refl));
+              (quiet_so t (0 + (length (all_lines goes.windows) + length (rest ++ unit ∷ []))) x s unreported);
         };
         last = no_window t.keeps t.hint_of t.plan.kind x;
         hub = hub;
@@ -215,11 +216,11 @@ none_took keeps hint_of kind (byte ∷ rest) us none = let no : ⊥ = omega arit
 -- ---- lines of whose items those were left out that the hint of the updater filters
 
 -- these were fed to it
-pub lines_taken : (keeps : ℕ → ℕ → Bool) (hint_of : List ℕ → List Entry → ℕ) (plan : Intake) (units lines : List (List ℕ)) (kept : List ℕ) (hint : ℕ) (a b : Hub) (heart : HeartState) (u u' : UpdaterState) → UnitsWent (untold keeps hint_of plan) units a tt b tt → IsAlone plan b
+pub lines_taken : (keeps : ℕ → ℕ → Bool) (hint_of : List ℕ → List Entry → ℕ) (plan : Intake) (units lines : List (List ℕ)) (kept : List ℕ) (hint : ℕ) (a b : Hub) (heart : HeartState) (u u' : UpdaterState) → UnitsWent (unreported keeps hint_of plan) units a tt b tt → IsAlone plan b
     → All (IsGood plan.kind) lines → HeartGoesOn b.heart heart → u ≡ get_or b.updaters 0 u → hint ≡ hint_of u.view.numbers (base_of u) → kept ≡ filter (keeps hint) (items_in plan.kind lines) → Takes keeps hint_of u kept u'
-    → UnitsWent (untold keeps hint_of plan) (units ++ lines) a tt (record { heart = heart; updaters = set b.updaters 0 u'; token = b.token }) tt
+    → UnitsWent (unreported keeps hint_of plan) (units ++ lines) a tt (record { heart = heart; updaters = set b.updaters 0 u'; token = b.token }) tt
 lines_taken keeps hint_of plan units lines kept hint a b heart u u' went alone good goes read is those taken =
-    lines_one_by_one (untold keeps hint_of plan) units lines a b (record { heart = heart; updaters = set b.updaters 0 u'; token = b.token }) tt tt u went good alone.least alone.untold alone.one goes refl (length-set b.updaters 0 u')
+    lines_one_by_one (unreported keeps hint_of plan) units lines a b (record { heart = heart; updaters = set b.updaters 0 u'; token = b.token }) tt tt u went good alone.least alone.unreported alone.one goes refl (length-set b.updaters 0 u')
     (lone_took keeps hint_of (items_in plan.kind lines) b.updaters u u' alone.one read (takes_all keeps hint_of u u' hint (items_in plan.kind lines) is (subst (λ l. Takes keeps hint_of u l u') those taken)))
 
 -- a line behind those before it
@@ -249,58 +250,58 @@ stops_for_memory t units lines a b r s some went = record {
 
 -- ---- a run whose report is not told is one without a report
 
-reported_untold : {R : Type 0} (t : Terms R) (before : ℕ) (windows : List (List (List ℕ))) (a b : Hub) (x y : Unit {0}) (r : R) → t.plan.interim ≡ false → Reported (untold t.keeps t.hint_of t.plan) before windows a x b y → Reported t before windows a r b r
+reported_quietly : {R : Type 0} (t : Terms R) (before : ℕ) (windows : List (List (List ℕ))) (a b : Hub) (x y : Unit {0}) (r : R) → t.plan.interim ≡ false → Reported (unreported t.keeps t.hint_of t.plan) before windows a x b y → Reported t before windows a r b r
 unfolding Reported
-reported_untold t before [] a b x y r off has = (has.0, refl)
-reported_untold t before (lines ∷ more) a b x y r off has =
-    let same = subst (λ i. IsReported i (untold t.keeps t.hint_of t.plan).reports (before + length lines) has.0 x has.1 has.2) off has.4 in
-    (has.0, has.1, r, has.3, subst (λ i. IsReported i t.reports (before + length lines) has.0 r has.1 r) (sym off) (same.0, refl), reported_untold t (before + length lines) more has.1 b has.2 y r off has.5)
+reported_quietly t before [] a b x y r off has = (has.0, refl)
+reported_quietly t before (lines ∷ more) a b x y r off has =
+    let same = unreported_hub (unreported t.keeps t.hint_of t.plan) (before + length lines) has.0 x has.1 has.2 off has.4 in
+    (has.0, has.1, r, has.3, subst (λ h. IsReported t (before + length lines) has.0 r h r) (sym same.0) (quiet_so t (before + length lines) has.0 r off), reported_quietly t (before + length lines) more has.1 b has.2 y r off has.5)
 
-goes_untold : {R : Type 0} (t : Terms R) (units : List (List ℕ)) (a b : Hub) (rest : List (List ℕ)) (x y : Unit {0}) (r : R) → t.plan.interim ≡ false → GoesThrough (untold t.keeps t.hint_of t.plan) units a x rest b y → GoesThrough t units a r rest b r
-goes_untold t units a b rest x y r off goes = record { windows = goes.windows; cut = goes.cut; good = goes.good; reported = reported_untold t 0 goes.windows a b x y r off goes.reported }
+goes_quietly : {R : Type 0} (t : Terms R) (units : List (List ℕ)) (a b : Hub) (rest : List (List ℕ)) (x y : Unit {0}) (r : R) → t.plan.interim ≡ false → GoesThrough (unreported t.keeps t.hint_of t.plan) units a x rest b y → GoesThrough t units a r rest b r
+goes_quietly t units a b rest x y r off goes = record { windows = goes.windows; cut = goes.cut; good = goes.good; reported = reported_quietly t 0 goes.windows a b x y r off goes.reported }
 
-pub ingests_untold : {R : Type 0} (t : Terms R) (units : List (List ℕ)) (a b : Hub) (x y : Unit {0}) (r : R) → t.plan.interim ≡ false → Ingests (untold t.keeps t.hint_of t.plan) units a x b y → Ingests t units a r b r
-ingests_untold t units a b x y r off i = record { rest = i.rest; between = i.between; goes = goes_untold t units a i.between i.rest x y r off i.goes; last = i.last; hub = i.hub }
+pub ingests_quietly : {R : Type 0} (t : Terms R) (units : List (List ℕ)) (a b : Hub) (x y : Unit {0}) (r : R) → t.plan.interim ≡ false → Ingests (unreported t.keeps t.hint_of t.plan) units a x b y → Ingests t units a r b r
+ingests_quietly t units a b x y r off i = record { rest = i.rest; between = i.between; goes = goes_quietly t units a i.between i.rest x y r off i.goes; last = i.last; hub = i.hub }
 
-so_far_untold : {R : Type 0} (t : Terms R) (units : List (List ℕ)) (a : Hub) (x y : Unit {0}) (r : R) → t.plan.interim ≡ false → GoesSoFar (untold t.keeps t.hint_of t.plan) a x y units → GoesSoFar t a r r units
-so_far_untold t units a x y r off goes = (goes.0, goes.1, goes_untold t units a goes.1 goes.0 x y r off goes.2)
+so_far_quietly : {R : Type 0} (t : Terms R) (units : List (List ℕ)) (a : Hub) (x y : Unit {0}) (r : R) → t.plan.interim ≡ false → GoesSoFar (unreported t.keeps t.hint_of t.plan) a x y units → GoesSoFar t a r r units
+so_far_quietly t units a x y r off goes = (goes.0, goes.1, goes_quietly t units a goes.1 goes.0 x y r off goes.2)
 
-pub went_so_far : {R : Type 0} (t : Terms R) (units : List (List ℕ)) (a b : Hub) (x y : Unit {0}) (r : R) → t.plan.interim ≡ false → UnitsWent (untold t.keeps t.hint_of t.plan) units a x b y → GoesSoFar t a r r units
-went_so_far t units a b x y r off went = (went.ingests.rest, went.ingests.between, goes_untold t units a went.ingests.between went.ingests.rest x y r off went.ingests.goes)
+pub went_so_far : {R : Type 0} (t : Terms R) (units : List (List ℕ)) (a b : Hub) (x y : Unit {0}) (r : R) → t.plan.interim ≡ false → UnitsWent (unreported t.keeps t.hint_of t.plan) units a x b y → GoesSoFar t a r r units
+went_so_far t units a b x y r off went = (went.ingests.rest, went.ingests.between, goes_quietly t units a went.ingests.between went.ingests.rest x y r off went.ingests.goes)
 
-pub stops_untold : {R : Type 0} (t : Terms R) (units : List (List ℕ)) (unit : List ℕ) (a : Hub) (x y : Unit {0}) (r : R) (why : Fault) → t.plan.interim ≡ false → StopsAtUnit (untold t.keeps t.hint_of t.plan) a x y why units unit → StopsAtUnit t a r r why units unit
-stops_untold t units unit a x y r (fault.BadItem n) off stops = (so_far_untold t units a x y r off stops.0, stops.1, stops.2)
-stops_untold t units unit a x y r fault.WriteFault off stops = absurd (false≢true (sym off ∙ stops.interim))
-stops_untold t units unit a x y r fault.OutOfMemory off (inl goes) = inl (so_far_untold t units a x y r off goes)
-stops_untold t units unit a x y r fault.OutOfMemory off (inr stops) = absurd (false≢true (sym off ∙ stops.interim))
-stops_untold t units unit a x y r fault.ReadFault off stops = absurd stops
-stops_untold t units unit a x y r fault.TooMuch off stops = absurd stops
-stops_untold t units unit a x y r (fault.LongLine n) off stops = absurd stops
-stops_untold t units unit a x y r (fault.BadCsv n) off stops = absurd stops
+pub stops_quietly : {R : Type 0} (t : Terms R) (units : List (List ℕ)) (unit : List ℕ) (a : Hub) (x y : Unit {0}) (r : R) (why : Fault) → t.plan.interim ≡ false → StopsAtUnit (unreported t.keeps t.hint_of t.plan) a x y why units unit → StopsAtUnit t a r r why units unit
+stops_quietly t units unit a x y r (fault.BadItem n) off stops = (so_far_quietly t units a x y r off stops.0, stops.1, stops.2)
+stops_quietly t units unit a x y r fault.WriteFault off stops = absurd (false≢true (sym off ∙ stops.interim))
+stops_quietly t units unit a x y r fault.OutOfMemory off (inl goes) = inl (so_far_quietly t units a x y r off goes)
+stops_quietly t units unit a x y r fault.OutOfMemory off (inr stops) = absurd (false≢true (sym off ∙ stops.interim))
+stops_quietly t units unit a x y r fault.ReadFault off stops = absurd stops
+stops_quietly t units unit a x y r fault.TooMuch off stops = absurd stops
+stops_quietly t units unit a x y r (fault.LongLine n) off stops = absurd stops
+stops_quietly t units unit a x y r (fault.BadCsv n) off stops = absurd stops
 
-pub early_untold : {R : Type 0} (t : Terms R) (units : Units) (old new : Option (List ℕ)) (a : Hub) (x y : Unit {0}) (r : R) (why : Fault) → t.plan.interim ≡ false → EndsEarly (untold t.keeps t.hint_of t.plan) units old new a x y why → EndsEarly t units old new a r r why
-early_untold t units old new a x y r why off (inl ends) =
-    let u = untold t.keeps t.hint_of t.plan in
+pub early_quietly : {R : Type 0} (t : Terms R) (units : Units) (old new : Option (List ℕ)) (a : Hub) (x y : Unit {0}) (r : R) (why : Fault) → t.plan.interim ≡ false → EndsEarly (unreported t.keeps t.hint_of t.plan) units old new a x y why → EndsEarly t units old new a r r why
+early_quietly t units old new a x y r why off (inl ends) =
+    let u = unreported t.keeps t.hint_of t.plan in
     inl (ends_by units t.plan.most (GoesSoFar u a x y) (GoesSoFar t a r r) (StopsAtUnit u a x y) (StopsAtUnit t a r r) old new why
-    (λ given goes. so_far_untold t given a x y r off goes) (λ q given unit stops. stops_untold t given unit a x y r q off stops) ends)
-early_untold t units old new a x y r why off (inr out) =
-    inr (out.0, (out.1.0, all_by units t.plan.most out.1.0 (GoesSoFar (untold t.keeps t.hint_of t.plan) a x y) (GoesSoFar t a r r) old new (λ given goes. so_far_untold t given a x y r off goes) out.1.1))
+    (λ given goes. so_far_quietly t given a x y r off goes) (λ q given unit stops. stops_quietly t given unit a x y r q off stops) ends)
+early_quietly t units old new a x y r why off (inr out) =
+    inr (out.0, (out.1.0, all_by units t.plan.most out.1.0 (GoesSoFar (unreported t.keeps t.hint_of t.plan) a x y) (GoesSoFar t a r r) old new (λ given goes. so_far_quietly t given a x y r off goes) out.1.1))
 
 -- ---- its reading
 
 -- at the hub that it left
 pub alone_read : (keeps : ℕ → ℕ → Bool) (hint_of : List ℕ → List Entry → ℕ) (plan own : Intake) (units u : Units) (most : ℕ) (a x b : Hub) (old new : Option (List ℕ)) (result : Result ℕ Fault) → u ≡ units → x ≡ b
-    → Reads u most (λ l. (own ≡ plan) × IsAlone own x × UnitsWent (untold keeps hint_of own) l a tt x tt) (λ why l unit. (own ≡ plan) × StopsAtUnit (untold keeps hint_of own) a tt tt why l unit) old new result
-    → Reads units most (λ l. UnitsWent (untold keeps hint_of plan) l a tt b tt) (StopsAtUnit (untold keeps hint_of plan) a tt tt) old new result
+    → Reads u most (λ l. (own ≡ plan) × IsAlone own x × UnitsWent (unreported keeps hint_of own) l a tt x tt) (λ why l unit. (own ≡ plan) × StopsAtUnit (unreported keeps hint_of own) a tt tt why l unit) old new result
+    → Reads units most (λ l. UnitsWent (unreported keeps hint_of plan) l a tt b tt) (StopsAtUnit (unreported keeps hint_of plan) a tt tt) old new result
 alone_read keeps hint_of plan own units u most a x b old new result unit_is hub_is reads =
-    subst (λ v. Reads v most (λ l. UnitsWent (untold keeps hint_of plan) l a tt b tt) (StopsAtUnit (untold keeps hint_of plan) a tt tt) old new result) unit_is
-    (reads_by u most Went (λ l. UnitsWent (untold keeps hint_of plan) l a tt b tt) Stops (StopsAtUnit (untold keeps hint_of plan) a tt tt) old new result
-    (λ (given : List (List ℕ)) (went : Went given). subst (λ p. UnitsWent (untold keeps hint_of p) given a tt b tt) went.0 (subst (λ h. UnitsWent (untold keeps hint_of own) given a tt h tt) hub_is went.2))
-    (λ (why : Fault) (given : List (List ℕ)) (unit : List ℕ) (stops : Stops why given unit). subst (λ p. StopsAtUnit (untold keeps hint_of p) a tt tt why given unit) stops.0 stops.1)
+    subst (λ v. Reads v most (λ l. UnitsWent (unreported keeps hint_of plan) l a tt b tt) (StopsAtUnit (unreported keeps hint_of plan) a tt tt) old new result) unit_is
+    (reads_by u most Went (λ l. UnitsWent (unreported keeps hint_of plan) l a tt b tt) Stops (StopsAtUnit (unreported keeps hint_of plan) a tt tt) old new result
+    (λ (given : List (List ℕ)) (went : Went given). subst (λ p. UnitsWent (unreported keeps hint_of p) given a tt b tt) went.0 (subst (λ h. UnitsWent (unreported keeps hint_of own) given a tt h tt) hub_is went.2))
+    (λ (why : Fault) (given : List (List ℕ)) (unit : List ℕ) (stops : Stops why given unit). subst (λ p. StopsAtUnit (unreported keeps hint_of p) a tt tt why given unit) stops.0 stops.1)
     reads)
   where
     Went : List (List ℕ) → Type 0
-    Went = λ l. (own ≡ plan) × IsAlone own x × UnitsWent (untold keeps hint_of own) l a tt x tt
+    Went = λ l. (own ≡ plan) × IsAlone own x × UnitsWent (unreported keeps hint_of own) l a tt x tt
 
     Stops : Fault → List (List ℕ) → List ℕ → Type 0
-    Stops = λ why l unit. (own ≡ plan) × StopsAtUnit (untold keeps hint_of own) a tt tt why l unit
+    Stops = λ why l unit. (own ≡ plan) × StopsAtUnit (unreported keeps hint_of own) a tt tt why l unit

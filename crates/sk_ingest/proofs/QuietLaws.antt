@@ -5,8 +5,9 @@ use Rattle.sk_read.specs.declared.fault.Fault.{Fault}
 use Rattle.sk_read.specs.declared.fault.Fault.TheVariants as fault
 use Rattle.sk_read.specs.declared.units.Units.{Units}
 use Rattle.sk_feed.specs.Hubs.{Hub}
-use Rattle.sk_ingest.specs.Ingests.{Terms, IsReported, Reported, StopsAtReport, GoesSoFar, StopsAtUnit, EndsEarly}
+use Rattle.sk_ingest.specs.Ingests.{Terms, Reported, StopsAtReport, GoesSoFar, StopsAtUnit, EndsEarly}
 use Rattle.sk_ingest.specs.declared.report.Stop.{Stop}
+use Rattle.sk_ingest.proofs.Unreported.{unreported_hub}
 
 not_both : (b : Bool) → b ≡ false → b ≡ true → ⊥
 not_both b is_false is_true = cc
@@ -16,7 +17,7 @@ module _ {R : Type 0} (t : Terms R) (silent : t.plan.interim ≡ false) (r s : R
   unfolding Reported
   still before [] a q b p done = done.1
   still before (lines ∷ more) a q b p (x, y, o, fed, told, later) =
-      let same = subst (λ i. IsReported i t.reports (before + length lines) x q y o) silent told in
+      let same = unreported_hub t (before + length lines) x q y o silent told in
       still (before + length lines) more y o b p later ∙ same.1
 
   so_far : (a : Hub) (units : List (List ℕ)) → GoesSoFar t a r s units → s ≡ r

@@ -18,7 +18,7 @@ use Rattle.sk_fill.specs.Windows.{IsFullWindow, all_lines}
 use Rattle.sk_feed.specs.Rounds.{HaveFew, HaveRoomFor}
 use Rattle.sk_feed.specs.Hubs.{Hub, IsHub, FeedsWindows}
 use Rattle.sk_ingest.specs.Ingests.{Terms, GoesSoFar, Ingests, StopsAtUnit, EndsEarly}
-use Rattle.sk_ingest.specs.Takers.{untold}
+use Rattle.sk_ingest.specs.Takers.{unreported}
 use Rattle.sk_fill.specs.Stretches.{StretchState, StretchGoes, EndUnfilled, GoOnInWindows, RefusesBehind, ReadsStretch}
 use Rattle.sk_ingest.specs.FedAndRead.{FeedsAndReads}
 use Rattle.sk_fill.proofs.Cutting.{all_lines_more}
@@ -26,7 +26,7 @@ use Rattle.sk_fill.proofs.Filled.{read_few, read_number}
 use Rattle.sk_feed.proofs.HubLaws.{hub_took}
 use Rattle.sk_feed.proofs.Rooms.{few_took, room_for}
 use Rattle.sk_feed.proofs.Between.{none_fed, fed_on}
-use Rattle.sk_ingest.proofs.Untold.{cut_so_far, ingests_all}
+use Rattle.sk_ingest.proofs.Unreported.{cut_so_far, ingests_all}
 use Rattle.sk_fill.proofs.Readings.{ends_by}
 use Rattle.sk_fill.proofs.StretchLaws.{on_ok_at, on_err_at, not_both, failed, answer, ok_is}
 
@@ -127,14 +127,14 @@ module _ (keeps : ℕ → ℕ → Bool) (hint_of : List ℕ → List Entry → �
 
   -- a fault of the reading of a further one
   pub stretches_fail : (windows : List (List (List ℕ))) (why : Fault) (failed : Result Bool Fault) (r' : Reading) (new : Option (List ℕ)) → 1 ≤ plan.window → plan.interim ≡ false → more ≡ true → ReadsStretch plan.kind plan.window windows r r' mid new failed → failed ≡ Err why
-      → EndsEarly (untold keeps hint_of plan) Lines old new a tt tt why
+      → EndsEarly (unreported keeps hint_of plan) Lines old new a tt tt why
   stretches_fail windows why failed r' new least off is stretch was =
       inl (subst (λ m. Ends Lines m (GoesSoFar t a tt tt) (StopsAtUnit t a tt tt) old new why) went.most
       (ends_by Lines r.most (GoOnInWindows plan.kind plan.window given) (GoesSoFar t a tt tt) (RefusesBehind plan.kind plan.window given) (StopsAtUnit t a tt tt) old new why so_far stops
       (on_err_at failed why _ was stretch.stopped old given went.taken went.consumed went.read)))
     where
       t : Terms (Unit {0})
-      t = untold keeps hint_of plan
+      t = unreported keeps hint_of plan
 
       given : List (List ℕ)
       given = all_lines went.fed ++ all_lines waiting
@@ -172,22 +172,22 @@ module _ (keeps : ℕ → ℕ → Bool) (hint_of : List ℕ → List Entry → �
       (subst Gave (both_joined went.fed waiting) gave) (went.read, went.ended is) number
 
   -- these are fed, too
-  pub stretches_end : (n : ℕ) (c : Hub) → plan.interim ≡ false → more ≡ false → n ≡ r.cutter.number → IsHub a → FeedsWindows keeps hint_of plan.kind waiting b c → ReadsAll Lines plan.most n (λ units. Ingests (untold keeps hint_of plan) units a tt c tt) old mid
+  pub stretches_end : (n : ℕ) (c : Hub) → plan.interim ≡ false → more ≡ false → n ≡ r.cutter.number → IsHub a → FeedsWindows keeps hint_of plan.kind waiting b c → ReadsAll Lines plan.most n (λ units. Ingests (unreported keeps hint_of plan) units a tt c tt) old mid
   stretches_end n c off is number hub fed =
-      all_read (λ units. Ingests (untold keeps hint_of plan) units a tt c tt) n is number
-      (ingests_all (untold keeps hint_of plan) (went.fed ++ waiting) (all_windows is) a c tt off (subst (All (IsGood plan.kind)) (sym (both_joined went.fed waiting)) went.good) hub
+      all_read (λ units. Ingests (unreported keeps hint_of plan) units a tt c tt) n is number
+      (ingests_all (unreported keeps hint_of plan) (went.fed ++ waiting) (all_windows is) a c tt off (subst (All (IsGood plan.kind)) (sym (both_joined went.fed waiting)) went.good) hub
       (fed_on keeps hint_of plan.kind went.fed waiting a b c went.feeds fed))
 
   -- no memory was found for that
-  pub stretches_out : plan.interim ≡ false → more ≡ false → EndsEarly (untold keeps hint_of plan) Lines old mid a tt tt fault.OutOfMemory
+  pub stretches_out : plan.interim ≡ false → more ≡ false → EndsEarly (unreported keeps hint_of plan) Lines old mid a tt tt fault.OutOfMemory
   stretches_out off is =
       let ends = all_windows is in
       inr (
         refl,
         (
           r.cutter.number,
-          all_read (GoesSoFar (untold keeps hint_of plan) a tt tt) r.cutter.number is refl
-              (cut_so_far (untold keeps hint_of plan) (all_lines (went.fed ++ waiting)) ends.before ends.last a tt off
+          all_read (GoesSoFar (unreported keeps hint_of plan) a tt tt) r.cutter.number is refl
+              (cut_so_far (unreported keeps hint_of plan) (all_lines (went.fed ++ waiting)) ends.before ends.last a tt off
               (record { joined = ap (λ l. all_lines l) ends.joined ∙ all_lines_more ends.before ends.last; full = ends.full; unfilled = ends.unfilled })
               (subst (All (IsGood plan.kind)) (sym (both_joined went.fed waiting)) went.good)),
         ),
@@ -205,7 +205,7 @@ module _ (keeps : ℕ → ℕ → Bool) (hint_of : List ℕ → List Entry → �
       (stretches_go keeps hint_of plan (s.windows ++ on.more) s.first true a b on.between old on.mid waited on.last next.first result further c r' new refl (on_ok_at result further _ was on.fed) on.reads was (on_ok_at result further _ was on.first))
 
   -- a fault came
-  pub feeds_fail : (why : Fault) → 1 ≤ plan.window → plan.interim ≡ false → result ≡ Err why → EndsEarly (untold keeps hint_of plan) Lines old new a tt tt why
+  pub feeds_fail : (why : Fault) → 1 ≤ plan.window → plan.interim ≡ false → result ≡ Err why → EndsEarly (unreported keeps hint_of plan) Lines old new a tt tt why
   feeds_fail why least off was = stretches_fail keeps hint_of plan (s.windows ++ on.more) s.first true a b on.between old on.mid waited on.last why result r' new least off refl on.reads was
 
 -- ---- what a call tells of the count of faults

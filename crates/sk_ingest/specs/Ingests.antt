@@ -1,5 +1,6 @@
 -- What it means that a source's units were fed to a hub, window by window, and reported.
-use Rattle.std.specs.Prelude.{◌≡◌, ◌⊎◌, ℕ, ◌+◌, ◌<◌, Bool, true, false, List, [], ◌∷◌, ◌++◌, length, All, Option, IsNone}
+use Rattle.std.specs.Prelude.{◌≡◌, ◌⊎◌, ℕ, ◌+◌, ◌<◌, Bool, true, List, [], ◌∷◌, ◌++◌, length, All, Option, IsNone}
+use Rattle.std.specs.Bool.{MatchBool}
 use Rattle.sk_model.specs.Entries.{Entry}
 use Rattle.sk_read.specs.Items.{item_of, IsGood}
 use Rattle.sk_read.specs.Reads.{ReadsAll, Ends}
@@ -10,10 +11,10 @@ use Rattle.sk_read.specs.declared.units.Units.{Units}
 use Rattle.sk_ingest.specs.declared.report.Stop.{Stop}
 use Rattle.sk_ingest.specs.declared.report.Stop.TheVariants as stop
 use Rattle.sk_fill.specs.Windows.{AreWindows}
-use Rattle.sk_feed.specs.Hubs.{Hub, IsHub, FeedsWindow, LeavesHub}
+use Rattle.sk_feed.specs.Hubs.{Hub, IsHub, FeedsWindow, LeavesHub, AreSettled}
 
--- what a run goes by: how a kind of sketch filters, what a report meets where it is told of a line, and where it
--- stops there, and the plan
+-- what a run goes by: how a kind of sketch filters, what a report does at a line, and what if it stops there, and the
+-- plan
 pub record Terms (R : Type 0) : Type 1 where
   pub keeps : ℕ → ℕ → Bool
   pub hint_of : List ℕ → List Entry → ℕ
@@ -30,15 +31,19 @@ terms_of keeps hint_of reports breaks plan = record { keeps = keeps; hint_of = h
 abbrev pub Feeds : {R : Type 0} → Terms R → List (List ℕ) → Hub → Hub → Type 0
 Feeds t lines a b = FeedsWindow t.keeps t.hint_of t.plan.kind lines a b
 
--- the hub was reported at this line, where interim replies are wanted
-abbrev pub IsReported : {R : Type 0} → Bool → (R → ℕ → Hub → Hub → R → Type 0) → ℕ → Hub → R → Hub → R → Type 0
-IsReported true reports line a r b s = IsHub a × LeavesHub a b × IsHub b × reports r line a b s
-IsReported false reports line a r b s = (b ≡ a) × (s ≡ r)
+-- what a report meets: the handles of one hub, and with a propagator each updater is settled
+pub record IsReady (plan : Intake) (a : Hub) : Type 0 where
+  pub hub : IsHub a
+  pub settled : plan.propagator ≡ true → AreSettled a.updaters
 
--- windows were fed and reported one after another, the first behind so many lines
+-- the hub was reported at this line, if interim replies are wanted
+abbrev pub IsReported : {R : Type 0} → Terms R → ℕ → Hub → R → Hub → R → Type 0
+IsReported t line a r b s = MatchBool t.plan.interim (IsReady t.plan a × LeavesHub a b × IsHub b × t.reports r line a b s) ((b ≡ a) × (s ≡ r))
+
+-- windows were fed and reported one after another, the first after this many lines
 unfoldable pub Reported : {R : Type 0} → Terms R → ℕ → List (List (List ℕ)) → Hub → R → Hub → R → Type 0
 Reported t before [] a r b s = (b ≡ a) × (s ≡ r)
-Reported {R} t before (lines ∷ more) a r b s = (x : Hub) × (y : Hub) × (p : R) × Feeds t lines a x × IsReported t.plan.interim t.reports (before + length lines) x r y p
+Reported {R} t before (lines ∷ more) a r b s = (x : Hub) × (y : Hub) × (p : R) × Feeds t lines a x × IsReported t (before + length lines) x r y p
     × Reported t (before + length lines) more y p b s
 
 -- ---- units
@@ -70,7 +75,7 @@ pub record StopsAtReport {R : Type 0} (t : Terms R) (how : Stop) (units : List (
   pub reported : Reported t 0 windows a r before report
   pub fed : Hub
   pub feeds : Feeds t lines before fed
-  pub hub : IsHub fed
+  pub ready : IsReady t.plan fed
   pub left : Hub
   pub stops : t.breaks report how (length units) fed left s
 
@@ -80,7 +85,7 @@ pub record StopsAtReport {R : Type 0} (t : Terms R) (how : Stop) (units : List (
 abbrev pub GoesSoFar : {R : Type 0} → Terms R → Hub → R → R → List (List ℕ) → Type 0
 GoesSoFar t a r s units = (rest : List (List ℕ)) × (b : Hub) × GoesThrough t units a r rest b s
 
--- behind these units comes one that is no item, or that fills a window whose report stopped, or no memory was found
+-- after these units comes one that is no item, or that fills a window whose report stopped, or memory ran out
 abbrev pub StopsAtUnit : {R : Type 0} → Terms R → Hub → R → R → Fault → List (List ℕ) → List ℕ → Type 0
 StopsAtUnit t a r s (fault.BadItem n) units unit = GoesSoFar t a r s units × (0 < length unit) × IsNone (item_of t.plan.kind unit)
 StopsAtUnit t a r s fault.WriteFault units unit = StopsAtReport t stop.Failed (units ++ unit ∷ []) a r s
@@ -90,7 +95,7 @@ StopsAtUnit t a r s fault.TooMuch units unit = ⊥
 StopsAtUnit t a r s (fault.LongLine n) units unit = ⊥
 StopsAtUnit t a r s (fault.BadCsv n) units unit = ⊥
 
--- the reading ended before the source did, or no memory was found for the last window of a source read to its end
+-- the reading ended before the source did, or memory ran out for the last window of a source read to its end
 abbrev pub EndsEarly : {R : Type 0} → Terms R → Units → Option (List ℕ) → Option (List ℕ) → Hub → R → R → Fault → Type 0
 EndsEarly t units left left' a r s why = Ends units t.plan.most (GoesSoFar t a r s) (StopsAtUnit t a r s) left left' why
     ⊎ ((why ≡ fault.OutOfMemory) × ((n : ℕ) × ReadsAll units t.plan.most n (GoesSoFar t a r s) left left'))

@@ -11,7 +11,7 @@ use Rattle.sk_ingest.specs.declared.report.Stop.TheVariants as stop
 use Rattle.sk_fill.specs.Windows.{WindowState}
 use Rattle.sk_feed.specs.Rounds.{HaveFew}
 use Rattle.sk_feed.specs.Hubs.{Hub, IsHub}
-use Rattle.sk_ingest.specs.Ingests.{Terms, terms_of, Feeds, GoesThrough, Ingests}
+use Rattle.sk_ingest.specs.Ingests.{Terms, terms_of, Feeds, IsReady, GoesThrough, Ingests}
 
 -- the window is the plan's, and the report is of the hub's sketch
 pub record IsSetUp (plan : Intake) (window : WindowState) (hub : Hub) (sketch : Option (List ℕ)) : Type 0 where
@@ -39,7 +39,7 @@ pub record SameReport {R : Type 0} (faults : R → ℕ) (stands_on : R → List 
   pub stands : stands_on s ≡ stands_on r
   pub named : sketch s ≡ sketch r
 
--- a call failed where the fault says so
+-- a call failed if the fault says so
 pub record ReportStops {R : Type 0} (faults : R → ℕ) (stands_on : R → List ℕ) (sketch : R → Option (List ℕ)) (r s : R) (why : Fault) : Type 0 where
   pub steady : why ≢ fault.WriteFault → faults s ≡ faults r
   pub failed : why ≡ fault.WriteFault → Rose (faults r) (faults s)
@@ -48,9 +48,9 @@ pub record ReportStops {R : Type 0} (faults : R → ℕ) (stands_on : R → List
 
 -- a window was fed, and its report stopped
 abbrev pub StopsTelling : {R : Type 0} → Terms R → Stop → List (List ℕ) → ℕ → Hub → R → R → Type 0
-StopsTelling t how lines line a r s = (x : Hub) × (y : Hub) × Feeds t lines a x × (t.plan.interim ≡ true) × t.breaks r how line x y s
+StopsTelling t how lines line a r s = (x : Hub) × (y : Hub) × Feeds t lines a x × IsReady t.plan x × (t.plan.interim ≡ true) × t.breaks r how line x y s
 
--- why a full window was not passed on: no memory was found, or its report stopped
+-- why a full window was not passed on: memory ran out, or its report stopped
 abbrev pub StopsPassing : {R : Type 0} → Terms R → List (List ℕ) → ℕ → Hub → R → R → Fault → Type 0
 StopsPassing t lines line a r s fault.OutOfMemory = (s ≡ r) ⊎ StopsTelling t stop.OutOfMemory lines line a r s
 StopsPassing t lines line a r s fault.WriteFault = StopsTelling t stop.Failed lines line a r s
@@ -65,9 +65,9 @@ StopsPassing t lines line a r s (fault.BadCsv n) = ⊥
 -- the hub has one updater, which takes units of windows that are not reported
 pub record IsAlone (plan : Intake) (hub : Hub) : Type 0 where
   pub least : 1 ≤ plan.window
-  pub untold : plan.interim ≡ false
+  pub unreported : plan.interim ≡ false
   pub one : length hub.updaters ≡ 1
 
--- the terms of a run without a report
-abbrev pub untold : (ℕ → ℕ → Bool) → (List ℕ → List Entry → ℕ) → Intake → Terms (Unit {0})
-untold keeps hint_of plan = terms_of keeps hint_of (λ r line a b s. ⊥) (λ r how line a b s. ⊥) plan
+-- the terms of a run that is not reported
+abbrev pub unreported : (ℕ → ℕ → Bool) → (List ℕ → List Entry → ℕ) → Intake → Terms (Unit {0})
+unreported keeps hint_of plan = terms_of keeps hint_of (λ r line a b s. ⊥) (λ r how line a b s. ⊥) plan

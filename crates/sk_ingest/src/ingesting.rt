@@ -8,7 +8,7 @@ ghost use Rattle.sk_fill.specs.Windows.{most_lines};
 ghost use Rattle.sk_feed.specs.Shares.{HaveKeptNone};
 ghost use Rattle.sk_feed.specs.Hubs.{hub_of, IsHub};
 ghost use Rattle.sk_ingest.specs.Ingests.{terms_of, Ingests, StopsAtUnit, EndsEarly};
-ghost use Rattle.sk_ingest.specs.Takers.{IsAlone, UnitsWent, untold};
+ghost use Rattle.sk_ingest.specs.Takers.{IsAlone, UnitsWent, unreported};
 
 use crate::one_by_one::OneByOne;
 use crate::passing::Round;
@@ -25,8 +25,9 @@ use std::alloc::Global;
 use std::sync::Wait;
 use std::thread::Threads;
 
-/// Feeds the units of a source of fewer than `most` bytes to a hub, a window at a time, and answers how many
-/// there were. Each full window is reported where the plan wants it. After an error the hub is not used again.
+/// Feeds the units of a source of fewer than `most` bytes to a hub, a window at a time, and returns how many
+/// there were. Each full window is reported if the plan wants it; with a propagator the report finds all published that
+/// updaters handed over. After an error the hub is not used again.
 pub fn ingest<S: Source, C: Composable + Send, P: Report<C>, R: Threads + Wait + Sync>(
     rt: &R,
     alloc: Global,
@@ -70,7 +71,7 @@ where
 // Whether lines are read while others are fed: if nobody asks before the end, and threads are enough.
 fn is_read_ahead<R: Threads>(rt: &R, plan: &Intake, updaters: usize) -> bool
     ensures lines { result ≡ true → plan.now.column ≡ 0 }
-    ensures untold { result ≡ true → plan.now.interim ≡ false }
+    ensures unreported { result ≡ true → plan.now.interim ≡ false }
 {
     !plan.interim && plan.column == 0 && threads_for(rt, updaters) > 1
 }
@@ -85,9 +86,9 @@ fn ingest_one_by_one<S: Source, C: Composable, R: Wait>(
 ) -> Result<u64, Fault>
     requires bound { plan.now.most ≤ source_limit }
     requires alone { IsAlone plan.now (hub_of opened.old) }
-    requires start { UnitsWent (untold C.keeps_of C.hint_of plan.now) [] (hub_of opened.old) tt (hub_of opened.old) tt }
-    ensures read { Reads (units_by plan.now.column) plan.now.most (λ units. UnitsWent (untold C.keeps_of C.hint_of plan.now) units (hub_of opened.old) tt (hub_of opened.new) tt)
-        (StopsAtUnit (untold C.keeps_of C.hint_of plan.now) (hub_of opened.old) tt tt) (S.left source.old) (S.left source.new) result }
+    requires start { UnitsWent (unreported C.keeps_of C.hint_of plan.now) [] (hub_of opened.old) tt (hub_of opened.old) tt }
+    ensures read { Reads (units_by plan.now.column) plan.now.most (λ units. UnitsWent (unreported C.keeps_of C.hint_of plan.now) units (hub_of opened.old) tt (hub_of opened.new) tt)
+        (StopsAtUnit (unreported C.keeps_of C.hint_of plan.now) (hub_of opened.old) tt tt) (S.left source.old) (S.left source.new) result }
     ensures cause { HasCauseIn Fault.ReadFault (S.faults source.old) (S.faults source.new) result }
     ensures stays { S.stands_on source.new ≡ S.stands_on source.old }
 {

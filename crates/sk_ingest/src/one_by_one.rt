@@ -9,7 +9,7 @@ ghost use Rattle.sk_read.specs.Reads.{StopsAmong};
 ghost use Rattle.sk_hub.specs.Calls.{Takes};
 ghost use Rattle.sk_feed.specs.Hubs.{Hub, hub_of, HeartGoesOn};
 ghost use Rattle.sk_ingest.specs.Ingests.{StopsAtUnit};
-ghost use Rattle.sk_ingest.specs.Takers.{UnitsWent, IsAlone, untold};
+ghost use Rattle.sk_ingest.specs.Takers.{UnitsWent, IsAlone, unreported};
 
 use sk_compose::Composable;
 use sk_feed::{Propagation, offer, propagate};
@@ -30,10 +30,10 @@ pub(crate) struct OneByOne<'r, 'o, C: Composable, R> {
 
 impl<C: Composable, R: Wait> UnitTaker for OneByOne<'_, '_, C, R> {
     ghost went = { λ s t units. (t.plan ≡ s.plan) × IsAlone t.plan (hub_of t.opened.now)
-        × UnitsWent (untold C.keeps_of C.hint_of t.plan) units (hub_of s.opened.now) tt (hub_of t.opened.now) tt };
+        × UnitsWent (unreported C.keeps_of C.hint_of t.plan) units (hub_of s.opened.now) tt (hub_of t.opened.now) tt };
 
     ghost stopped = { λ s t why units unit. (t.plan ≡ s.plan)
-        × StopsAtUnit (untold C.keeps_of C.hint_of t.plan) (hub_of s.opened.now) tt tt why units unit };
+        × StopsAtUnit (unreported C.keeps_of C.hint_of t.plan) (hub_of s.opened.now) tt tt why units unit };
 
     ghost stands_on = { λ s. record { kind = Some s.plan.kind; borrows = s.opened.ghost_name ∷ []; numbers = [] } };
 
@@ -60,14 +60,14 @@ fn take_unit<C: Composable, R: Wait>(
     requires alone { IsAlone plan.now (hub_of opened.old) }
     requires room { number ≤ most_kept }
     requires behind { (a : Hub) × (units : List (List ℕ)) × (length units + 1 ≡ number)
-        × UnitsWent (untold C.keeps_of C.hint_of plan.now) units a tt (hub_of opened.old) tt }
+        × UnitsWent (unreported C.keeps_of C.hint_of plan.now) units a tt (hub_of opened.old) tt }
     ensures alone { IsAlone plan.now (hub_of opened.new) }
     ensures went { OnOk result ((a : Hub) (units : List (List ℕ)) → length units + 1 ≡ number
-        → UnitsWent (untold C.keeps_of C.hint_of plan.now) units a tt (hub_of opened.old) tt
-        → UnitsWent (untold C.keeps_of C.hint_of plan.now) (units ++ unit.now ∷ []) a tt (hub_of opened.new) tt) }
+        → UnitsWent (unreported C.keeps_of C.hint_of plan.now) units a tt (hub_of opened.old) tt
+        → UnitsWent (unreported C.keeps_of C.hint_of plan.now) (units ++ unit.now ∷ []) a tt (hub_of opened.new) tt) }
     ensures stopped { IfErr result (λ why. (a : Hub) (units : List (List ℕ)) → length units + 1 ≡ number
-        → UnitsWent (untold C.keeps_of C.hint_of plan.now) units a tt (hub_of opened.old) tt
-        → StopsAtUnit (untold C.keeps_of C.hint_of plan.now) a tt tt why units unit.now) }
+        → UnitsWent (unreported C.keeps_of C.hint_of plan.now) units a tt (hub_of opened.old) tt
+        → StopsAtUnit (unreported C.keeps_of C.hint_of plan.now) a tt tt why units unit.now) }
     ensures fault { IfErr result (IsOfTaker number) }
 {
     if unit.is_empty() {
@@ -99,14 +99,14 @@ fn take_lines<C: Composable, R: Wait>(
     requires alone { IsAlone plan.now (hub_of opened.old) }
     requires room { before + length spans.now ≤ most_kept }
     requires behind { (a : Hub) × (units : List (List ℕ)) × (length units ≡ before)
-        × UnitsWent (untold C.keeps_of C.hint_of plan.now) units a tt (hub_of opened.old) tt }
+        × UnitsWent (unreported C.keeps_of C.hint_of plan.now) units a tt (hub_of opened.old) tt }
     ensures alone { IsAlone plan.now (hub_of opened.new) }
     ensures went { OnOk result ((a : Hub) (units : List (List ℕ)) → length units ≡ before
-        → UnitsWent (untold C.keeps_of C.hint_of plan.now) units a tt (hub_of opened.old) tt
-        → UnitsWent (untold C.keeps_of C.hint_of plan.now) (units ++ lines_at spans.now text.now) a tt (hub_of opened.new) tt) }
+        → UnitsWent (unreported C.keeps_of C.hint_of plan.now) units a tt (hub_of opened.old) tt
+        → UnitsWent (unreported C.keeps_of C.hint_of plan.now) (units ++ lines_at spans.now text.now) a tt (hub_of opened.new) tt) }
     ensures stopped { IfErr result (λ why. (a : Hub) (units : List (List ℕ)) → length units ≡ before
-        → UnitsWent (untold C.keeps_of C.hint_of plan.now) units a tt (hub_of opened.old) tt
-        → StopsAmong (StopsAtUnit (untold C.keeps_of C.hint_of plan.now) a tt tt) why units (lines_at spans.now text.now)) }
+        → UnitsWent (unreported C.keeps_of C.hint_of plan.now) units a tt (hub_of opened.old) tt
+        → StopsAmong (StopsAtUnit (unreported C.keeps_of C.hint_of plan.now) a tt tt) why units (lines_at spans.now text.now)) }
 {
     let mut kept = [0; GROUP];
     let updater = &mut opened.updaters[0];

@@ -1,18 +1,19 @@
 //! A full window, which is fed and reported.
-ghost use Rattle.std.specs.Prelude.{◌≡◌, ◌≤◌, [], ℕ, List, OnOk, IfErr, IfSome, length, true};
+ghost use Rattle.std.specs.Prelude.{◌≡◌, ◌≤◌, [], ℕ, List, OnOk, IfErr, IfSome, true};
 ghost use Rattle.sk_model.specs.Causes.{HasCauseIn};
 ghost use Rattle.sk_model.specs.Limits.{most_updaters};
 ghost use Rattle.sk_feed.specs.Hubs.{Hub, hub_of, IsHub, FeedsWindow};
 ghost use Rattle.sk_feed.specs.Rounds.{HaveRoom};
-ghost use Rattle.sk_ingest.specs.Ingests.{terms_of, IsReported};
+ghost use Rattle.sk_ingest.specs.Ingests.{terms_of, IsReady, IsReported};
 ghost use Rattle.sk_ingest.specs.Takers.{IsSetUp, StopsPassing};
 
 use crate::report::{Report, Stop};
 use crate::ways::{feed_in_threads, feed_window};
 use sk_compose::Composable;
-use sk_feed::Feeders;
+use sk_feed::{Feeders, settle_all};
 use sk_fill::Window;
 use sk_hub::Opened;
+use sk_model::OutOfMemory;
 use sk_read::{Fault, Intake};
 use std::sync::Wait;
 use std::thread::Threads;
@@ -40,7 +41,7 @@ where
     requires hub { IsHub (hub_of opened.old) }
     requires room { HaveRoom round.old.window.lines opened.old.updaters.items }
     ensures passed { OnOk result ((x : Hub) × FeedsWindow C.keeps_of C.hint_of plan.now.kind round.old.window.lines (hub_of opened.old) x
-        × IsReported plan.now.interim P.reports line x report.old (hub_of opened.new) report.new) }
+        × IsReported (terms_of C.keeps_of C.hint_of P.reports P.breaks plan.now) line x report.old (hub_of opened.new) report.new) }
     ensures stopped { IfErr result (StopsPassing (terms_of C.keeps_of C.hint_of P.reports P.breaks plan.now) round.old.window.lines line (hub_of opened.old) report.old report.new) }
     ensures cleared { OnOk result (round.new.window.lines ≡ []) }
     ensures setup { OnOk result (IsSetUp plan.now round.new.window (hub_of opened.new) (P.sketch report.new)) }
@@ -51,7 +52,8 @@ where
 {
     feed_in_threads(rt, opened, &mut round.feeders, &round.window, plan)?;
     round.window.clear();
-    report_at(plan.interim, line, opened, report)?;
+    make_ready(rt, plan, opened)?;
+    report_at(plan, line, opened, report)?;
     Ok(())
 }
 
@@ -70,7 +72,7 @@ pub(crate) fn pass_in_turn<C: Composable, P: Report<C>, R: Wait>(
     ensures cleared { OnOk result (window.new.lines ≡ []) }
     ensures setup { OnOk result (IsSetUp plan.now window.new (hub_of opened.new) (P.sketch report.new)) }
     ensures passed { OnOk result ((x : Hub) × FeedsWindow C.keeps_of C.hint_of plan.now.kind window.old.lines (hub_of opened.old) x
-        × IsReported plan.now.interim P.reports line x report.old (hub_of opened.new) report.new) }
+        × IsReported (terms_of C.keeps_of C.hint_of P.reports P.breaks plan.now) line x report.old (hub_of opened.new) report.new) }
     ensures stopped { IfErr result (StopsPassing (terms_of C.keeps_of C.hint_of P.reports P.breaks plan.now) window.old.lines line (hub_of opened.old) report.old report.new) }
     ensures stays { P.stands_on report.new ≡ P.stands_on report.old }
     ensures named { P.sketch report.new ≡ P.sketch report.old }
@@ -78,28 +80,50 @@ pub(crate) fn pass_in_turn<C: Composable, P: Report<C>, R: Wait>(
 {
     feed_window(rt, opened, window, plan)?;
     window.clear();
-    report_at(plan.interim, line, opened, report)?;
+    make_ready(rt, plan, opened)?;
+    report_at(plan, line, opened, report)?;
     Ok(())
 }
 
-// Reports the hub, where interim replies are wanted.
+// Makes a hub ready for a report, if interim replies are wanted: with a propagator each updater is settled.
+fn make_ready<C: Composable, R: Wait>(
+    rt: &R,
+    plan: &Intake,
+    opened: &mut Opened<C>,
+) -> Result<(), OutOfMemory>
+    requires hub { IsHub (hub_of opened.old) }
+    ensures hub { OnOk result (IsHub (hub_of opened.new)) }
+    ensures ready { OnOk result (plan.now.interim ≡ true → IsReady plan.now (hub_of opened.new)) }
+
+    // What was fed is fed still.
+    ensures fed { OnOk result ((a : Hub) (lines : List (List ℕ)) → FeedsWindow C.keeps_of C.hint_of plan.now.kind lines a (hub_of opened.old)
+        → FeedsWindow C.keeps_of C.hint_of plan.now.kind lines a (hub_of opened.new)) }
+    ensures name { opened.new.heart.view.name ≡ opened.old.heart.view.name }
+{
+    if !plan.interim || !plan.propagator {
+        return Ok(());
+    }
+    settle_all(rt, &mut opened.heart, &mut opened.updaters)
+}
+
+// Reports the hub, if interim replies are wanted.
 fn report_at<C: Composable, P: Report<C>>(
-    interim: bool,
+    plan: &Intake,
     line: u64,
     opened: &mut Opened<C>,
     report: &mut P,
 ) -> Result<(), Stop>
     requires hub { IsHub (hub_of opened.old) }
+    requires ready { plan.now.interim ≡ true → IsReady plan.now (hub_of opened.old) }
     requires sketch { IfSome (P.sketch report.old) (λ name. opened.old.heart.view.name ≡ name) }
-    ensures reported { OnOk result (IsReported interim P.reports line (hub_of opened.old) report.old (hub_of opened.new) report.new) }
-    ensures stopped { IfErr result (λ stop. (interim ≡ true) × P.breaks report.old stop line (hub_of opened.old) (hub_of opened.new) report.new) }
+    ensures reported { OnOk result (IsReported (terms_of C.keeps_of C.hint_of P.reports P.breaks plan.now) line (hub_of opened.old) report.old (hub_of opened.new) report.new) }
+    ensures stopped { IfErr result (λ stop. (plan.now.interim ≡ true) × P.breaks report.old stop line (hub_of opened.old) (hub_of opened.new) report.new) }
     ensures cause { HasCauseIn Stop.Failed (P.faults report.old) (P.faults report.new) result }
     ensures stays { P.stands_on report.new ≡ P.stands_on report.old }
     ensures named { P.sketch report.new ≡ P.sketch report.old }
     ensures name { opened.new.heart.view.name ≡ opened.old.heart.view.name }
-    ensures count { length opened.new.updaters.items ≡ length opened.old.updaters.items }
 {
-    if interim {
+    if plan.interim {
         report.at(line, opened)?;
     }
     Ok(())

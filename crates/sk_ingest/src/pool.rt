@@ -37,7 +37,7 @@ impl Model for Pool {
 }
 
 impl Pool {
-    // Of windows of at most so many lines. None was given.
+    // Of windows of at most this many lines. None was given.
     pub(crate) fn new(alloc: Global, most: u32) -> Pool
         requires least { 1 ≤ most }
         requires highest { most ≤ most_lines }

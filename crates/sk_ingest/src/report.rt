@@ -1,4 +1,4 @@
-//! Who is told of a hub at each full window.
+//! What is called with a hub at each full window.
 ghost use Rattle.std.specs.Prelude.{◌≡◌, ℕ, List, Option, OnOk, IfErr, IfSome};
 ghost use Rattle.sk_model.specs.Causes.{HasCauseIn};
 ghost use Rattle.sk_feed.specs.Hubs.{Hub, hub_of, IsHub, LeavesHub};
@@ -40,15 +40,15 @@ impl From<Stop> for Fault {
     }
 }
 
-/// Who is told how many lines were fed, and may ask the hub.
+/// What is called with the number of lines that were fed, and may ask the hub.
 pub trait Report<C: Composable> {
     /// How often what it writes to has failed. The count stops at the largest `u64`.
     ghost faults: { Self → ℕ };
 
-    /// From one report to another, told of a line: the handles before and after it.
+    /// From one report to another at a line: the handles before and after it.
     ghost reports: { Self → ℕ → Hub → Hub → Self → Type 0 };
 
-    /// The same where it stopped.
+    /// The same if it stopped.
     ghost breaks: { Self → Stops → ℕ → Hub → Hub → Self → Type 0 };
 
     /// The ghost names of the borrows that it holds, which no `at` changes.
@@ -57,7 +57,7 @@ pub trait Report<C: Composable> {
     /// The name of the sketch that it reads, if it reads one.
     ghost sketch: { Self → Option (List ℕ) };
 
-    /// Is told that so many lines were fed. It keeps, hands over and drains nothing.
+    /// This many lines were fed. It keeps, hands over and drains nothing.
     fn at(&mut self, line: u64, opened: &mut Opened<C>) -> Result<(), Stop>
         requires hub { IsHub (hub_of opened.old) }
         requires sketch { IfSome (sketch self.old) (λ name. opened.old.heart.view.name ≡ name) }

@@ -8,7 +8,7 @@ ghost use Rattle.sk_fill.specs.Windows.{most_lines};
 ghost use Rattle.sk_feed.specs.Rounds.{HaveFew};
 ghost use Rattle.sk_feed.specs.Hubs.{hub_of, IsHub, FeedsWindows};
 ghost use Rattle.sk_ingest.specs.Ingests.{Ingests, EndsEarly};
-ghost use Rattle.sk_ingest.specs.Takers.{untold};
+ghost use Rattle.sk_ingest.specs.Takers.{unreported};
 ghost use Rattle.sk_ingest.specs.FedAndRead.{FeedsAndReads, HasStarted};
 
 use crate::lanes::{feed_in_lanes, feed_in_one_lane};
@@ -37,13 +37,13 @@ where
     requires bound { plan.now.most ≤ source_limit }
     requires window { IsFrom 1 most_lines plan.now.window }
     requires lines { plan.now.column ≡ 0 }
-    requires untold { plan.now.interim ≡ false }
+    requires unreported { plan.now.interim ≡ false }
     requires hub { IsHub (hub_of opened.old) }
     requires few { HaveFew 0 [] opened.old.updaters.items }
     ensures ok { IfOk result (λ n. ReadsAll (units_by plan.now.column) plan.now.most n
-        (λ units. Ingests (untold C.keeps_of C.hint_of plan.now) units (hub_of opened.old) tt (hub_of opened.new) tt)
+        (λ units. Ingests (unreported C.keeps_of C.hint_of plan.now) units (hub_of opened.old) tt (hub_of opened.new) tt)
         (S.left source.old) (S.left source.new)) }
-    ensures refused { IfErr result (EndsEarly (untold C.keeps_of C.hint_of plan.now) (units_by plan.now.column)
+    ensures refused { IfErr result (EndsEarly (unreported C.keeps_of C.hint_of plan.now) (units_by plan.now.column)
         (S.left source.old) (S.left source.new) (hub_of opened.old) tt tt) }
     ensures cause { HasCauseIn Fault.ReadFault (S.faults source.old) (S.faults source.new) result }
     ensures stays { S.stands_on source.new ≡ S.stands_on source.old }
@@ -58,7 +58,7 @@ where
     Ok(reader.number())
 }
 
-// Feeds a stretch, reads the next one into its place, and answers whether that is full. One that is not short goes to
+// Feeds a stretch, reads the next one into its place, and returns whether that is full. One that is not short goes to
 // threads, and so do those that come after it, as many as they take.
 fn feed_on<S: Source, C: Composable + Send, R: Threads + Wait + Sync>(
     rt: &R,
@@ -84,7 +84,7 @@ where
         feed_stretch(rt, opened, stretch, plan)?;
         return fill_stretch(reader, source, stretch, plan.kind, ENOUGH);
     }
-    // It tells the proof how many updaters a hub has at most.
+    // It shows the proof how many updaters a hub has at most.
     let _admitted = opened.heart.admitted();
     let updaters = &mut opened.updaters;
     if are_eager(updaters.as_slice()) {

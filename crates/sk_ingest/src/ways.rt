@@ -30,7 +30,7 @@ pub(crate) fn feed_window<C: Composable, R: Wait>(
     requires room { HaveRoom window.now.lines opened.old.updaters.items }
     ensures fed { OnOk result (FeedsWindow C.keeps_of C.hint_of plan.now.kind window.now.lines (hub_of opened.old) (hub_of opened.new)) }
 {
-    // It tells the proof how many updaters a hub has at most.
+    // It shows the proof how many updaters a hub has at most.
     let _admitted = opened.heart.admitted();
     let by = Propagation::of(plan);
     let updaters = &mut opened.updaters;
@@ -82,7 +82,7 @@ where
     if window.len() < LEAST_IN_THREADS || feeders.threads() < 2 || are_eager(&opened.updaters) {
         return feed_window(rt, opened, window, plan);
     }
-    // It tells the proof how many updaters a hub has at most.
+    // It shows the proof how many updaters a hub has at most.
     let _admitted = opened.heart.admitted();
     feeders.feed_window(
         rt,

@@ -46,11 +46,11 @@ where
     ensures reads { HasCauseIn Fault.ReadFault (S.faults source.old) (S.faults source.new) result }
     ensures writes { HasCauseIn Fault.WriteFault (P.faults report.old) (P.faults report.new) result }
 {
-    // It tells the proof that there is an updater.
+    // It shows the proof that there is an updater.
     let _updaters = shape.n();
     let mut opened = open(alloc, shape, global)?;
     ingest(rt, alloc, plan, source, &mut opened, report)?;
-    // These tell the proof what updaters kept, and that it has the word of all that they took.
+    // These show the proof what updaters kept, and that its word is that of all that they took.
     ingested_units_are_kept::<C, P>(PhantomData, PhantomData);
     the_word_is_of_all_that_was_taken::<C>(PhantomData);
     let Opened {

@@ -129,9 +129,14 @@ fn full_windows_are_reported(rt: HostRuntime) -> Result<(), Fail> {
     expect(&rt, alloc, PLAIN, Ok(5), &[(5, 2)])?;
     let mut run = PLAIN;
     run.propagator = true;
-    expect(&rt, alloc, run, Ok(5), &[(5, 2)])?;
+    expect(&rt, alloc, run, Ok(5), &[(5, 4)])?;
     run.interim = false;
     expect(&rt, alloc, run, Ok(5), &[])?;
+    run.interim = true;
+    run.eager = true;
+    expect(&rt, alloc, run, Ok(5), &[(5, 5)])?;
+    run.window = 2;
+    expect(&rt, alloc, run, Ok(5), &[(2, 2), (4, 4)])?;
     run = PLAIN;
     run.eager = true;
     expect(&rt, alloc, run, Ok(5), &[(5, 5)])?;

@@ -4,24 +4,24 @@ use Rattle.sk_read.specs.Units.{units_by}
 use Rattle.sk_read.specs.Reads.{ReadsAll, Ends}
 use Rattle.sk_feed.specs.Hubs.{hub_of}
 use Rattle.sk_ingest.specs.Ingests.{terms_of, Ingests, GoesSoFar, StopsAtUnit, EndsEarly}
-use Rattle.sk_ingest.specs.Takers.{UnitsWent, WindowsWent, untold}
+use Rattle.sk_ingest.specs.Takers.{UnitsWent, WindowsWent, unreported}
 use Rattle.sk_feed.proofs.HubLaws.{few_none, few_room}
 use Rattle.sk_fill.proofs.Readings.{read_ok, read_err, nothing_came, if_err_is, all_by, ends_by, if_ok_then, if_err_then}
 use Rattle.sk_ingest.proofs.Ingestion.{windows_start, rest_fed}
-use Rattle.sk_ingest.proofs.OneByOneLaws.{alone_start, ingests_untold, went_so_far, stops_untold, early_untold}
+use Rattle.sk_ingest.proofs.OneByOneLaws.{alone_start, ingests_quietly, went_so_far, stops_quietly, early_quietly}
 use Rattle.sk_ingest.proofs.ingesting.ingest.Goals as goal
 
 pub ingest_one_by_one-requires-clause-start : goal.ingest_one_by_one-requires-clause-start
 ingest_one_by_one-requires-clause-start g c =
     let k = g.C.Composable in let hub = hub_of c.args.opened.now in
-    alone_start (untold k.keeps_of k.hint_of c.args.plan.now) hub tt c.requires.window.0 c.requires.hub (few_none c.args.opened.now.heart.view.numbers hub.updaters c.requires.fresh)
+    alone_start (unreported k.keeps_of k.hint_of c.args.plan.now) hub tt c.requires.window.0 c.requires.hub (few_none c.args.opened.now.heart.view.numbers hub.updaters c.requires.fresh)
 
 pub returns-then-not-plan-clause-ok : goal.returns-then-not-plan-clause-ok
 returns-then-not-plan-clause-ok g c =
     let k = g.C.Composable in let p = g.P.Report in let plan = c.args.plan.now in let hub = hub_of c.args.opened.now in let r = c.args.report.now in
     let t = terms_of k.keeps_of k.hint_of p.reports p.breaks plan in let last = hub_of c.ingest_one_by_one.new.opened in
-    read_ok (units_by plan.column) plan.most (λ units. UnitsWent (untold k.keeps_of k.hint_of plan) units hub tt last tt) (λ units. Ingests t units hub r last r) (StopsAtUnit (untold k.keeps_of k.hint_of plan) hub tt tt)
-    (g.S.Source.left c.args.source.now) (g.S.Source.left c.ingest_one_by_one.new.source) c.ingest_one_by_one.result (λ units went. ingests_untold t units hub last tt tt r c.if-not-plan.true went.ingests) c.ingest_one_by_one.ensures.read
+    read_ok (units_by plan.column) plan.most (λ units. UnitsWent (unreported k.keeps_of k.hint_of plan) units hub tt last tt) (λ units. Ingests t units hub r last r) (StopsAtUnit (unreported k.keeps_of k.hint_of plan) hub tt tt)
+    (g.S.Source.left c.args.source.now) (g.S.Source.left c.ingest_one_by_one.new.source) c.ingest_one_by_one.result (λ units went. ingests_quietly t units hub last tt tt r c.if-not-plan.true went.ingests) c.ingest_one_by_one.ensures.read
 
 pub returns-then-not-plan-clause-refused : goal.returns-then-not-plan-clause-refused
 returns-then-not-plan-clause-refused g c =
@@ -29,26 +29,26 @@ returns-then-not-plan-clause-refused g c =
     let t = terms_of k.keeps_of k.hint_of p.reports p.breaks plan in let last = hub_of c.ingest_one_by_one.new.opened in
     let left = g.S.Source.left c.args.source.now in let left' = g.S.Source.left c.ingest_one_by_one.new.source in
     if_err_then c.ingest_one_by_one.result (λ why. Ends (units_by plan.column) plan.most (GoesSoFar t hub r r) (StopsAtUnit t hub r r) left left' why) (λ why. EndsEarly t (units_by plan.column) left left' hub r r why)
-    (read_err (units_by plan.column) plan.most (λ units. UnitsWent (untold k.keeps_of k.hint_of plan) units hub tt last tt) (GoesSoFar t hub r r) (StopsAtUnit (untold k.keeps_of k.hint_of plan) hub tt tt) (StopsAtUnit t hub r r) left left' c.ingest_one_by_one.result
-    (λ units went. went_so_far t units hub last tt tt r c.if-not-plan.true went) (λ why units unit stops. stops_untold t units unit hub tt tt r why c.if-not-plan.true stops) c.ingest_one_by_one.ensures.read)
+    (read_err (units_by plan.column) plan.most (λ units. UnitsWent (unreported k.keeps_of k.hint_of plan) units hub tt last tt) (GoesSoFar t hub r r) (StopsAtUnit (unreported k.keeps_of k.hint_of plan) hub tt tt) (StopsAtUnit t hub r r) left left' c.ingest_one_by_one.result
+    (λ units went. went_so_far t units hub last tt tt r c.if-not-plan.true went) (λ why units unit stops. stops_quietly t units unit hub tt tt r why c.if-not-plan.true stops) c.ingest_one_by_one.ensures.read)
     (λ why ends. inl ends)
 
 pub returns-then-is_read_ahead-clause-ok : goal.returns-then-is_read_ahead-clause-ok
 returns-then-is_read_ahead-clause-ok g c =
     let k = g.C.Composable in let p = g.P.Report in let plan = c.args.plan.now in let hub = hub_of c.args.opened.now in let r = c.args.report.now in
-    let t = terms_of k.keeps_of k.hint_of p.reports p.breaks plan in let u = untold k.keeps_of k.hint_of plan in let last = hub_of c.ingest_stretches.new.opened in
+    let t = terms_of k.keeps_of k.hint_of p.reports p.breaks plan in let u = unreported k.keeps_of k.hint_of plan in let last = hub_of c.ingest_stretches.new.opened in
     let old = g.S.Source.left c.args.source.now in let new = g.S.Source.left c.ingest_stretches.new.source in
     if_ok_then c.ingest_stretches.result (λ n. ReadsAll (units_by plan.column) plan.most n (λ units. Ingests u units hub tt last tt) old new) (λ n. ReadsAll (units_by plan.column) plan.most n (λ units. Ingests t units hub r last r) old new) c.ingest_stretches.ensures.ok
     (λ n reads. all_by (units_by plan.column) plan.most n (λ units. Ingests u units hub tt last tt) (λ units. Ingests t units hub r last r) old new
-    (λ units went. ingests_untold t units hub last tt tt r (c.is_read_ahead.ensures.untold c.if-is_read_ahead.true) went) reads)
+    (λ units went. ingests_quietly t units hub last tt tt r (c.is_read_ahead.ensures.unreported c.if-is_read_ahead.true) went) reads)
 
 pub returns-then-is_read_ahead-clause-refused : goal.returns-then-is_read_ahead-clause-refused
 returns-then-is_read_ahead-clause-refused g c =
     let k = g.C.Composable in let p = g.P.Report in let plan = c.args.plan.now in let hub = hub_of c.args.opened.now in let r = c.args.report.now in
     let t = terms_of k.keeps_of k.hint_of p.reports p.breaks plan in
     let old = g.S.Source.left c.args.source.now in let new = g.S.Source.left c.ingest_stretches.new.source in
-    if_err_then c.ingest_stretches.result (λ why. EndsEarly (untold k.keeps_of k.hint_of plan) (units_by plan.column) old new hub tt tt why) (λ why. EndsEarly t (units_by plan.column) old new hub r r why) c.ingest_stretches.ensures.refused
-    (λ why ends. early_untold t (units_by plan.column) old new hub tt tt r why (c.is_read_ahead.ensures.untold c.if-is_read_ahead.true) ends)
+    if_err_then c.ingest_stretches.result (λ why. EndsEarly (unreported k.keeps_of k.hint_of plan) (units_by plan.column) old new hub tt tt why) (λ why. EndsEarly t (units_by plan.column) old new hub r r why) c.ingest_stretches.ensures.refused
+    (λ why ends. early_quietly t (units_by plan.column) old new hub tt tt r why (c.is_read_ahead.ensures.unreported c.if-is_read_ahead.true) ends)
 
 pub returns-in_err-window-clause-refused : goal.returns-in_err-window-clause-refused
 returns-in_err-window-clause-refused g c =

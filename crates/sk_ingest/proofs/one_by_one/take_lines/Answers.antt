@@ -4,7 +4,7 @@ use Rattle.sk_lines.specs.Spans.{lines_at}
 use Rattle.sk_lines.specs.declared.spans.Span.{Span}
 use Rattle.sk_read.specs.declared.fault.Fault.TheVariants as fault
 use Rattle.sk_feed.specs.Hubs.{hub_of}
-use Rattle.sk_ingest.specs.Takers.{UnitsWent, untold}
+use Rattle.sk_ingest.specs.Takers.{UnitsWent, unreported}
 use Rattle.sk_ingest.proofs.OneByOneLaws.{lines_taken, stops_at_bad, stops_for_memory}
 use Rattle.sk_fill.proofs.Readings.{if_err_is}
 use Rattle.sk_ingest.proofs.one_by_one.take_lines.Goals as goal
@@ -18,7 +18,7 @@ returns-in_err-feed_items-clause-stopped g c = if_err_is c.from_residual.result 
     let k = g.C.Composable in let found = c.gather-found in let lines = lines_at c.args.spans.now c.args.text.now in
     let some : 0 < length lines
     = omega (arith, c.in_err-feed_items.ensures.some, length-take found.result.items found.new.kept, found.ensures.items, found.ensures.lines, count_lines c.args.spans.now c.args.text.now) in
-    stops_for_memory (untold k.keeps_of k.hint_of c.args.plan.now) units lines a (hub_of c.args.opened.now) tt tt some went)
+    stops_for_memory (unreported k.keeps_of k.hint_of c.args.plan.now) units lines a (hub_of c.args.opened.now) tt tt some went)
 
 pub returns-then-found-spans-clause-stopped : goal.returns-then-found-spans-clause-stopped
 returns-then-found-spans-clause-stopped g c = λ a units count went.
@@ -27,7 +27,7 @@ returns-then-found-spans-clause-stopped g c = λ a units count went.
     let front = take found.result.lines lines in
     let fed = lines_taken k.keeps_of k.hint_of plan units front (take found.result.items found.new.kept) c.hint.result a hub c.feed_items.new.heart c.index_mut-updater.result.now u' went c.requires.alone found.ensures.good
     c.feed_items.ensures.heart c.index_mut-updater.ensures.value c.hint.ensures.hint found.ensures.kept c.in_ok-feed_items.ensures.taken in
-    stops_at_bad (untold k.keeps_of k.hint_of plan) units lines c.args.before found.result.lines a (record { heart = c.feed_items.new.heart; updaters = set hub.updaters 0 u'; token = hub.token }) tt tt count within
+    stops_at_bad (unreported k.keeps_of k.hint_of plan) units lines c.args.before found.result.lines a (record { heart = c.feed_items.new.heart; updaters = set hub.updaters 0 u'; token = hub.token }) tt tt count within
     (found.ensures.bad c.if-found-spans.true) fed
 
 pub returns-clause-went : goal.returns-clause-went
@@ -37,4 +37,4 @@ returns-clause-went g c = λ a units count went.
     let all : front ≡ lines = take_all found.result.lines lines (omega (arith, c.if-found-spans.false, count_lines c.args.spans.now c.args.text.now)) in
     let fed = lines_taken k.keeps_of k.hint_of plan units front (take found.result.items found.new.kept) c.hint.result a hub c.feed_items.new.heart c.index_mut-updater.result.now u' went c.requires.alone found.ensures.good
     c.feed_items.ensures.heart c.index_mut-updater.ensures.value c.hint.ensures.hint found.ensures.kept c.in_ok-feed_items.ensures.taken in
-    subst (λ l. UnitsWent (untold k.keeps_of k.hint_of plan) (units ++ l) a tt (record { heart = c.feed_items.new.heart; updaters = set hub.updaters 0 u'; token = hub.token }) tt) all fed
+    subst (λ l. UnitsWent (unreported k.keeps_of k.hint_of plan) (units ++ l) a tt (record { heart = c.feed_items.new.heart; updaters = set hub.updaters 0 u'; token = hub.token }) tt) all fed

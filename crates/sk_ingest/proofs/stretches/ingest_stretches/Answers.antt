@@ -7,12 +7,12 @@ use Rattle.sk_read.specs.declared.fault.Fault.TheVariants as fault
 use Rattle.sk_fill.specs.Windows.{most_lines, all_lines}
 use Rattle.sk_feed.specs.Hubs.{hub_of, FeedsWindows}
 use Rattle.sk_ingest.specs.Ingests.{Ingests, GoesSoFar, StopsAtUnit, EndsEarly}
-use Rattle.sk_ingest.specs.Takers.{untold}
+use Rattle.sk_ingest.specs.Takers.{unreported}
 use Rattle.sk_fill.specs.Stretches.{ReadsStretch}
 use Rattle.sk_ingest.specs.FedAndRead.{FeedsAndReads}
 use Rattle.sk_fill.proofs.Cutting.{no_units}
 use Rattle.sk_feed.proofs.Between.{none_fed}
-use Rattle.sk_ingest.proofs.Untold.{cut_so_far}
+use Rattle.sk_ingest.proofs.Unreported.{cut_so_far}
 use Rattle.sk_ingest.proofs.StretchLaws.{StretchesWent, none_went, stretches_go, stretches_hub, stretches_few, stretches_lines, stretches_room, stretches_fail, stretches_end, stretches_out, feeds_on, feeds_fail, cause_passed}
 use Rattle.sk_fill.proofs.Readings.{nothing_came, if_err_is, steady_on_ok}
 use Rattle.sk_ingest.proofs.stretches.ingest_stretches.Goals as goal
@@ -20,10 +20,10 @@ use Rattle.sk_ingest.proofs.stretches.ingest_stretches.Goals as goal
 pub returns-in_err-reader-clause-refused : goal.returns-in_err-reader-clause-refused
 returns-in_err-reader-clause-refused g c =
     let k = g.C.Composable in let plan = c.args.plan.now in let hub = hub_of c.args.opened.now in
-    let t = untold k.keeps_of k.hint_of plan in let old = g.S.Source.left c.args.source.now in
+    let t = unreported k.keeps_of k.hint_of plan in let old = g.S.Source.left c.args.source.now in
     if_err_is c.from_residual.result fault.OutOfMemory (EndsEarly t (units_by plan.column) old old hub tt tt) c.from_residual.ensures.1
     (inl (nothing_came (GoesSoFar t hub tt tt) (StopsAtUnit t hub tt tt) (units_by plan.column) plan.most old
-    (cut_so_far t [] [] [] hub tt c.requires.untold (no_units plan.window c.requires.window.0) (All-nil (IsGood plan.kind)))))
+    (cut_so_far t [] [] [] hub tt c.requires.unreported (no_units plan.window c.requires.window.0) (All-nil (IsGood plan.kind)))))
 
 pub fill_stretch-requires : goal.fill_stretch-requires
 fill_stretch-requires g c = record { started = ([], [], c.in_ok-reader.ensures.read (g.S.Source.left c.args.source.now)) }
@@ -31,19 +31,19 @@ fill_stretch-requires g c = record { started = ([], [], c.in_ok-reader.ensures.r
 pub returns-in_err-more-clause-refused : goal.returns-in_err-more-clause-refused
 returns-in_err-more-clause-refused g c =
     let k = g.C.Composable in let plan = c.args.plan.now in let hub = hub_of c.args.opened.now in
-    let t = untold k.keeps_of k.hint_of plan in let old = g.S.Source.left c.args.source.now in
+    let t = unreported k.keeps_of k.hint_of plan in let old = g.S.Source.left c.args.source.now in
     let new = g.S.Source.left c.fill_stretch.new.source in let r = c.in_ok-reader.reader in let r' = c.fill_stretch.new.reader in
     let windows = c.fill_stretch.new.stretch.windows in let why = c.in_err-more.field-0.0 in
     let reads = subst (λ m. ReadsStretch plan.kind m windows r r' old new c.fill_stretch.result) c.new-stretch.ensures.most c.fill_stretch.ensures.reads in
     let start = none_went k.keeps_of k.hint_of plan hub r old c.in_ok-reader.ensures.most (c.in_ok-reader.ensures.read old) in
     if_err_is c.from_residual-in_err-more.result why (EndsEarly t (units_by plan.column) old new hub tt tt) c.from_residual-in_err-more.ensures.1
     (subst (λ u. EndsEarly t u old new hub tt tt why) (sym (ap units_by c.requires.lines))
-    (stretches_fail k.keeps_of k.hint_of plan [] 0 true hub hub r old old start windows why c.fill_stretch.result r' new c.requires.window.0 c.requires.untold refl reads c.in_err-more.was))
+    (stretches_fail k.keeps_of k.hint_of plan [] 0 true hub hub r old old start windows why c.fill_stretch.result r' new c.requires.window.0 c.requires.unreported refl reads c.in_err-more.was))
 
 pub stretch-init : goal.stretch-init
 stretch-init g c =
     let k = g.C.Composable in let plan = c.args.plan.now in let hub = hub_of c.args.opened.now in
-    let t = untold k.keeps_of k.hint_of plan in let old = g.S.Source.left c.args.source.now in
+    let t = unreported k.keeps_of k.hint_of plan in let old = g.S.Source.left c.args.source.now in
     let new = g.S.Source.left c.fill_stretch.new.source in let r = c.in_ok-reader.reader in let r' = c.fill_stretch.new.reader in
     let windows = c.fill_stretch.new.stretch.windows in let more = c.in_ok-more.more in
     let reads = subst (λ m. ReadsStretch plan.kind m windows r r' old new c.fill_stretch.result) c.new-stretch.ensures.most c.fill_stretch.ensures.reads in
@@ -79,13 +79,13 @@ feed_on-requires-clause-started g c κs within =
 pub returns-in_err-more-2-clause-refused : goal.returns-in_err-more-2-clause-refused
 returns-in_err-more-2-clause-refused g c =
     let k = g.C.Composable in let plan = c.args.plan.now in let hub = hub_of c.args.opened.now in
-    let t = untold k.keeps_of k.hint_of plan in let old = g.S.Source.left c.args.source.now in let s = c.stretch.stretch in let next = c.feed_on.new.stretch in let b = hub_of c.stretch.opened in let x = hub_of c.feed_on.new.opened in
+    let t = unreported k.keeps_of k.hint_of plan in let old = g.S.Source.left c.args.source.now in let s = c.stretch.stretch in let next = c.feed_on.new.stretch in let b = hub_of c.stretch.opened in let x = hub_of c.feed_on.new.opened in
     let mid = g.S.Source.left c.stretch.source in let new = g.S.Source.left c.feed_on.new.source in let r' = c.feed_on.new.reader in let why = c.in_err-more-2.field-0.0 in
     let went = subst (λ m. StretchesWent k.keeps_of k.hint_of plan s.windows s.first m hub b c.stretch.reader old mid) c.stretch-test.true c.stretch.invariant.went in
     let on = subst (λ m. FeedsAndReads (λ windows. FeedsWindows k.keeps_of k.hint_of plan.kind windows b x) plan.kind m s next c.stretch.reader r' mid new c.feed_on.result) c.stretch.invariant.stretch c.feed_on.ensures.goes in
     if_err_is c.from_residual-in_err-more-2.result why (EndsEarly t (units_by plan.column) old new hub tt tt) c.from_residual-in_err-more-2.ensures.1
     (subst (λ u. EndsEarly t u old new hub tt tt why) (sym (ap units_by c.requires.lines))
-    (feeds_fail k.keeps_of k.hint_of plan s next hub b x c.stretch.reader r' old mid new c.feed_on.result went on why c.requires.window.0 c.requires.untold c.in_err-more-2.was))
+    (feeds_fail k.keeps_of k.hint_of plan s next hub b x c.stretch.reader r' old mid new c.feed_on.result went on why c.requires.window.0 c.requires.unreported c.in_err-more-2.was))
 
 pub returns-in_err-more-2-clause-cause : goal.returns-in_err-more-2-clause-cause
 returns-in_err-more-2-clause-cause g c =
@@ -120,17 +120,17 @@ feed_stretch-requires-clause-room g c =
 pub returns-in_err-feed_stretch-clause-refused : goal.returns-in_err-feed_stretch-clause-refused
 returns-in_err-feed_stretch-clause-refused g c =
     let k = g.C.Composable in let plan = c.args.plan.now in let hub = hub_of c.args.opened.now in
-    let t = untold k.keeps_of k.hint_of plan in let old = g.S.Source.left c.args.source.now in
+    let t = unreported k.keeps_of k.hint_of plan in let old = g.S.Source.left c.args.source.now in
     let now = g.S.Source.left c.stretch.source in
     if_err_is c.from_residual-in_err-feed_stretch.result fault.OutOfMemory (EndsEarly t (units_by plan.column) old now hub tt tt) c.from_residual-in_err-feed_stretch.ensures.1
     (subst (λ u. EndsEarly t u old now hub tt tt fault.OutOfMemory) (sym (ap units_by c.requires.lines))
-    (stretches_out k.keeps_of k.hint_of plan c.stretch.stretch.windows c.stretch.stretch.first c.stretch.more hub (hub_of c.stretch.opened) c.stretch.reader old now c.stretch.invariant.went c.requires.untold c.stretch-test.false))
+    (stretches_out k.keeps_of k.hint_of plan c.stretch.stretch.windows c.stretch.stretch.first c.stretch.more hub (hub_of c.stretch.opened) c.stretch.reader old now c.stretch.invariant.went c.requires.unreported c.stretch-test.false))
 
 pub returns-clause-ok : goal.returns-clause-ok
 returns-clause-ok g c =
     let k = g.C.Composable in let plan = c.args.plan.now in let hub = hub_of c.args.opened.now in
-    let t = untold k.keeps_of k.hint_of plan in let old = g.S.Source.left c.args.source.now in
+    let t = unreported k.keeps_of k.hint_of plan in let old = g.S.Source.left c.args.source.now in
     let now = g.S.Source.left c.stretch.source in let x = hub_of c.feed_stretch.new.opened in
     subst (λ u. ReadsAll u plan.most c.number.result (λ units. Ingests t units hub tt x tt) old now) (sym (ap units_by c.requires.lines))
-    (stretches_end k.keeps_of k.hint_of plan c.stretch.stretch.windows c.stretch.stretch.first c.stretch.more hub (hub_of c.stretch.opened) c.stretch.reader old now c.stretch.invariant.went c.number.result x c.requires.untold c.stretch-test.false c.number.ensures c.requires.hub
+    (stretches_end k.keeps_of k.hint_of plan c.stretch.stretch.windows c.stretch.stretch.first c.stretch.more hub (hub_of c.stretch.opened) c.stretch.reader old now c.stretch.invariant.went c.number.result x c.requires.unreported c.stretch-test.false c.number.ensures c.requires.hub
     c.in_ok-feed_stretch.ensures.fed)

@@ -95,7 +95,7 @@ window-preserved g c =
       went = unit_goes t units line hub b passed.0 y r s q front (front_waits t inv.given front line hub b r s inv.went small good full) small
           (All-pop (IsGood plan.kind) (front ++ line ∷ []) front (Some line) refl good).1 inv.setup.least full.full
           (subst (λ l. FeedsWindow k.keeps_of k.hint_of plan.kind l b passed.0) last.2 passed.1)
-          (subst (λ n. IsReported plan.interim p.reports n passed.0 s y q) place passed.2);
+          (subst (λ n. IsReported t n passed.0 s y q) place passed.2);
       empty = c.in_ok-pass_on.ensures.cleared;
       setup = c.in_ok-pass_on.ensures.setup;
       most = c.fill.ensures.bound ∙ inv.most;

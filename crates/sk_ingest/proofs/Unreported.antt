@@ -1,16 +1,21 @@
--- A run that nobody is told of.
-use Rattle.std.proofs.Common.{◌≡◌, ℕ, ◌+◌, false, List, [], ◌∷◌, ◌++◌, length, All, sym, ap, refl, ◌∙◌, subst}
+-- A run that is not reported.
+use Rattle.std.proofs.Common.{◌≡◌, ℕ, ◌+◌, false, List, [], ◌∷◌, ◌++◌, length, All, MatchBool, sym, ap, refl, ◌∙◌, subst}
+use Rattle.std.proofs.lemmas.Bool.{MatchBool-at_false}
 use Rattle.sk_read.specs.Items.{IsGood}
 use Rattle.sk_fill.specs.Windows.{AreWindows, all_lines}
-use Rattle.sk_feed.specs.Hubs.{Hub, IsHub, FeedsWindows}
-use Rattle.sk_ingest.specs.Ingests.{Terms, Feeds, IsReported, Reported, GoesSoFar, Ingests}
+use Rattle.sk_feed.specs.Hubs.{Hub, IsHub, FeedsWindows, LeavesHub}
+use Rattle.sk_ingest.specs.Ingests.{Terms, Feeds, IsReady, IsReported, Reported, GoesSoFar, Ingests}
 use Rattle.sk_fill.specs.Stretches.{EndUnfilled}
 use Rattle.sk_fill.proofs.Cutting.{all_lines_more}
 use Rattle.sk_feed.proofs.HubLaws.{hub_took}
 use Rattle.sk_feed.proofs.Between.{first_fed, some_fed}
 
-untold_so : {R : Type 0} (t : Terms R) (line : ℕ) (x : Hub) (r : R) → t.plan.interim ≡ false → IsReported t.plan.interim t.reports line x r x r
-untold_so t line x r off = subst (λ i. IsReported i t.reports line x r x r) (sym off) (refl, refl)
+-- a hub that is not reported stays as it was
+pub unreported_hub : {R : Type 0} (t : Terms R) (line : ℕ) (x : Hub) (r : R) (y : Hub) (s : R) → t.plan.interim ≡ false → IsReported t line x r y s → (y ≡ x) × (s ≡ r)
+unreported_hub t line x r y s silent told = MatchBool-at_false _ _ silent told
+
+pub quiet_so : {R : Type 0} (t : Terms R) (line : ℕ) (x : Hub) (r : R) → t.plan.interim ≡ false → IsReported t line x r x r
+quiet_so t line x r off = subst (λ i. MatchBool i (IsReady t.plan x × LeavesHub x x × IsHub x × t.reports r line x x r) ((x ≡ x) × (r ≡ r))) (sym off) (refl, refl)
 
 -- between windows that were fed together there are hubs
 hubs_between : {R : Type 0} (t : Terms R) (before : ℕ) (windows : List (List (List ℕ))) (last : List (List ℕ)) (a b : Hub) (r : R) → t.plan.interim ≡ false → FeedsWindows t.keeps t.hint_of t.plan.kind (windows ++ last ∷ []) a b
@@ -20,7 +25,7 @@ hubs_between t before [] last a b r off fed = (a, (refl, refl), record { heart =
 hubs_between t before (lines ∷ more) last a b r off fed =
     let x = first_fed t.keeps t.hint_of t.plan.kind lines (more ++ last ∷ []) a b fed in
     let rest = hubs_between t (before + length lines) more last x.0 b r off x.2 in
-    (rest.0, (x.0, x.0, r, x.1, untold_so t (before + length lines) x.0 r off, rest.1), rest.2)
+    (rest.0, (x.0, x.0, r, x.1, quiet_so t (before + length lines) x.0 r off, rest.1), rest.2)
 
 -- some hub goes through any windows
 some_hub : {R : Type 0} (t : Terms R) (before : ℕ) (windows : List (List (List ℕ))) (a : Hub) (r : R) → t.plan.interim ≡ false → (b : Hub) × Reported t before windows a r b r
@@ -29,7 +34,7 @@ some_hub t before [] a r off = (a, (refl, refl))
 some_hub t before (lines ∷ more) a r off =
     let x = some_fed t.keeps t.hint_of t.plan.kind lines a in
     let rest = some_hub t (before + length lines) more x.0 r off in
-    (rest.0, (x.0, x.0, r, x.1, untold_so t (before + length lines) x.0 r off, rest.1))
+    (rest.0, (x.0, x.0, r, x.1, quiet_so t (before + length lines) x.0 r off, rest.1))
 
 pub cut_so_far : {R : Type 0} (t : Terms R) (units : List (List ℕ)) (windows : List (List (List ℕ))) (rest : List (List ℕ)) (a : Hub) (r : R) → t.plan.interim ≡ false → AreWindows t.plan.window units windows rest → All (IsGood t.plan.kind) units → GoesSoFar t a r r units
 cut_so_far t units windows rest a r off cut good =
