@@ -21,7 +21,8 @@ usage:
       --alarm M,.. writes a line at the first such estimate of M or more, 0 to 281474976710655
                    each, at most 8
       --eager      hands over item by item while there are few (yes)
-      --propagator lets one thread take over what updaters hand over (yes)
+      --propagator one thread merges what updaters hand over; with no they do it themselves, as
+                   they always do if several share lines without --window (yes)
   sketchd hash [--seed S] [--file NAME]
       writes the hash of each line that is not empty, 16 digits in base 16
       --seed S     the seed of the hash, 0 to 4294967295 (0)

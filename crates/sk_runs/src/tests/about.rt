@@ -17,7 +17,8 @@ const TOLD: &str = "\
 --alarm M,.. writes a line at the first such estimate of M or more, 0 to 281474976710655
 each, at most 8
 --eager      hands over item by item while there are few (yes)
---propagator lets one thread take over what updaters hand over (yes)
+--propagator one thread merges what updaters hand over; with no they do it themselves, as
+they always do if several share lines without --window (yes)
 writes the hash of each line that is not empty, 16 digits in base 16
 A line has at most 65536 bytes. An option stands at most once.";
 
@@ -27,7 +28,7 @@ fn help_tells_of_each_option(rt: HostRuntime) -> Result<(), Fail> {
     let ran = run_alone(&rt, alloc, &FINE, "--help", Vec::new(alloc))?;
     let help = String::from_utf8(ran.out.written().to_vec(alloc)?)?;
     expect(&rt, &ran, "--help", 0, help.as_bytes(), b"");
-    assert_eq!(rt; TOLD.lines().count(), 16);
+    assert_eq!(rt; TOLD.lines().count(), 17);
     'told: for told in TOLD.lines() {
         assert!(rt; help.contains(told), "{told}");
     }
