@@ -1,34 +1,31 @@
--- What is told decides of a run, whatever is asked.
-use Rattle.std.proofs.Common.{◌≡◌, ◌≢◌, ◌⊎◌, inl, inr, ℕ, Bool, true, false, ◌&&◌, List, Option, Some, None, IsSomeAnd, is_none, is_some, Result, Ok, Err, IsErrAnd, refl, ap, subst, ◌∙◌, arith}
-use Rattle.std.specs.Option.{IfSome, IfNone, OnSome}
-use Rattle.sk_model.specs.Causes.{HasCauseIn}
-use Rattle.sk_io.specs.Files.{IsMissing, told_file}
-use Rattle.sk_cli.specs.Beside.{Beside}
-use Rattle.sk_cli.specs.Command.{OneText, Asked, OfText, OfImages, OfLinks, behaviour_of, command_of, takes_file, IsInOrder, reads_input, opens_files, writes_last_of}
+-- How what was asked was performed: what is told decides of a run, whatever is asked.
+use Rattle.std.proofs.Common.{◌≡◌, ◌⊎◌, inl, inr, ℕ, [], ◌∷◌, Option, Some, None, Result, Ok, Err, IfErr, IsErrAnd, refl, sym, ap, subst, arith}
+use Rattle.std.specs.Result.{MatchResult}
+use Rattle.sk_model.specs.Causes.{HasCauseIn, Rose}
+use Rattle.sk_io.specs.Files.{IsMissing, told_file, Opens}
+use Rattle.sk_cli.specs.Beside.{Left, LeavesOnly, MadeHub, NoHub, CountingHub, RankingHub, cleared}
+use Rattle.sk_cli.specs.Command.{OneText, Asked, OfText, OfImages, OfLinks, behaviour_of, frame_of}
 use Rattle.sk_cli.specs.Fault.{status_of}
-use Rattle.sk_cli.specs.Outside.{Outside, Doorways}
-use Rattle.sk_cli.specs.Run.{HasCauses, Over, FailsText, PerformsText, Succeeds, Fails, read_faults_over, RunsMake, IsFineFor, IsRefusedFor, IsOfCalls, IsOfReads}
+use Rattle.sk_cli.specs.Outside.{Outside, Net, Streams, over_input, over_file, beside_in, doorways_of}
+use Rattle.sk_cli.specs.Run.{ExecutesSo, HasCausesFor, Succeeds, Fails, FailsText, Performs, OpensFor, IsFineFor, IsRefusedFor, MissesFirst, MissesSecond, IsOfCalls, IsOfReads}
 use Rattle.sk_cli.specs.Values.{Word}
-use Rattle.sk_cli.specs.commands.Join.{TwoImages, Files, EndsFile, EndsAtOne, EndsJoin, IsToldImage, JoinsSo}
-use Rattle.sk_cli.specs.commands.Serve.{EndsServing}
+use Rattle.sk_cli.specs.commands.Join.{TwoImages, EndsFile, EndsAtOne, EndsJoin, OpensBoth, IsToldImage, JoinsSo}
+use Rattle.sk_cli.specs.commands.Serve.{EndsServing, ServesSo}
 use Rattle.sk_serve.specs.declared.plan.ServePlan.{ServePlan}
+use Rattle.sk_serve.specs.Served.{AreClosed}
+use Rattle.sk_serve.proofs.Closed.{closed_none}
 use Rattle.sk_cli.specs.declared.command.Command.{Command}
-use Rattle.sk_cli.specs.declared.command.Command.TheVariants.{Make}
-use Rattle.sk_cli.specs.declared.commands.make.MakePlan.{MakePlan}
 use Rattle.sk_cli.specs.declared.fault.Fault.{Fault}
 use Rattle.sk_cli.specs.declared.fault.Fault.TheVariants as fault
-use Rattle.sk_cli.proofs.Completing.{fine_fails, refusal_fails, refusal_succeeds}
+use Rattle.sk_cli.proofs.Completing.{IsCallStatus, fine_fails, refusal_fails, refusal_succeeds, long_fails, long_succeeds}
+use Rattle.sk_cli.proofs.Endings.{never_opens}
 use Rattle.sk_cli.proofs.JoinDeciding.{fine_file, fine_join, refused_join, refused_or_joined}
-use Rattle.sk_cli.proofs.MadeRuns.{made_well, made_not}
-use Rattle.sk_cli.proofs.Performing.{text_not_usage}
+use Rattle.sk_cli.proofs.Opening.{opens_none}
+use Rattle.sk_cli.proofs.Performing.{TextDone, streams_are, performs_over_input, performs_over_file, text_not_usage}
 
-some_is : (a b : Command) → Some a ≡ Some b → a ≡ b
-some_is a b is = cc
+-- ---- what is told decides
 
-none_is : (a : Command) → None ≡ Some a → ⊥
-none_is a is = cc
-
-module _ (most : ℕ) (from to : Beside) (old new : Outside) (links : Doorways) where
+module _ (most : ℕ) (old new : Outside) where
   no_usage : (two : TwoImages) → EndsAtOne two most old.files new.file_left fault.Usage → ⊥
   no_usage two (inl ends) = ends
   no_usage two (inr (image, is, ends)) = ends
@@ -37,104 +34,215 @@ module _ (most : ℕ) (from to : Beside) (old new : Outside) (links : Doorways) 
   joins_not_usage two fault.Usage ends is = no_usage two ends.0
   joins_not_usage two f ends is = absurd (omega (arith, is))
 
-  serving_not_usage : (plan : ServePlan) (f : Fault) → EndsServing plan most from to old.written new.written links f → status_of f ≡ 2 → ⊥
+  serving_not_usage : (plan : ServePlan) (f : Fault) → EndsServing plan most (beside_in old) (beside_in new) old.written new.written (doorways_of old new) f → status_of f ≡ 2 → ⊥
   serving_not_usage plan fault.Usage ends is = ends
   serving_not_usage plan f ends is = absurd (omega (arith, is))
 
   -- a run ends by the status of words that are no command at no fault
-  pub not_usage : (asked : Asked) (f : Fault) → Fails asked most from to old new links f → status_of f ≡ 2 → ⊥
-  not_usage (OfText one) f fails is = text_not_usage one.command most from to old new one.file f fails is
+  pub not_usage : (asked : Asked) (f : Fault) → Fails asked most old new f → status_of f ≡ 2 → ⊥
+  not_usage (OfText one) f fails is = text_not_usage one.command most old new one.file f fails is
   not_usage (OfImages two) f fails is = joins_not_usage two f fails is
   not_usage (OfLinks plan) f fails is = serving_not_usage plan f fails is
 
-  pub fine_run : (asked : Asked) (f : Fault) → IsFineFor asked most old → Fails asked most from to old new links f → IsOfCalls (status_of f)
-  fine_run (OfText one) f fine fails = fine_fails one most from old new fine.text f fine.told fine.fine fine.size fails
-  fine_run (OfImages two) f fine fails = fine_join two most old.files new.file_left old.written new.written fine f fails
-  fine_run (OfLinks plan) f fine fails = absurd fine
+  serving_calls : (plan : ServePlan) (f : Fault) → EndsServing plan most (beside_in old) (beside_in new) old.written new.written (doorways_of old new) f → IsCallStatus (status_of f)
+  serving_calls plan fault.OutOfMemory ends = inl refl
+  serving_calls plan fault.WriteFault ends = inr (inr (inl refl))
+  serving_calls plan fault.NetFault ends = inr (inr (inr (inr refl)))
+  serving_calls plan f ends = absurd ends
 
-  pub refused_run : (asked : Asked) (f g : Fault) → IsRefusedFor asked most f old → Fails asked most from to old new links g → (status_of g ≡ status_of f) ⊎ IsOfCalls (status_of g)
-  refused_run (OfText one) f g is fails = refusal_fails one most from old new is.text f g is.told is.refused is.size fails
+  fine_run : (asked : Asked) (f : Fault) → IsFineFor asked most old → Fails asked most old new f → IsCallStatus (status_of f)
+  fine_run (OfText one) f fine fails = fine_fails one most old new fine.text f fine.told fine.fine fine.size fails
+  fine_run (OfImages two) f fine fails = fine_join two most old.files new.file_left old.written new.written fine f fails
+  fine_run (OfLinks plan) f fine fails = serving_calls plan f fails
+
+  refused_run : (asked : Asked) (f g : Fault) → IsRefusedFor asked most f old → Fails asked most old new g → (status_of g ≡ status_of f) ⊎ IsCallStatus (status_of g)
+  refused_run (OfText one) fault.TooMuch g is fails = long_fails one most old new is.text g is.other is.told is.fine is.same is.whole is.size fails
+  refused_run (OfText one) f g is fails = refusal_fails one most old new is.text f g is.told is.refused is.within fails
   refused_run (OfImages two) f g is fails = refused_join two most old.files new.file_left old.written new.written f g is fails
   refused_run (OfLinks plan) f g is fails = absurd is
 
-  pub refused_or_done : (asked : Asked) (f : Fault) → IsRefusedFor asked most f old → Succeeds asked most from to old new links → ⊥
-  refused_or_done (OfText one) f is done = refusal_succeeds one most from old new is.text to f is.reads is.told is.refused done
+  refused_or_done : (asked : Asked) (f : Fault) → IsRefusedFor asked most f old → Succeeds asked most old new → ⊥
+  refused_or_done (OfText one) fault.TooMuch is done = long_succeeds one most old new is.text is.reads is.told is.size done
+  refused_or_done (OfText one) f is done = refusal_succeeds one most old new is.text f is.reads is.told is.refused done
   refused_or_done (OfImages two) f is done = refused_or_joined two most old.files new.file_left old.written new.written f _ is done
   refused_or_done (OfLinks plan) f is done = is
 
-  -- `make` is a command over no text
-  pub well_made : (plan : MakePlan) (asked : Asked) → command_of asked ≡ Some (Make plan) → IsInOrder asked → Succeeds asked most from to old new links → RunsMake plan from to old.written new.written 0
-  well_made plan (OfText one) is order done =
-      let make : one.command ≡ Make plan = some_is one.command (Make plan) is in
-      made_well plan from to old new most one make (order.1 (ap takes_file make)) done
-  well_made plan (OfImages two) is order done = absurd (none_is (Make plan) is)
-  well_made plan (OfLinks server) is order done = absurd (none_is (Make plan) is)
+  -- a fault of a call moved its count
+  calls : (asked : Asked) (f : Fault) → HasCausesFor asked old new (Err f) → IsCallStatus (status_of f) → IsOfCalls asked old new f
+  calls asked fault.OutOfMemory causes is = tt
+  calls asked fault.ReadFault causes is = causes.reads.failed refl
+  calls asked fault.WriteFault causes is = causes.writes.failed refl
+  calls asked fault.OpenFault causes is = causes.opens.failed refl
+  calls asked fault.NetFault causes is = causes.net.failed refl
+  calls asked f causes is = absurd (omega (arith, is))
 
-  pub not_well_made : (plan : MakePlan) (asked : Asked) (f : Fault) (status : ℕ) → command_of asked ≡ Some (Make plan) → IsInOrder asked → status ≡ status_of f → Fails asked most from to old new links f →
-      (f ≢ fault.WriteFault → new.written ≡ old.written) → RunsMake plan from to old.written new.written status
-  not_well_made plan (OfText one) f status is order by fails quiet =
-      let make : one.command ≡ Make plan = some_is one.command (Make plan) is in
-      made_not plan from to old new most one make (order.1 (ap takes_file make)) f status by fails quiet
-  not_well_made plan (OfImages two) f status is order by fails quiet = absurd (none_is (Make plan) is)
-  not_well_made plan (OfLinks server) f status is order by fails quiet = absurd (none_is (Make plan) is)
+  abbrev Done : Asked → Result (Unit {0}) Fault → Type 0
+  Done asked r = MatchResult r (λ _. Succeeds asked most old new) (λ f. Fails asked most old new f)
 
--- so it touches neither the input nor files, and writes last
-pub make_reads_nothing : (plan : MakePlan) (asked : Asked) → command_of asked ≡ Some (Make plan) → IsInOrder asked → (reads_input asked ≡ false) × (opens_files asked ≡ false) × (writes_last_of asked ≡ true)
-make_reads_nothing plan (OfText one) is order =
-    let make : one.command ≡ Make plan = some_is one.command (Make plan) is in
-    let unfiled : one.file ≡ None = order.1 (ap takes_file make) in (
-      ap (λ (f : Option Word). is_none f && (behaviour_of one.command).reads) unfiled ∙ ap (λ (k : Command). (behaviour_of k).reads) make,
-      ap (λ (f : Option Word). is_some f) unfiled,
-      ap (λ (k : Command). (behaviour_of k).writes_last) make,
-    )
-make_reads_nothing plan (OfImages two) is order = absurd (none_is (Make plan) is)
-make_reads_nothing plan (OfLinks server) is order = absurd (none_is (Make plan) is)
+  complete_of : (asked : Asked) (r : Result (Unit {0}) Fault) → Done asked r → HasCausesFor asked old new r → IsFineFor asked most old → IfErr r (IsOfCalls asked old new)
+  complete_of asked (Ok x) done causes fine = tt
+  complete_of asked (Err f) done causes fine = calls asked f causes (fine_run asked f fine done)
 
--- ---- faults of a door
+  refused_of : (asked : Asked) (r : Result (Unit {0}) Fault) → Done asked r → HasCausesFor asked old new r → (f : Fault) → IsRefusedFor asked most f old → IsErrAnd r (λ end. (status_of end ≡ status_of f) ⊎ IsOfCalls asked old new end)
+  refused_of asked (Ok x) done causes f is = absurd (refused_or_done asked f is done)
+  refused_of asked (Err g) done causes f is = either (refused_run asked f g is done)
+    where
+      either : (status_of g ≡ status_of f) ⊎ IsCallStatus (status_of g) → (status_of g ≡ status_of f) ⊎ IsOfCalls asked old new g
+      either (inl same) = inl same
+      either (inr call) = inr (calls asked g causes call)
 
-no_net : (n : ℕ) (r : Result (Unit {0}) Fault) → (r ≡ Err fault.NetFault → ⊥) → HasCauseIn fault.NetFault n n r
-no_net n r other = record { steady = λ _. refl; failed = λ is. absurd (other is) }
+  -- the rest follows from how a run ended, and from what moved
+  pub performed : (asked : Asked) (r : Result (Unit {0}) Fault) → Done asked r → HasCausesFor asked old new r → (MissesFirst asked old → r ≡ Err fault.OpenFault) → (MissesSecond asked most old → IsErrAnd r IsOfReads) → new.files ≡ old.files → OpensFor asked most old new →
+      AreClosed old.net.accepted new.net.accepted old.net.doorway new.net.doorway → ((frame_of asked).arms ≡ [] → new.board ≡ cleared old.board) → IfErr r (λ _. new.remains ≡ old.remains) → LeavesOnly (frame_of asked).makes old.remains new.remains → Performs asked most old new r
+  performed asked r done causes missing second files opened links board remains leaves = record {
+    done = done;
+    causes = causes;
+    complete = complete_of asked r done causes;
+    refused = refused_of asked r done causes;
+    missing = missing;
+    second_missing = second;
+    files = record { files = files; opened = opened };
+    links = links;
+    board = board;
+    remains = remains;
+    leaves = leaves;
+  }
 
--- a command over at most one text meets none
-pub text_no_net : (one : OneText) (most : ℕ) (from to : Beside) (old new : Outside) (n : ℕ) (r : Result (Unit {0}) Fault) → PerformsText one most from to old new r → HasCauseIn fault.NetFault n n r
-text_no_net one most from to old new n r went = no_net n r (λ is. none one.file (subst (PerformsText one most from to old new) is went))
-  where
-    none : (file : Option Word) → FailsText (record { command = one.command; file = file }) most from old new fault.NetFault → ⊥
-    none None fails = fails
-    none (Some name) fails = fails
+-- ---- counts and doors that stay
 
--- nor does a join
-pub join_no_net : (two : TwoImages) (most : ℕ) (files : Files) (left old new : Option (List ℕ)) (n : ℕ) (r : Result (Unit {0}) Fault) → JoinsSo two most files left old new r → HasCauseIn fault.NetFault n n r
-join_no_net two most files left old new n r went = no_net n r (λ is. none (subst (JoinsSo two most files left old new) is went).0)
-  where
-    none : EndsAtOne two most files left fault.NetFault → ⊥
-    none (inl ends) = ends
-    none (inr (image, is, ends)) = ends
+-- a fault that does not come moves no count
+never : (f : Fault) (n m : ℕ) (r : Result (Unit {0}) Fault) → m ≡ n → (r ≡ Err f → ⊥) → HasCauseIn f n m r
+never f n m r same other = record { steady = λ _. same; failed = λ is. absurd (other is) }
 
--- ---- a command over at most one text, as what is asked
+-- no link is accepted by what has no door
+no_links : (a b : Net) → b ≡ a → AreClosed a.accepted b.accepted a.doorway b.doorway
+no_links a b same = closed_none a.accepted b.accepted a.doorway b.doorway (ap (λ (n : Net). n.accepted) same) (ap (λ (n : Net). n.doorway.closed) same)
 
-pub over_causes : (file : Option Word) (old new : Outside) (r : Result (Unit {0}) Fault) → Over file (λ a b. HasCauses a b r) old new →
-    HasCauseIn fault.ReadFault (read_faults_over file old) (read_faults_over file new) r × HasCauseIn fault.WriteFault old.write_faults new.write_faults r
-over_causes None old new r causes = (causes.read, causes.write)
-over_causes (Some name) old new r causes = (causes.read, causes.write)
+-- what is left of hubs is as it was
+pub leaves_nothing : (made : MadeHub) (old new : Left) → new ≡ old → LeavesOnly made old new
+leaves_nothing NoHub old new same = same
+leaves_nothing CountingHub old new same = (ap (λ (l : Left). l.ranks) same, ap (λ (l : Left). l.reader) same)
+leaves_nothing RankingHub old new same = (ap (λ (l : Left). l.heart) same, ap (λ (l : Left). l.token) same)
 
-pub misses_first : (file : Option Word) (files : Files) (P : Type 0) → IfSome file (λ name. IsMissing files name → P) → IsSomeAnd file (λ name. IsMissing files name) → P
-misses_first None files P fails misses = absurd misses
-misses_first (Some name) files P fails misses = fails misses
+pub if_err : (r : Result (Unit {0}) Fault) (P : Type 0) → P → IfErr r (λ _. P)
+if_err (Ok x) P holds = tt
+if_err (Err f) P holds = holds
 
-pub untouched_input : (file : Option Word) (reads : Bool) (P : Type 0) → OnSome file P → (reads ≡ false → P) → (is_none file && reads) ≡ false → P
-untouched_input None reads P with_file idle none = idle none
-untouched_input (Some name) reads P with_file idle none = with_file
+-- ---- a command over at most one text
 
-pub untouched_files : (file : Option Word) (P : Type 0) → IfNone file P → is_some file ≡ false → P
-untouched_files None P stays none = stays
-untouched_files (Some name) P stays none = absurd (cc)
+module _ (most : ℕ) (old new : Outside) where
+  text_no_net : (one : OneText) (r : Result (Unit {0}) Fault) → TextDone one most old new r → r ≡ Err fault.NetFault → ⊥
+  text_no_net one r done is = none one.file (subst (λ (x : Result (Unit {0}) Fault). TextDone one most old new x) is done)
+    where
+      none : (file : Option Word) → FailsText (record { command = one.command; file = file }) most old new fault.NetFault → ⊥
+      none None fails = fails
+      none (Some name) fails = fails
 
--- a right image that is missing behind a left one that is known
-pub misses_right : (two : TwoImages) (most : ℕ) (files : Files) (left : Option (List ℕ)) (r : Result (Unit {0}) Fault) → (IsMissing files two.right → IsErrAnd r (EndsFile most 1 (told_file files two.left) left)) →
-    IsToldImage most (told_file files two.left) × IsMissing files two.right → IsErrAnd r (λ (f : Fault). IsOfReads (status_of f))
-misses_right two most files left r ends misses = of (λ f. fine_file most (told_file files two.left) left 1 misses.0 f) r (ends misses.1)
-  where
-    of : {P Q : Fault → Type 0} → ((f : Fault) → P f → Q f) → (r : Result (Unit {0}) Fault) → IsErrAnd r P → IsErrAnd r Q
-    of {P} {Q} follows (Ok x) holds = absurd holds
-    of {P} {Q} follows (Err f) holds = follows f holds
+  -- over the standard input
+  pub input_performs : (command : Command) (r : Result (Unit {0}) Fault) → ExecutesSo (behaviour_of command) most (beside_in old) (beside_in new) (over_input old) (over_input new) r →
+      new.files ≡ old.files → new.opened ≡ old.opened → new.open_faults ≡ old.open_faults → new.net ≡ old.net → Performs (OfText (record { command = command; file = None })) most old new r
+  input_performs command r went files opened opens net =
+      let one : OneText = record { command = command; file = None } in
+      let done = performs_over_input command most old new r went.done in
+      performed most old new (OfText one) r done
+      (record {
+        reads = went.causes.read;
+        writes = went.causes.write;
+        opens = never fault.OpenFault _ _ r opens (never_opens _ _ _ _ _ _ r went.done);
+        net = never fault.NetFault _ _ r (ap (λ (n : Net). n.faults) net) (text_no_net one r done);
+      })
+      (λ misses. absurd misses) (λ misses. absurd misses) files (opens_none _ _ opened) (no_links _ _ net) went.board went.remains went.leaves
+
+  -- over a file that was opened
+  file_performs : (command : Command) (name : Word) (a b : Streams) (r : Result (Unit {0}) Fault) → a ≡ over_file (told_file old.files name) old → b ≡ over_file new.file_left new →
+      ExecutesSo (behaviour_of command) most (beside_in old) (beside_in new) a b r → (IsMissing old.files name → ⊥) →
+      new.files ≡ old.files → Opens old.opened new.opened (name ∷ []) → new.open_faults ≡ old.open_faults → new.net ≡ old.net → Performs (OfText (record { command = command; file = Some name })) most old new r
+  file_performs command name a b r before after went there files opened opens net =
+      let one : OneText = record { command = command; file = Some name } in
+      let x : Streams = over_file (told_file old.files name) old in
+      let y : Streams = over_file new.file_left new in
+      let went' : ExecutesSo (behaviour_of command) most (beside_in old) (beside_in new) x y r =
+      subst (λ (s : Streams). ExecutesSo (behaviour_of command) most (beside_in old) (beside_in new) x s r) after
+      (subst (λ (s : Streams). ExecutesSo (behaviour_of command) most (beside_in old) (beside_in new) s b r) before went) in
+      let done = performs_over_file command most old new name r went'.done in
+      performed most old new (OfText one) r done
+      (record {
+        reads = went'.causes.read;
+        writes = went'.causes.write;
+        opens = never fault.OpenFault _ _ r opens (never_opens _ _ _ _ _ _ r went'.done);
+        net = never fault.NetFault _ _ r (ap (λ (n : Net). n.faults) net) (text_no_net one r done);
+      })
+      (λ misses. absurd (there misses)) (λ misses. absurd misses) files opened (no_links _ _ net) went.board went.remains went.leaves
+
+  -- a file that could not be opened
+  unopened_performs : (command : Command) (name : Word) → new.written ≡ old.written → new.file_faults ≡ old.file_faults → new.write_faults ≡ old.write_faults → Rose old.open_faults new.open_faults →
+      new.files ≡ old.files → Opens old.opened new.opened (name ∷ []) → ((behaviour_of command).arms ≡ [] → new.board ≡ cleared old.board) → new.remains ≡ old.remains → new.net ≡ old.net → Performs (OfText (record { command = command; file = Some name })) most old new (Err fault.OpenFault)
+  unopened_performs command name written reads writes opens files opened board remains net =
+      performed most old new (OfText (record { command = command; file = Some name })) (Err fault.OpenFault) written
+      (record {
+        reads = never fault.ReadFault _ _ (Err fault.OpenFault) reads (λ is. cc);
+        writes = never fault.WriteFault _ _ (Err fault.OpenFault) writes (λ is. cc);
+        opens = record { steady = λ other. absurd (other refl); failed = λ _. opens };
+        net = never fault.NetFault _ _ (Err fault.OpenFault) (ap (λ (n : Net). n.faults) net) (λ is. cc);
+      })
+      (λ misses. refl) (λ misses. absurd misses) files opened (no_links _ _ net) board remains (leaves_nothing _ _ _ remains)
+
+  -- a file that was opened and read, by what the source of it shows
+  pub opened_performs : (command : Command) (file : Option Word) (name : Word) (a b : Streams) (r : Result (Unit {0}) Fault) → file ≡ Some name → a.left ≡ told_file old.files name → a.read_faults ≡ old.file_faults → a.written ≡ old.written →
+      a.write_faults ≡ old.write_faults → b.left ≡ new.file_left → b.read_faults ≡ new.file_faults → b.written ≡ new.written → b.write_faults ≡ new.write_faults → ExecutesSo (behaviour_of command) most (beside_in old) (beside_in new) a b r →
+      (IsMissing old.files name → ⊥) → new.files ≡ old.files → Opens old.opened new.opened (name ∷ []) → new.open_faults ≡ old.open_faults → new.net ≡ old.net → Performs (OfText (record { command = command; file = file })) most old new r
+  opened_performs command file name a b r is left reads written writes left' reads' written' writes' went there files opened opens net =
+      let before : a ≡ over_file (told_file old.files name) old = streams_are a (over_file (told_file old.files name) old) left reads written writes in
+      let after : b ≡ over_file new.file_left new = streams_are b (over_file new.file_left new) left' reads' written' writes' in
+      subst (λ (f : Option Word). Performs (OfText (record { command = command; file = f })) most old new r) (sym is) (file_performs command name a b r before after went there files opened opens net)
+
+  pub not_opened_performs : (command : Command) (file : Option Word) (name : Word) → file ≡ Some name → new.written ≡ old.written → new.file_faults ≡ old.file_faults → new.write_faults ≡ old.write_faults → Rose old.open_faults new.open_faults →
+      new.files ≡ old.files → Opens old.opened new.opened (name ∷ []) → ((behaviour_of command).arms ≡ [] → new.board ≡ cleared old.board) → new.remains ≡ old.remains → new.net ≡ old.net → Performs (OfText (record { command = command; file = file })) most old new (Err fault.OpenFault)
+  not_opened_performs command file name is written reads writes opens files opened board remains net =
+      subst (λ (f : Option Word). Performs (OfText (record { command = command; file = f })) most old new (Err fault.OpenFault)) (sym is) (unopened_performs command name written reads writes opens files opened board remains net)
+
+-- ---- a join, and a server
+
+module _ (most : ℕ) (old new : Outside) where
+  join_no_net : (two : TwoImages) (r : Result (Unit {0}) Fault) → JoinsSo two most old.files new.file_left old.written new.written r → r ≡ Err fault.NetFault → ⊥
+  join_no_net two r went is = none (subst (JoinsSo two most old.files new.file_left old.written new.written) is went).0
+    where
+      none : EndsAtOne two most old.files new.file_left fault.NetFault → ⊥
+      none (inl ends) = ends
+      none (inr (image, is, ends)) = ends
+
+  -- a right image that is missing behind a left one that is known
+  misses_right : (two : TwoImages) (r : Result (Unit {0}) Fault) → (IsMissing old.files two.right → IsErrAnd r (EndsFile most 1 (told_file old.files two.left) new.file_left)) →
+      IsToldImage most (told_file old.files two.left) × IsMissing old.files two.right → IsErrAnd r IsOfReads
+  misses_right two (Ok x) ends misses = absurd (ends misses.1)
+  misses_right two (Err f) ends misses = fine_file most (told_file old.files two.left) new.file_left 1 misses.0 f (ends misses.1)
+
+  pub join_performs : (two : TwoImages) (r : Result (Unit {0}) Fault) → JoinsSo two most old.files new.file_left old.written new.written r → (IsMissing old.files two.left → r ≡ Err fault.OpenFault) →
+      (IsMissing old.files two.right → IsErrAnd r (EndsFile most 1 (told_file old.files two.left) new.file_left)) → HasCauseIn fault.OpenFault old.open_faults new.open_faults r → HasCauseIn fault.ReadFault old.file_faults new.file_faults r →
+      HasCauseIn fault.WriteFault old.write_faults new.write_faults r → new.files ≡ old.files → OpensBoth two most old.files old.opened new.opened → new.board ≡ cleared old.board → new.remains ≡ old.remains → new.net ≡ old.net → Performs (OfImages two) most old new r
+  join_performs two r went left right opens reads writes files opened board remains net =
+      performed most old new (OfImages two) r went
+      (record { reads = reads; writes = writes; opens = opens; net = never fault.NetFault _ _ r (ap (λ (n : Net). n.faults) net) (join_no_net two r went) })
+      left (misses_right two r right) files opened (no_links _ _ net) (λ _. board) (if_err r _ remains) remains
+
+  abbrev Served : ServePlan → Result (Unit {0}) Fault → Type 0
+  Served plan r = ServesSo plan most (beside_in old) (beside_in new) old.written new.written (doorways_of old new) r
+
+  serve_no_read : (plan : ServePlan) (r : Result (Unit {0}) Fault) → Served plan r → r ≡ Err fault.ReadFault → ⊥
+  serve_no_read plan r went is = subst (Served plan) is went
+
+  serve_no_open : (plan : ServePlan) (r : Result (Unit {0}) Fault) → Served plan r → r ≡ Err fault.OpenFault → ⊥
+  serve_no_open plan r went is = subst (Served plan) is went
+
+  pub serve_performs : (plan : ServePlan) (r : Result (Unit {0}) Fault) → Served plan r → HasCauseIn fault.WriteFault old.write_faults new.write_faults r → HasCauseIn fault.NetFault old.net.faults new.net.faults r →
+      AreClosed old.net.accepted new.net.accepted old.net.doorway new.net.doorway → (plan.alarms ≡ [] → new.board ≡ cleared old.board) → IfErr r (λ _. new.remains ≡ old.remains) →
+      (new.remains.ranks ≡ old.remains.ranks) × (new.remains.reader ≡ old.remains.reader) → new.input_faults ≡ old.input_faults → new.open_faults ≡ old.open_faults → new.files ≡ old.files → new.opened ≡ old.opened → Performs (OfLinks plan) most old new r
+  serve_performs plan r went writes net links board remains ranks reads opens files opened =
+      performed most old new (OfLinks plan) r went
+      (record {
+        reads = never fault.ReadFault _ _ r reads (serve_no_read plan r went);
+        writes = writes;
+        opens = never fault.OpenFault _ _ r opens (serve_no_open plan r went);
+        net = net;
+      })
+      (λ misses. absurd misses) (λ misses. absurd misses) files (opens_none _ _ opened) links board remains ranks

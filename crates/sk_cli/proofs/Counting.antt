@@ -10,7 +10,7 @@ use Rattle.sk_count.specs.declared.plan.Plan.{Plan}
 use Rattle.sk_report.specs.declared.remains.Remains.{Remains}
 use Rattle.sk_count.specs.Counts.{Setting, setting, interim_by, last_lines, TellsSoFar, TellsAll, TellsPartOfAll, StopsFor, EndsBefore, EndsBehind, Counts}
 use Rattle.sk_ingest.proofs.Endings.{ends_so, all_so}
-use Rattle.sk_cli.specs.Beside.{Beside}
+use Rattle.sk_cli.specs.Beside.{Beside, CountingHub}
 use Rattle.sk_cli.specs.commands.Count.{counted, counting, IsInterim, IsWhole, LeavesHub}
 use Rattle.sk_cli.specs.Fault.{fault_by}
 use Rattle.sk_cli.specs.Outside.{Streams}
@@ -48,13 +48,13 @@ module _ (plan : Plan) (most : ℕ) (from : Beside) (a b : Streams) (places : Li
 
   -- a count that had read all
   ended_behind : (f : ReadingFault) → EndsBehind plan most old new f → Ends (counting plan) most from a b (fault_by plan.column f)
-  ended_behind reading.WriteFault (n, all) = broke_off_behind plan.kind plan.column (is_none plan.window) (IsInterim plan) (IsWhole plan) (LeavesHub plan) most from a b n (all_told _ _ part_of_all n all)
-  ended_behind reading.OutOfMemory (n, all) = gave_up_behind plan.kind plan.column (is_none plan.window) (IsInterim plan) (IsWhole plan) (LeavesHub plan) most from a b n (all_told _ _ so_far n all)
+  ended_behind reading.WriteFault (n, all) = broke_off_behind plan.kind plan.column (is_none plan.window) plan.alarms CountingHub (IsInterim plan) (IsWhole plan) (LeavesHub plan) most from a b n (all_told _ _ part_of_all n all)
+  ended_behind reading.OutOfMemory (n, all) = gave_up_behind plan.kind plan.column (is_none plan.window) plan.alarms CountingHub (IsInterim plan) (IsWhole plan) (LeavesHub plan) most from a b n (all_told _ _ so_far n all)
   ended_behind f ends = absurd ends
 
   ended : (f : ReadingFault) → EndsBefore plan most old new f ⊎ EndsBehind plan most old new f → Ends (counting plan) most from a b (fault_by plan.column f)
   ended f (inl ends) =
-      ended_before plan.kind plan.column (is_none plan.window) (IsInterim plan) (IsWhole plan) (LeavesHub plan) most from a b f
+      ended_before plan.kind plan.column (is_none plan.window) plan.alarms CountingHub (IsInterim plan) (IsWhole plan) (LeavesHub plan) most from a b f
       (ends_so (counted plan) most _ _ _ _ so_far stopped a.left b.left f ends)
   ended f (inr ends) = ended_behind f ends
 

@@ -6,6 +6,7 @@ pub mod Counting
 pub mod CountPlaces
 pub mod Deciding
 pub mod Endings
+pub mod Executing
 pub mod Fronts
 pub mod Hashing
 pub mod JoinDeciding
@@ -25,8 +26,10 @@ pub mod Replaying
 pub mod Reporting
 pub mod Schedules
 pub mod Serving
+pub mod Showing
 pub mod Telling
 pub mod ToldItems
+pub mod Touching
 pub mod Units
 pub mod ValueLaws
 pub mod WatcherLaws

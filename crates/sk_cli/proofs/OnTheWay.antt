@@ -18,7 +18,7 @@ use Rattle.sk_read.specs.declared.units.Units.TheVariants.{Lines, Column}
 use Rattle.sk_read.proofs.ItemLaws.{front_is}
 use Rattle.sk_read.proofs.LineEnds.{settled_so}
 use Rattle.sk_cli.specs.Behaviour.{Behaviour}
-use Rattle.sk_cli.specs.Beside.{Beside}
+use Rattle.sk_cli.specs.Beside.{Beside, MadeHub}
 use Rattle.sk_cli.specs.Fault.{fault_by, bad_unit}
 use Rattle.sk_cli.specs.Lines.{lines_before}
 use Rattle.sk_cli.specs.Outside.{Streams}
@@ -57,9 +57,9 @@ Stopped kind Interim a b reading.WriteFault units unit = ToldPart kind Interim a
 Stopped kind Interim a b reading.OutOfMemory units unit = ToldSoFar kind Interim a b units
 Stopped kind Interim a b other units unit = ⊥
 
-module _ (kind : Kind) (column : ℕ) (last : Bool) (Interim : Beside → List (List ℕ) → List ℕ → Type 0) (Whole : Beside → List (List ℕ) → List ℕ → Type 0) (Left : Beside → List (List ℕ) → List ℕ → Beside → Type 0) (most : ℕ) (from : Beside) (a b : Streams) where
+module _ (kind : Kind) (column : ℕ) (last : Bool) (arms : List ℕ) (makes : MadeHub) (Interim : Beside → List (List ℕ) → List ℕ → Type 0) (Whole : Beside → List (List ℕ) → List ℕ → Type 0) (Left : Beside → List (List ℕ) → List ℕ → Beside → Type 0) (most : ℕ) (from : Beside) (a b : Streams) where
   abbrev how : Behaviour
-  how = telling_on kind column last Interim Whole Left
+  how = telling_on kind column last arms makes Interim Whole Left
 
   abbrev units : Units
   units = units_by column

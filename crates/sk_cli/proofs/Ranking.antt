@@ -1,5 +1,5 @@
 -- How `quantile` goes.
-use Rattle.std.proofs.Common.{◌≡◌, ◌⊎◌, inl, inr, ℕ, List, ◌++◌, Some, is_none, refl}
+use Rattle.std.proofs.Common.{◌≡◌, ◌⊎◌, inl, inr, ℕ, List, [], ◌++◌, Some, is_none, refl}
 use Rattle.sk_model.specs.Entries.{items_of_entries}
 use Rattle.sk_hub.specs.Hearts.{HeartState}
 use Rattle.sk_read.specs.Reads.{ReadsAll}
@@ -13,7 +13,7 @@ use Rattle.sk_rank.specs.declared.plan.Plan.{Plan}
 use Rattle.sk_rank.specs.Ranks.{Setting, setting, TellsSoFar, TellsAll, TellsPartOfAll, StopsFor, EndsBefore, EndsBehind}
 use Rattle.sk_rank.specs.Texts.{interim_text, rank_line}
 use Rattle.sk_ingest.proofs.Endings.{ends_so, all_so}
-use Rattle.sk_cli.specs.Beside.{Beside}
+use Rattle.sk_cli.specs.Beside.{Beside, RankingHub}
 use Rattle.sk_cli.specs.commands.Quantile.{ranking, IsInterim, IsWhole, LeavesRanks}
 use Rattle.sk_cli.specs.Fault.{fault_by}
 use Rattle.sk_cli.specs.Outside.{Streams}
@@ -49,13 +49,13 @@ module _ (plan : Plan) (most : ℕ) (from : Beside) (a b : Streams) where
 
   -- a ranking that had read all
   ended_behind : (f : ReadingFault) → EndsBehind plan most old new f → Ends (ranking plan) most from a b (fault_by 0 f)
-  ended_behind reading.WriteFault (n, all) = broke_off_behind Raw 0 (is_none plan.window) (IsInterim plan) (IsWhole plan) (LeavesRanks plan) most from a b n (all_told _ _ part_of_all n all)
-  ended_behind reading.OutOfMemory (n, all) = gave_up_behind Raw 0 (is_none plan.window) (IsInterim plan) (IsWhole plan) (LeavesRanks plan) most from a b n (all_told _ _ so_far n all)
+  ended_behind reading.WriteFault (n, all) = broke_off_behind Raw 0 (is_none plan.window) [] RankingHub (IsInterim plan) (IsWhole plan) (LeavesRanks plan) most from a b n (all_told _ _ part_of_all n all)
+  ended_behind reading.OutOfMemory (n, all) = gave_up_behind Raw 0 (is_none plan.window) [] RankingHub (IsInterim plan) (IsWhole plan) (LeavesRanks plan) most from a b n (all_told _ _ so_far n all)
   ended_behind f ends = absurd ends
 
   pub rank_ended : (f : ReadingFault) → EndsBefore plan most old new f ⊎ EndsBehind plan most old new f → Ends (ranking plan) most from a b (fault_by 0 f)
   rank_ended f (inl ends) =
-      ended_before Raw 0 (is_none plan.window) (IsInterim plan) (IsWhole plan) (LeavesRanks plan) most from a b f
+      ended_before Raw 0 (is_none plan.window) [] RankingHub (IsInterim plan) (IsWhole plan) (LeavesRanks plan) most from a b f
       (ends_so (units_by 0) most _ _ _ _ so_far stopped a.left b.left f ends)
   rank_ended f (inr ends) = ended_behind f ends
 

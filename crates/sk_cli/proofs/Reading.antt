@@ -25,7 +25,7 @@ use Rattle.sk_cli.specs.Fault.{fault_by_line}
 use Rattle.sk_cli.specs.Outside.{Streams}
 use Rattle.sk_cli.specs.Run.{Finishes, Stops, IsInTime, WritesOn, IsDueOnTheWay, BreaksOff, GivesUp, Ends}
 use Rattle.sk_cli.specs.declared.fault.Fault.TheVariants as fault
-use Rattle.sk_cli.proofs.Fronts.{part_on}
+use Rattle.sk_report.proofs.Fronts.{part_on}
 
 -- how far a command has come with the lines of a source
 pub record Reads (r : Reading) (left now : Option (List ℕ)) (most : ℕ) (given : List (List ℕ)) (taken : List ℕ) : Type 0 where

@@ -1,34 +1,42 @@
--- What standard error is told, and where the words are no command.
-use Rattle.std.proofs.Common.{◌≡◌, ◌⊎◌, inl, inr, ℕ, List, Option, Some, None, Result, Ok, Err, OnOk, OnErr, refl, ◌∙◌, subst}
-use Rattle.std.specs.Option.{IfSome, MatchOption}
+-- What a run comes to: its status, what standard error gets, and what its words ask for.
+use Rattle.std.proofs.Common.{◌≡◌, ◌⊎◌, inl, inr, ℕ, List, Option, Some, None, Result, Ok, Err, OnOk, OnErr, IfErr, refl, ◌∙◌, subst}
 use Rattle.std.specs.Io.KnownBytes.{Appends}
 use Rattle.sk_model.specs.Causes.{Rose, HasCause, AppendsPart}
 use Rattle.sk_io.specs.declared.stream.Failed.{Failed}
+use Rattle.sk_cli.specs.Command.{Asked, IsInOrder}
+use Rattle.sk_cli.specs.Outside.{Outside}
+use Rattle.sk_cli.specs.Run.{Performs, RunsSo, exit_of}
+use Rattle.sk_cli.specs.declared.fault.Fault.{Fault}
 use Rattle.sk_cli.specs.declared.fault.Fault.TheVariants as fault
-use Rattle.sk_cli.specs.Command.{Asked}
 
 pub reported : (r : Result (Unit {0}) Failed) (old new : Option (List ℕ)) (before now : ℕ) (text : List ℕ) → OnOk r (Appends old new text) → OnErr r (AppendsPart old new text) → HasCause before now r →
     (Appends old new text × (now ≡ before)) ⊎ (AppendsPart old new text × Rose before now)
 reported (Ok x) old new before now text ok part cause = inl (ok, cause.steady)
 reported (Err e) old new before now text ok part cause = inr (part, cause.failed)
 
-pub no_request : (asked : Option Asked) (P : Asked → Type 0) → None ≡ asked → MatchOption asked (fault.Usage ≡ fault.Usage) P
-no_request None P is = refl
-no_request (Some a) P is = absurd (differ a is)
-  where
-    differ : (a : Asked) → None ≡ Some a → ⊥
-    differ a is = cc
+-- words that ask for nothing
+pub runs_nothing : (asked : Option Asked) (most : ℕ) (all : Outside) (Told : Fault → Type 0) (status : ℕ) → None ≡ asked → status ≡ 2 → Told fault.Usage → RunsSo asked most all all Told status
+runs_nothing asked most all Told status is two told = subst (λ (o : Option Asked). RunsSo o most all all Told status) is (two, told, refl)
 
--- a fact of what the words ask for
-pub of_request : (asked : Option Asked) (a : Asked) (P : Asked → Type 0) → Some a ≡ asked → P a → IfSome asked P
-of_request asked a P is holds = subst (λ (o : Option Asked). IfSome o P) is holds
-
--- where the words ask for something, that is no case of the words that ask for nothing
-pub of_this_request : (asked : Option Asked) (a : Asked) (N : Type 0) (P : Asked → Type 0) → Some a ≡ asked → P a → MatchOption asked N P
-of_this_request asked a N P is holds = subst (λ (o : Option Asked). MatchOption o N P) is holds
+-- words that ask for this
+pub runs_so : (asked : Option Asked) (a : Asked) (most : ℕ) (old new : Outside) (Told : Fault → Type 0) (r : Result (Unit {0}) Fault) (status : ℕ) → Some a ≡ asked → IsInOrder a → status ≡ exit_of r → IfErr r Told → Performs a most old new r → RunsSo asked most old new Told status
+runs_so asked a most old new Told r status is order end told performs =
+    subst (λ (o : Option Asked). RunsSo o most old new Told status) is (record { order = order; result = r; status_is = end; told = told; performs = performs })
 
 pub some_request : (asked : Option Asked) (a : Asked) → Some a ≡ asked → asked ≡ None → ⊥
 some_request asked a is none = differ a (is ∙ none)
   where
     differ : (a : Asked) → Some a ≡ None → ⊥
     differ a is = cc
+
+pub asked_is : (asked : Option Asked) (a b : Asked) → Some a ≡ asked → asked ≡ Some b → a ≡ b
+asked_is asked a b is other = same (is ∙ other)
+  where
+    same : Some a ≡ Some b → a ≡ b
+    same is = cc
+
+pub nothing_asked : {P : Type 0} (asked : Option Asked) (b : Asked) → None ≡ asked → asked ≡ Some b → P
+nothing_asked asked b is other = absurd (differ (is ∙ other))
+  where
+    differ : None ≡ Some b → ⊥
+    differ is = cc

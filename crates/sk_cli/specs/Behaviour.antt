@@ -1,15 +1,21 @@
 -- What a command does with the text that it reads.
 use Rattle.std.specs.Prelude.{◌≡◌, ℕ, Bool, List}
-use Rattle.sk_cli.specs.Beside.{Beside}
+use Rattle.sk_cli.specs.Beside.{Beside, MadeHub}
 use Rattle.sk_cli.specs.declared.fault.Fault.{Fault}
 
 pub record Behaviour : Type 1 where
   -- whether it reads a text
   pub reads : Bool
+  -- whether it reads a file in place of the standard input if one is named
+  pub takes_file : Bool
   -- whether it writes only once its text has ended
   pub writes_last : Bool
   -- whether it writes what is due for the lines of a read before it reads on
   pub writes_by_lines : Bool
+  -- the marks of the alarms that it arms
+  pub arms : List ℕ
+  -- the hub that it makes
+  pub makes : MadeHub
   -- what decides how it ends: nothing of a text is refused
   pub IsFine : List ℕ → Type 0
   -- nothing of these bytes of a text that may go on is refused so far

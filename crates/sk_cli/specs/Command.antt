@@ -8,6 +8,7 @@ use Rattle.sk_cli.specs.declared.command.Command.{Command}
 use Rattle.sk_cli.specs.declared.command.Command.TheVariants.{Count, Hash, Image, Make, Quantile, Replay, Help, Version}
 use Rattle.sk_cli.specs.declared.commands.about.TheConstants.{HELP, VERSION}
 use Rattle.sk_cli.specs.Behaviour.{Behaviour}
+use Rattle.sk_cli.specs.Beside.{MadeHub, NoHub, CountingHub}
 use Rattle.sk_cli.specs.Options.{Given, spelled_by, file_by}
 use Rattle.sk_cli.specs.Values.{Word}
 use Rattle.sk_cli.specs.commands.About.{about}
@@ -32,31 +33,6 @@ behaviour_of (Quantile plan) = quantile.ranking plan
 behaviour_of Replay = replay.replaying
 behaviour_of Help = about HELP.now
 behaviour_of Version = about VERSION.now
-
--- the marks of the alarms that a command sets
-abbrev pub alarms_of : Command → List ℕ
-alarms_of (Count plan) = plan.alarms
-alarms_of other = []
-
--- whether it makes a hub that counts, which it leaves behind
-abbrev pub makes_hub : Command → Bool
-makes_hub (Count plan) = true
-makes_hub (Make plan) = true
-makes_hub other = false
-
--- whether it makes a hub that ranks, which it leaves behind
-abbrev pub makes_ranks : Command → Bool
-makes_ranks (Quantile plan) = true
-makes_ranks other = false
-
--- whether it reads a file in place of the standard input, where one is named
-abbrev pub takes_file : Command → Bool
-takes_file (Count plan) = true
-takes_file (Hash plan) = true
-takes_file (Image plan) = true
-takes_file (Quantile plan) = true
-takes_file Replay = true
-takes_file other = false
 
 -- the numbers of a command are within their limits
 abbrev pub IsWithin : Command → Type 0
@@ -85,56 +61,52 @@ asked_of (Serve plan) = OfLinks plan
 
 -- what a request asks for is within its limits, and a command that takes no file has none
 abbrev pub IsInOrder : Asked → Type 0
-IsInOrder (OfText one) = IsWithin one.command × (takes_file one.command ≡ false → one.file ≡ None)
+IsInOrder (OfText one) = IsWithin one.command × ((behaviour_of one.command).takes_file ≡ false → one.file ≡ None)
 IsInOrder (OfImages two) = Unit {0}
 IsInOrder (OfLinks plan) = serve.IsWithin plan
 
--- the command over at most one text
-abbrev pub command_of : Asked → Option Command
-command_of (OfText one) = Some one.command
-command_of (OfImages two) = None
-command_of (OfLinks plan) = None
+-- words that ask for this command, over this file or the standard input
+abbrev pub over_text : Command → Option Word → Asked
+over_text command file = OfText (record { command = command; file = file })
 
--- whether the standard input is read
-abbrev pub reads_input : Asked → Bool
-reads_input (OfText one) = is_none one.file && (behaviour_of one.command).reads
-reads_input (OfImages two) = false
-reads_input (OfLinks plan) = false
+-- what a run for this may touch, and what it leaves
+pub record Frame : Type 0 where
+  -- whether the standard input is read, whether files are opened, and whether links are accepted
+  pub reads_input : Bool
+  pub opens_files : Bool
+  pub accepts_links : Bool
+  -- whether nothing is written before all is read
+  pub writes_last : Bool
+  -- the marks of the alarms that are armed
+  pub arms : List ℕ
+  -- the hub that is made, and left behind if all ends well
+  pub makes : MadeHub
 
--- whether files are opened
-abbrev pub opens_files : Asked → Bool
-opens_files (OfText one) = is_some one.file
-opens_files (OfImages two) = true
-opens_files (OfLinks plan) = false
-
--- whether links are accepted
-abbrev pub accepts_links : Asked → Bool
-accepts_links (OfLinks plan) = true
-accepts_links other = false
-
--- whether nothing is written before all is read
-abbrev pub writes_last_of : Asked → Bool
-writes_last_of (OfText one) = (behaviour_of one.command).writes_last
-writes_last_of (OfImages two) = true
-writes_last_of (OfLinks plan) = true
-
--- the marks of the alarms that are set
-abbrev pub alarms_asked : Asked → List ℕ
-alarms_asked (OfText one) = alarms_of one.command
-alarms_asked (OfImages two) = []
-alarms_asked (OfLinks plan) = plan.alarms
-
--- whether a hub that counted is left behind
-abbrev pub leaves_hub : Asked → Bool
-leaves_hub (OfText one) = makes_hub one.command
-leaves_hub (OfImages two) = false
-leaves_hub (OfLinks plan) = true
-
--- whether one that ranked is
-abbrev pub leaves_ranks : Asked → Bool
-leaves_ranks (OfText one) = makes_ranks one.command
-leaves_ranks (OfImages two) = false
-leaves_ranks (OfLinks plan) = false
+abbrev pub frame_of : Asked → Frame
+frame_of (OfText one) = let does = behaviour_of one.command in record {
+  reads_input = is_none one.file && does.reads;
+  opens_files = is_some one.file;
+  accepts_links = false;
+  writes_last = does.writes_last;
+  arms = does.arms;
+  makes = does.makes;
+}
+frame_of (OfImages two) = record {
+  reads_input = false;
+  opens_files = true;
+  accepts_links = false;
+  writes_last = true;
+  arms = [];
+  makes = NoHub;
+}
+frame_of (OfLinks plan) = record {
+  reads_input = false;
+  opens_files = false;
+  accepts_links = true;
+  writes_last = true;
+  arms = plan.alarms;
+  makes = CountingHub;
+}
 
 -- a command by its options, with its file
 abbrev pub asked_by : (List Given → Option Command) → List Given → Option Asked

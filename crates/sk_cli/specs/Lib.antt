@@ -9,5 +9,6 @@ pub mod Outside
 pub mod Readable
 pub mod Run
 pub mod Told
+pub mod Touches
 pub mod Values
 pub mod commands

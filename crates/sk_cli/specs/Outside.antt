@@ -1,9 +1,13 @@
 -- What a run has around it, as contracts see it.
 use Rattle.std.specs.Prelude.{ℕ, List, Option}
+use Rattle.sk_io.specs.declared.door.Door as door
 use Rattle.sk_io.specs.declared.shelf.Shelf as shelf
 use Rattle.sk_io.specs.declared.stream.Sink as sink
 use Rattle.sk_io.specs.declared.stream.Source as source
 use Rattle.sk_io.specs.Traffic.{Doorway}
+use Rattle.sk_watch.specs.declared.board.Seen as seen
+use Rattle.sk_watch.specs.Places.{Place}
+use Rattle.sk_cli.specs.Beside.{Left, Beside}
 
 -- a source and a sink: the bytes that are left and those that were written, where these are known, and their counts
 -- of faults
@@ -20,8 +24,17 @@ streams_of s o source out = record { left = s.left source; read_faults = s.fault
 abbrev pub over_output : {O : Type 0} → sink.Ghosts O → Option (List ℕ) → ℕ → O → Streams
 over_output o left faults out = record { left = left; read_faults = faults; written = o.written out; write_faults = o.faults out }
 
--- all that a run is handed: the standard input, the files with the names that were opened and what is left of the one
--- opened last, and the output
+-- a door: what it shows, how many links it has accepted, and how often it has failed
+pub record Net : Type 0 where
+  pub doorway : Doorway
+  pub accepted : ℕ
+  pub faults : ℕ
+
+abbrev pub net_of : {D L : Type 0} → door.Ghosts D L → D → Net
+net_of d door = record { doorway = d.doorway door; accepted = d.accepted door; faults = d.faults door }
+
+-- all that a run is handed but standard error: the standard input, the files with the names that were opened and what is
+-- left of the one opened last, the output, the board, what is left of a hub, and the door
 pub record Outside : Type 0 where
   pub input : Option (List ℕ)
   pub input_faults : ℕ
@@ -32,9 +45,12 @@ pub record Outside : Type 0 where
   pub open_faults : ℕ
   pub written : Option (List ℕ)
   pub write_faults : ℕ
+  pub board : List Place
+  pub remains : Left
+  pub net : Net
 
-abbrev pub outside_of : {S O F D : Type 0} → source.Ghosts S → sink.Ghosts O → shelf.Ghosts F D → S → O → F → Outside
-outside_of s o f input out shelf = record {
+abbrev pub outside_of : {S O F D B : Type 0} → source.Ghosts S → sink.Ghosts O → shelf.Ghosts F D → seen.Ghosts B → S → O → F → B → Left → Net → Outside
+outside_of s o f b input out shelf board remains net = record {
   input = s.left input;
   input_faults = s.faults input;
   files = f.files shelf;
@@ -44,6 +60,9 @@ outside_of s o f input out shelf = record {
   open_faults = f.open_faults shelf;
   written = o.written out;
   write_faults = o.faults out;
+  board = b.places board;
+  remains = remains;
+  net = net;
 }
 
 -- the standard input with the output
@@ -54,6 +73,10 @@ over_input o = record { left = o.input; read_faults = o.input_faults; written = 
 abbrev pub over_file : Option (List ℕ) → Outside → Streams
 over_file left o = record { left = left; read_faults = o.file_faults; written = o.written; write_faults = o.write_faults }
 
+-- the board, and what is left of a hub
+abbrev pub beside_in : Outside → Beside
+beside_in o = record { board = o.board; remains = o.remains }
+
 -- what a door showed before a run, and what it shows after it
 pub record Doorways : Type 0 where
   pub before : Doorway
@@ -61,3 +84,7 @@ pub record Doorways : Type 0 where
 
 abbrev pub doorways : Doorway → Doorway → Doorways
 doorways before after = record { before = before; after = after }
+
+-- the door of a run, before and after it
+abbrev pub doorways_of : Outside → Outside → Doorways
+doorways_of old new = doorways old.net.doorway new.net.doorway

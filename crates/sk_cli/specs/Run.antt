@@ -1,33 +1,33 @@
 -- How a run goes: what it reads and writes, and why it ends.
-use Rattle.std.specs.Prelude.{◌≡◌, ◌≢◌, ◌⊎◌, ℕ, ◌<◌, ◌≤◌, List, [], ◌∷◌, ◌++◌, length, take, true, Option, None, Some, IsSomeAnd, Result, MatchResult}
+use Rattle.std.specs.Prelude.{◌≡◌, ◌⊎◌, ℕ, ◌<◌, ◌≤◌, List, [], ◌∷◌, ◌++◌, length, take, true, Option, None, Some, IsSomeAnd, Result, Ok, Err, IfErr, IsErrAnd, MatchResult}
 use Rattle.std.specs.Bool.{OnTrue}
 use Rattle.std.specs.Io.KnownBytes.{Appends, Consumes, IsAtEnd}
 use Rattle.sk_model.specs.Causes.{Rose, HasCauseIn, AppendsFront, AppendsPart}
 use Rattle.sk_model.specs.Lines.{lines_of}
-use Rattle.sk_model.specs.Missing.{Begins}
 use Rattle.sk_io.specs.Files.{told_file, IsMissing, Opens}
 use Rattle.sk_io.specs.declared.stream.Sink as sink
 use Rattle.sk_read.specs.Reads.{piece_limit, IsSettled}
+use Rattle.sk_report.specs.Parts.{AppendsPartAfter}
+use Rattle.sk_serve.specs.Served.{AreClosed}
 use Rattle.sk_cli.specs.Behaviour.{Behaviour}
-use Rattle.sk_cli.specs.Beside.{Beside}
+use Rattle.sk_cli.specs.Beside.{Beside, cleared, LeavesOnly}
 use Rattle.sk_cli.specs.Values.{Word}
-use Rattle.sk_cli.specs.Outside.{Streams, Outside, Doorways, over_input, over_file}
-use Rattle.sk_cli.specs.Command.{OneText, Asked, OfText, OfImages, OfLinks, behaviour_of}
+use Rattle.sk_cli.specs.Outside.{Streams, Outside, over_input, over_file, beside_in, doorways_of}
+use Rattle.sk_cli.specs.Command.{OneText, Asked, OfText, OfImages, OfLinks, behaviour_of, frame_of, IsInOrder}
+use Rattle.sk_cli.specs.Fault.{status_of}
 use Rattle.sk_cli.specs.commands.Count.{LeavesHub}
 use Rattle.sk_cli.specs.commands.Join.{ReadsBoth, OpensBoth, WritesBoth, EndsJoin, IsToldImage, AreFineFiles, AreRefused}
 use Rattle.sk_cli.specs.commands.Serve.{ServesAll, EndsServing}
 use Rattle.sk_cli.specs.commands.Make.{text_by, counted_by, made_report}
+use Rattle.sk_cli.specs.commands.Quantile.{LeavesRanks}
+use Rattle.sk_count.specs.declared.plan.Plan.{Plan as CountPlan}
+use Rattle.sk_model.specs.Limits.{source_limit}
+use Rattle.sk_rank.specs.declared.plan.Plan.{Plan as RankPlan}
+use Rattle.sk_read.specs.Units.{units_by, units_of}
+use Rattle.sk_serve.specs.declared.plan.ServePlan.{ServePlan}
 use Rattle.sk_cli.specs.declared.commands.make.MakePlan.{MakePlan}
 use Rattle.sk_cli.specs.declared.fault.Fault.{Fault}
 use Rattle.sk_cli.specs.declared.fault.Fault.TheVariants.{OutOfMemory, Usage, ReadFault, WriteFault, OpenFault, NetFault, TooMuch}
-
--- known bytes grew by a part of these from their front, by this front at least and not by all
-pub record AppendsPartBehind (front : List ℕ) (old new : Option (List ℕ)) (bytes : List ℕ) : Type 0 where
-  pub size : ℕ
-  pub begins : Begins front bytes
-  pub least : length front ≤ size
-  pub most : size < length bytes
-  pub written : Appends old new (take size bytes)
 
 -- ---- one command over a source and a sink
 
@@ -88,7 +88,7 @@ IsDueOnTheWay b from left taken due = IsSettled (λ text. b.IsDueBefore from tex
 pub record WritesOn (b : Behaviour) (from : Beside) (taken due : List ℕ) (old new : Option (List ℕ)) : Type 0 where
   pub earlier : List ℕ
   pub was_due : IsInTime (λ front. b.IsFineSoFar front × b.IsDueSoFar from front earlier) taken
-  pub written : AppendsPartBehind earlier old new due
+  pub written : AppendsPartAfter earlier old new due
 
 -- of what is due behind the bytes taken a part was written, and not all; a command that writes by lines had written
 -- whole what was due before the last read
@@ -130,6 +130,16 @@ pub record HasCauses (old new : Streams) (result : Result (Unit {0}) Fault) : Ty
   pub read : HasCauseIn ReadFault old.read_faults new.read_faults result
   pub write : HasCauseIn WriteFault old.write_faults new.write_faults result
 
+-- how a command went over a source and a sink, and what it left of what stood beside them
+pub record ExecutesSo (b : Behaviour) (most : ℕ) (from to : Beside) (old new : Streams) (result : Result (Unit {0}) Fault) : Type 0 where
+  pub done : Executes b most from to old new result
+  pub causes : HasCauses old new result
+  -- watchers stay for alarms alone
+  pub board : b.arms ≡ [] → to.board ≡ cleared from.board
+  -- handles are left of the hub that it makes alone, and only if it ended well
+  pub remains : IfErr result (λ _. to.remains ≡ from.remains)
+  pub leaves : LeavesOnly b.makes from.remains to.remains
+
 -- ---- a run over the standard input or a file
 
 -- a fact of the streams that a command is over: the file of this name, or the standard input
@@ -143,36 +153,27 @@ CannotOpen None old new = ⊥
 CannotOpen (Some name) old new = new.written ≡ old.written
 
 -- a command over at most one text was done whole
-abbrev pub SucceedsText : OneText → ℕ → Beside → Beside → Outside → Outside → Type 0
-SucceedsText asked most from to old new = Over asked.file (λ a b. Finishes (behaviour_of asked.command) most from to a b) old new
+abbrev pub SucceedsText : OneText → ℕ → Outside → Outside → Type 0
+SucceedsText asked most old new = Over asked.file (λ a b. Finishes (behaviour_of asked.command) most (beside_in old) (beside_in new) a b) old new
 
 -- where it may end by a fault
-abbrev pub FailsText : OneText → ℕ → Beside → Outside → Outside → Fault → Type 0
-FailsText asked most from old new OpenFault = CannotOpen asked.file old new
-FailsText asked most from old new fault = Over asked.file (λ a b. Ends (behaviour_of asked.command) most from a b fault) old new
-
--- how it went
-abbrev pub PerformsText : OneText → ℕ → Beside → Beside → Outside → Outside → Result (Unit {0}) Fault → Type 0
-PerformsText asked most from to old new result = MatchResult result (λ _. SucceedsText asked most from to old new) (λ fault. FailsText asked most from old new fault)
+abbrev pub FailsText : OneText → ℕ → Outside → Outside → Fault → Type 0
+FailsText asked most old new OpenFault = CannotOpen asked.file old new
+FailsText asked most old new fault = Over asked.file (λ a b. Ends (behaviour_of asked.command) most (beside_in old) a b fault) old new
 
 -- ---- a run
 
 -- what was asked was done whole: a command over at most one text, a join, or a server
-abbrev pub Succeeds : Asked → ℕ → Beside → Beside → Outside → Outside → Doorways → Type 0
-Succeeds (OfText one) most from to old new links = SucceedsText one most from to old new
-Succeeds (OfImages two) most from to old new links = ReadsBoth two most old.files new.file_left (WritesBoth two.as_image old.written new.written)
-Succeeds (OfLinks plan) most from to old new links = ServesAll plan most from to old.written new.written links
+abbrev pub Succeeds : Asked → ℕ → Outside → Outside → Type 0
+Succeeds (OfText one) most old new = SucceedsText one most old new
+Succeeds (OfImages two) most old new = ReadsBoth two most old.files new.file_left (WritesBoth two.as_image old.written new.written)
+Succeeds (OfLinks plan) most old new = ServesAll plan most (beside_in old) (beside_in new) old.written new.written (doorways_of old new)
 
 -- where a run may end by a fault, once its words are accepted
-abbrev pub Fails : Asked → ℕ → Beside → Beside → Outside → Outside → Doorways → Fault → Type 0
-Fails (OfText one) most from to old new links fault = FailsText one most from old new fault
-Fails (OfImages two) most from to old new links fault = EndsJoin two most old.files new.file_left old.written new.written fault
-Fails (OfLinks plan) most from to old new links fault = EndsServing plan most from to old.written new.written links fault
-
--- how a run went
-abbrev pub Performs : Asked → ℕ → Beside → Beside → Outside → Outside → Doorways → Result (Unit {0}) Fault → Type 0
-Performs asked most from to old new links result =
-    MatchResult result (λ _. Succeeds asked most from to old new links) (λ fault. Fails asked most from to old new links fault)
+abbrev pub Fails : Asked → ℕ → Outside → Outside → Fault → Type 0
+Fails (OfText one) most old new fault = FailsText one most old new fault
+Fails (OfImages two) most old new fault = EndsJoin two most old.files new.file_left old.written new.written fault
+Fails (OfLinks plan) most old new fault = EndsServing plan most (beside_in old) (beside_in new) old.written new.written (doorways_of old new) fault
 
 -- how often a read has failed of what is read in place of the standard input where a file is named, else of that
 abbrev pub read_faults_over : Option Word → Outside → ℕ
@@ -203,17 +204,12 @@ pub record UsesFiles (asked : Asked) (most : ℕ) (old new : Outside) : Type 0 w
   pub files : new.files ≡ old.files
   pub opened : OpensFor asked most old new
 
--- ---- what contracts see of a status
+-- ---- what contracts see of how a run ends
 
--- a count of faults rose by one at this status, and stands where it stood at every other
-pub record RisesAt (at before now status : ℕ) : Type 0 where
-  pub failed : status ≡ at → Rose before now
-  pub steady : status ≢ at → now ≡ before
-
--- only a failed read or write moved the counts of what is read for this, and of the output
-pub record RiseAtTheirs (asked : Asked) (old new : Outside) (status : ℕ) : Type 0 where
-  pub read : RisesAt 3 (read_faults_of asked old) (read_faults_of asked new) status
-  pub write : RisesAt 4 old.write_faults new.write_faults status
+-- the status of a run that ended well, or by this fault
+abbrev pub exit_of : Result (Unit {0}) Fault → ℕ
+exit_of (Ok _) = 0
+exit_of (Err fault) = status_of fault
 
 -- a sink got all of a text and its count of faults stays, or a part of it and the count rose
 abbrev pub Reports : {E : Type 0} → sink.Ghosts E → E → E → List ℕ → Type 0
@@ -222,14 +218,34 @@ Reports s old new text = (Appends (s.written old) (s.written new) text × (s.fau
 
 -- how a run with `make` went: its whole report was written, and the hub that counted is left; or nothing was written for
 -- want of memory; or a write failed, and a part was written
-pub record RunsMake (plan : MakePlan) (from to : Beside) (old new : Option (List ℕ)) (status : ℕ) : Type 0 where
+pub record RunsMake (plan : MakePlan) (old new : Outside) (status : ℕ) : Type 0 where
   pub ends : (status ≡ 0) ⊎ (status ≡ 1) ⊎ (status ≡ 4)
-  pub whole : status ≡ 0 → Appends old new (made_report plan)
-  pub leaves : status ≡ 0 → LeavesHub (counted_by plan) from (lines_of (text_by plan)) (made_report plan) to
-  pub nothing : status ≡ 1 → new ≡ old
-  pub part : status ≡ 4 → AppendsPart old new (made_report plan)
+  pub whole : status ≡ 0 → Appends old.written new.written (made_report plan)
+  pub leaves : status ≡ 0 → LeavesHub (counted_by plan) (beside_in old) (lines_of (text_by plan)) (made_report plan) (beside_in new)
+  pub nothing : status ≡ 1 → new.written ≡ old.written
+  pub part : status ≡ 4 → AppendsPart old.written new.written (made_report plan)
 
--- ---- what a text decides of a status
+-- the text that a command is over was taken to its end, and this was written for it
+pub record TakesWhole (file : Option Word) (old new : Outside) (Wrote : List ℕ → List ℕ → Type 0) : Type 0 where
+  pub text : List ℕ
+  pub due : List ℕ
+  pub taken : Over file (λ a b. Consumes a.left b.left text × IsAtEnd b.left) old new
+  pub written : Appends old.written new.written due
+  pub wrote : Wrote text due
+
+-- `count` that ended well
+abbrev pub CountsText : CountPlan → Option Word → Outside → Outside → Type 0
+CountsText plan file old new = TakesWhole file old new (λ text due. LeavesHub plan (beside_in old) (units_of (units_by plan.column) text) due (beside_in new))
+
+-- `quantile` that ended well
+abbrev pub RanksText : RankPlan → Option Word → Outside → Outside → Type 0
+RanksText plan file old new = TakesWhole file old new (λ text due. LeavesRanks plan (beside_in old) (units_of (units_by 0) text) due (beside_in new))
+
+-- `serve` that ended well
+abbrev pub ServesLinks : ServePlan → Outside → Outside → Type 0
+ServesLinks plan old new = ServesAll plan source_limit (beside_in old) (beside_in new) old.written new.written (doorways_of old new)
+
+-- ---- what a text decides of how a run ends
 
 -- the text that is read for what was asked, where its source tells it
 abbrev pub told_text : Option Word → Outside → Option (List ℕ)
@@ -243,22 +259,34 @@ pub record IsFineText (asked : OneText) (most : ℕ) (old : Outside) : Type 0 wh
   pub fine : (behaviour_of asked.command).IsFine text
   pub size : length text < most
 
--- the text is told and read, it is refused by this fault, and it has fewer than so many bytes
+-- the text is told and read, and it is refused by this fault within its first bytes
 pub record IsRefusedText (asked : OneText) (most : ℕ) (fault : Fault) (old : Outside) : Type 0 where
   pub text : List ℕ
   pub told : told_text asked.file old ≡ Some text
   pub reads : (behaviour_of asked.command).reads ≡ true
   pub refused : (behaviour_of asked.command).Refuses fault text
-  pub size : length text < most
+  pub within : most ≤ length text → ¬ (behaviour_of asked.command).IsFineSoFar (take most text)
 
--- all that is read for this is told, and nothing of it is refused
+-- the text is told and read, it has as many bytes or more, and as far as they go it is a text that is fine
+pub record IsLongText (asked : OneText) (most : ℕ) (old : Outside) : Type 0 where
+  pub text : List ℕ
+  pub told : told_text asked.file old ≡ Some text
+  pub reads : (behaviour_of asked.command).reads ≡ true
+  pub size : most ≤ length text
+  pub other : List ℕ
+  pub fine : (behaviour_of asked.command).IsFine other
+  pub same : take most other ≡ take most text
+  pub whole : length text ≡ most → other ≡ text
+
+-- all that is read for this is told, and nothing of it is refused; of links nothing is refused ever
 abbrev pub IsFineFor : Asked → ℕ → Outside → Type 0
 IsFineFor (OfText one) most old = IsFineText one most old
 IsFineFor (OfImages two) most old = AreFineFiles two most old.files
-IsFineFor (OfLinks plan) most old = ⊥
+IsFineFor (OfLinks plan) most old = Unit {0}
 
--- what is read for this is told up to the place where it is refused by this fault
+-- what is read for this is told up to the place where it is refused by this fault, or is too much
 abbrev pub IsRefusedFor : Asked → ℕ → Fault → Outside → Type 0
+IsRefusedFor (OfText one) most TooMuch old = IsLongText one most old
 IsRefusedFor (OfText one) most fault old = IsRefusedText one most fault old
 IsRefusedFor (OfImages two) most fault old = AreRefused two most old.files fault
 IsRefusedFor (OfLinks plan) most fault old = ⊥
@@ -275,10 +303,60 @@ MissesSecond (OfText one) most old = ⊥
 MissesSecond (OfLinks plan) most old = ⊥
 MissesSecond (OfImages two) most old = IsToldImage most (told_file old.files two.left) × IsMissing old.files two.right
 
--- a status that no text decides, before anything is written: want of memory, or a failed read or open
-abbrev pub IsOfReads : ℕ → Type 0
-IsOfReads status = (status ≡ 1) ⊎ (status ≡ 3) ⊎ (status ≡ 8)
+-- a fault that no text decides, before anything is written: out of memory, or a failed read or open
+abbrev pub IsOfReads : Fault → Type 0
+IsOfReads OutOfMemory = Unit {0}
+IsOfReads ReadFault = Unit {0}
+IsOfReads OpenFault = Unit {0}
+IsOfReads other = ⊥
 
--- a status that no text decides: want of memory, or a failed read, write or open
-abbrev pub IsOfCalls : ℕ → Type 0
-IsOfCalls status = (status ≡ 1) ⊎ (status ≡ 3) ⊎ (status ≡ 4) ⊎ (status ≡ 8)
+-- a fault that no text decides: out of memory, or a call that failed, so that its count of faults rose
+abbrev pub IsOfCalls : Asked → Outside → Outside → Fault → Type 0
+IsOfCalls asked old new OutOfMemory = Unit {0}
+IsOfCalls asked old new ReadFault = Rose (read_faults_of asked old) (read_faults_of asked new)
+IsOfCalls asked old new WriteFault = Rose old.write_faults new.write_faults
+IsOfCalls asked old new OpenFault = Rose old.open_faults new.open_faults
+IsOfCalls asked old new NetFault = Rose old.net.faults new.net.faults
+IsOfCalls asked old new other = ⊥
+
+-- ---- the whole
+
+-- a count of faults rose by one at an end by its own fault, and stands where it stood at every other
+pub record HasCausesFor (asked : Asked) (old new : Outside) (result : Result (Unit {0}) Fault) : Type 0 where
+  pub reads : HasCauseIn ReadFault (read_faults_of asked old) (read_faults_of asked new) result
+  pub writes : HasCauseIn WriteFault old.write_faults new.write_faults result
+  pub opens : HasCauseIn OpenFault old.open_faults new.open_faults result
+  pub net : HasCauseIn NetFault old.net.faults new.net.faults result
+
+-- how a run for this went, from what it was handed to what it left
+pub record Performs (asked : Asked) (most : ℕ) (old new : Outside) (result : Result (Unit {0}) Fault) : Type 0 where
+  -- all was read and written, or a fault has its place
+  pub done : MatchResult result (λ _. Succeeds asked most old new) (λ fault. Fails asked most old new fault)
+  pub causes : HasCausesFor asked old new result
+  -- what is read decides, if it is told, but for calls that fail
+  pub complete : IsFineFor asked most old → IfErr result (IsOfCalls asked old new)
+  pub refused : (f : Fault) → IsRefusedFor asked most f old → IsErrAnd result (λ end. (status_of end ≡ status_of f) ⊎ IsOfCalls asked old new end)
+  -- a file that is known not to be there can't be opened
+  pub missing : MissesFirst asked old → result ≡ Err OpenFault
+  pub second_missing : MissesSecond asked most old → IsErrAnd result IsOfReads
+  -- no file changes, each that is read was opened once, and each link that was accepted is closed
+  pub files : UsesFiles asked most old new
+  pub links : AreClosed old.net.accepted new.net.accepted old.net.doorway new.net.doorway
+  -- watchers stay for alarms alone, and handles are left of a hub that was made, if all ended well
+  pub board : (frame_of asked).arms ≡ [] → new.board ≡ cleared old.board
+  pub remains : IfErr result (λ _. new.remains ≡ old.remains)
+  pub leaves : LeavesOnly (frame_of asked).makes old.remains new.remains
+
+-- how a run went whose words ask for this, which is within its limits: its end decides the status, and standard error got
+-- the line of its fault
+pub record Runs (asked : Asked) (most : ℕ) (old new : Outside) (Told : Fault → Type 0) (status : ℕ) : Type 0 where
+  pub order : IsInOrder asked
+  pub result : Result (Unit {0}) Fault
+  pub status_is : status ≡ exit_of result
+  pub told : IfErr result Told
+  pub performs : Performs asked most old new result
+
+-- how a run went; if its words ask for nothing, it is the usage that standard error was told
+abbrev pub RunsSo : Option Asked → ℕ → Outside → Outside → (Fault → Type 0) → ℕ → Type 0
+RunsSo None most old new Told status = (status ≡ 2) × Told Usage × (new ≡ old)
+RunsSo (Some asked) most old new Told status = Runs asked most old new Told status

@@ -4,7 +4,7 @@ use Rattle.sk_read.specs.declared.kind.Kind.{Kind}
 use Rattle.sk_read.specs.Items.{items_by}
 use Rattle.sk_read.specs.Units.{units_by, units_of, complete_units_of, IsSoundUpTo}
 use Rattle.sk_cli.specs.Behaviour.{Behaviour}
-use Rattle.sk_cli.specs.Beside.{Beside}
+use Rattle.sk_cli.specs.Beside.{Beside, MadeHub, NoHub}
 use Rattle.sk_cli.specs.Lines.{lines_before}
 use Rattle.sk_cli.specs.Readable.{IsReadable, IsReadableSoFar, IsRefusedBy}
 
@@ -16,8 +16,11 @@ items_of_text kind column text = items_by kind (units_of (units_by column) text)
 abbrev pub telling : Kind → ℕ → (List ℕ → List ℕ) → Behaviour
 telling kind column tell = record {
   reads = true;
+  takes_file = true;
   writes_last = true;
   writes_by_lines = false;
+  arms = [];
+  makes = NoHub;
   IsFine = IsReadable kind column;
   IsFineSoFar = IsReadableSoFar kind column;
   Refuses = IsRefusedBy kind column;
@@ -28,12 +31,16 @@ telling kind column tell = record {
   IsDueBefore = λ from text due. due ≡ [];
 }
 
--- what is due on the way, for the units so far, and in all, and what is left once that is written, are given
-abbrev pub telling_on : Kind → ℕ → Bool → (Beside → List (List ℕ) → List ℕ → Type 0) → (Beside → List (List ℕ) → List ℕ → Type 0) → (Beside → List (List ℕ) → List ℕ → Beside → Type 0) → Behaviour
-telling_on kind column last Interim Whole Left = record {
+-- the alarms and the hub, what is due on the way, for the units so far, and in all, and what is left once that is
+-- written, are given
+abbrev pub telling_on : Kind → ℕ → Bool → List ℕ → MadeHub → (Beside → List (List ℕ) → List ℕ → Type 0) → (Beside → List (List ℕ) → List ℕ → Type 0) → (Beside → List (List ℕ) → List ℕ → Beside → Type 0) → Behaviour
+telling_on kind column last arms makes Interim Whole Left = record {
   reads = true;
+  takes_file = true;
   writes_last = last;
   writes_by_lines = false;
+  arms = arms;
+  makes = makes;
   IsFine = IsReadable kind column;
   IsFineSoFar = IsReadableSoFar kind column;
   Refuses = IsRefusedBy kind column;

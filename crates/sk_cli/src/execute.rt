@@ -1,15 +1,12 @@
 // What is asked, over the standard input or over files.
-ghost use Rattle.std.specs.Prelude.{◌≡◌, ◌≢◌, ◌≤◌, All, IsSome, [], length, Err, IfErr, IsErrAnd, None, Some, OnSome, IfNone, IfSome, true, false};
+ghost use Rattle.std.specs.Prelude.{◌≡◌, ◌≢◌, ◌≤◌, [], IfErr, true, false};
 ghost use Rattle.std.specs.Option.{option_copied};
-ghost use Rattle.sk_model.specs.Causes.{HasCauseIn};
 ghost use Rattle.sk_model.specs.Limits.{source_limit};
-ghost use Rattle.sk_io.specs.Files.{IsMissing, Opens};
-ghost use Rattle.sk_cli.specs.Beside.{beside_of, board_places, cleared, SameHub, SameRanks};
-ghost use Rattle.sk_cli.specs.Command.{asked_of, behaviour_of, alarms_of, alarms_asked, makes_hub, makes_ranks, leaves_hub, leaves_ranks, reads_input, opens_files, accepts_links, writes_last_of, IsWithin, IsInOrder};
-ghost use Rattle.sk_cli.specs.Fault.{status_of};
-ghost use Rattle.sk_cli.specs.Outside.{streams_of, outside_of, doorways};
-ghost use Rattle.sk_cli.specs.Run.{Executes, HasCauses, Over, PerformsText, Performs, MissesFirst, MissesSecond, IsOfCalls, read_faults_of, IsOfReads, UsesFiles, named};
-ghost use Rattle.sk_serve.specs.Served.{AreClosed};
+ghost use Rattle.sk_cli.specs.Beside.{IsFullBoard, beside_of, cleared, left_of};
+ghost use Rattle.sk_cli.specs.Command.{asked_of, behaviour_of, frame_of, IsWithin, IsInOrder, OfText};
+ghost use Rattle.sk_cli.specs.Outside.{Net, streams_of, outside_of, net_of};
+ghost use Rattle.sk_cli.specs.Run.{ExecutesSo, Performs, exit_of};
+ghost use Rattle.sk_cli.specs.Touches.{handed, TouchesOnly};
 
 use crate::command::{Command, Request};
 use crate::commands::about::{HELP, VERSION};
@@ -48,34 +45,14 @@ fn perform_text<'r, R: Threads + Wait + Sync, S: Source, O: Sink, F: Shelf, B: S
 ) -> Result<(), Fault>
     requires within { IsWithin command }
     requires bound { most ≤ source_limit }
-    requires places { length (B.places board.old) ≡ board_places }
-    requires live { All IsSome (B.places board.old) }
-    ensures done { let old = outside_of S.Source O.Sink F.Shelf input.old out.old shelf.old in
-        let new = outside_of S.Source O.Sink F.Shelf input.new out.new shelf.new in
-        PerformsText (record { command = command; file = option_copied file.entry }) most
-        (beside_of (B.places board.old) remains.old) (beside_of (B.places board.new) remains.new) old new result }
-
-    // A count rises by one at its own fault, and stays otherwise.
-    ensures causes { let old = outside_of S.Source O.Sink F.Shelf input.old out.old shelf.old in
-        let new = outside_of S.Source O.Sink F.Shelf input.new out.new shelf.new in
-        Over (option_copied file.entry) (λ a b. HasCauses a b result) old new }
-    ensures opens { HasCauseIn Fault.OpenFault (F.open_faults shelf.old) (F.open_faults shelf.new) result }
-    ensures missing { IfSome (option_copied file.entry) (λ name. IsMissing (F.files shelf.old) name → result ≡ Err Fault.OpenFault) }
-
-    // Only what the command reads is touched, and the output only if there is something to write.
-    ensures with_file { OnSome (option_copied file.entry) (input.new ≡ input.old) }
-    ensures without_file { IfNone (option_copied file.entry) (shelf.new ≡ shelf.old) }
-    ensures idle { (behaviour_of command).reads ≡ false → input.new ≡ input.old }
-    ensures last { (behaviour_of command).writes_last ≡ true → IfErr result (λ fault. fault ≢ Fault.WriteFault → out.new ≡ out.old) }
-    ensures closed { result ≡ Err Fault.OpenFault → out.new ≡ out.old }
-    ensures files { (F.files shelf.new ≡ F.files shelf.old) × Opens (F.opened shelf.old) (F.opened shelf.new) (named (option_copied file.entry)) }
+    requires board { IsFullBoard (B.places board.old) }
+    ensures done { (net : Net) → let outside = outside_of S.Source O.Sink F.Shelf B.Seen in
+        Performs (OfText (record { command = command; file = option_copied file.entry })) most
+        (outside input.old out.old shelf.old board.old (left_of remains.old) net)
+        (outside input.new out.new shelf.new board.new (left_of remains.new) net) result }
+    ensures touches { TouchesOnly (frame_of (OfText (record { command = command; file = option_copied file.entry }))) (exit_of result)
+        (handed input.old out.old shelf.old (tt {0}) board.old) (handed input.new out.new shelf.new (tt {0}) board.new) }
     ensures stays { S.stands_on input.new ≡ S.stands_on input.old }
-
-    // Watchers stay for alarms alone, and a hub is left if a count or a ranking ended well.
-    ensures board { alarms_of command ≡ [] → B.places board.new ≡ cleared (B.places board.old) }
-    ensures remains { IfErr result (λ _. remains.new ≡ remains.old) }
-    ensures no_hub { makes_hub command ≡ false → SameHub remains.old remains.new }
-    ensures no_ranks { makes_ranks command ≡ false → SameRanks remains.old remains.new }
 {
     match file {
         None => execute(rt, alloc, command, most, input, out, board, remains),
@@ -107,42 +84,14 @@ where
     D::Link: Send,
     requires order { IsInOrder (asked_of request.now) }
     requires bound { most ≤ source_limit }
-    requires places { length (B.places board.old) ≡ board_places }
-    requires live { All IsSome (B.places board.old) }
-    ensures done { let old = outside_of S.Source O.Sink F.Shelf input.old out.old shelf.old in
-        let new = outside_of S.Source O.Sink F.Shelf input.new out.new shelf.new in
-        Performs (asked_of request.now) most (beside_of (B.places board.old) remains.old) (beside_of (B.places board.new) remains.new) old new
-        (doorways (D.doorway door.old) (D.doorway door.new)) result }
-
-    // A count rises by one at its own fault, and stays otherwise.
-    ensures reads { let old = outside_of S.Source O.Sink F.Shelf input.old out.old shelf.old in
-        let new = outside_of S.Source O.Sink F.Shelf input.new out.new shelf.new in
-        HasCauseIn Fault.ReadFault (read_faults_of (asked_of request.now) old) (read_faults_of (asked_of request.now) new) result }
-    ensures writes { HasCauseIn Fault.WriteFault (O.faults out.old) (O.faults out.new) result }
-    ensures opens { HasCauseIn Fault.OpenFault (F.open_faults shelf.old) (F.open_faults shelf.new) result }
-    ensures net { HasCauseIn Fault.NetFault (D.faults door.old) (D.faults door.new) result }
-    ensures missing { let old = outside_of S.Source O.Sink F.Shelf input.old out.old shelf.old in
-        MissesFirst (asked_of request.now) old → result ≡ Err Fault.OpenFault }
-    ensures second_missing { let old = outside_of S.Source O.Sink F.Shelf input.old out.old shelf.old in
-        MissesSecond (asked_of request.now) most old → IsErrAnd result (λ fault. IsOfReads (status_of fault)) }
-
-    // Only what is read is touched, and the output only if there is something to write.
-    ensures input { reads_input (asked_of request.now) ≡ false → input.new ≡ input.old }
-    ensures shelf { opens_files (asked_of request.now) ≡ false → shelf.new ≡ shelf.old }
-    ensures door { accepts_links (asked_of request.now) ≡ false → door.new ≡ door.old }
-    ensures links { AreClosed (D.accepted door.old) (D.accepted door.new) (D.doorway door.old) (D.doorway door.new) }
-    ensures last { writes_last_of (asked_of request.now) ≡ true → IfErr result (λ fault. fault ≢ Fault.WriteFault → out.new ≡ out.old) }
-    ensures closed { result ≡ Err Fault.OpenFault → out.new ≡ out.old }
-    ensures files { let old = outside_of S.Source O.Sink F.Shelf input.old out.old shelf.old in
-        let new = outside_of S.Source O.Sink F.Shelf input.new out.new shelf.new in
-        UsesFiles (asked_of request.now) most old new }
+    requires board { IsFullBoard (B.places board.old) }
+    ensures done { let outside = outside_of S.Source O.Sink F.Shelf B.Seen in
+        Performs (asked_of request.now) most
+        (outside input.old out.old shelf.old board.old (left_of remains.old) (net_of D.Door door.old))
+        (outside input.new out.new shelf.new board.new (left_of remains.new) (net_of D.Door door.new)) result }
+    ensures touches { TouchesOnly (frame_of (asked_of request.now)) (exit_of result)
+        (handed input.old out.old shelf.old door.old board.old) (handed input.new out.new shelf.new door.new board.new) }
     ensures stays { S.stands_on input.new ≡ S.stands_on input.old }
-
-    // Watchers stay for alarms alone, and a hub is left if a count or a ranking ended well.
-    ensures board { alarms_asked (asked_of request.now) ≡ [] → B.places board.new ≡ cleared (B.places board.old) }
-    ensures remains { IfErr result (λ _. remains.new ≡ remains.old) }
-    ensures no_hub { leaves_hub (asked_of request.now) ≡ false → SameHub remains.old remains.new }
-    ensures no_ranks { leaves_ranks (asked_of request.now) ≡ false → SameRanks remains.old remains.new }
 {
     match request {
         Request::OverText(over) => perform_text(
@@ -168,9 +117,8 @@ where
 // Arms the first places for the alarms of a command, and lets all other watchers go.
 fn set_alarms<B: Seen>(command: &Command, board: &mut B)
     requires within { IsWithin command.now }
-    requires places { length (B.places board.old) ≡ board_places }
-    requires live { All IsSome (B.places board.old) }
-    ensures { alarms_of command.now ≡ [] → B.places board.new ≡ cleared (B.places board.old) }
+    requires board { IsFullBoard (B.places board.old) }
+    ensures { (behaviour_of command.now).arms ≡ [] → B.places board.new ≡ cleared (B.places board.old) }
 {
     match command {
         Command::Count(plan) => arm(board, plan.k, plan.alarms.as_slice()),
@@ -191,20 +139,14 @@ pub fn execute<'r, R: Threads + Wait + Sync, S: Source, O: Sink, B: Seen>(
 ) -> Result<(), Fault>
     requires within { IsWithin command }
     requires bound { most ≤ source_limit }
-    requires places { length (B.places board.old) ≡ board_places }
-    requires live { All IsSome (B.places board.old) }
+    requires board { IsFullBoard (B.places board.old) }
     ensures done { let old = streams_of S.Source O.Sink source.old out.old in
         let new = streams_of S.Source O.Sink source.new out.new in
-        Executes (behaviour_of command) most (beside_of (B.places board.old) remains.old) (beside_of (B.places board.new) remains.new) old new result }
-    ensures causes { let old = streams_of S.Source O.Sink source.old out.old in
-        let new = streams_of S.Source O.Sink source.new out.new in HasCauses old new result }
+        ExecutesSo (behaviour_of command) most (beside_of (B.places board.old) remains.old) (beside_of (B.places board.new) remains.new) old new result }
+
+    // Only what it reads is touched, and the output only if there is something to write.
     ensures idle { (behaviour_of command).reads ≡ false → source.new ≡ source.old }
     ensures last { (behaviour_of command).writes_last ≡ true → IfErr result (λ fault. fault ≢ Fault.WriteFault → out.new ≡ out.old) }
-    ensures opened { result ≢ Err Fault.OpenFault }
-    ensures board { alarms_of command ≡ [] → B.places board.new ≡ cleared (B.places board.old) }
-    ensures remains { IfErr result (λ _. remains.new ≡ remains.old) }
-    ensures no_hub { makes_hub command ≡ false → SameHub remains.old remains.new }
-    ensures no_ranks { makes_ranks command ≡ false → SameRanks remains.old remains.new }
     ensures stays { S.stands_on source.new ≡ S.stands_on source.old }
 {
     match command {

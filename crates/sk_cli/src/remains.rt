@@ -1,5 +1,6 @@
 // What a run leaves behind.
 ghost use Rattle.std.specs.Prelude.{◌≡◌, None};
+ghost use Rattle.sk_cli.specs.Beside.{left_of, nothing_left};
 
 use sk_heap::HeapTheta;
 use sk_hub::{Heart, Token};
@@ -20,10 +21,7 @@ pub struct Remains<W: Wait + Drop> {
 impl<W: Wait + Drop> Remains<W> {
     /// None of them, as a run is handed them.
     pub fn none() -> Remains<W>
-        ensures heart { result.heart ≡ None }
-        ensures token { result.token ≡ None }
-        ensures ranks { result.ranks ≡ None }
-        ensures reader { result.reader ≡ None }
+        ensures { left_of result ≡ nothing_left }
     {
         Remains {
             heart: None,

@@ -1,6 +1,6 @@
 // The watchers that a run is handed.
 ghost use Rattle.std.specs.Prelude.{◌≡◌, length, All, IsSome};
-ghost use Rattle.sk_cli.specs.Beside.{board_places, cleared};
+ghost use Rattle.sk_cli.specs.Beside.{board_places, IsFullBoard, cleared};
 
 use sk_watch::{Board, Seen, Watcher};
 
@@ -11,8 +11,7 @@ pub const BOARD_PLACES: u32 = 8;
 pub fn board_of(boxes: Vec<Option<Box<dyn Watcher>>>) -> Board
     requires places { length boxes.items ≡ board_places }
     requires live { All IsSome boxes.items }
-    ensures places { length (⟦<Board as Seen>⟧.places result) ≡ board_places }
-    ensures live { All IsSome (⟦<Board as Seen>⟧.places result) }
+    ensures { IsFullBoard (⟦<Board as Seen>⟧.places result) }
 {
     Board::new(boxes)
 }

@@ -15,7 +15,7 @@ use Rattle.sk_count.specs.Counts.{Course, armed_by, last_lines}
 use Rattle.sk_count.specs.Hubs.{ShowsAll, ShowsMoments}
 use Rattle.sk_count.specs.Texts.{interim_text, places_after}
 use Rattle.sk_cli.specs.Behaviour.{Behaviour}
-use Rattle.sk_cli.specs.Beside.{Beside, board_places}
+use Rattle.sk_cli.specs.Beside.{Beside, board_places, CountingHub}
 use Rattle.sk_cli.specs.Told.{telling_on}
 use Rattle.sk_cli.specs.Options.{Given, value_behind, is_given, number_in, seed_by, updaters_by, sizes_by, window_by, eager_by, propagator_by, alarms_by}
 use Rattle.sk_cli.specs.declared.options.Name.TheVariants as name
@@ -113,4 +113,4 @@ pub record LeavesHub (plan : Plan) (from : Beside) (units : List (List ℕ)) (du
 
 -- it writes the interim text as it reads, and last the estimate
 abbrev pub counting : Plan → Behaviour
-counting plan = telling_on plan.kind plan.column (is_none plan.window) (IsInterim plan) (IsWhole plan) (LeavesHub plan)
+counting plan = telling_on plan.kind plan.column (is_none plan.window) plan.alarms CountingHub (IsInterim plan) (IsWhole plan) (LeavesHub plan)

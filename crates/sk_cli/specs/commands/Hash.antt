@@ -1,11 +1,12 @@
 -- What `hash` is asked, and what it does.
-use Rattle.std.specs.Prelude.{◌≡◌, ℕ, true, false, flat_map, List, take, Option, option_map}
+use Rattle.std.specs.Prelude.{◌≡◌, ℕ, true, false, flat_map, List, [], take, Option, option_map}
 use Rattle.sk_model.specs.Limits.{line_limit}
 use Rattle.sk_model.specs.Lines.{lines_of, open_lines_of, AreWithin, filled}
 use Rattle.sk_model.specs.Murmur.{hash_of}
 use Rattle.sk_lines.specs.Hashes.{hash_line}
 use Rattle.sk_read.specs.Items.{complete_lines_of}
 use Rattle.sk_cli.specs.Behaviour.{Behaviour}
+use Rattle.sk_cli.specs.Beside.{NoHub}
 use Rattle.sk_cli.specs.Lines.{IsLongLine, lines_before}
 use Rattle.sk_cli.specs.Options.{Given, seed_by}
 use Rattle.sk_cli.specs.declared.commands.hash.HashPlan.{HashPlan}
@@ -29,8 +30,11 @@ IsRefusedBy other lines = ⊥
 abbrev pub hashing : HashPlan → Behaviour
 hashing plan = record {
   reads = true;
+  takes_file = true;
   writes_last = false;
   writes_by_lines = true;
+  arms = [];
+  makes = NoHub;
   IsFine = λ text. AreWithin line_limit (lines_of text);
   IsFineSoFar = λ taken. AreWithin line_limit (open_lines_of taken);
   Refuses = λ fault text. IsRefusedBy fault (lines_of text);

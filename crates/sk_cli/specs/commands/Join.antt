@@ -145,12 +145,19 @@ pub record IsToldImage (most : ℕ) (told : Option (List ℕ)) : Type 0 where
   pub image : IsImageText text
   pub size : length text < most
 
--- a file is known, its first bad line is line n, and it has fewer than so many bytes
+-- a file is known, and its first bad line is line n, within its first bytes
 pub record IsToldBad (most n : ℕ) (told : Option (List ℕ)) : Type 0 where
   pub text : List ℕ
   pub is : told ≡ Some text
   pub bad : IsBadAt n text
-  pub size : length text < most
+  pub within : most ≤ length text → ¬ IsGoodSoFar (take most text)
+
+-- a file is known and has as many bytes or more, of which none is in a bad line
+pub record IsToldLong (most : ℕ) (told : Option (List ℕ)) : Type 0 where
+  pub text : List ℕ
+  pub is : told ≡ Some text
+  pub size : most ≤ length text
+  pub good : IsGoodSoFar (take most text)
 
 -- both files are
 pub record AreToldImages (asked : TwoImages) (most : ℕ) (files : Files) : Type 0 where
@@ -179,8 +186,15 @@ IsBadOne asked most files file n =
     ((file ≡ 1) × IsToldBad most n (told_file files asked.left))
     ⊎ ((file ≡ 2) × IsToldImage most (told_file files asked.left) × IsToldBad most n (told_file files asked.right))
 
+-- the left file is too long, or the right one after a left image
+abbrev pub IsLongOne : TwoImages → ℕ → Files → Type 0
+IsLongOne asked most files =
+    IsToldLong most (told_file files asked.left)
+    ⊎ (IsToldImage most (told_file files asked.left) × IsToldLong most (told_file files asked.right))
+
 -- known files are refused by this fault
 abbrev pub AreRefused : TwoImages → ℕ → Files → Fault → Type 0
 AreRefused asked most files (BadImage file n) = IsBadOne asked most files file n
 AreRefused asked most files (Mixed a b) = AreMixed asked most files a b
+AreRefused asked most files TooMuch = IsLongOne asked most files
 AreRefused asked most files other = ⊥

@@ -9,6 +9,7 @@ use Rattle.sk_read.specs.declared.kind.Kind.TheVariants.{Raw}
 use Rattle.sk_count.specs.declared.plan.Plan.{Plan}
 use Rattle.sk_count.specs.Texts.{last_text}
 use Rattle.sk_cli.specs.Behaviour.{Behaviour}
+use Rattle.sk_cli.specs.Beside.{CountingHub}
 use Rattle.sk_cli.specs.Options.{Given, value_behind, number_in, required_in, updaters_by, propagator_by}
 use Rattle.sk_cli.specs.commands.Count.{LeavesHub}
 use Rattle.sk_cli.specs.declared.options.Name.TheVariants as name
@@ -62,8 +63,11 @@ made_report plan = last_text (Some plan.n) (estimate_of plan.k (made_items plan.
 abbrev pub making : MakePlan → Behaviour
 making plan = record {
   reads = false;
+  takes_file = false;
   writes_last = true;
   writes_by_lines = false;
+  arms = [];
+  makes = CountingHub;
   IsFine = λ text. Unit {0};
   IsFineSoFar = λ taken. ⊥;
   Refuses = λ fault text. ⊥;

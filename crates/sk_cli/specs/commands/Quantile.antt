@@ -19,7 +19,7 @@ use Rattle.sk_rank.specs.Nearness.{IsNear}
 use Rattle.sk_rank.specs.Ranks.{IsListOf, Goes, Shows}
 use Rattle.sk_rank.specs.Texts.{interim_text, told_line, rank_line}
 use Rattle.sk_cli.specs.Behaviour.{Behaviour}
-use Rattle.sk_cli.specs.Beside.{Beside}
+use Rattle.sk_cli.specs.Beside.{Beside, RankingHub}
 use Rattle.sk_cli.specs.Options.{Given, value_behind, number_in, required_in, updaters_by, window_by, propagator_by}
 use Rattle.sk_cli.specs.Told.{telling_on}
 use Rattle.sk_cli.specs.declared.options.Name.TheVariants as name
@@ -105,7 +105,7 @@ pub record LeavesRanks (plan : Plan) (from : Beside) (units : List (List ℕ)) (
 
 -- each line spells a number, and its item is one more; it writes the interim text as it reads, and last the rank in all
 abbrev pub ranking : Plan → Behaviour
-ranking plan = telling_on Raw 0 (is_none plan.window) (IsInterim plan) (IsWhole plan) (LeavesRanks plan)
+ranking plan = telling_on Raw 0 (is_none plan.window) [] RankingHub (IsInterim plan) (IsWhole plan) (LeavesRanks plan)
 
 -- what is due ends with a line of as many items as these, and of their rank up to the error that it tells
 pub record TellsNear (plan : Plan) (items due : List ℕ) : Type 0 where

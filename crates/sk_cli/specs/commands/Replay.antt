@@ -4,6 +4,7 @@ use Rattle.sk_model.specs.Limits.{line_limit}
 use Rattle.sk_model.specs.Lines.{lines_of, open_lines_of, AreWithin}
 use Rattle.sk_read.specs.Items.{complete_lines_of}
 use Rattle.sk_cli.specs.Behaviour.{Behaviour}
+use Rattle.sk_cli.specs.Beside.{NoHub}
 use Rattle.sk_cli.specs.Lines.{IsLongLine, line_at, lines_before}
 use Rattle.sk_cli.specs.declared.fault.Fault.{Fault}
 use Rattle.sk_cli.specs.declared.fault.Fault.TheVariants.{LongLine, BadEvent}
@@ -114,8 +115,11 @@ IsRefusedBy other lines = ⊥
 abbrev pub replaying : Behaviour
 replaying = record {
   reads = true;
+  takes_file = true;
   writes_last = false;
   writes_by_lines = true;
+  arms = [];
+  makes = NoHub;
   IsFine = λ text. AreWithin line_limit (lines_of text) × IsSchedule (lines_of text) × (0 < length (lines_of text));
   IsFineSoFar = λ taken. AreWithin line_limit (open_lines_of taken) × IsSchedule (complete_lines_of taken);
   Refuses = λ fault text. IsRefusedBy fault (lines_of text);

@@ -152,14 +152,14 @@ pub fn join<O: Sink, F: Shelf>(
 ) -> Result<(), Fault>
     ensures done { JoinsSo (images_of plan.now) most (F.files shelf.old) (F.rest shelf.new) (O.written out.old) (O.written out.new) result }
     ensures last { IfErr result (λ fault. fault ≢ Fault.WriteFault → out.new ≡ out.old) }
-    ensures left_missing { IsMissing (F.files shelf.old) plan.now.left.now → result ≡ Err Fault.OpenFault }
-    ensures right_missing { IsMissing (F.files shelf.old) plan.now.right.now
-        → IsErrAnd result (EndsFile most 1 (told_file (F.files shelf.old) plan.now.left.now) (F.rest shelf.new)) }
+    ensures missing { (IsMissing (F.files shelf.old) plan.now.left.now → result ≡ Err Fault.OpenFault)
+        × (IsMissing (F.files shelf.old) plan.now.right.now
+        → IsErrAnd result (EndsFile most 1 (told_file (F.files shelf.old) plan.now.left.now) (F.rest shelf.new))) }
     ensures opens { HasCauseIn Fault.OpenFault (F.open_faults shelf.old) (F.open_faults shelf.new) result }
     ensures reads { HasCauseIn Fault.ReadFault (F.read_faults shelf.old) (F.read_faults shelf.new) result }
     ensures writes { HasCauseIn Fault.WriteFault (O.faults out.old) (O.faults out.new) result }
-    ensures files { F.files shelf.new ≡ F.files shelf.old }
-    ensures opened { OpensBoth (images_of plan.now) most (F.files shelf.old) (F.opened shelf.old) (F.opened shelf.new) }
+    ensures files { (F.files shelf.new ≡ F.files shelf.old)
+        × OpensBoth (images_of plan.now) most (F.files shelf.old) (F.opened shelf.old) (F.opened shelf.new) }
 {
     let left = read_image(alloc, 1, plan.left, most, shelf)?;
     let right = read_image(alloc, 2, plan.right, most, shelf)?;

@@ -1,106 +1,81 @@
-use Rattle.std.proofs.Common.{◌≢◌, ◌≡◌, ◌⊎◌, inr, ℕ, Some, true, refl, sym, ap, ◌∙◌, subst}
-use Rattle.sk_model.specs.Limits.{source_limit}
-use Rattle.sk_cli.specs.Beside.{Beside, beside_of}
-use Rattle.sk_cli.specs.Command.{Asked, asked_of, command_of, writes_last_of}
-use Rattle.sk_cli.specs.Fault.{status_of}
-use Rattle.sk_cli.specs.Outside.{Outside, outside_of}
-use Rattle.sk_cli.specs.Run.{RunsMake, IsFineFor, IsRefusedFor, IsOfCalls}
-use Rattle.sk_cli.specs.declared.command.Command.TheVariants.{Make}
+use Rattle.std.proofs.Common.{IfErr, sym, ap, ◌∙◌, subst, arith}
+use Rattle.sk_cli.specs.Command.{asked_of}
+use Rattle.sk_cli.specs.Fault.{message_of}
+use Rattle.sk_cli.specs.Run.{Reports, exit_of}
 use Rattle.sk_cli.specs.declared.fault.Fault.{Fault}
-use Rattle.sk_cli.specs.declared.fault.Fault.TheVariants as fault
-use Rattle.sk_cli.proofs.Asking.{not_usage, fine_run, refused_run, refused_or_done, make_reads_nothing, well_made, not_well_made}
-use Rattle.sk_cli.proofs.Reporting.{no_request, of_request, of_this_request, some_request}
-use Rattle.sk_serve.proofs.Closed.{closed_none}
+use Rattle.sk_cli.proofs.Asking.{not_usage}
+use Rattle.sk_cli.proofs.Reporting.{runs_nothing, runs_so, some_request, nothing_asked}
+use Rattle.sk_cli.proofs.Showing.{not_well, make_shown, count_shown, ranks_shown, serve_shown}
+use Rattle.sk_cli.proofs.Touching.{touches_nothing, touches_asked}
 use Rattle.sk_cli.proofs.program.run.Goals as goal
 
-pub returns-in_default-clause-fault : goal.returns-in_default-clause-fault
-returns-in_default-clause-fault g c = λ other. (fault.Usage, c.report.ensures.status, c.report.ensures.told, no_request _ _ c.in_default.ensures.value)
+pub returns-in_default-clause-runs : goal.returns-in_default-clause-runs
+returns-in_default-clause-runs g c = runs_nothing _ _ _ _ _ c.in_default.ensures.value c.report.ensures.status c.report.ensures.told
+
+pub returns-in_default-clause-touches : goal.returns-in_default-clause-touches
+returns-in_default-clause-touches g c = touches_nothing _ _ _ c.in_default.ensures.value
+
+pub returns-in-Ok-clause-runs : goal.returns-in-Ok-clause-runs
+returns-in-Ok-clause-runs g c =
+    let Told : Fault → Type 0 = λ fault. Reports g.E.Sink c.args.err.now c.args.err.now (message_of fault) in
+    runs_so _ _ _ _ _ Told c.perform.result 0 c.in-Some.ensures.value c.in-Some.ensures.order (sym (ap exit_of c.in-Ok.is)) (subst (λ r. IfErr r Told) (sym c.in-Ok.is) tt) c.perform.ensures.done
+
+pub returns-in-Ok-clause-touches : goal.returns-in-Ok-clause-touches
+returns-in-Ok-clause-touches g c =
+    touches_asked _ _ c.perform.result 0 _ _ c.in-Some.ensures.value (λ is. absurd (omega (arith, is))) (sym (ap exit_of c.in-Ok.is)) c.perform.ensures.touches
 
 pub returns-in-Err-clause-usage : goal.returns-in-Err-clause-usage
 returns-in-Err-clause-usage g c = (
-  λ two. absurd (not_usage _ _ _ _ _ _ (asked_of c.in-Some.request) c.in-Err.fault c.in-Err.ensures.done (sym c.report-in-Err.ensures.status ∙ two)),
+  λ two. absurd (not_usage _ _ _ (asked_of c.in-Some.request) c.in-Err.fault c.in-Err.ensures.done.done (sym c.report-in-Err.ensures.status ∙ two)),
   λ none. absurd (some_request _ _ c.in-Some.ensures.value none),
 )
 
-pub returns-in-Err-clause-usage_alone : goal.returns-in-Err-clause-usage_alone
-returns-in-Err-clause-usage_alone g c = λ two.
-    absurd (not_usage _ _ _ _ _ _ (asked_of c.in-Some.request) c.in-Err.fault c.in-Err.ensures.done (sym c.report-in-Err.ensures.status ∙ two))
+pub returns-in-Err-clause-runs : goal.returns-in-Err-clause-runs
+returns-in-Err-clause-runs g c =
+    let Told : Fault → Type 0 = λ fault. Reports g.E.Sink c.args.err.now c.report-in-Err.new.err (message_of fault) in
+    runs_so _ _ _ _ _ Told c.perform.result _ c.in-Some.ensures.value c.in-Some.ensures.order (c.report-in-Err.ensures.status ∙ sym (ap exit_of c.in-Err.is)) (subst (λ r. IfErr r Told) (sym c.in-Err.is) c.report-in-Err.ensures.told) c.perform.ensures.done
 
-pub returns-in-Err-clause-fault : goal.returns-in-Err-clause-fault
-returns-in-Err-clause-fault g c = λ other. (
-  c.in-Err.fault,
-  c.report-in-Err.ensures.status,
-  c.report-in-Err.ensures.told,
-  of_this_request _ _ _ _ c.in-Some.ensures.value c.in-Err.ensures.done,
-)
-
-pub returns-in-Err-clause-last : goal.returns-in-Err-clause-last
-returns-in-Err-clause-last g c =
-    of_request _ (asked_of c.in-Some.request) (λ (asked : Asked). writes_last_of asked ≡ true → c.report-in-Err.result ≢ 0 → c.report-in-Err.result ≢ 4 → c.perform.new.out ≡ c.args.out.now)
-    c.in-Some.ensures.value
-    (λ last some not_written. c.in-Err.ensures.last last (λ is. not_written (c.report-in-Err.ensures.status ∙ ap status_of is)))
-
-pub returns-in-Ok-clause-refused : goal.returns-in-Ok-clause-refused
-returns-in-Ok-clause-refused g c =
-    let from : Beside = beside_of (g.B.Seen.places c.args.board.now) c.args.remains.now in
-    let to : Beside = beside_of (g.B.Seen.places c.perform.new.board) c.perform.new.remains in
-    let old : Outside = outside_of g.S.Source g.O.Sink g.F.Shelf c.args.input.now c.args.out.now c.args.shelf.now in
-    let new : Outside = outside_of g.S.Source g.O.Sink g.F.Shelf c.perform.new.input c.perform.new.out c.perform.new.shelf in
-    let a : Asked = asked_of c.in-Some.request in
-    of_request _ a (λ (asked : Asked). (f : Fault) → IsRefusedFor asked source_limit f old → (0 ≡ status_of f) ⊎ IsOfCalls 0) c.in-Some.ensures.value
-    (λ f is. absurd (refused_or_done source_limit from to old new _ a f is c.in-Ok.ensures.done))
-
-pub returns-in-Err-clause-complete : goal.returns-in-Err-clause-complete
-returns-in-Err-clause-complete g c =
-    let from : Beside = beside_of (g.B.Seen.places c.args.board.now) c.args.remains.now in
-    let old : Outside = outside_of g.S.Source g.O.Sink g.F.Shelf c.args.input.now c.args.out.now c.args.shelf.now in
-    let new : Outside = outside_of g.S.Source g.O.Sink g.F.Shelf c.perform.new.input c.perform.new.out c.perform.new.shelf in
-    let a : Asked = asked_of c.in-Some.request in
-    of_request _ a (λ (asked : Asked). IsFineFor asked source_limit old → (c.report-in-Err.result ≡ 0) ⊎ IsOfCalls c.report-in-Err.result) c.in-Some.ensures.value
-    (λ fine. inr (subst IsOfCalls (sym c.report-in-Err.ensures.status) (fine_run source_limit from _ old new _ a c.in-Err.fault fine c.in-Err.ensures.done)))
-
-pub returns-in-Err-clause-refused : goal.returns-in-Err-clause-refused
-returns-in-Err-clause-refused g c =
-    let from : Beside = beside_of (g.B.Seen.places c.args.board.now) c.args.remains.now in
-    let old : Outside = outside_of g.S.Source g.O.Sink g.F.Shelf c.args.input.now c.args.out.now c.args.shelf.now in
-    let new : Outside = outside_of g.S.Source g.O.Sink g.F.Shelf c.perform.new.input c.perform.new.out c.perform.new.shelf in
-    let a : Asked = asked_of c.in-Some.request in
-    of_request _ a (λ (asked : Asked). (f : Fault) → IsRefusedFor asked source_limit f old → (c.report-in-Err.result ≡ status_of f) ⊎ IsOfCalls c.report-in-Err.result) c.in-Some.ensures.value
-    (λ f is. subst (λ (status : ℕ). (status ≡ status_of f) ⊎ IsOfCalls status) (sym c.report-in-Err.ensures.status) (refused_run source_limit from _ old new _ a f c.in-Err.fault is c.in-Err.ensures.done))
+pub returns-in-Err-clause-touches : goal.returns-in-Err-clause-touches
+returns-in-Err-clause-touches g c =
+    touches_asked _ _ c.perform.result _ _ _ c.in-Some.ensures.value (λ two. not_usage _ _ _ (asked_of c.in-Some.request) c.in-Err.fault c.in-Err.ensures.done.done (sym c.report-in-Err.ensures.status ∙ two))
+    (c.report-in-Err.ensures.status ∙ sym (ap exit_of c.in-Err.is)) c.perform.ensures.touches
 
 pub returns-in-Ok-clause-make : goal.returns-in-Ok-clause-make
-returns-in-Ok-clause-make g c = λ plan.
-    let from : Beside = beside_of (g.B.Seen.places c.args.board.now) c.args.remains.now in
-    let to : Beside = beside_of (g.B.Seen.places c.perform.new.board) c.perform.new.remains in
-    let old : Outside = outside_of g.S.Source g.O.Sink g.F.Shelf c.args.input.now c.args.out.now c.args.shelf.now in
-    let new : Outside = outside_of g.S.Source g.O.Sink g.F.Shelf c.perform.new.input c.perform.new.out c.perform.new.shelf in
-    let a : Asked = asked_of c.in-Some.request in
-    of_request _ a
-    (λ (asked : Asked). command_of asked ≡ Some (Make plan) → (c.perform.new.input ≡ c.args.input.now) × (c.perform.new.shelf ≡ c.args.shelf.now)
-    × RunsMake plan from to (g.O.Sink.written c.args.out.now) (g.O.Sink.written c.perform.new.out) 0)
-    c.in-Some.ensures.value
-    (λ is.
-    let nothing = make_reads_nothing plan a is c.in-Some.ensures.order in
-    (c.perform.ensures.input nothing.0, c.perform.ensures.shelf nothing.1, well_made source_limit from to old new _ plan a is c.in-Some.ensures.order c.in-Ok.ensures.done))
+returns-in-Ok-clause-make g c =
+    make_shown _ _ _ _ c.perform.result 0 c.in-Some.ensures.value (sym (ap exit_of c.in-Ok.is)) c.perform.ensures.done
+    (λ last some other. ap (λ o. g.O.Sink.written o) (c.perform.ensures.touches.last last some other))
 
 pub returns-in-Err-clause-make : goal.returns-in-Err-clause-make
-returns-in-Err-clause-make g c = λ plan.
-    let from : Beside = beside_of (g.B.Seen.places c.args.board.now) c.args.remains.now in
-    let to : Beside = beside_of (g.B.Seen.places c.perform.new.board) c.perform.new.remains in
-    let old : Outside = outside_of g.S.Source g.O.Sink g.F.Shelf c.args.input.now c.args.out.now c.args.shelf.now in
-    let new : Outside = outside_of g.S.Source g.O.Sink g.F.Shelf c.perform.new.input c.perform.new.out c.perform.new.shelf in
-    let a : Asked = asked_of c.in-Some.request in
-    of_request _ a
-    (λ (asked : Asked). command_of asked ≡ Some (Make plan) → (c.perform.new.input ≡ c.args.input.now) × (c.perform.new.shelf ≡ c.args.shelf.now)
-    × RunsMake plan from to (g.O.Sink.written c.args.out.now) (g.O.Sink.written c.perform.new.out) c.report-in-Err.result)
-    c.in-Some.ensures.value
-    (λ is.
-    let nothing = make_reads_nothing plan a is c.in-Some.ensures.order in (
-      c.perform.ensures.input nothing.0,
-      c.perform.ensures.shelf nothing.1,
-      not_well_made source_limit from to old new _ plan a c.in-Err.fault c.report-in-Err.result is c.in-Some.ensures.order c.report-in-Err.ensures.status c.in-Err.ensures.done
-          (λ other. ap (λ o. g.O.Sink.written o) (c.in-Err.ensures.last nothing.2 other)),
-    ))
+returns-in-Err-clause-make g c =
+    make_shown _ _ _ _ c.perform.result _ c.in-Some.ensures.value (c.report-in-Err.ensures.status ∙ sym (ap exit_of c.in-Err.is)) c.perform.ensures.done
+    (λ last some other. ap (λ o. g.O.Sink.written o) (c.perform.ensures.touches.last last some other))
 
-pub returns-in_default-clause-links : goal.returns-in_default-clause-links
-returns-in_default-clause-links g c = closed_none _ _ _ _ refl refl
+pub returns-in_default-clause-count : goal.returns-in_default-clause-count
+returns-in_default-clause-count g c = λ plan file asks. nothing_asked _ _ c.in_default.ensures.value asks
+
+pub returns-in-Ok-clause-count : goal.returns-in-Ok-clause-count
+returns-in-Ok-clause-count g c = λ plan file asks well. count_shown _ _ _ _ c.in-Some.ensures.value c.in-Ok.ensures.done.done plan file asks
+
+pub returns-in-Err-clause-count : goal.returns-in-Err-clause-count
+returns-in-Err-clause-count g c = λ plan file asks well. not_well c.in-Err.fault (sym c.report-in-Err.ensures.status ∙ well)
+
+pub returns-in_default-clause-quantile : goal.returns-in_default-clause-quantile
+returns-in_default-clause-quantile g c = λ plan file asks. nothing_asked _ _ c.in_default.ensures.value asks
+
+pub returns-in-Ok-clause-quantile : goal.returns-in-Ok-clause-quantile
+returns-in-Ok-clause-quantile g c = λ plan file asks well. ranks_shown _ _ _ _ c.in-Some.ensures.value c.in-Ok.ensures.done.done plan file asks
+
+pub returns-in-Err-clause-quantile : goal.returns-in-Err-clause-quantile
+returns-in-Err-clause-quantile g c = λ plan file asks well. not_well c.in-Err.fault (sym c.report-in-Err.ensures.status ∙ well)
+
+pub returns-in_default-clause-serve : goal.returns-in_default-clause-serve
+returns-in_default-clause-serve g c = λ plan asks. nothing_asked _ _ c.in_default.ensures.value asks
+
+pub returns-in-Ok-clause-serve : goal.returns-in-Ok-clause-serve
+returns-in-Ok-clause-serve g c = λ plan asks well. serve_shown _ _ _ _ c.in-Some.ensures.value c.in-Ok.ensures.done.done plan asks
+
+pub returns-in-Err-clause-serve : goal.returns-in-Err-clause-serve
+returns-in-Err-clause-serve g c = λ plan asks well. not_well c.in-Err.fault (sym c.report-in-Err.ensures.status ∙ well)
+
+pub returns-in_default-clause-make : goal.returns-in_default-clause-make
+returns-in_default-clause-make g c = λ plan asks. nothing_asked _ _ c.in_default.ensures.value asks

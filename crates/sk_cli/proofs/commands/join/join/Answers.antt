@@ -1,4 +1,4 @@
-use Rattle.std.proofs.Common.{inl, inr, subst}
+use Rattle.std.proofs.Common.{inl, inr, subst, ◌∙◌}
 use Rattle.sk_io.specs.Files.{told_file}
 use Rattle.sk_cli.specs.commands.Join.{Files, IsFileOf, EndsFile, images_of}
 use Rattle.sk_cli.proofs.Joining.{ends_right, joined_so}
@@ -21,11 +21,13 @@ returns-clause-done g c =
     joined_so two c.args.most files rest (g.O.Sink.written c.args.out.now) (g.O.Sink.written c.write_both.new.out) c.in_ok-left.left c.in_ok-right.right c.write_both.result c.in_ok-left.ensures.image
     (subst (λ (f : Files). IsFileOf c.args.most c.in_ok-right.right (told_file f two.right)) c.read_image.ensures.files c.in_ok-right.ensures.image) c.in_ok-right.ensures.end c.write_both.ensures.done
 
-pub returns-in_err-left-clause-opened : goal.returns-in_err-left-clause-opened
-returns-in_err-left-clause-opened g c = inl c.read_image.ensures.opened
+pub returns-in_err-left-clause-files : goal.returns-in_err-left-clause-files
+returns-in_err-left-clause-files g c = (c.read_image.ensures.files, inl c.read_image.ensures.opened)
 
-pub returns-in_err-right-clause-opened : goal.returns-in_err-right-clause-opened
-returns-in_err-right-clause-opened g c = inr (c.in_ok-left.left, c.in_ok-left.ensures.image, opens_more _ _ _ _ _ c.read_image.ensures.opened c.read_image-2.ensures.opened)
+pub returns-in_err-right-clause-files : goal.returns-in_err-right-clause-files
+returns-in_err-right-clause-files g c =
+    (c.read_image-2.ensures.files ∙ c.read_image.ensures.files, inr (c.in_ok-left.left, c.in_ok-left.ensures.image, opens_more _ _ _ _ _ c.read_image.ensures.opened c.read_image-2.ensures.opened))
 
-pub returns-clause-opened : goal.returns-clause-opened
-returns-clause-opened g c = inr (c.in_ok-left.left, c.in_ok-left.ensures.image, opens_more _ _ _ _ _ c.read_image.ensures.opened c.read_image-2.ensures.opened)
+pub returns-clause-files : goal.returns-clause-files
+returns-clause-files g c =
+    (c.read_image-2.ensures.files ∙ c.read_image.ensures.files, inr (c.in_ok-left.left, c.in_ok-left.ensures.image, opens_more _ _ _ _ _ c.read_image.ensures.opened c.read_image-2.ensures.opened))
