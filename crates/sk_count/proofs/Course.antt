@@ -1,5 +1,5 @@
 -- Windows that were fed and reported, one after another.
-use Rattle.std.proofs.Common.{◌≡◌, ℕ, ◌+◌, ◌*◌, ◌<◌, Bool, true, false, List, [], ◌∷◌, ◌++◌, length, map, get_or, All, refl, sym, ap, subst, ◌∙◌, arith, append-nil, append_assoc, length-append}
+use Rattle.std.proofs.Common.{◌≡◌, ◌⊎◌, inl, inr, ℕ, ◌+◌, ◌*◌, ◌<◌, Bool, true, false, List, [], ◌∷◌, ◌++◌, length, map, get_or, All, refl, sym, ap, subst, ◌∙◌, arith, append-nil, append_assoc, length-append}
 use Rattle.std.specs.Io.KnownBytes.{Appends}
 use Rattle.std.proofs.KnownBytes.{Appends-nil, Appends-trans}
 use Rattle.std.proofs.lemmas.List.{get_or-map}
@@ -15,6 +15,7 @@ use Rattle.sk_compose.specs.Numbers.{k_of}
 use Rattle.sk_compose.specs.Kept.{AreKept}
 use Rattle.sk_compose.proofs.Kept.{kept_append, kept_longer}
 use Rattle.sk_machine.specs.Coarse.{IsEntry}
+use Rattle.sk_machine.proofs.Coarse.{entries_by_begins}
 use Rattle.sk_machine.specs.declared.views.Move.{Move}
 use Rattle.sk_hub.specs.Hearts.{HeartState}
 use Rattle.sk_hub.specs.Updaters.{UpdaterState, base_of, handed_of, kept_of}
@@ -25,16 +26,19 @@ use Rattle.sk_read.specs.declared.items.Intake.{Intake}
 use Rattle.sk_fill.specs.Windows.{items_in, all_lines}
 use Rattle.sk_hub.specs.Calls.{Takes}
 use Rattle.sk_feed.specs.Shares.{share, TakeShares}
+use Rattle.sk_gate.specs.Hands.{TokenState}
 use Rattle.sk_feed.specs.Hubs.{Hub, FeedsWindow, LeavesHub, IsLeft, HeartGoesOn}
-use Rattle.sk_ingest.specs.Ingests.{Terms, Reported}
+use Rattle.sk_ingest.specs.Ingests.{Terms, IsReady, Reported}
 use Rattle.sk_count.specs.declared.plan.Plan.{Plan}
 use Rattle.sk_report.specs.Sizes.{size_at}
-use Rattle.sk_count.specs.Moments.{Moment, kept_by, AreKeptOver, IsMoment, Follows, AreMoments}
+use Rattle.sk_count.specs.Moments.{Moment, kept_by, AreKeptOver, buffers_of, IsMoment, Follows}
 use Rattle.sk_report.specs.Texts.{interim_line, alarm_lines, reply_of}
 use Rattle.sk_count.specs.Texts.{moment_text, places_behind, interim_text, places_after}
-use Rattle.sk_count.specs.Hubs.{MeetsAndAsks, AsksAtEach, AsksHub}
+use Rattle.sk_count.specs.Hubs.{MeetsAndAsks, AsksAtEach, AsksHub, HasSizes}
 use Rattle.sk_count.specs.Reports.{Showing, Reports, Breaks, BreaksBy, reply_in, reply_text}
-use Rattle.sk_report.proofs.Fronts.{part_behind}
+use Rattle.sk_report.specs.Parts.{AppendsPartAfter}
+use Rattle.sk_report.proofs.Fronts.{part_alone, part_after_behind}
+use Rattle.sk_count.proofs.MomentLaws.{MomentsFrom, lacks_one, lacks_last}
 use Rattle.sk_fill.proofs.Cutting.{all_lines_more}
 use Rattle.sk_feed.proofs.Shares.{share_none, share_append}
 use Rattle.sk_count.specs.Steps.{intake_with, keeps, hint_of, Took, TookAll, HeartStays, KeptAll, KeepsAll, Stands, Passes}
@@ -107,13 +111,13 @@ pub keeps_more : (us vs : List UpdaterState) (m : Moment) → length vs ≡ leng
 keeps_more us vs m count a b i d within = let within' : i < length us = omega (arith, count) in begins_trans _ _ _ (a i d within') (b i d within')
 
 pub heart_same : (h h' : HeartState) → HeartGoesOn h h' → HeartStays h h'
-heart_same h h' goes = record { table = ap (λ z. z.table) goes.stays; drained = ap (λ v. v.drained) goes.knows.view; numbers = ap (λ v. v.numbers) goes.knows.view }
+heart_same h h' goes = record { table = ap (λ z. z.table) goes.stays; drained = ap (λ v. v.drained) goes.knows.view; numbers = ap (λ v. v.numbers) goes.knows.view; eager = ap (λ z. z.eager) goes.stays }
 
 pub stays_refl : (h : HeartState) → HeartStays h h
-stays_refl h = record { table = refl; drained = refl; numbers = refl }
+stays_refl h = record { table = refl; drained = refl; numbers = refl; eager = refl }
 
 pub stays_trans : (h h1 h2 : HeartState) → HeartStays h h1 → HeartStays h1 h2 → HeartStays h h2
-stays_trans h h1 h2 a b = record { table = b.table ∙ a.table; drained = b.drained ∙ a.drained; numbers = b.numbers ∙ a.numbers }
+stays_trans h h1 h2 a b = record { table = b.table ∙ a.table; drained = b.drained ∙ a.drained; numbers = b.numbers ∙ a.numbers; eager = b.eager ∙ a.eager }
 
 -- ---- a window that was fed
 
@@ -156,8 +160,26 @@ text_asked plan r lines x y word shows k asks =
     ∙ ap (λ m. interim_line lines (fraction_of m (count_of plan.k (items_of_entries y.token.view.seen)) (theta_of plan.k (items_of_entries y.token.view.seen)))
     ++ alarm_lines (mask_of (map (answers_at (reply_of plan.k y.token.view.seen)) r.places))) shows
 
-pub is_moment : (plan : Plan) (windows : List (List (List ℕ))) (lines : ℕ) (x y : Hub) (word : ℕ) → lines ≡ length (all_lines windows) → TookAll plan windows x.updaters → AsksHub x word y → IsMoment plan windows (moment_at lines x y)
-is_moment plan windows lines x y word count took asks = record {
+-- with a propagator the base of each updater has all that it handed over
+abbrev pub HasHanded : Plan → Hub → Type 0
+HasHanded plan x = plan.propagator ≡ true → (i : ℕ) (d : UpdaterState) → i < length x.updaters → entries_by i (base_of (get_or x.updaters i d)) ≡ handed_of (get_or x.updaters i d)
+
+pub has_handed : (plan : Plan) (intake : Intake) (x : Hub) → intake.propagator ≡ plan.propagator → IsReady intake x → HasHanded plan x
+has_handed plan intake x same ready with_one i d within =
+    subst (λ n. entries_by n (base_of (get_or x.updaters i d)) ≡ handed_of (get_or x.updaters i d)) (ready.hub.updaters i d within).number (ready.settled (same ∙ with_one) i d within)
+
+-- then a list that was asked for lacks at most the fill buffer of each
+lacks_so : (plan : Plan) (x y : Hub) (word : ℕ) → HasHanded plan x → AsksHub x word y → (i : ℕ) (d : UpdaterState) → i < length x.updaters
+    → LacksAtMost (kept_of (get_or x.updaters i d)) (entries_by i y.token.view.seen) (buffers_of plan * (get_or x.updaters i d).size)
+lacks_so plan x y word handed asks i d within =
+    let u = get_or x.updaters i d in
+    let seen = entries_by i y.token.view.seen in
+    lacks_last plan.propagator plan.propagator u.size (kept_of u) seen refl (asks.lacks i d within)
+    (λ with_one. lacks_one (handed_of u) u.fill seen u.size
+    (subst (λ l. Begins l seen) (handed with_one i d within) (entries_by_begins i (base_of u) y.token.view.seen (asks.bases i d within))) (asks.fills i d within))
+
+pub is_moment : (plan : Plan) (windows : List (List (List ℕ))) (lines : ℕ) (x y : Hub) (word : ℕ) → lines ≡ length (all_lines windows) → TookAll plan windows x.updaters → HasHanded plan x → AsksHub x word y → IsMoment plan windows (moment_at lines x y)
+is_moment plan windows lines x y word count took handed asks = record {
   lines = count;
   entries = subst (λ n. All (IsEntry n) y.token.view.seen) took.count asks.entries;
   kept = λ i within. let within' : i < length x.updaters = omega (arith, took.count) in
@@ -165,8 +187,8 @@ is_moment plan windows lines x y word count took asks = record {
       (kept_longer keeps (λ front. theta_of plan.k (items_of_entries front)) (base_of (get_or x.updaters i d)) y.token.view.seen (share plan.kind windows plan.updaters i) (kept_of (get_or x.updaters i d))
       (asks.bases i d within') (took.each i d within').kept));
   lacks = λ i within. let within' : i < length x.updaters = omega (arith, took.count) in
-      at_some x.updaters i within' (λ d. subst (λ l. LacksAtMost l (entries_by i y.token.view.seen) (2 * size_at plan.sizes i)) (sym (kept_at lines x y i d within'))
-      (subst (λ size. LacksAtMost (kept_of (get_or x.updaters i d)) (entries_by i y.token.view.seen) (2 * size)) (took.each i d within').size (asks.lacks i d within')));
+      at_some x.updaters i within' (λ d. subst (λ l. LacksAtMost l (entries_by i y.token.view.seen) (buffers_of plan * size_at plan.sizes i)) (sym (kept_at lines x y i d within'))
+      (subst (λ size. LacksAtMost (kept_of (get_or x.updaters i d)) (entries_by i y.token.view.seen) (buffers_of plan * size)) (took.each i d within').size (lacks_so plan x y word handed asks i d within')));
 }
 
 pub follows : (plan : Plan) (windows : List (List (List ℕ))) (last : Moment) (lines : ℕ) (x y : Hub) (r : Showing) (word : ℕ) → Stands plan windows last x r → AsksHub x word y → Follows plan.updaters last (moment_at lines x y)
@@ -206,6 +228,7 @@ passes_none plan all before last a r b s is same_hub same_report stands = record
   kept = All-nil (KeepsAll b.updaters);
   heart = subst (λ z. HeartStays a.heart z.heart) (sym same_hub) (stays_refl a.heart);
   table = ap (λ z. z.token.table) same_hub;
+  sizes = inl (refl, ap (λ z. z.token) same_hub);
   last = last;
   stands = subst (λ z. Stands plan all last z s) (sym same_hub) (subst (λ z. Stands plan all last a z) (sym same_report) (subst (λ l. Stands plan l last a r) is stands));
 }
@@ -219,9 +242,9 @@ module _ (plan : Plan) (before : List (List (List ℕ))) (count : ℕ) (last : M
   pub counted : count + length lines ≡ length (all_lines (before ++ lines ∷ []))
   counted = omega (arith, is, length-append (all_lines before) lines, ap length (all_lines_more before lines))
 
-  pub is_next : (word : ℕ) → AsksHub x word y → IsMoment plan (before ++ lines ∷ []) (moment_at (count + length lines) x y) × Follows plan.updaters last (moment_at (count + length lines) x y)
-  is_next word asks = (
-    is_moment plan (before ++ lines ∷ []) (count + length lines) x y word counted at_x.took asks,
+  pub is_next : (word : ℕ) → HasHanded plan x → AsksHub x word y → IsMoment plan (before ++ lines ∷ []) (moment_at (count + length lines) x y) × Follows plan.updaters last (moment_at (count + length lines) x y)
+  is_next word handed asks = (
+    is_moment plan (before ++ lines ∷ []) (count + length lines) x y word counted at_x.took handed asks,
     follows plan (before ++ lines ∷ []) last (count + length lines) x y r word at_x asks,
   )
 
@@ -252,6 +275,7 @@ module _ (plan : Plan) (before : List (List (List ℕ))) (count : ℕ) (last : M
       kept = All-cons (KeepsAll b.updaters) m rest.moments (keeps_more y.updaters b.updaters m same_count (keeps_asked (count + length lines) x y leaves) rest.more) rest.kept;
       heart = stays_trans a.heart x.heart b.heart (heart_same a.heart x.heart fed.heart) (stays_trans x.heart y.heart b.heart (heart_same x.heart y.heart leaves.heart) rest.heart);
       table = rest.table ∙ leaves.token.table ∙ ap (λ t. t.table) fed.token;
+      sizes = inr (has_sizes rest.sizes);
       last = rest.last;
       stands = rest.stands;
     }
@@ -265,6 +289,15 @@ module _ (plan : Plan) (before : List (List (List ℕ))) (count : ℕ) (last : M
 
         same_count : length b.updaters ≡ length y.updaters
         same_count = rest.stands.took.count ∙ sym (leaves.count ∙ at_x.took.count)
+
+        sizes_at_y : HasSizes plan y.token
+        sizes_at_y i within =
+            let within' : i < length x.updaters = omega (arith, at_x.took.count) in
+            at_some x.updaters i within' (λ d. report.asks.sizes i d within' ∙ (at_x.took.each i d within').size)
+
+        has_sizes : ((length rest.moments ≡ 0) × (b.token ≡ y.token)) ⊎ HasSizes plan b.token → HasSizes plan b.token
+        has_sizes (inl waits) = subst (λ (t : TokenState). HasSizes plan t) (sym waits.1) sizes_at_y
+        has_sizes (inr has) = has
 
 -- what the report of a count goes by
 abbrev pub terms_at : {R : Type 0} → (R → Showing) → Intake → Terms R
@@ -282,16 +315,16 @@ module _ {R : Type 0} (shown : R → Showing) (plan : Plan) (most : ℕ) where
   terms_with interim = terms_at shown (intake_with plan most interim)
 
   pub reported : (windows before all : List (List (List ℕ))) (count : ℕ) (last : Moment) (a : Hub) (r : R) (b : Hub) (s : R) → before ++ windows ≡ all → count ≡ length (all_lines before) → Stands plan before last a (shown r)
-      → Reported (terms_with true) count windows a r b s → (p : Passes plan all a (shown r) b (shown s)) × AreMoments plan before last windows p.moments
-  unfolding Reported AreMoments passes_none passes_more m
+      → Reported (terms_with true) count windows a r b s → (p : Passes plan all a (shown r) b (shown s)) × MomentsFrom plan before last windows p.moments
+  unfolding Reported MomentsFrom passes_none passes_more m
   reported [] before all count last a r b s joined is stands done =
       (passes_none plan all before last a (shown r) b (shown s) (sym (append-nil before) ∙ joined) done.0 (ap shown done.1) stands, tt)
-  reported (lines ∷ windows) before all count last a r b s joined is stands (x, y, p, fed, (hub, leaves, still, report), later) =
+  reported (lines ∷ windows) before all count last a r b s joined is stands (x, y, p, fed, (ready, leaves, still, report), later) =
       let at = stands_fed plan before last lines a x (shown r) stands fed in
       let at_y = stands_reported plan (before ++ lines ∷ []) last (count + length lines) x y (shown r) (shown p) at leaves report.k in
       let rest = reported windows (before ++ lines ∷ []) all (count + length lines) (moment_at (count + length lines) x y) y p b s (append_assoc before (lines ∷ []) windows ∙ joined)
       (counted plan before count last lines a x y (shown r) (shown p) is stands fed) at_y later in
-      let next = is_next plan before count last lines a x y (shown r) (shown p) is stands fed report.word report.asks in
+      let next = is_next plan before count last lines a x y (shown r) (shown p) is stands fed report.word (has_handed plan (intake_with plan most true) x refl ready) report.asks in
       (passes_more plan before count last lines a x y (shown r) (shown p) is stands fed all b (shown s) leaves report rest.0, (next.0, next.1, rest.1))
 
   -- without reports the token waits
@@ -319,6 +352,7 @@ module _ {R : Type 0} (shown : R → Showing) (plan : Plan) (most : ℕ) where
           kept = All-nil (KeepsAll b.updaters);
           heart = stays_trans a.heart y.heart b.heart (subst (λ z. HeartStays a.heart z.heart) (sym same_hub) (heart_same a.heart x.heart fed.heart)) rest.0.heart;
           table = rest.0.table ∙ ap (λ t. t.table) token;
+          sizes = still_waits (length rest.0.moments) a.token y.token b.token token rest.0.sizes;
           last = rest.0.last;
           stands = rest.0.stands;
         },
@@ -328,39 +362,48 @@ module _ {R : Type 0} (shown : R → Showing) (plan : Plan) (most : ℕ) where
       no_asks : (moments : List Moment) (asks : List Move) → moments ≡ [] → AsksAtEach plan.k plan.updaters moments asks → asks ≡ []
       no_asks moments asks none each = subst (λ l. AsksAtEach plan.k plan.updaters l asks) none each
 
+      still_waits : (n : ℕ) (t u v : TokenState) → u ≡ t → ((n ≡ 0) × (v ≡ u)) ⊎ HasSizes plan v → ((◌≡◌ {A = ℕ} 0 0) × (v ≡ t)) ⊎ HasSizes plan v
+      still_waits n t u v same (inl waits) = inl (refl, waits.1 ∙ same)
+      still_waits n t u v same (inr has) = inr has
+
   -- the last of these windows was fed, and its report stopped by a failed write
   pub broke : (windows before : List (List (List ℕ))) (count : ℕ) (last : Moment) (lines : List (List ℕ)) (a : Hub) (r : R) (b : Hub) (p : R) (x y : Hub) (s : R) → count ≡ length (all_lines before) → Stands plan before last a (shown r)
-      → Reported (terms_with true) count windows a r b p → FeedsWindow keeps hint_of plan.kind lines b x → Breaks (shown p) (length (all_lines (before ++ (windows ++ lines ∷ [])))) x y (shown s)
-      → (moments : List Moment) × AreMoments plan before last (windows ++ lines ∷ []) moments × AppendsPart (shown r).written (shown s).written (interim_text plan.k (shown r).places moments)
-      × ((shown s).places ≡ places_after plan.k (shown r).places moments)
-  unfolding Reported AreMoments interim_text places_after
-  broke [] before count last lines a r b p x y s is stands done fed breaks =
+      → Reported (terms_with true) count windows a r b p → FeedsWindow keeps hint_of plan.kind lines b x → HasHanded plan x → Breaks (shown p) (length (all_lines (before ++ (windows ++ lines ∷ [])))) x y (shown s)
+      → (earlier : List Moment) × (m : Moment) × MomentsFrom plan before last (windows ++ lines ∷ []) (earlier ++ m ∷ [])
+      × AppendsPartAfter (interim_text plan.k (shown r).places earlier) (shown r).written (shown s).written (interim_text plan.k (shown r).places (earlier ++ m ∷ []))
+      × ((shown s).places ≡ places_after plan.k (shown r).places (earlier ++ m ∷ []))
+  unfolding Reported MomentsFrom interim_text places_after
+  broke [] before count last lines a r b p x y s is stands done fed handed breaks =
       let feeds : FeedsWindow keeps hint_of plan.kind lines a x = subst (λ z. FeedsWindow keeps hint_of plan.kind lines z x) done.0 fed in
       let at = stands_fed plan before last lines a x (shown r) stands feeds in
       let counted_as : length (all_lines (before ++ lines ∷ [])) ≡ count + length lines = omega (arith, is, length-append (all_lines before) lines, ap length (all_lines_more before lines)) in
-      let next = is_next plan before count last lines a x y (shown r) (shown r) is stands feeds breaks.word breaks.asks in
+      let next = is_next plan before count last lines a x y (shown r) (shown r) is stands feeds breaks.word handed breaks.asks in
       let text = text_asked plan (shown r) (count + length lines) x y breaks.word stands.k at.token breaks.asks in
       let part : AppendsPart (shown r).written (shown s).written (reply_text (shown r) (count + length lines) (reply_in (shown r).k breaks.word)) =
       subst (λ z. AppendsPart (shown z).written (shown s).written (reply_text (shown z) (count + length lines) (reply_in (shown z).k breaks.word))) done.1
       (subst (λ n. AppendsPart (shown p).written (shown s).written (reply_text (shown p) n (reply_in (shown p).k breaks.word))) counted_as breaks.written) in (
-        moment_at (count + length lines) x y ∷ [],
+        [],
+        moment_at (count + length lines) x y,
         (next.0, next.1, tt),
-        subst (AppendsPart (shown r).written (shown s).written) (text ∙ sym (append-nil (moment_text plan.k (shown r).places (moment_at (count + length lines) x y)))) part,
+        part_alone (shown r).written (shown s).written (interim_text plan.k (shown r).places (moment_at (count + length lines) x y ∷ []))
+            (subst (AppendsPart (shown r).written (shown s).written) (text ∙ sym (append-nil (moment_text plan.k (shown r).places (moment_at (count + length lines) x y)))) part),
         breaks.places ∙ ap (λ z. map (told (reply_in (shown z).k breaks.word)) (shown z).places) done.1 ∙ ap (λ reply. map (told reply) (shown r).places) (reply_asked plan (shown r) x y breaks.word stands.k at.token breaks.asks),
       )
-  broke (w ∷ windows) before count last lines a r b p x y s is stands (x1, y1, p1, fed1, (hub, leaves, still, report), later) fed breaks =
+  broke (w ∷ windows) before count last lines a r b p x y s is stands (x1, y1, p1, fed1, (ready, leaves, still, report), later) fed handed breaks =
       let at = stands_fed plan before last w a x1 (shown r) stands fed1 in
       let at_y = stands_reported plan (before ++ w ∷ []) last (count + length w) x1 y1 (shown r) (shown p1) at leaves report.k in
       let m = moment_at (count + length w) x1 y1 in
-      let next = is_next plan before count last w a x1 y1 (shown r) (shown p1) is stands fed1 report.word report.asks in
-      let rest = broke windows (before ++ w ∷ []) (count + length w) m lines y1 p1 b p x y s (counted plan before count last w a x1 y1 (shown r) (shown p1) is stands fed1) at_y later fed
+      let next = is_next plan before count last w a x1 y1 (shown r) (shown p1) is stands fed1 report.word (has_handed plan (intake_with plan most true) x1 refl ready) report.asks in
+      let rest = broke windows (before ++ w ∷ []) (count + length w) m lines y1 p1 b p x y s (counted plan before count last w a x1 y1 (shown r) (shown p1) is stands fed1) at_y later fed handed
       (subst (λ l. Breaks (shown p) (length (all_lines l)) x y (shown s)) (sym (append_assoc before (w ∷ []) (windows ++ lines ∷ []))) breaks) in
       let text = text_asked plan (shown r) (count + length w) x1 y1 report.word stands.k at.token report.asks in
       let placed : (shown p1).places ≡ places_behind plan.k (shown r).places m = report.places ∙ ap (λ reply. map (told reply) (shown r).places) (reply_asked plan (shown r) x1 y1 report.word stands.k at.token report.asks) in (
         m ∷ rest.0,
-        (next.0, next.1, rest.1),
-        part_behind (shown r).written (shown p1).written (shown s).written (moment_text plan.k (shown r).places m) (interim_text plan.k (places_behind plan.k (shown r).places m) rest.0)
+        rest.1,
+        (next.0, next.1, rest.2),
+        part_after_behind (shown r).written (shown p1).written (shown s).written (moment_text plan.k (shown r).places m)
+            (interim_text plan.k (places_behind plan.k (shown r).places m) rest.0) (interim_text plan.k (places_behind plan.k (shown r).places m) (rest.0 ++ rest.1 ∷ []))
             (subst (Appends (shown r).written (shown p1).written) text report.written)
-            (subst (λ places. AppendsPart (shown p1).written (shown s).written (interim_text plan.k places rest.0)) placed rest.2),
-        rest.3 ∙ ap (λ places. places_after plan.k places rest.0) placed,
+            (subst (λ places. AppendsPartAfter (interim_text plan.k places rest.0) (shown p1).written (shown s).written (interim_text plan.k places (rest.0 ++ rest.1 ∷ []))) placed rest.3),
+        rest.4 ∙ ap (λ places. places_after plan.k places (rest.0 ++ rest.1 ∷ [])) placed,
       )

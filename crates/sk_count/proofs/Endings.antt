@@ -1,9 +1,8 @@
 -- Where a count ends, concluded from where its feeding ended.
-use Rattle.std.proofs.Common.{◌≡◌, ◌⊎◌, inl, inr, ℕ, ◌+◌, ◌<◌, List, [], ◌∷◌, ◌++◌, length, get_or, flat_map, All, Option, MatchBool, refl, sym, ap, subst, ◌∙◌, arith}
+use Rattle.std.proofs.Common.{◌≡◌, ◌⊎◌, inl, inr, ℕ, ◌+◌, ◌<◌, List, [], ◌∷◌, ◌++◌, length, get_or, flat_map, All, Option, refl, sym, ap, subst, ◌∙◌, arith}
 use Rattle.std.specs.List.{range_with_len}
 use Rattle.std.specs.Io.KnownBytes.{Appends}
 use Rattle.std.proofs.lemmas.List.Elements.{All-nil, All-append}
-use Rattle.sk_model.specs.Causes.{AppendsPart}
 use Rattle.sk_model.specs.Entries.{Entry, items_of_entries}
 use Rattle.sk_model.specs.Missing.{Begins}
 use Rattle.sk_model.specs.Sketch.{theta_of, packed_of, unpacked, count_of, estimate_of, fraction_of}
@@ -13,6 +12,7 @@ use Rattle.sk_compose.specs.Numbers.{k_of}
 use Rattle.sk_compose.proofs.Kept.{kept_longer}
 use Rattle.sk_compose.proofs.Smallest.{smallest_of_all, same_word}
 use Rattle.sk_machine.specs.declared.views.Move.TheVariants.{Ask}
+use Rattle.sk_gate.specs.Hands.{TokenState}
 use Rattle.sk_hub.specs.Hearts.{HeartState}
 use Rattle.sk_hub.specs.Updaters.{UpdaterState, base_of, kept_of}
 use Rattle.sk_read.specs.Items.{items_by}
@@ -31,10 +31,11 @@ use Rattle.sk_feed.proofs.Drained.{known_at}
 use Rattle.sk_fill.proofs.Items.{items_below, good_items}
 use Rattle.sk_feed.proofs.Shares.{all_items}
 use Rattle.sk_count.specs.declared.plan.Plan.{Plan}
-use Rattle.sk_count.specs.Moments.{kept_by, AreKeptOver, AreMoments, start}
+use Rattle.sk_count.specs.Moments.{kept_by, AreKeptOver}
+use Rattle.sk_report.specs.Parts.{AppendsPartAfter}
 use Rattle.sk_report.specs.Texts.{armed_with}
 use Rattle.sk_count.specs.Texts.{interim_text, places_after}
-use Rattle.sk_count.specs.Hubs.{ShowsAll, ShowsMoments}
+use Rattle.sk_count.specs.Hubs.{ShowsAll, ShowsMoments, HasSizes}
 use Rattle.sk_count.specs.Reports.{Showing, showing}
 use Rattle.sk_count.specs.Steps.{keeps, TookAll, PassesUnits}
 use Rattle.sk_count.specs.Opened.{IsOpened, FeedsAll, FeedsSome, FeedsPart, FeedStops, FeedsEarly, DrainsAndAsks}
@@ -69,10 +70,13 @@ module _ (plan : Plan) (a : Hub) (left left' w w' : Option (List ℕ)) (places a
 
   pub part : (units : List (List ℕ)) → FeedsPart plan units (showing plan.k w armed) (showing plan.k w' places') → TellsPart plan (setting left w places) (setting left' w' places') units
   part units f = record {
-    course = record { windows = f.windows; rest = []; moments = f.moments; good = f.good; cut = f.cut; asks = subst (λ c. MatchBool c (AreMoments plan [] start f.windows f.moments) (f.moments ≡ [])) (sym f.interim) f.are };
+    course = record { windows = f.windows; rest = []; moments = f.earlier ++ f.last ∷ []; good = f.good; cut = f.cut; asks = f.are };
     full = refl;
-    written = subst (λ z. AppendsPart w w' (interim_text plan.k z f.moments)) is_armed f.written;
-    places = f.places ∙ ap (λ z. places_after plan.k z f.moments) is_armed;
+    earlier = f.earlier;
+    last = f.last;
+    moments = refl;
+    written = subst (λ z. AppendsPartAfter (interim_text plan.k z f.earlier) w w' (interim_text plan.k z (f.earlier ++ f.last ∷ []))) is_armed f.written;
+    places = f.places ∙ ap (λ z. places_after plan.k z (f.earlier ++ f.last ∷ [])) is_armed;
   }
 
   stops : (f : Fault) (units : List (List ℕ)) (unit : List ℕ) → FeedStops plan a (showing plan.k w armed) (showing plan.k w' places') f units unit → StopsFor plan (setting left w places) (setting left' w' places') f units unit
@@ -149,13 +153,21 @@ module _ (plan : Plan) (a : Hub) (opened : IsOpened plan a) (some : 0 < plan.upd
         subst (Begins (kept_by (get_or fed.passes.passes.moments j m) i)) (sym (known_at d.drains i e within'))
         (keeps_more fed.between.updaters b.updaters (get_or fed.passes.passes.moments j m) fed.last.updaters.count (fed.passes.passes.kept j m inside) (kept_fed plan.kind fed.rest fed.between.updaters b.updaters fed.last.updaters) i e within'));
     steps = (d.steps.0, d.steps.1 ∙ ap (λ n. d.steps.0 ++ Ask n ∷ []) the_word);
+    k = ap k_of d.drains.numbers ∙ numbers;
+    updaters = d.drains.updaters ∙ sym fed.hub.count ∙ took.count;
+    eager = d.drains.eager ∙ ap (λ z. z.eager) fed.last.heart.stays ∙ fed.passes.passes.heart.eager ∙ opened.eager;
   }
 
   pub shows_moments : ShowsMoments plan fed.passes.passes.moments b.token
   shows_moments = record {
     steps = (a.token.view.steps, fed.passes.passes.steps.0, ap (λ t. t.view.steps) fed.last.token ∙ fed.passes.passes.steps.1, fed.passes.passes.steps.2);
     seen = λ j m inside. subst (λ t. Begins (get_or fed.passes.passes.moments j m).seen t.view.seen) (sym fed.last.token) (fed.passes.passes.seen j m inside);
+    sizes = λ some. subst (λ (t : TokenState). HasSizes plan t) (sym fed.last.token) (met some fed.passes.passes.sizes);
   }
+    where
+      met : 0 < length fed.passes.passes.moments → ((length fed.passes.passes.moments ≡ 0) × (fed.between.token ≡ a.token)) ⊎ HasSizes plan fed.between.token → HasSizes plan fed.between.token
+      met some (inl waits) = absurd (omega (arith, some, waits.0))
+      met some (inr has) = has
 
   pub same_hub : b.token.table ≡ h.table
   same_hub = fed.hub.table ∙ sym d.drains.table

@@ -1,5 +1,5 @@
 -- What a count concludes of the units that were fed.
-use Rattle.std.proofs.Common.{◌≡◌, inl, inr, ℕ, Bool, true, false, List, [], ◌∷◌, ◌++◌, length, get_or, MatchBool, Option, is_some, refl, sym, ap, subst, ◌∙◌, append-nil}
+use Rattle.std.proofs.Common.{◌≡◌, inl, inr, ℕ, Bool, true, false, List, [], ◌∷◌, ◌++◌, length, get_or, Option, is_some, refl, sym, ap, subst, ◌∙◌, append-nil}
 use Rattle.sk_model.proofs.Missing.{begins_nil}
 use Rattle.sk_compose.specs.Numbers.{k_of}
 use Rattle.sk_hub.specs.Updaters.{kept_of}
@@ -13,11 +13,11 @@ use Rattle.sk_read.specs.declared.items.Intake.{Intake}
 use Rattle.sk_ingest.specs.Ingests.{GoesThrough, Ingests, StopsAtReport, GoesSoFar, StopsAtUnit, EndsEarly}
 use Rattle.sk_ingest.specs.declared.report.Stop.TheVariants as stop
 use Rattle.sk_count.specs.declared.plan.Plan.{Plan}
-use Rattle.sk_count.specs.Moments.{AreMoments, start}
+use Rattle.sk_count.proofs.MomentLaws.{start, are_moments, no_moments}
 use Rattle.sk_count.specs.Reports.{Showing, showing, Breaks}
-use Rattle.sk_count.specs.Steps.{intake_by, Stands, PassesUnits}
+use Rattle.sk_count.specs.Steps.{intake_with, intake_by, Stands, PassesUnits}
 use Rattle.sk_count.specs.Opened.{IsOpened, FeedsAll, FeedsSome, FeedsPart, FeedStops, FeedsEarly}
-use Rattle.sk_count.proofs.Course.{took_none, terms_at, terms_with, reported, waited, broke}
+use Rattle.sk_count.proofs.Course.{took_none, has_handed, terms_at, terms_with, reported, waited, broke}
 use Rattle.sk_ingest.proofs.Endings.{ends_so, all_so}
 
 -- before the first window
@@ -40,10 +40,10 @@ module _ {R : Type 0} (shown : R → Showing) (plan : Plan) (most : ℕ) (a : Hu
   pub passed : (interim : Bool) → is_some plan.window ≡ interim → (units rest : List (List ℕ)) (b : Hub) (s : R) → GoesThrough (terms_with shown plan most interim) units a r rest b s → PassesUnits plan units a (shown r) rest b (shown s)
   passed true is units rest b s goes =
       let went = reported shown plan most goes.windows [] goes.windows 0 start a r b s refl refl stands goes.reported in
-      record { windows = goes.windows; cut = goes.cut; good = goes.good; passes = went.0; asks = subst (λ c. MatchBool c (AreMoments plan [] start goes.windows went.0.moments) (went.0.moments ≡ [])) (sym is) went.1 }
+      record { windows = goes.windows; cut = goes.cut; good = goes.good; passes = went.0; asks = are_moments plan goes.windows went.0.moments is went.1 }
   passed false is units rest b s goes =
       let went = waited shown plan most goes.windows [] goes.windows 0 start a r b s refl stands goes.reported in
-      record { windows = goes.windows; cut = goes.cut; good = goes.good; passes = went.0; asks = subst (λ c. MatchBool c (AreMoments plan [] start goes.windows went.0.moments) (went.0.moments ≡ [])) (sym is) went.1 }
+      record { windows = goes.windows; cut = goes.cut; good = goes.good; passes = went.0; asks = no_moments plan goes.windows went.0.moments is went.1 }
 
   pub fed_all : (interim : Bool) → is_some plan.window ≡ interim → (units : List (List ℕ)) (b : Hub) (s : R) → Ingests (terms_with shown plan most interim) units a r b s → FeedsAll plan units a (shown r) b (shown s)
   fed_all interim is units b s ingests = record {
@@ -58,8 +58,18 @@ module _ {R : Type 0} (shown : R → Showing) (plan : Plan) (most : ℕ) (a : Hu
   fed_part false is units s stops = let never : false ≡ true = stops.interim in absurd (cc)
   fed_part true is units s stops =
       let whole : length units ≡ length (all_lines ([] ++ (stops.windows ++ stops.lines ∷ []))) = ap length (stops.cut.joined ∙ append-nil (all_lines (stops.windows ++ stops.lines ∷ []))) in
-      let went = broke shown plan most stops.windows [] 0 start stops.lines a r stops.before stops.report stops.fed stops.left s refl stands stops.reported stops.feeds (subst (λ n. Breaks (shown stops.report) n stops.fed stops.left (shown s)) whole stops.stops) in
-      record { windows = stops.windows ++ stops.lines ∷ []; moments = went.0; cut = stops.cut; good = stops.good; interim = is; are = went.1; written = went.2; places = went.3 }
+      let handed = has_handed plan (intake_with plan most true) stops.fed refl stops.ready in
+      let went = broke shown plan most stops.windows [] 0 start stops.lines a r stops.before stops.report stops.fed stops.left s refl stands stops.reported stops.feeds handed (subst (λ n. Breaks (shown stops.report) n stops.fed stops.left (shown s)) whole stops.stops) in
+      record {
+        windows = stops.windows ++ stops.lines ∷ [];
+        earlier = went.0;
+        last = went.1;
+        cut = stops.cut;
+        good = stops.good;
+        are = are_moments plan (stops.windows ++ stops.lines ∷ []) (went.0 ++ went.1 ∷ []) is went.2;
+        written = went.3;
+        places = went.4;
+      }
 
 -- ---- a source that was read
 
@@ -83,7 +93,7 @@ module _ {R : Type 0} (r s : R) (shown : R → Showing) (plan : Plan) (most : �
   stopped (fault.BadItem n) units unit t = (some_fed units t.0, t.1, t.2)
   stopped fault.WriteFault units unit t =
       let p = fed_part shown plan most a r opened k (is_some plan.window) refl (units ++ unit ∷ []) s t in
-      record { windows = p.windows; moments = p.moments; cut = p.cut; good = p.good; interim = p.interim; are = p.are; written = p.written; places = p.places }
+      record { windows = p.windows; earlier = p.earlier; last = p.last; cut = p.cut; good = p.good; are = p.are; written = p.written; places = p.places }
   stopped fault.OutOfMemory units unit (inl t) = some_fed units t
   stopped fault.OutOfMemory units unit (inr t) = absurd t.stops
   stopped fault.ReadFault units unit t = absurd t

@@ -1,5 +1,5 @@
 -- Where a count ends, put together.
-use Rattle.std.proofs.Common.{◌≡◌, ◌⊎◌, ℕ, Bool, true, false, List, [], Option, Some, is_some, MatchBool, Result, Ok, Err, IsErrAnd, refl, sym, ap, subst, ◌∙◌}
+use Rattle.std.proofs.Common.{◌≡◌, ◌⊎◌, ℕ, ◌<◌, Bool, true, false, if◌then◌else◌, List, [], ◌∷◌, ◌++◌, length, Option, Some, is_some, Result, Ok, Err, IsErrAnd, refl, sym, ap, subst, ◌∙◌, arith}
 use Rattle.std.specs.Io.KnownBytes.{Appends}
 use Rattle.std.proofs.KnownBytes.{Appends-nil, Appends-trans}
 use Rattle.std.proofs.lemmas.List.Elements.{All-nil}
@@ -17,13 +17,14 @@ use Rattle.sk_fill.proofs.Readings.{nothing_came}
 use Rattle.sk_count.specs.declared.plan.Plan.{Plan}
 use Rattle.sk_report.specs.declared.remains.Remains.{Remains}
 use Rattle.sk_count.specs.Plans.{IsWithin, lines_of_window}
-use Rattle.sk_count.specs.Moments.{Moment, AreMoments, start}
+use Rattle.sk_count.specs.Moments.{Moment, AreMoments}
+use Rattle.sk_report.specs.Parts.{AppendsPartAfter}
 use Rattle.sk_report.specs.Texts.{armed_with}
-use Rattle.sk_count.specs.Texts.{interim_text, places_after, last_text}
+use Rattle.sk_count.specs.Texts.{interim_text, places_after, last_text, last_lines}
 use Rattle.sk_count.specs.Reports.{showing}
 use Rattle.sk_count.specs.Opened.{IsOpened, FeedsAll, DrainsAndAsks}
-use Rattle.sk_count.specs.Counts.{Setting, setting, TellsSoFar, TellsAll, TellsPartOfAll, StopsFor, EndsBefore, EndsBehind, Counts, last_lines}
-use Rattle.sk_report.proofs.Fronts.{part_behind}
+use Rattle.sk_count.specs.Counts.{Setting, setting, TellsSoFar, TellsAll, TellsPartOfAll, StopsFor, EndsBefore, EndsBehind, Counts}
+use Rattle.sk_report.proofs.Fronts.{part_of_next}
 use Rattle.sk_count.proofs.Endings.{the_estimate, shows_all, shows_moments, same_hub}
 
 -- ---- before the end
@@ -35,15 +36,23 @@ ended_by plan most old new remains (Err e) f is ends = subst (λ z. EndsBefore p
 none : List Moment
 none = []
 
-no_moments : (plan : Plan) (b : Bool) → MatchBool b (AreMoments plan [] start [] none) (none ≡ none)
-unfolding AreMoments none
-no_moments plan true = tt
-no_moments plan false = refl
+-- nor is a moment due before the first window
+no_moments : (plan : Plan) → AreMoments plan [] none
+unfolding none
+no_moments plan = record {
+  count = as_few (is_some plan.window);
+  grows = λ i j d less within. absurd (omega arith);
+  each = λ j d within. absurd (omega arith);
+}
+  where
+    as_few : (b : Bool) → ◌≡◌ {A = ℕ} 0 (if b then 0 else 0)
+    as_few true = refl
+    as_few false = refl
 
 nothing_told : (plan : Plan) (left w : Option (List ℕ)) (places armed : List Place) → IsWithin plan → armed ≡ armed_with plan.k plan.alarms places → TellsSoFar plan (setting left w places) (setting left w armed) []
 unfolding interim_text places_after none
 nothing_told plan left w places armed within is_armed = record {
-  course = record { windows = []; rest = []; moments = []; good = All-nil (IsGood plan.kind); cut = no_units (lines_of_window plan) within.window.0; asks = no_moments plan (is_some plan.window) };
+  course = record { windows = []; rest = []; moments = []; good = All-nil (IsGood plan.kind); cut = no_units (lines_of_window plan) within.window.0; asks = no_moments plan };
   written = Appends-nil w;
   places = is_armed;
 }
@@ -65,21 +74,34 @@ module _ (plan : Plan) (a : Hub) (opened : IsOpened plan a) (within : IsWithin p
 
   pub all_told : Appends w' w'' (last_text plan.made estimate) → TellsAll plan (setting left w places) (setting left' w'' places') (record { heart = Some h; token = Some b.token }) units
   all_told last = record {
-    course = record { windows = fed.passes.windows; rest = fed.rest; moments = fed.passes.passes.moments; good = fed.passes.good; cut = fed.passes.cut; asks = fed.passes.asks };
+    text = interim_text plan.k (armed_with plan.k plan.alarms places) fed.passes.passes.moments ++ last_lines plan units;
     written = Appends-trans w w' w'' (interim_text plan.k (armed_with plan.k plan.alarms places) fed.passes.passes.moments) (last_lines plan units) so_far (subst (Appends w' w'') line_is last);
-    places = fed.passes.passes.places ∙ ap (λ z. places_after plan.k z fed.passes.passes.moments) is_armed;
-    heart = h;
-    token = b.token;
-    left = refl;
-    hub = same_hub plan a opened within.updaters.0 units (showing plan.k w armed) (showing plan.k w' places') b fed word h d;
-    shows = shows_all plan a opened within.updaters.0 units (showing plan.k w armed) (showing plan.k w' places') b fed word h d;
-    asked = shows_moments plan a opened within.updaters.0 units (showing plan.k w armed) (showing plan.k w' places') b fed word h d;
+    exactly = record {
+      good = fed.passes.good;
+      windows = fed.passes.windows;
+      rest = fed.rest;
+      cut = fed.passes.cut;
+      moments = fed.passes.passes.moments;
+      asked = fed.passes.asks.count;
+      written = refl;
+      alarms = fed.passes.passes.places ∙ ap (λ z. places_after plan.k z fed.passes.passes.moments) is_armed;
+      grows = fed.passes.asks.grows;
+      lacks = fed.passes.asks.each;
+      shown = record {
+        heart = h;
+        token = b.token;
+        left = refl;
+        hub = same_hub plan a opened within.updaters.0 units (showing plan.k w armed) (showing plan.k w' places') b fed word h d;
+        shows = shows_all plan a opened within.updaters.0 units (showing plan.k w armed) (showing plan.k w' places') b fed word h d;
+        asked = shows_moments plan a opened within.updaters.0 units (showing plan.k w armed) (showing plan.k w' places') b fed word h d;
+      };
+    };
   }
 
   pub part_told : AppendsPart w' w'' (last_text plan.made estimate) → TellsPartOfAll plan (setting left w places) (setting left' w'' places') units
   part_told last = record {
     course = record { windows = fed.passes.windows; rest = fed.rest; moments = fed.passes.passes.moments; good = fed.passes.good; cut = fed.passes.cut; asks = fed.passes.asks };
-    written = part_behind w w' w'' (interim_text plan.k (armed_with plan.k plan.alarms places) fed.passes.passes.moments) (last_lines plan units) so_far (subst (AppendsPart w' w'') line_is last);
+    written = part_of_next w w' w'' (interim_text plan.k (armed_with plan.k plan.alarms places) fed.passes.passes.moments) (last_lines plan units) so_far (subst (AppendsPart w' w'') line_is last);
     places = fed.passes.passes.places ∙ ap (λ z. places_after plan.k z fed.passes.passes.moments) is_armed;
   }
 

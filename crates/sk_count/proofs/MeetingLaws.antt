@@ -187,6 +187,8 @@ module _ (a : Hub) (t : TokenState) (us : List UpdaterState) (is : IsHub a) (met
       lacks = λ i d within. met_lacks (known_of t.view i) (handed_of (get_or a.updaters i d)) (get_or a.updaters i d).fill (entries_by i t'.view.seen) (get_or a.updaters i d).size
           (met.known i d within) (met.fills i d within)
           (λ some. subst (λ size. LacksAtMost (known_of t.view i) (entries_by i t'.view.seen) size) (met.size i d within) (reply.lacks i some));
+      fills = λ i d within. met.fills i d within;
+      sizes = λ i d within. ap (λ v. size_of v i) reply.stays ∙ met.size i d within;
       entries = subst (λ n. All (IsEntry n) t'.view.seen) (met.goes.sized ∙ is.sized ∙ sym is.count) reply.entries;
       word_is = reply.value ∙ ap (λ numbers. packed_of (k_of numbers) (items_of_entries t'.view.seen)) met.goes.numbers;
       steps = (

@@ -31,13 +31,14 @@ sizes_most plan sizes within are = All-from_get_or (λ b. b ≤ most_size) sizes
 -- ---- a new hub
 
 module _ (hint_of : List ℕ → List Entry → ℕ) (plan : Plan) (sizes numbers name : List ℕ) (n : ℕ) (eager : Bool) (h : HeartState) (us : List UpdaterState) (t : TokenState) where
-  pub is_opened : n ≡ plan.updaters → numbers ≡ plan.k ∷ [] → AreSizes plan sizes → IsNewHeart n numbers name eager h → length us ≡ length sizes → AreNew hint_of sizes h us → IsNewToken h t → IsOpened plan (record { heart = h; updaters = us; token = t })
-  is_opened count numbers_are are heart as_many new token = record {
+  pub is_opened : n ≡ plan.updaters → eager ≡ plan.eager → numbers ≡ plan.k ∷ [] → AreSizes plan sizes → IsNewHeart n numbers name eager h → length us ≡ length sizes → AreNew hint_of sizes h us → IsNewToken h t → IsOpened plan (record { heart = h; updaters = us; token = t })
+  is_opened count eager_is numbers_are are heart as_many new token = record {
     count = as_many ∙ are.count;
     kept = λ i d within. (new_at i d within).kept;
     size = λ i d within. (new_at i d within).size_is ∙ are.each i (omega (arith, as_many));
     numbers = heart.numbers_are ∙ numbers_are;
     drained = heart.drained;
+    eager = heart.eager_is ∙ eager_is;
     whole = record {
       count = as_many ∙ are.count ∙ sym count ∙ sym heart.updaters;
       updaters = λ i d within. let u = new_at i d within in record {

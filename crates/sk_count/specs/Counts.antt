@@ -1,24 +1,20 @@
 -- How a count goes: what it wrote and left behind if it ends well, and at each other end.
-use Rattle.std.specs.Prelude.{◌≡◌, ◌⊎◌, ℕ, ◌<◌, List, [], ◌∷◌, ◌++◌, length, All, Option, Some, Result, MatchResult, IsNone}
+use Rattle.std.specs.Prelude.{◌≡◌, ◌⊎◌, ℕ, ◌<◌, List, [], ◌∷◌, ◌++◌, length, All, Option, Result, MatchResult, IsNone}
 use Rattle.std.specs.Io.KnownBytes.{Appends}
-use Rattle.sk_model.specs.Causes.{AppendsPart}
-use Rattle.sk_model.specs.Sketch.{estimate_of}
-use Rattle.sk_gate.specs.Hands.{TokenState}
-use Rattle.sk_hub.specs.Hearts.{HeartState}
-use Rattle.sk_read.specs.Items.{item_of, items_by, IsGood}
+use Rattle.sk_read.specs.Items.{item_of, IsGood}
 use Rattle.sk_read.specs.Reads.{ReadsAll, Ends}
 use Rattle.sk_read.specs.Units.{units_by}
 use Rattle.sk_read.specs.declared.fault.Fault.{Fault}
 use Rattle.sk_read.specs.declared.fault.Fault.TheVariants.{OutOfMemory, BadItem, WriteFault}
 use Rattle.sk_watch.specs.Places.{Place}
 use Rattle.sk_fill.specs.Windows.{AreWindows}
-use Rattle.sk_count.specs.declared.plan.Plan.{Plan}
+use Rattle.sk_report.specs.Parts.{AppendsPartAfter}
 use Rattle.sk_report.specs.declared.remains.Remains.{Remains}
+use Rattle.sk_count.specs.declared.plan.Plan.{Plan}
 use Rattle.sk_count.specs.Plans.{lines_of_window}
-use Rattle.sk_count.specs.Moments.{Moment, AreMomentsOf}
-use Rattle.sk_report.specs.Texts.{armed_with}
-use Rattle.sk_count.specs.Texts.{interim_text, places_after, last_text}
-use Rattle.sk_count.specs.Hubs.{ShowsAll, ShowsMoments}
+use Rattle.sk_count.specs.Moments.{Moment, AreMoments}
+use Rattle.sk_count.specs.Texts.{interim_by, places_by, last_lines}
+use Rattle.sk_count.specs.Headline.{CountsExactly}
 
 -- what is around a count: what its source has left, what its sink was written, both if they are known, and the places of
 -- its board
@@ -39,54 +35,39 @@ pub record Course (plan : Plan) (units : List (List ℕ)) : Type 0 where
   pub moments : List Moment
   pub good : All (IsGood plan.kind) units
   pub cut : AreWindows (lines_of_window plan) units windows rest
-  pub asks : AreMomentsOf plan windows moments
-
--- the places as they are armed at the start
-abbrev pub armed_by : Plan → List Place → List Place
-armed_by plan places = armed_with plan.k plan.alarms places
-
--- what is due for moments
-abbrev pub interim_by : Plan → Setting → List Moment → List ℕ
-interim_by plan old moments = interim_text plan.k (armed_by plan old.places) moments
-
--- what is due last: how many lines were made, if the plan has that number, and one thread's estimate of all items
-abbrev pub last_lines : Plan → List (List ℕ) → List ℕ
-last_lines plan units = last_text plan.made (estimate_of plan.k (items_by plan.kind units))
+  pub asks : AreMoments plan windows moments
 
 -- ---- its ends
 
 -- the interim text of these units was written, and nothing more
 pub record TellsSoFar (plan : Plan) (old new : Setting) (units : List (List ℕ)) : Type 0 where
   pub course : Course plan units
-  pub written : Appends old.written new.written (interim_by plan old course.moments)
-  pub places : new.places ≡ places_after plan.k (armed_by plan old.places) course.moments
+  pub written : Appends old.written new.written (interim_by plan old.places course.moments)
+  pub places : new.places ≡ places_by plan old.places course.moments
 
--- the interim text and the last line were written; the heart and the token of the hub are left behind, and show this run
+-- the headline of these units is so of the text that was written
 pub record TellsAll (plan : Plan) (old new : Setting) (remains : Remains) (units : List (List ℕ)) : Type 0 where
-  pub course : Course plan units
-  pub written : Appends old.written new.written (interim_by plan old course.moments ++ last_lines plan units)
-  pub places : new.places ≡ places_after plan.k (armed_by plan old.places) course.moments
-  pub heart : HeartState
-  pub token : TokenState
-  pub left : remains ≡ record { heart = Some heart; token = Some token }
-  pub hub : token.table ≡ heart.table
-  pub shows : ShowsAll plan (items_by plan.kind units) (course.windows ++ course.rest ∷ []) course.moments heart
-  pub asked : ShowsMoments plan course.moments token
+  pub text : List ℕ
+  pub written : Appends old.written new.written text
+  pub exactly : CountsExactly plan units old.places new.places remains text
 
--- these units end with a full window, and of the interim text for them only a part was written
+-- these units end with a full window: the text of the moments before it was written whole, and of its own a part
 pub record TellsPart (plan : Plan) (old new : Setting) (units : List (List ℕ)) : Type 0 where
   pub course : Course plan units
   pub full : course.rest ≡ []
-  pub written : AppendsPart old.written new.written (interim_by plan old course.moments)
-  pub places : new.places ≡ places_after plan.k (armed_by plan old.places) course.moments
+  pub earlier : List Moment
+  pub last : Moment
+  pub moments : course.moments ≡ earlier ++ last ∷ []
+  pub written : AppendsPartAfter (interim_by plan old.places earlier) old.written new.written (interim_by plan old.places course.moments)
+  pub places : new.places ≡ places_by plan old.places course.moments
 
--- of the whole text only a part was written
+-- the interim text was written whole, and of the last lines a part
 pub record TellsPartOfAll (plan : Plan) (old new : Setting) (units : List (List ℕ)) : Type 0 where
   pub course : Course plan units
-  pub written : AppendsPart old.written new.written (interim_by plan old course.moments ++ last_lines plan units)
-  pub places : new.places ≡ places_after plan.k (armed_by plan old.places) course.moments
+  pub written : AppendsPartAfter (interim_by plan old.places course.moments) old.written new.written (interim_by plan old.places course.moments ++ last_lines plan units)
+  pub places : new.places ≡ places_by plan old.places course.moments
 
--- what was told if a count stopped at a unit after these: the unit is no item, or it fills a window and a write failed
+-- what was written if a count stopped at a unit after these: the unit is no item, or it fills a window and a write failed
 abbrev pub StopsFor : Plan → Setting → Setting → Fault → List (List ℕ) → List ℕ → Type 0
 StopsFor plan old new (BadItem n) units unit = TellsSoFar plan old new units × (0 < length unit) × IsNone (item_of plan.kind unit)
 StopsFor plan old new WriteFault units unit = TellsPart plan old new (units ++ unit ∷ [])

@@ -1,5 +1,5 @@
 -- What a token learns of a hub by asking it, and what the heart and the token show when all is counted.
-use Rattle.std.specs.Prelude.{◌≡◌, ℕ, zero, suc, ◌*◌, ◌<◌, List, [], ◌∷◌, ◌++◌, length, All, slice_index_or}
+use Rattle.std.specs.Prelude.{◌≡◌, ℕ, zero, suc, ◌*◌, ◌<◌, ◌≤◌, List, [], ◌∷◌, ◌++◌, length, All, slice_index_or}
 use Rattle.std.specs.List.{range_with_len}
 use Rattle.sk_model.specs.Entries.{items_of_entries, entries_by}
 use Rattle.sk_model.specs.Missing.{Begins, LacksAtMost}
@@ -8,12 +8,13 @@ use Rattle.sk_compose.specs.Numbers.{k_of}
 use Rattle.sk_machine.specs.Coarse.{IsEntry}
 use Rattle.sk_machine.specs.declared.views.Move.{Move}
 use Rattle.sk_machine.specs.declared.views.Move.TheVariants.{Join, Ask}
-use Rattle.sk_gate.specs.Views.{known_of}
+use Rattle.sk_gate.specs.Views.{known_of, size_of}
 use Rattle.sk_gate.specs.Hands.{TokenState}
 use Rattle.sk_hub.specs.Hearts.{HeartState}
 use Rattle.sk_hub.specs.Updaters.{UpdaterState, base_of, kept_of}
 use Rattle.sk_feed.specs.Hubs.{Hub}
 use Rattle.sk_feed.specs.Shares.{share}
+use Rattle.sk_report.specs.Sizes.{size_at}
 use Rattle.sk_count.specs.declared.plan.Plan.{Plan}
 use Rattle.sk_count.specs.Moments.{Moment, kept_by, AreKeptOver}
 
@@ -37,12 +38,15 @@ AsksAtEach k n (m ∷ moments) steps =
 -- ---- an ask of a hub
 
 -- the token met a note of every updater, and asked: the list that it saw goes on from what it had seen and from each
--- updater's base, lacks of what each kept at most its last two buffers, and has only entries of these updaters
+-- updater's base, lacks of what each kept at most its last two buffers, and has only entries of these updaters; the
+-- token knows the size of each, and no more lies in its fill buffer
 pub record AsksHub (a : Hub) (word : ℕ) (b : Hub) : Type 0 where
   pub grows : Begins a.token.view.seen b.token.view.seen
   pub bases : (i : ℕ) (d : UpdaterState) → i < length a.updaters → Begins (base_of (slice_index_or a.updaters i d)) b.token.view.seen
   pub lacks : (i : ℕ) (d : UpdaterState) → i < length a.updaters
       → LacksAtMost (kept_of (slice_index_or a.updaters i d)) (entries_by i b.token.view.seen) (2 * (slice_index_or a.updaters i d).size)
+  pub fills : (i : ℕ) (d : UpdaterState) → i < length a.updaters → length (slice_index_or a.updaters i d).fill ≤ (slice_index_or a.updaters i d).size
+  pub sizes : (i : ℕ) (d : UpdaterState) → i < length a.updaters → size_of b.token.view i ≡ (slice_index_or a.updaters i d).size
   pub entries : All (IsEntry (length a.updaters)) b.token.view.seen
   pub word_is : word ≡ packed_of (k_of a.token.view.numbers) (items_of_entries b.token.view.seen)
   pub steps : (steps : List Move) × MeetsAndAsks (length a.updaters) word steps × (b.token.view.steps ≡ a.token.view.steps ++ steps)
@@ -50,15 +54,23 @@ pub record AsksHub (a : Hub) (word : ℕ) (b : Hub) : Type 0 where
 -- ---- what is left behind
 
 -- the heart drained all updaters, in number order; of each it knows what that kept of its share of all windows, no less
--- than at any moment; and its last step loaded the word of all units
+-- than at any moment; its last step loaded the word of all items; and it is of a hub as the plan asks for it
 pub record ShowsAll (plan : Plan) (items : List ℕ) (windows : List (List (List ℕ))) (moments : List Moment) (h : HeartState) : Type 0 where
   pub drained : h.view.drained ≡ range_with_len 0 plan.updaters
   pub kept : (i : ℕ) → i < plan.updaters → AreKeptOver plan.k h.view.seen (share plan.kind windows plan.updaters i) (known_of h.view i)
   pub sees : (i : ℕ) → i < plan.updaters → entries_by i h.view.seen ≡ known_of h.view i
   pub later : All (λ m. (i : ℕ) → i < plan.updaters → Begins (kept_by m i) (known_of h.view i)) moments
   pub steps : (earlier : List Move) × (h.view.steps ≡ earlier ++ Ask (packed_of plan.k items) ∷ [])
+  pub k : k_of h.view.numbers ≡ plan.k
+  pub updaters : h.updaters ≡ plan.updaters
+  pub eager : h.eager ≡ plan.eager
 
--- the token's last steps are those of these moments, and it has seen what it saw at each
+-- the token knows the size of each updater's buffers, as the plan has it
+abbrev pub HasSizes : Plan → TokenState → Type 0
+HasSizes plan t = (i : ℕ) → i < plan.updaters → size_of t.view i ≡ size_at plan.sizes i
+
+-- the token's last steps are those of these moments, it has seen what it saw at each, and has met the updaters
 pub record ShowsMoments (plan : Plan) (moments : List Moment) (t : TokenState) : Type 0 where
   pub steps : (earlier : List Move) × (asks : List Move) × (t.view.steps ≡ earlier ++ asks) × AsksAtEach plan.k plan.updaters moments asks
   pub seen : All (λ m. Begins m.seen t.view.seen) moments
+  pub sizes : 0 < length moments → HasSizes plan t

@@ -2,6 +2,7 @@ pub mod Plans
 pub mod Moments
 pub mod Texts
 pub mod Hubs
+pub mod Headline
 pub mod Meets
 pub mod Reports
 pub mod Steps

@@ -1,6 +1,5 @@
 -- A hub as a count opens it, and how it was fed and drained.
 use Rattle.std.specs.Prelude.{◌≡◌, ◌⊎◌, ℕ, ◌<◌, List, [], ◌∷◌, ◌++◌, length, Option, IsNone, true, slice_index_or, slice_index, is_some, All}
-use Rattle.sk_model.specs.Causes.{AppendsPart}
 use Rattle.sk_model.specs.Entries.{items_of_entries}
 use Rattle.sk_model.specs.Sketch.{packed_of}
 use Rattle.sk_compose.specs.Numbers.{k_of}
@@ -16,9 +15,10 @@ use Rattle.sk_feed.specs.Drained.{DrainsAll}
 use Rattle.sk_feed.specs.Shares.{HasAllOf}
 use Rattle.sk_feed.specs.Hubs.{Hub, IsHub, FeedsWindow}
 use Rattle.sk_count.specs.declared.plan.Plan.{Plan}
+use Rattle.sk_report.specs.Parts.{AppendsPartAfter}
 use Rattle.sk_report.specs.Sizes.{size_at}
 use Rattle.sk_count.specs.Plans.{lines_of_window}
-use Rattle.sk_count.specs.Moments.{Moment, AreMoments, start}
+use Rattle.sk_count.specs.Moments.{Moment, AreMoments}
 use Rattle.sk_count.specs.Texts.{interim_text, places_after}
 use Rattle.sk_count.specs.Reports.{Showing}
 use Rattle.sk_count.specs.Steps.{keeps, hint_of, PassesUnits}
@@ -37,6 +37,7 @@ pub record IsOpened (plan : Plan) (hub : Hub) : Type 0 where
   pub size : (i : ℕ) (d : UpdaterState) → i < length hub.updaters → (slice_index_or hub.updaters i d).size ≡ size_at plan.sizes i
   pub numbers : hub.heart.view.numbers ≡ plan.k ∷ []
   pub drained : hub.heart.view.drained ≡ []
+  pub eager : hub.heart.eager ≡ plan.eager
   pub whole : IsHub hub
 
 -- all units were fed: those that fill windows, and then the rest
@@ -51,16 +52,16 @@ pub record FeedsAll (plan : Plan) (units : List (List ℕ)) (a : Hub) (r : Showi
 abbrev pub FeedsSome : Plan → Hub → Showing → Showing → List (List ℕ) → Type 0
 FeedsSome plan a r s units = (rest : List (List ℕ)) × (b : Hub) × PassesUnits plan units a r rest b s
 
--- units were fed that end with a full window, and of their interim text a part was written
+-- units were fed that end with a full window: the text of the moments before it was written whole, and of its own a part
 pub record FeedsPart (plan : Plan) (units : List (List ℕ)) (r s : Showing) : Type 0 where
   pub windows : List (List (List ℕ))
-  pub moments : List Moment
+  pub earlier : List Moment
+  pub last : Moment
   pub cut : AreWindows (lines_of_window plan) units windows []
   pub good : All (IsGood plan.kind) units
-  pub interim : is_some plan.window ≡ true
-  pub are : AreMoments plan [] start windows moments
-  pub written : AppendsPart r.written s.written (interim_text plan.k r.places moments)
-  pub places : s.places ≡ places_after plan.k r.places moments
+  pub are : AreMoments plan windows (earlier ++ last ∷ [])
+  pub written : AppendsPartAfter (interim_text plan.k r.places earlier) r.written s.written (interim_text plan.k r.places (earlier ++ last ∷ []))
+  pub places : s.places ≡ places_after plan.k r.places (earlier ++ last ∷ [])
 
 -- why the feeding of a hub stopped at a unit after these
 abbrev pub FeedStops : Plan → Hub → Showing → Showing → Fault → List (List ℕ) → List ℕ → Type 0

@@ -1,5 +1,5 @@
 -- Where a count stands between two windows, and what it says of windows that were fed and reported.
-use Rattle.std.specs.Prelude.{◌≡◌, ℕ, ◌<◌, Bool, List, ◌++◌, length, nat_lt, All, is_some, slice_index_or}
+use Rattle.std.specs.Prelude.{◌≡◌, ◌⊎◌, ℕ, ◌<◌, Bool, List, ◌++◌, length, nat_lt, All, is_some, slice_index_or}
 use Rattle.std.specs.Io.KnownBytes.{Appends}
 use Rattle.sk_model.specs.Entries.{Entry, items_of_entries}
 use Rattle.sk_model.specs.Missing.{Begins}
@@ -16,9 +16,9 @@ use Rattle.sk_feed.specs.Shares.{share}
 use Rattle.sk_count.specs.declared.plan.Plan.{Plan}
 use Rattle.sk_report.specs.Sizes.{size_at}
 use Rattle.sk_count.specs.Plans.{lines_of_window}
-use Rattle.sk_count.specs.Moments.{Moment, kept_by, AreKeptOver, AreMomentsOf}
+use Rattle.sk_count.specs.Moments.{Moment, kept_by, AreKeptOver, AreMoments}
 use Rattle.sk_count.specs.Texts.{interim_text, places_after}
-use Rattle.sk_count.specs.Hubs.{AsksAtEach}
+use Rattle.sk_count.specs.Hubs.{AsksAtEach, HasSizes}
 use Rattle.sk_count.specs.Reports.{Showing}
 
 -- ---- what is read
@@ -56,6 +56,7 @@ pub record HeartStays (h h' : HeartState) : Type 0 where
   pub table : h'.table ≡ h.table
   pub drained : h'.view.drained ≡ h.view.drained
   pub numbers : h'.view.numbers ≡ h.view.numbers
+  pub eager : h'.eager ≡ h.eager
 
 -- each updater has kept no less
 abbrev pub KeptAll : List UpdaterState → List UpdaterState → Type 0
@@ -87,6 +88,8 @@ pub record Passes (plan : Plan) (windows : List (List (List ℕ))) (a : Hub) (r 
   pub kept : All (KeepsAll b.updaters) moments
   pub heart : HeartStays a.heart b.heart
   pub table : b.token.table ≡ a.token.table
+  -- the token waited, or knows the sizes of the updaters that it met
+  pub sizes : ((length moments ≡ 0) × (b.token ≡ a.token)) ⊎ HasSizes plan b.token
   pub last : Moment
   pub stands : Stands plan windows last b s
 
@@ -96,4 +99,4 @@ pub record PassesUnits (plan : Plan) (units : List (List ℕ)) (a : Hub) (r : Sh
   pub cut : AreWindows (lines_of_window plan) units windows rest
   pub good : All (IsGood plan.kind) units
   pub passes : Passes plan windows a r b s
-  pub asks : AreMomentsOf plan windows passes.moments
+  pub asks : AreMoments plan windows passes.moments

@@ -5,7 +5,9 @@ use Rattle.sk_model.specs.Sketch.{estimate_of}
 use Rattle.sk_lines.specs.Fractions.{estimate_line}
 use Rattle.sk_watch.specs.Masks.{mask_of}
 use Rattle.sk_watch.specs.Places.{Place, answers_at, told}
-use Rattle.sk_report.specs.Texts.{interim_line, alarm_lines, reply_of}
+use Rattle.sk_read.specs.Items.{items_by}
+use Rattle.sk_report.specs.Texts.{interim_line, alarm_lines, reply_of, armed_with}
+use Rattle.sk_count.specs.declared.plan.Plan.{Plan}
 use Rattle.sk_count.specs.Moments.{Moment}
 
 -- ---- moments
@@ -35,6 +37,24 @@ abbrev pub made_line : Option ℕ → List ℕ
 made_line None = []
 made_line (Some lines) = codes "made " ++ (decimal lines ++ codes "\n")
 
--- what is written last: that line, and one thread's estimate
+-- what is written last: that line, and an estimate
 abbrev pub last_text : Option ℕ → ℕ × ℕ → List ℕ
 last_text made estimate = made_line made ++ estimate_line estimate
+
+-- ---- by a plan
+
+-- the places as they are armed at the start
+abbrev pub armed_by : Plan → List Place → List Place
+armed_by plan places = armed_with plan.k plan.alarms places
+
+-- the text of moments, with the board as it was before
+abbrev pub interim_by : Plan → List Place → List Moment → List ℕ
+interim_by plan places moments = interim_text plan.k (armed_by plan places) moments
+
+-- the places after all of them
+abbrev pub places_by : Plan → List Place → List Moment → List Place
+places_by plan places moments = places_after plan.k (armed_by plan places) moments
+
+-- what is due last: how many lines were made, if the plan has that number, and one thread's estimate of all items
+abbrev pub last_lines : Plan → List (List ℕ) → List ℕ
+last_lines plan units = last_text plan.made (estimate_of plan.k (items_by plan.kind units))

@@ -1,12 +1,23 @@
-//! Texts, boards and moments of counts, worked by hand.
+//! What follows from the definitions alone, and texts, boards and moments of counts, worked by hand.
 ghost use Rattle.std.specs.Prelude.{◌≡◌, ◌*◌, ℕ, List, [], ◌∷◌, ◌++◌, Some, None, replicate};
-ghost use Rattle.sk_model.specs.Missing.{LacksAtMost};
+ghost use Rattle.sk_lines.specs.Fractions.{estimate_line};
 ghost use Rattle.sk_model.specs.Entries.{entries_by};
+ghost use Rattle.sk_model.specs.Lines.{sequential_estimate};
+ghost use Rattle.sk_model.specs.Missing.{LacksAtMost};
+ghost use Rattle.sk_model.specs.Murmur.{hash_of};
+ghost use Rattle.sk_read.specs.declared.kind.Kind.TheVariants.{Hash};
 ghost use Rattle.sk_watch.specs.Alarms.{alarm};
+ghost use Rattle.sk_count.specs.declared.plan.Plan.{Plan};
 ghost use Rattle.sk_count.specs.Moments.{Moment};
 ghost use Rattle.sk_report.specs.Sizes.{size_at};
 ghost use Rattle.sk_report.specs.Texts.{alarm_line, armed_with, interim_line};
-ghost use Rattle.sk_count.specs.Texts.{interim_text, places_after};
+ghost use Rattle.sk_count.specs.Texts.{interim_text, places_after, last_lines};
+
+/// Over lines that are hashed the last line is the sequential sketch's estimate.
+pub fn last_line_is_sequential()
+    ensures { (plan : Plan) (seed : ℕ) (lines : List (List ℕ)) → plan.kind ≡ Hash seed → plan.made ≡ None
+        → last_lines plan lines ≡ estimate_line (sequential_estimate plan.k (hash_of seed) lines) }
+{}
 
 /// A window of five of which two are seen, and all five; two windows of two; no window.
 pub fn worked_interim_texts()
