@@ -93,8 +93,8 @@ module _ (most : ℕ) (old new : Outside) where
 
   -- the rest follows from how a run ended, and from what moved
   pub performed : (asked : Asked) (r : Result (Unit {0}) Fault) → Done asked r → HasCausesFor asked old new r → (MissesFirst asked old → r ≡ Err fault.OpenFault) → (MissesSecond asked most old → IsErrAnd r IsOfReads) → new.files ≡ old.files → OpensFor asked most old new →
-      AreClosed old.net.accepted new.net.accepted old.net.doorway new.net.doorway → ((frame_of asked).arms ≡ [] → new.board ≡ cleared old.board) → IfErr r (λ _. new.remains ≡ old.remains) → LeavesOnly (frame_of asked).makes old.remains new.remains → Performs asked most old new r
-  performed asked r done causes missing second files opened links board remains leaves = record {
+      AreClosed old.net.accepted new.net.accepted old.net.doorway new.net.doorway → ((frame_of asked).arms ≡ [] → new.board ≡ cleared old.board) → IfErr r (λ _. new.remains ≡ old.remains) → LeavesOnly (frame_of asked).makes old.remains new.remains → new.input_on ≡ old.input_on → Performs asked most old new r
+  performed asked r done causes missing second files opened links board remains leaves stays = record {
     done = done;
     causes = causes;
     complete = complete_of asked r done causes;
@@ -103,6 +103,7 @@ module _ (most : ℕ) (old new : Outside) where
     second_missing = second;
     files = record { files = files; opened = opened };
     links = links;
+    stays = stays;
     board = board;
     remains = remains;
     leaves = leaves;
@@ -140,8 +141,8 @@ module _ (most : ℕ) (old new : Outside) where
 
   -- over the standard input
   pub input_performs : (command : Command) (r : Result (Unit {0}) Fault) → ExecutesSo (behaviour_of command) most (beside_in old) (beside_in new) (over_input old) (over_input new) r →
-      new.files ≡ old.files → new.opened ≡ old.opened → new.open_faults ≡ old.open_faults → new.net ≡ old.net → Performs (OfText (record { command = command; file = None })) most old new r
-  input_performs command r went files opened opens net =
+      new.files ≡ old.files → new.opened ≡ old.opened → new.open_faults ≡ old.open_faults → new.net ≡ old.net → new.input_on ≡ old.input_on → Performs (OfText (record { command = command; file = None })) most old new r
+  input_performs command r went files opened opens net stays =
       let one : OneText = record { command = command; file = None } in
       let done = performs_over_input command most old new r went.done in
       performed most old new (OfText one) r done
@@ -151,13 +152,13 @@ module _ (most : ℕ) (old new : Outside) where
         opens = never fault.OpenFault _ _ r opens (never_opens _ _ _ _ _ _ r went.done);
         net = never fault.NetFault _ _ r (ap (λ (n : Net). n.faults) net) (text_no_net one r done);
       })
-      (λ misses. absurd misses) (λ misses. absurd misses) files (opens_none _ _ opened) (no_links _ _ net) went.board went.remains went.leaves
+      (λ misses. absurd misses) (λ misses. absurd misses) files (opens_none _ _ opened) (no_links _ _ net) went.board went.remains went.leaves stays
 
   -- over a file that was opened
   file_performs : (command : Command) (name : Word) (a b : Streams) (r : Result (Unit {0}) Fault) → a ≡ over_file (told_file old.files name) old → b ≡ over_file new.file_left new →
       ExecutesSo (behaviour_of command) most (beside_in old) (beside_in new) a b r → (IsMissing old.files name → ⊥) →
-      new.files ≡ old.files → Opens old.opened new.opened (name ∷ []) → new.open_faults ≡ old.open_faults → new.net ≡ old.net → Performs (OfText (record { command = command; file = Some name })) most old new r
-  file_performs command name a b r before after went there files opened opens net =
+      new.files ≡ old.files → Opens old.opened new.opened (name ∷ []) → new.open_faults ≡ old.open_faults → new.net ≡ old.net → new.input_on ≡ old.input_on → Performs (OfText (record { command = command; file = Some name })) most old new r
+  file_performs command name a b r before after went there files opened opens net stays =
       let one : OneText = record { command = command; file = Some name } in
       let x : Streams = over_file (told_file old.files name) old in
       let y : Streams = over_file new.file_left new in
@@ -172,12 +173,12 @@ module _ (most : ℕ) (old new : Outside) where
         opens = never fault.OpenFault _ _ r opens (never_opens _ _ _ _ _ _ r went'.done);
         net = never fault.NetFault _ _ r (ap (λ (n : Net). n.faults) net) (text_no_net one r done);
       })
-      (λ misses. absurd (there misses)) (λ misses. absurd misses) files opened (no_links _ _ net) went.board went.remains went.leaves
+      (λ misses. absurd (there misses)) (λ misses. absurd misses) files opened (no_links _ _ net) went.board went.remains went.leaves stays
 
   -- a file that could not be opened
   unopened_performs : (command : Command) (name : Word) → new.written ≡ old.written → new.file_faults ≡ old.file_faults → new.write_faults ≡ old.write_faults → Rose old.open_faults new.open_faults →
-      new.files ≡ old.files → Opens old.opened new.opened (name ∷ []) → ((behaviour_of command).arms ≡ [] → new.board ≡ cleared old.board) → new.remains ≡ old.remains → new.net ≡ old.net → Performs (OfText (record { command = command; file = Some name })) most old new (Err fault.OpenFault)
-  unopened_performs command name written reads writes opens files opened board remains net =
+      new.files ≡ old.files → Opens old.opened new.opened (name ∷ []) → ((behaviour_of command).arms ≡ [] → new.board ≡ cleared old.board) → new.remains ≡ old.remains → new.net ≡ old.net → new.input_on ≡ old.input_on → Performs (OfText (record { command = command; file = Some name })) most old new (Err fault.OpenFault)
+  unopened_performs command name written reads writes opens files opened board remains net stays =
       performed most old new (OfText (record { command = command; file = Some name })) (Err fault.OpenFault) written
       (record {
         reads = never fault.ReadFault _ _ (Err fault.OpenFault) reads (λ is. cc);
@@ -185,21 +186,21 @@ module _ (most : ℕ) (old new : Outside) where
         opens = record { steady = λ other. absurd (other refl); failed = λ _. opens };
         net = never fault.NetFault _ _ (Err fault.OpenFault) (ap (λ (n : Net). n.faults) net) (λ is. cc);
       })
-      (λ misses. refl) (λ misses. absurd misses) files opened (no_links _ _ net) board remains (leaves_nothing _ _ _ remains)
+      (λ misses. refl) (λ misses. absurd misses) files opened (no_links _ _ net) board remains (leaves_nothing _ _ _ remains) stays
 
   -- a file that was opened and read, by what the source of it shows
   pub opened_performs : (command : Command) (file : Option Word) (name : Word) (a b : Streams) (r : Result (Unit {0}) Fault) → file ≡ Some name → a.left ≡ told_file old.files name → a.read_faults ≡ old.file_faults → a.written ≡ old.written →
       a.write_faults ≡ old.write_faults → b.left ≡ new.file_left → b.read_faults ≡ new.file_faults → b.written ≡ new.written → b.write_faults ≡ new.write_faults → ExecutesSo (behaviour_of command) most (beside_in old) (beside_in new) a b r →
-      (IsMissing old.files name → ⊥) → new.files ≡ old.files → Opens old.opened new.opened (name ∷ []) → new.open_faults ≡ old.open_faults → new.net ≡ old.net → Performs (OfText (record { command = command; file = file })) most old new r
-  opened_performs command file name a b r is left reads written writes left' reads' written' writes' went there files opened opens net =
+      (IsMissing old.files name → ⊥) → new.files ≡ old.files → Opens old.opened new.opened (name ∷ []) → new.open_faults ≡ old.open_faults → new.net ≡ old.net → new.input_on ≡ old.input_on → Performs (OfText (record { command = command; file = file })) most old new r
+  opened_performs command file name a b r is left reads written writes left' reads' written' writes' went there files opened opens net stays =
       let before : a ≡ over_file (told_file old.files name) old = streams_are a (over_file (told_file old.files name) old) left reads written writes in
       let after : b ≡ over_file new.file_left new = streams_are b (over_file new.file_left new) left' reads' written' writes' in
-      subst (λ (f : Option Word). Performs (OfText (record { command = command; file = f })) most old new r) (sym is) (file_performs command name a b r before after went there files opened opens net)
+      subst (λ (f : Option Word). Performs (OfText (record { command = command; file = f })) most old new r) (sym is) (file_performs command name a b r before after went there files opened opens net stays)
 
   pub not_opened_performs : (command : Command) (file : Option Word) (name : Word) → file ≡ Some name → new.written ≡ old.written → new.file_faults ≡ old.file_faults → new.write_faults ≡ old.write_faults → Rose old.open_faults new.open_faults →
-      new.files ≡ old.files → Opens old.opened new.opened (name ∷ []) → ((behaviour_of command).arms ≡ [] → new.board ≡ cleared old.board) → new.remains ≡ old.remains → new.net ≡ old.net → Performs (OfText (record { command = command; file = file })) most old new (Err fault.OpenFault)
-  not_opened_performs command file name is written reads writes opens files opened board remains net =
-      subst (λ (f : Option Word). Performs (OfText (record { command = command; file = f })) most old new (Err fault.OpenFault)) (sym is) (unopened_performs command name written reads writes opens files opened board remains net)
+      new.files ≡ old.files → Opens old.opened new.opened (name ∷ []) → ((behaviour_of command).arms ≡ [] → new.board ≡ cleared old.board) → new.remains ≡ old.remains → new.net ≡ old.net → new.input_on ≡ old.input_on → Performs (OfText (record { command = command; file = file })) most old new (Err fault.OpenFault)
+  not_opened_performs command file name is written reads writes opens files opened board remains net stays =
+      subst (λ (f : Option Word). Performs (OfText (record { command = command; file = f })) most old new (Err fault.OpenFault)) (sym is) (unopened_performs command name written reads writes opens files opened board remains net stays)
 
 -- ---- a join, and a server
 
@@ -219,11 +220,11 @@ module _ (most : ℕ) (old new : Outside) where
 
   pub join_performs : (two : TwoImages) (r : Result (Unit {0}) Fault) → JoinsSo two most old.files new.file_left old.written new.written r → (IsMissing old.files two.left → r ≡ Err fault.OpenFault) →
       (IsMissing old.files two.right → IsErrAnd r (EndsFile most 1 (told_file old.files two.left) new.file_left)) → HasCauseIn fault.OpenFault old.open_faults new.open_faults r → HasCauseIn fault.ReadFault old.file_faults new.file_faults r →
-      HasCauseIn fault.WriteFault old.write_faults new.write_faults r → new.files ≡ old.files → OpensBoth two most old.files old.opened new.opened → new.board ≡ cleared old.board → new.remains ≡ old.remains → new.net ≡ old.net → Performs (OfImages two) most old new r
-  join_performs two r went left right opens reads writes files opened board remains net =
+      HasCauseIn fault.WriteFault old.write_faults new.write_faults r → new.files ≡ old.files → OpensBoth two most old.files old.opened new.opened → new.board ≡ cleared old.board → new.remains ≡ old.remains → new.net ≡ old.net → new.input_on ≡ old.input_on → Performs (OfImages two) most old new r
+  join_performs two r went left right opens reads writes files opened board remains net stays =
       performed most old new (OfImages two) r went
       (record { reads = reads; writes = writes; opens = opens; net = never fault.NetFault _ _ r (ap (λ (n : Net). n.faults) net) (join_no_net two r went) })
-      left (misses_right two r right) files opened (no_links _ _ net) (λ _. board) (if_err r _ remains) remains
+      left (misses_right two r right) files opened (no_links _ _ net) (λ _. board) (if_err r _ remains) remains stays
 
   abbrev Served : ServePlan → Result (Unit {0}) Fault → Type 0
   Served plan r = ServesSo plan most (beside_in old) (beside_in new) old.written new.written (doorways_of old new) r
@@ -236,8 +237,8 @@ module _ (most : ℕ) (old new : Outside) where
 
   pub serve_performs : (plan : ServePlan) (r : Result (Unit {0}) Fault) → Served plan r → HasCauseIn fault.WriteFault old.write_faults new.write_faults r → HasCauseIn fault.NetFault old.net.faults new.net.faults r →
       AreClosed old.net.accepted new.net.accepted old.net.doorway new.net.doorway → (plan.alarms ≡ [] → new.board ≡ cleared old.board) → IfErr r (λ _. new.remains ≡ old.remains) →
-      (new.remains.ranks ≡ old.remains.ranks) × (new.remains.reader ≡ old.remains.reader) → new.input_faults ≡ old.input_faults → new.open_faults ≡ old.open_faults → new.files ≡ old.files → new.opened ≡ old.opened → Performs (OfLinks plan) most old new r
-  serve_performs plan r went writes net links board remains ranks reads opens files opened =
+      (new.remains.ranks ≡ old.remains.ranks) × (new.remains.reader ≡ old.remains.reader) → new.input_faults ≡ old.input_faults → new.open_faults ≡ old.open_faults → new.files ≡ old.files → new.opened ≡ old.opened → new.input_on ≡ old.input_on → Performs (OfLinks plan) most old new r
+  serve_performs plan r went writes net links board remains ranks reads opens files opened stays =
       performed most old new (OfLinks plan) r went
       (record {
         reads = never fault.ReadFault _ _ r reads (serve_no_read plan r went);
@@ -245,4 +246,4 @@ module _ (most : ℕ) (old new : Outside) where
         opens = never fault.OpenFault _ _ r opens (serve_no_open plan r went);
         net = net;
       })
-      (λ misses. absurd misses) (λ misses. absurd misses) files (opens_none _ _ opened) links board remains ranks
+      (λ misses. absurd misses) (λ misses. absurd misses) files (opens_none _ _ opened) links board remains ranks stays

@@ -1,5 +1,5 @@
 -- What a run comes to: its status, what standard error gets, and what its words ask for.
-use Rattle.std.proofs.Common.{◌≡◌, ◌⊎◌, inl, inr, ℕ, List, Option, Some, None, Result, Ok, Err, OnOk, OnErr, IfErr, refl, ◌∙◌, subst}
+use Rattle.std.proofs.Common.{◌≡◌, ◌⊎◌, inl, inr, ℕ, List, Option, Some, None, Result, Ok, Err, OnOk, OnErr, refl, ◌∙◌, subst}
 use Rattle.std.specs.Io.KnownBytes.{Appends}
 use Rattle.sk_model.specs.Causes.{Rose, HasCause, AppendsPart}
 use Rattle.sk_io.specs.declared.stream.Failed.{Failed}
@@ -15,11 +15,11 @@ reported (Ok x) old new before now text ok part cause = inl (ok, cause.steady)
 reported (Err e) old new before now text ok part cause = inr (part, cause.failed)
 
 -- words that ask for nothing
-pub runs_nothing : (asked : Option Asked) (most : ℕ) (all : Outside) (Told : Fault → Type 0) (status : ℕ) → None ≡ asked → status ≡ 2 → Told fault.Usage → RunsSo asked most all all Told status
+pub runs_nothing : (asked : Option Asked) (most : ℕ) (all : Outside) (Told : Result (Unit {0}) Fault → Type 0) (status : ℕ) → None ≡ asked → status ≡ 2 → Told (Err fault.Usage) → RunsSo asked most all all Told status
 runs_nothing asked most all Told status is two told = subst (λ (o : Option Asked). RunsSo o most all all Told status) is (two, told, refl)
 
 -- words that ask for this
-pub runs_so : (asked : Option Asked) (a : Asked) (most : ℕ) (old new : Outside) (Told : Fault → Type 0) (r : Result (Unit {0}) Fault) (status : ℕ) → Some a ≡ asked → IsInOrder a → status ≡ exit_of r → IfErr r Told → Performs a most old new r → RunsSo asked most old new Told status
+pub runs_so : (asked : Option Asked) (a : Asked) (most : ℕ) (old new : Outside) (Told : Result (Unit {0}) Fault → Type 0) (r : Result (Unit {0}) Fault) (status : ℕ) → Some a ≡ asked → IsInOrder a → status ≡ exit_of r → Told r → Performs a most old new r → RunsSo asked most old new Told status
 runs_so asked a most old new Told r status is order end told performs =
     subst (λ (o : Option Asked). RunsSo o most old new Told status) is (record { order = order; result = r; status_is = end; told = told; performs = performs })
 

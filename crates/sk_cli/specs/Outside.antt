@@ -1,5 +1,6 @@
 -- What a run has around it, as contracts see it.
 use Rattle.std.specs.Prelude.{ℕ, List, Option}
+use Rattle.sk_io.specs.Base.{Base}
 use Rattle.sk_io.specs.declared.door.Door as door
 use Rattle.sk_io.specs.declared.shelf.Shelf as shelf
 use Rattle.sk_io.specs.declared.stream.Sink as sink
@@ -33,11 +34,12 @@ pub record Net : Type 0 where
 abbrev pub net_of : {D L : Type 0} → door.Ghosts D L → D → Net
 net_of d door = record { doorway = d.doorway door; accepted = d.accepted door; faults = d.faults door }
 
--- all that a run is handed but standard error: the standard input, the files with the names that were opened and what is
+-- all that a run is handed but standard error: the standard input with what it stands on, the files with the names that were opened and what is
 -- left of the one opened last, the output, the board, what is left of a hub, and the door
 pub record Outside : Type 0 where
   pub input : Option (List ℕ)
   pub input_faults : ℕ
+  pub input_on : Base
   pub files : Option (List (List ℕ × List ℕ))
   pub opened : Option (List (List ℕ))
   pub file_left : Option (List ℕ)
@@ -49,10 +51,11 @@ pub record Outside : Type 0 where
   pub remains : Left
   pub net : Net
 
-abbrev pub outside_of : {S O F D B : Type 0} → source.Ghosts S → sink.Ghosts O → shelf.Ghosts F D → seen.Ghosts B → S → O → F → B → Left → Net → Outside
-outside_of s o f b input out shelf board remains net = record {
+abbrev pub outside_with : {S O F D B : Type 0} → source.Ghosts S → sink.Ghosts O → shelf.Ghosts F D → seen.Ghosts B → S → O → F → B → Left → Net → Outside
+outside_with s o f b input out shelf board remains net = record {
   input = s.left input;
   input_faults = s.faults input;
+  input_on = s.stands_on input;
   files = f.files shelf;
   opened = f.opened shelf;
   file_left = f.rest shelf;
@@ -64,6 +67,9 @@ outside_of s o f b input out shelf board remains net = record {
   remains = remains;
   net = net;
 }
+
+abbrev pub outside_of : {S O F P D L B : Type 0} → source.Ghosts S → sink.Ghosts O → shelf.Ghosts F P → door.Ghosts D L → seen.Ghosts B → S → O → F → D → B → Left → Outside
+outside_of s o f d b input out shelf door board remains = outside_with s o f b input out shelf board remains (net_of d door)
 
 -- the standard input with the output
 abbrev pub over_input : Outside → Streams

@@ -14,7 +14,7 @@ use Rattle.sk_cli.specs.Beside.{Beside, cleared, LeavesOnly}
 use Rattle.sk_cli.specs.Values.{Word}
 use Rattle.sk_cli.specs.Outside.{Streams, Outside, over_input, over_file, beside_in, doorways_of}
 use Rattle.sk_cli.specs.Command.{OneText, Asked, OfText, OfImages, OfLinks, behaviour_of, frame_of, IsInOrder}
-use Rattle.sk_cli.specs.Fault.{status_of}
+use Rattle.sk_cli.specs.Fault.{status_of, message_of}
 use Rattle.sk_cli.specs.commands.Count.{LeavesHub}
 use Rattle.sk_cli.specs.commands.Join.{ReadsBoth, OpensBoth, WritesBoth, EndsJoin, IsToldImage, AreFineFiles, AreRefused}
 use Rattle.sk_cli.specs.commands.Serve.{ServesAll, EndsServing}
@@ -216,6 +216,11 @@ abbrev pub Reports : {E : Type 0} → sink.Ghosts E → E → E → List ℕ →
 Reports s old new text = (Appends (s.written old) (s.written new) text × (s.faults new ≡ s.faults old))
     ⊎ (AppendsPart (s.written old) (s.written new) text × Rose (s.faults old) (s.faults new))
 
+-- standard error is untouched if a run ended well, and gets the line of its fault if not
+abbrev pub Tells : {E : Type 0} → sink.Ghosts E → E → E → Result (Unit {0}) Fault → Type 0
+Tells s old new (Ok _) = new ≡ old
+Tells s old new (Err fault) = Reports s old new (message_of fault)
+
 -- how a run with `make` went: its whole report was written, and the hub that counted is left; or nothing was written for
 -- want of memory; or a write failed, and a part was written
 pub record RunsMake (plan : MakePlan) (old new : Outside) (status : ℕ) : Type 0 where
@@ -339,24 +344,26 @@ pub record Performs (asked : Asked) (most : ℕ) (old new : Outside) (result : R
   -- a file that is known not to be there can't be opened
   pub missing : MissesFirst asked old → result ≡ Err OpenFault
   pub second_missing : MissesSecond asked most old → IsErrAnd result IsOfReads
-  -- no file changes, each that is read was opened once, and each link that was accepted is closed
+  -- no file changes, each that is read was opened once, each link that was accepted is closed, and what the input
+  -- stands on stays
   pub files : UsesFiles asked most old new
   pub links : AreClosed old.net.accepted new.net.accepted old.net.doorway new.net.doorway
+  pub stays : new.input_on ≡ old.input_on
   -- watchers stay for alarms alone, and handles are left of a hub that was made, if all ended well
   pub board : (frame_of asked).arms ≡ [] → new.board ≡ cleared old.board
   pub remains : IfErr result (λ _. new.remains ≡ old.remains)
   pub leaves : LeavesOnly (frame_of asked).makes old.remains new.remains
 
--- how a run went whose words ask for this, which is within its limits: its end decides the status, and standard error got
--- the line of its fault
-pub record Runs (asked : Asked) (most : ℕ) (old new : Outside) (Told : Fault → Type 0) (status : ℕ) : Type 0 where
+-- how a run went whose words ask for this, which is within its limits: its end decides the status, and what standard error
+-- got
+pub record Runs (asked : Asked) (most : ℕ) (old new : Outside) (Told : Result (Unit {0}) Fault → Type 0) (status : ℕ) : Type 0 where
   pub order : IsInOrder asked
   pub result : Result (Unit {0}) Fault
   pub status_is : status ≡ exit_of result
-  pub told : IfErr result Told
+  pub told : Told result
   pub performs : Performs asked most old new result
 
 -- how a run went; if its words ask for nothing, it is the usage that standard error was told
-abbrev pub RunsSo : Option Asked → ℕ → Outside → Outside → (Fault → Type 0) → ℕ → Type 0
-RunsSo None most old new Told status = (status ≡ 2) × Told Usage × (new ≡ old)
+abbrev pub RunsSo : Option Asked → ℕ → Outside → Outside → (Result (Unit {0}) Fault → Type 0) → ℕ → Type 0
+RunsSo None most old new Told status = (status ≡ 2) × Told (Err Usage) × (new ≡ old)
 RunsSo (Some asked) most old new Told status = Runs asked most old new Told status

@@ -4,7 +4,7 @@ ghost use Rattle.std.specs.Option.{option_copied};
 ghost use Rattle.sk_model.specs.Limits.{source_limit};
 ghost use Rattle.sk_cli.specs.Beside.{IsFullBoard, beside_of, cleared, left_of};
 ghost use Rattle.sk_cli.specs.Command.{asked_of, behaviour_of, frame_of, IsWithin, IsInOrder, OfText};
-ghost use Rattle.sk_cli.specs.Outside.{Net, streams_of, outside_of, net_of};
+ghost use Rattle.sk_cli.specs.Outside.{Net, streams_of, outside_of, outside_with};
 ghost use Rattle.sk_cli.specs.Run.{ExecutesSo, Performs, exit_of};
 ghost use Rattle.sk_cli.specs.Touches.{handed, TouchesOnly};
 
@@ -46,13 +46,12 @@ fn perform_text<'r, R: Threads + Wait + Sync, S: Source, O: Sink, F: Shelf, B: S
     requires within { IsWithin command }
     requires bound { most ≤ source_limit }
     requires board { IsFullBoard (B.places board.old) }
-    ensures done { (net : Net) → let outside = outside_of S.Source O.Sink F.Shelf B.Seen in
+    ensures done { (net : Net) → let outside = outside_with S.Source O.Sink F.Shelf B.Seen in
         Performs (OfText (record { command = command; file = option_copied file.entry })) most
         (outside input.old out.old shelf.old board.old (left_of remains.old) net)
         (outside input.new out.new shelf.new board.new (left_of remains.new) net) result }
     ensures touches { TouchesOnly (frame_of (OfText (record { command = command; file = option_copied file.entry }))) (exit_of result)
         (handed input.old out.old shelf.old (tt {0}) board.old) (handed input.new out.new shelf.new (tt {0}) board.new) }
-    ensures stays { S.stands_on input.new ≡ S.stands_on input.old }
 {
     match file {
         None => execute(rt, alloc, command, most, input, out, board, remains),
@@ -85,13 +84,12 @@ where
     requires order { IsInOrder (asked_of request.now) }
     requires bound { most ≤ source_limit }
     requires board { IsFullBoard (B.places board.old) }
-    ensures done { let outside = outside_of S.Source O.Sink F.Shelf B.Seen in
+    ensures done { let outside = outside_of S.Source O.Sink F.Shelf D.Door B.Seen in
         Performs (asked_of request.now) most
-        (outside input.old out.old shelf.old board.old (left_of remains.old) (net_of D.Door door.old))
-        (outside input.new out.new shelf.new board.new (left_of remains.new) (net_of D.Door door.new)) result }
+        (outside input.old out.old shelf.old door.old board.old (left_of remains.old))
+        (outside input.new out.new shelf.new door.new board.new (left_of remains.new)) result }
     ensures touches { TouchesOnly (frame_of (asked_of request.now)) (exit_of result)
         (handed input.old out.old shelf.old door.old board.old) (handed input.new out.new shelf.new door.new board.new) }
-    ensures stays { S.stands_on input.new ≡ S.stands_on input.old }
 {
     match request {
         Request::OverText(over) => perform_text(

@@ -5,8 +5,8 @@ ghost use Rattle.sk_cli.specs.Beside.{IsFullBoard, left_of, nothing_left};
 ghost use Rattle.sk_cli.specs.Options.{texts_of};
 ghost use Rattle.sk_cli.specs.Command.{request_of, over_text, OfLinks};
 ghost use Rattle.sk_cli.specs.Fault.{message_of, status_of};
-ghost use Rattle.sk_cli.specs.Outside.{outside_of, net_of};
-ghost use Rattle.sk_cli.specs.Run.{Reports, RunsSo, CountsText, RanksText, ServesLinks, RunsMake};
+ghost use Rattle.sk_cli.specs.Outside.{outside_of};
+ghost use Rattle.sk_cli.specs.Run.{Reports, Tells, RunsSo, CountsText, RanksText, ServesLinks, RunsMake};
 ghost use Rattle.sk_cli.specs.Touches.{handed, Touches};
 ghost use Rattle.sk_cli.specs.Values.{Word};
 ghost use Rattle.sk_cli.specs.declared.command.Command.TheVariants as command;
@@ -45,37 +45,35 @@ where
     requires board { IsFullBoard (B.places board.old) }
     requires remains { left_of remains.old ≡ nothing_left }
 
-    // How it ends decides the status, 2 if the words are no command, and standard error gets the line of a fault.
+    // How it ends decides the status, 2 if the words are no command, and what standard error gets.
     ensures usage { (result ≡ 2) ↔ (request_of (texts_of words.now) ≡ None) }
-    ensures runs { let outside = outside_of S.Source O.Sink F.Shelf B.Seen in
+    ensures runs { let outside = outside_of S.Source O.Sink F.Shelf D.Door B.Seen in
         RunsSo (request_of (texts_of words.now)) source_limit
-        (outside input.old out.old shelf.old board.old (left_of remains.old) (net_of D.Door door.old))
-        (outside input.new out.new shelf.new board.new (left_of remains.new) (net_of D.Door door.new))
-        (λ fault. Reports E.Sink err.old err.new (message_of fault)) result }
-    ensures quiet { result ≡ 0 → err.new ≡ err.old }
+        (outside input.old out.old shelf.old door.old board.old (left_of remains.old))
+        (outside input.new out.new shelf.new door.new board.new (left_of remains.new))
+        (Tells E.Sink err.old err.new) result }
 
     // Only what the command reads and writes is touched.
     ensures touches { Touches (request_of (texts_of words.now)) result
         (handed input.old out.old shelf.old door.old board.old) (handed input.new out.new shelf.new door.new board.new) }
-    ensures stays { S.stands_on input.new ≡ S.stands_on input.old }
 
     // The headline of each command that has one.
-    ensures count { (plan : CountPlan) (file : Option Word) → request_of (texts_of words.now) ≡ Some (over_text (command.Count plan) file) → result ≡ 0 → let outside = outside_of S.Source O.Sink F.Shelf B.Seen in
-        CountsText plan file
-        (outside input.old out.old shelf.old board.old (left_of remains.old) (net_of D.Door door.old))
-        (outside input.new out.new shelf.new board.new (left_of remains.new) (net_of D.Door door.new)) }
-    ensures quantile { (plan : RankPlan) (file : Option Word) → request_of (texts_of words.now) ≡ Some (over_text (command.Quantile plan) file) → result ≡ 0 → let outside = outside_of S.Source O.Sink F.Shelf B.Seen in
-        RanksText plan file
-        (outside input.old out.old shelf.old board.old (left_of remains.old) (net_of D.Door door.old))
-        (outside input.new out.new shelf.new board.new (left_of remains.new) (net_of D.Door door.new)) }
-    ensures serve { (plan : ServePlan) → request_of (texts_of words.now) ≡ Some (OfLinks plan) → result ≡ 0 → let outside = outside_of S.Source O.Sink F.Shelf B.Seen in
-        ServesLinks plan
-        (outside input.old out.old shelf.old board.old (left_of remains.old) (net_of D.Door door.old))
-        (outside input.new out.new shelf.new board.new (left_of remains.new) (net_of D.Door door.new)) }
-    ensures make { (plan : MakePlan) → request_of (texts_of words.now) ≡ Some (over_text (command.Make plan) None) → let outside = outside_of S.Source O.Sink F.Shelf B.Seen in
-        RunsMake plan
-        (outside input.old out.old shelf.old board.old (left_of remains.old) (net_of D.Door door.old))
-        (outside input.new out.new shelf.new board.new (left_of remains.new) (net_of D.Door door.new)) result }
+    ensures count { (plan : CountPlan) (file : Option Word) → request_of (texts_of words.now) ≡ Some (over_text (command.Count plan) file)
+        → result ≡ 0 → let outside = outside_of S.Source O.Sink F.Shelf D.Door B.Seen in
+        CountsText plan file (outside input.old out.old shelf.old door.old board.old (left_of remains.old))
+        (outside input.new out.new shelf.new door.new board.new (left_of remains.new)) }
+    ensures quantile { (plan : RankPlan) (file : Option Word) → request_of (texts_of words.now) ≡ Some (over_text (command.Quantile plan) file)
+        → result ≡ 0 → let outside = outside_of S.Source O.Sink F.Shelf D.Door B.Seen in
+        RanksText plan file (outside input.old out.old shelf.old door.old board.old (left_of remains.old))
+        (outside input.new out.new shelf.new door.new board.new (left_of remains.new)) }
+    ensures serve { (plan : ServePlan) → request_of (texts_of words.now) ≡ Some (OfLinks plan)
+        → result ≡ 0 → let outside = outside_of S.Source O.Sink F.Shelf D.Door B.Seen in
+        ServesLinks plan (outside input.old out.old shelf.old door.old board.old (left_of remains.old))
+        (outside input.new out.new shelf.new door.new board.new (left_of remains.new)) }
+    ensures make { (plan : MakePlan) → request_of (texts_of words.now) ≡ Some (over_text (command.Make plan) None)
+        → let outside = outside_of S.Source O.Sink F.Shelf D.Door B.Seen in
+        RunsMake plan (outside input.old out.old shelf.old door.old board.old (left_of remains.old))
+        (outside input.new out.new shelf.new door.new board.new (left_of remains.new)) result }
 {
     let Some(request) = Request::of(words) else {
         return report(Fault::Usage, err);

@@ -1,7 +1,6 @@
-use Rattle.std.proofs.Common.{IfErr, sym, ap, ◌∙◌, subst, arith}
+use Rattle.std.proofs.Common.{Result, refl, sym, ap, ◌∙◌, subst, arith}
 use Rattle.sk_cli.specs.Command.{asked_of}
-use Rattle.sk_cli.specs.Fault.{message_of}
-use Rattle.sk_cli.specs.Run.{Reports, exit_of}
+use Rattle.sk_cli.specs.Run.{Tells, exit_of}
 use Rattle.sk_cli.specs.declared.fault.Fault.{Fault}
 use Rattle.sk_cli.proofs.Asking.{not_usage}
 use Rattle.sk_cli.proofs.Reporting.{runs_nothing, runs_so, some_request, nothing_asked}
@@ -17,8 +16,8 @@ returns-in_default-clause-touches g c = touches_nothing _ _ _ c.in_default.ensur
 
 pub returns-in-Ok-clause-runs : goal.returns-in-Ok-clause-runs
 returns-in-Ok-clause-runs g c =
-    let Told : Fault → Type 0 = λ fault. Reports g.E.Sink c.args.err.now c.args.err.now (message_of fault) in
-    runs_so _ _ _ _ _ Told c.perform.result 0 c.in-Some.ensures.value c.in-Some.ensures.order (sym (ap exit_of c.in-Ok.is)) (subst (λ r. IfErr r Told) (sym c.in-Ok.is) tt) c.perform.ensures.done
+    let Told : Result (Unit {0}) Fault → Type 0 = Tells g.E.Sink c.args.err.now c.args.err.now in
+    runs_so _ _ _ _ _ Told c.perform.result 0 c.in-Some.ensures.value c.in-Some.ensures.order (sym (ap exit_of c.in-Ok.is)) (subst Told (sym c.in-Ok.is) refl) c.perform.ensures.done
 
 pub returns-in-Ok-clause-touches : goal.returns-in-Ok-clause-touches
 returns-in-Ok-clause-touches g c =
@@ -32,8 +31,9 @@ returns-in-Err-clause-usage g c = (
 
 pub returns-in-Err-clause-runs : goal.returns-in-Err-clause-runs
 returns-in-Err-clause-runs g c =
-    let Told : Fault → Type 0 = λ fault. Reports g.E.Sink c.args.err.now c.report-in-Err.new.err (message_of fault) in
-    runs_so _ _ _ _ _ Told c.perform.result _ c.in-Some.ensures.value c.in-Some.ensures.order (c.report-in-Err.ensures.status ∙ sym (ap exit_of c.in-Err.is)) (subst (λ r. IfErr r Told) (sym c.in-Err.is) c.report-in-Err.ensures.told) c.perform.ensures.done
+    let Told : Result (Unit {0}) Fault → Type 0 = Tells g.E.Sink c.args.err.now c.report-in-Err.new.err in
+    runs_so _ _ _ _ _ Told c.perform.result _ c.in-Some.ensures.value c.in-Some.ensures.order (c.report-in-Err.ensures.status ∙ sym (ap exit_of c.in-Err.is)) (subst Told (sym c.in-Err.is) c.report-in-Err.ensures.told)
+    c.perform.ensures.done
 
 pub returns-in-Err-clause-touches : goal.returns-in-Err-clause-touches
 returns-in-Err-clause-touches g c =
