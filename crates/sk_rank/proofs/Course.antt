@@ -20,12 +20,14 @@ use Rattle.sk_feed.specs.Hubs.{Hub, FeedsWindow, LeavesHub, IsLeft}
 use Rattle.sk_ingest.specs.Ingests.{Terms, Reported}
 use Rattle.sk_feed.proofs.Shares.{share_append}
 use Rattle.sk_fill.proofs.Cutting.{all_lines_more}
-use Rattle.sk_report.proofs.Fronts.{part_behind}
+use Rattle.sk_report.specs.Parts.{AppendsPartAfter}
+use Rattle.sk_report.proofs.Fronts.{part_alone, part_after_behind}
+use Rattle.sk_rank.proofs.MomentLaws.{MomentsFrom}
 use Rattle.sk_snap.specs.History.{entries_in}
 use Rattle.sk_snap.specs.Versions.{Learnt, items_in}
 use Rattle.sk_rank.specs.declared.plan.Plan.{Plan}
 use Rattle.sk_rank.specs.Plans.{lines_of_window, share_of}
-use Rattle.sk_rank.specs.Moments.{Moment, IsMoment, AreMoments}
+use Rattle.sk_rank.specs.Moments.{Moment, IsMoment}
 use Rattle.sk_learn.specs.Learning.{ReaderGoesOn, Knows}
 use Rattle.sk_rank.specs.Nearness.{IsNear}
 use Rattle.sk_rank.specs.Reports.{Showing, LearnsHub, Reports, Breaks, BreaksBy, due_line}
@@ -209,8 +211,8 @@ module _ {R : Type 0} (shown : R → Showing) (plan : Plan) (most : ℕ) where
   terms_with interim = terms_at shown (intake_with plan most interim)
 
   pub reported : (windows before all : List (List (List ℕ))) (count : ℕ) (last : List Entry) (a : Hub) (r : R) (b : Hub) (s : R) → before ++ windows ≡ all → count ≡ length (all_lines before) → Stands plan before last a (shown r)
-      → Reported (terms_with true) count windows a r b s → (p : Passes plan all (shown r) b (shown s)) × AreMoments plan before last windows p.moments
-  unfolding Reported AreMoments passes_none passes_more
+      → Reported (terms_with true) count windows a r b s → (p : Passes plan all (shown r) b (shown s)) × MomentsFrom plan before last windows p.moments
+  unfolding Reported MomentsFrom passes_none passes_more
   reported [] before all count last a r b s joined is stands done =
       (passes_none plan all before last a (shown r) b (shown s) (sym (append-nil before) ∙ joined) done.0 (ap shown done.1) stands, tt)
   reported (lines ∷ windows) before all count last a r b s joined is stands (x, y, p, fed, (hub, leaves, still, report), later) =
@@ -246,8 +248,9 @@ module _ {R : Type 0} (shown : R → Showing) (plan : Plan) (most : ℕ) where
   -- the last of these windows was fed, and its report stopped by a failed write
   pub broke : (windows before : List (List (List ℕ))) (count : ℕ) (last : List Entry) (lines : List (List ℕ)) (a : Hub) (r : R) (b : Hub) (p : R) (x y : Hub) (s : R) → count ≡ length (all_lines before) → Stands plan before last a (shown r)
       → Reported (terms_with true) count windows a r b p → FeedsWindow keeps hint_of Raw lines b x → Breaks (shown p) (length (all_lines (before ++ (windows ++ lines ∷ [])))) x y (shown s)
-      → (moments : List Moment) × AreMoments plan before last (windows ++ lines ∷ []) moments × AppendsPart (shown r).written (shown s).written (interim_text plan moments)
-  unfolding Reported AreMoments interim_text
+      → (earlier : List Moment) × (m : Moment) × MomentsFrom plan before last (windows ++ lines ∷ []) (earlier ++ m ∷ [])
+      × AppendsPartAfter (interim_text plan earlier) (shown r).written (shown s).written (interim_text plan (earlier ++ m ∷ []))
+  unfolding Reported MomentsFrom interim_text
   broke [] before count last lines a r b p x y s is stands done fed breaks =
       let feeds : FeedsWindow keeps hint_of Raw lines a x = subst (λ z. FeedsWindow keeps hint_of Raw lines z x) done.0 fed in
       let at = stands_fed plan before last lines a x (shown r) stands feeds in
@@ -255,9 +258,11 @@ module _ {R : Type 0} (shown : R → Showing) (plan : Plan) (most : ℕ) where
       let breaks_r : Breaks (shown r) (count + length lines) x y (shown s) = subst (λ z. Breaks (shown z) (count + length lines) x y (shown s)) done.1 (subst (λ n. Breaks (shown p) n x y (shown s)) counted_as breaks) in
       let next = is_next plan before count last lines a x y (shown r) (shown r) is stands feeds (shown s).reader breaks_r.learns breaks_r.near in
       let text = due_is plan (before ++ lines ∷ []) last (count + length lines) x (shown r) (shown s).reader at breaks_r.learns.goes in (
-        moment_at (count + length lines) (shown s).reader ∷ [],
+        [],
+        moment_at (count + length lines) (shown s).reader,
         (next.0, next.1, tt),
-        subst (AppendsPart (shown r).written (shown s).written) (text ∙ sym (append-nil (moment_text plan (moment_at (count + length lines) (shown s).reader)))) breaks_r.written,
+        part_alone (shown r).written (shown s).written (interim_text plan (moment_at (count + length lines) (shown s).reader ∷ []))
+            (subst (AppendsPart (shown r).written (shown s).written) (text ∙ sym (append-nil (moment_text plan (moment_at (count + length lines) (shown s).reader)))) breaks_r.written),
       )
   broke (w ∷ windows) before count last lines a r b p x y s is stands (x1, y1, p1, fed1, (hub, leaves, still, report), later) fed breaks =
       let at = stands_fed plan before last w a x1 (shown r) stands fed1 in
@@ -267,7 +272,8 @@ module _ {R : Type 0} (shown : R → Showing) (plan : Plan) (most : ℕ) where
       (subst (λ l. Breaks (shown p) (length (all_lines l)) x y (shown s)) (sym (append_assoc before (w ∷ []) (windows ++ lines ∷ []))) breaks) in
       let text = due_is plan (before ++ w ∷ []) last (count + length w) x1 (shown r) (shown p1).reader at report.learns.goes in (
         moment_at (count + length w) (shown p1).reader ∷ rest.0,
-        (next.0, next.1, rest.1),
-        part_behind (shown r).written (shown p1).written (shown s).written (moment_text plan (moment_at (count + length w) (shown p1).reader)) (interim_text plan rest.0)
-            (subst (Appends (shown r).written (shown p1).written) text report.written) rest.2,
+        rest.1,
+        (next.0, next.1, rest.2),
+        part_after_behind (shown r).written (shown p1).written (shown s).written (moment_text plan (moment_at (count + length w) (shown p1).reader)) (interim_text plan rest.0) (interim_text plan (rest.0 ++ rest.1 ∷ []))
+            (subst (Appends (shown r).written (shown p1).written) text report.written) rest.3,
       )

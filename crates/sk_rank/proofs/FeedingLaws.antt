@@ -1,5 +1,5 @@
 -- What a ranking concludes of the lines that were fed.
-use Rattle.std.proofs.Common.{◌≡◌, inl, inr, ℕ, ◌-◌, Bool, true, false, List, [], ◌∷◌, ◌++◌, length, take, get_or, All, MatchBool, Option, is_some, refl, sym, ap, subst, ◌∙◌, arith, append-nil}
+use Rattle.std.proofs.Common.{◌≡◌, inl, inr, ℕ, ◌-◌, Bool, true, false, if◌then◌else◌, List, [], ◌∷◌, ◌++◌, length, take, get_or, All, Option, is_some, refl, sym, ap, subst, ◌∙◌, arith, append-nil}
 use Rattle.std.specs.Io.KnownBytes.{Appends}
 use Rattle.std.proofs.KnownBytes.{Appends-nil}
 use Rattle.std.proofs.lemmas.List.{take_all}
@@ -29,6 +29,7 @@ use Rattle.sk_snap.specs.History.{entries_in, name_of}
 use Rattle.sk_rank.specs.declared.plan.Plan.{Plan}
 use Rattle.sk_rank.specs.Plans.{IsWithin, lines_of_window, intake_by, share_of}
 use Rattle.sk_rank.specs.Moments.{Moment, AreMoments}
+use Rattle.sk_rank.proofs.MomentLaws.{are_moments, no_moments}
 use Rattle.sk_rank.specs.Reports.{Showing, Breaks}
 use Rattle.sk_rank.specs.Steps.{Stands, Passes}
 use Rattle.sk_rank.specs.Texts.{interim_text}
@@ -69,10 +70,10 @@ module _ {R : Type 0} (r s : R) (shown : R → Showing) (plan : Plan) (most : �
       → (windows : List (List (List ℕ))) × (p : Passes plan windows (shown r) b (shown s)) × (c : Course plan units) × (c.windows ≡ windows) × (c.rest ≡ rest) × (c.moments ≡ p.moments)
   passed true is units rest b goes =
       let went = reported shown plan most goes.windows [] goes.windows 0 [] a r b s refl refl stands goes.reported in
-      (goes.windows, went.0, record { windows = goes.windows; rest = rest; moments = went.0.moments; good = goes.good; cut = goes.cut; asks = subst (λ c. MatchBool c (AreMoments plan [] [] goes.windows went.0.moments) (went.0.moments ≡ [])) (sym is) went.1 }, refl, refl, refl)
+      (goes.windows, went.0, record { windows = goes.windows; rest = rest; moments = went.0.moments; good = goes.good; cut = goes.cut; asks = are_moments plan goes.windows went.0.moments is went.1 }, refl, refl, refl)
   passed false is units rest b goes =
       let went = waited shown plan most goes.windows [] goes.windows 0 [] a r b s refl stands goes.reported in
-      (goes.windows, went.0, record { windows = goes.windows; rest = rest; moments = went.0.moments; good = goes.good; cut = goes.cut; asks = subst (λ c. MatchBool c (AreMoments plan [] [] goes.windows went.0.moments) (went.0.moments ≡ [])) (sym is) went.1 }, refl, refl, refl)
+      (goes.windows, went.0, record { windows = goes.windows; rest = rest; moments = went.0.moments; good = goes.good; cut = goes.cut; asks = no_moments plan goes.windows went.0.moments is went.1 }, refl, refl, refl)
 
   so_far : (units : List (List ℕ)) → GoesSoFar (terms_at shown (intake_by plan most)) a r s units → TellsSoFar plan (setting left (shown r).written) (setting left' (shown s).written) units
   so_far units (rest, b, goes) =
@@ -85,9 +86,12 @@ module _ {R : Type 0} (r s : R) (shown : R → Showing) (plan : Plan) (most : �
       let whole : length units ≡ length (all_lines ([] ++ (stops.windows ++ stops.lines ∷ []))) = ap length (stops.cut.joined ∙ append-nil (all_lines (stops.windows ++ stops.lines ∷ []))) in
       let went = broke shown plan most stops.windows [] 0 [] stops.lines a r stops.before stops.report stops.fed stops.left s refl stands stops.reported stops.feeds (subst (λ n. Breaks (shown stops.report) n stops.fed stops.left (shown s)) whole stops.stops) in
       record {
-        course = record { windows = stops.windows ++ stops.lines ∷ []; rest = []; moments = went.0; good = stops.good; cut = stops.cut; asks = subst (λ c. MatchBool c (AreMoments plan [] [] (stops.windows ++ stops.lines ∷ []) went.0) (went.0 ≡ [])) (sym is) went.1 };
+        course = record { windows = stops.windows ++ stops.lines ∷ []; rest = []; moments = went.0 ++ went.1 ∷ []; good = stops.good; cut = stops.cut; asks = are_moments plan (stops.windows ++ stops.lines ∷ []) (went.0 ++ went.1 ∷ []) is went.2 };
         full = refl;
-        written = went.2;
+        earlier = went.0;
+        last = went.1;
+        moments = refl;
+        written = went.3;
       }
 
   stopped : (f : Fault) (units : List (List ℕ)) (unit : List ℕ) → StopsAtUnit (terms_at shown (intake_by plan most)) a r s f units unit → StopsFor plan (setting left (shown r).written) (setting left' (shown s).written) f units unit
@@ -146,15 +150,23 @@ quiet_whole r s shown a left left' intake silent n b reads =
 none : List Moment
 none = []
 
-no_moments : (plan : Plan) (b : Bool) → MatchBool b (AreMoments plan [] [] [] none) (none ≡ none)
-unfolding AreMoments none
-no_moments plan true = tt
-no_moments plan false = refl
+-- nor is a moment due before the first window
+none_due : (plan : Plan) → AreMoments plan [] none
+unfolding none
+none_due plan = record {
+  count = as_few (is_some plan.window);
+  grows = λ i j d less within. absurd (omega arith);
+  each = λ j d within. absurd (omega arith);
+}
+  where
+    as_few : (b : Bool) → ◌≡◌ {A = ℕ} 0 (if b then 0 else 0)
+    as_few true = refl
+    as_few false = refl
 
 nothing_told : (plan : Plan) (left w : Option (List ℕ)) → IsWithin plan → TellsSoFar plan (setting left w) (setting left w) []
 unfolding interim_text none
 nothing_told plan left w within = record {
-  course = record { windows = []; rest = []; moments = []; good = All-nil (IsGood Raw); cut = no_units (lines_of_window plan) within.window.0; asks = no_moments plan (is_some plan.window) };
+  course = record { windows = []; rest = []; moments = []; good = All-nil (IsGood Raw); cut = no_units (lines_of_window plan) within.window.0; asks = none_due plan };
   written = Appends-nil w;
 }
 

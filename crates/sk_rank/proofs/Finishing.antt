@@ -1,5 +1,5 @@
 -- Where a ranking ends, put together.
-use Rattle.std.proofs.Common.{◌≡◌, ℕ, ◌<◌, List, [], ◌∷◌, ◌++◌, length, get_or, All, Contains, Option, Result, Ok, Err, IsErrAnd, sym, ap, subst, ◌∙◌, arith}
+use Rattle.std.proofs.Common.{◌≡◌, ℕ, ◌<◌, List, [], ◌∷◌, ◌++◌, length, get_or, All, Contains, Option, Result, Ok, Err, IsErrAnd, refl, sym, ap, subst, ◌∙◌, arith}
 use Rattle.std.specs.List.{range_with_len}
 use Rattle.std.specs.Io.KnownBytes.{Appends}
 use Rattle.std.proofs.KnownBytes.{Appends-trans}
@@ -16,7 +16,7 @@ use Rattle.sk_read.specs.declared.fault.Fault.{Fault}
 use Rattle.sk_feed.specs.Hubs.{Hub}
 use Rattle.sk_read.specs.Units.{units_by}
 use Rattle.sk_ingest.proofs.Endings.{all_so}
-use Rattle.sk_report.proofs.Fronts.{part_behind}
+use Rattle.sk_report.proofs.Fronts.{part_of_next}
 use Rattle.sk_snap.specs.History.{entries_in, name_of}
 use Rattle.sk_snap.specs.Versions.{Learnt, items_in}
 use Rattle.sk_snap.specs.declared.version.Rank.{Rank}
@@ -25,8 +25,10 @@ use Rattle.sk_rank.specs.Nearness.{IsNear}
 use Rattle.sk_learn.specs.Closing.{Closes, numbers_of}
 use Rattle.sk_learn.proofs.Numbered.{numbered_from_0, numbered_below}
 use Rattle.sk_rank.specs.Feeding.{Fed}
-use Rattle.sk_rank.specs.Ranks.{Setting, setting, ReadsLines, IsListOf, Goes, Shows, TellsSoFar, TellsAll, TellsPartOfAll, EndsAt, Ranks}
+use Rattle.sk_rank.specs.Headline.{IsListOf, Goes, Shows}
+use Rattle.sk_rank.specs.Ranks.{Setting, setting, ReadsLines, TellsSoFar, TellsAll, TellsPartOfAll, EndsAt, Ranks}
 use Rattle.sk_rank.specs.Texts.{told_line, rank_line, interim_text}
+use Rattle.sk_rank.proofs.Orders.{all_items}
 use Rattle.sk_rank.proofs.ReportLaws.{near_so}
 
 pub ended_by : (plan : Plan) (most : ℕ) (old new : Setting) (r : Result (HeartState × Learnt) Fault) (f : Fault) → IsErrAnd r (λ e. e ≡ f) → EndsAt plan most old new f → Ranks plan most old new r
@@ -88,14 +90,26 @@ module _ (plan : Plan) (left left' w w' w'' : Option (List ℕ)) (b : Hub) (read
     key = key;
   }
 
-  pub all_told : Appends w' w'' (told_line rank.n rank.below rank.within) → TellsAll plan (setting left w) (setting left' w'') h s units
-  all_told last = record {
-    course = fed.course;
+  pub all_told : 0 < plan.updaters → Appends w' w'' (told_line rank.n rank.below rank.within) → TellsAll plan (setting left w) (setting left' w'') h s units
+  all_told some last = record {
+    text = interim_text plan fed.course.moments ++ rank_line plan (items_in s.known);
     written = Appends-trans w w' w'' (interim_text plan fed.course.moments) (rank_line plan (items_in s.known)) fed.written (subst (Appends w' w'') line_is last);
-    list = list;
-    goes = goes;
-    near = near;
-    shows = shows;
+    exactly = record {
+      good = fed.course.good;
+      windows = fed.course.windows;
+      rest = fed.course.rest;
+      cut = fed.course.cut;
+      moments = fed.course.moments;
+      asked = fed.course.asks.count;
+      written = refl;
+      all = all_items plan units fed.course (entries_in s.known) list some;
+      near = near;
+      grows = fed.course.asks.grows;
+      goes = goes;
+      lacks = fed.course.asks.each;
+      list = list;
+      shown = shows;
+    };
   }
 
   pub part_told : AppendsPart w' w'' (told_line rank.n rank.below rank.within) → TellsPartOfAll plan (setting left w) (setting left' w'') units
@@ -105,5 +119,5 @@ module _ (plan : Plan) (left left' w w' w'' : Option (List ℕ)) (b : Hub) (read
     list = list;
     goes = goes;
     near = near;
-    written = part_behind w w' w'' (interim_text plan fed.course.moments) (rank_line plan (items_in s.known)) fed.written (subst (AppendsPart w' w'') line_is last);
+    written = part_of_next w w' w'' (interim_text plan fed.course.moments) (rank_line plan (items_in s.known)) fed.written (subst (AppendsPart w' w'') line_is last);
   }

@@ -1,3 +1,5 @@
+pub mod MomentLaws
+pub mod HeadlineLaws
 pub mod Orders
 pub mod Course
 pub mod FeedingLaws

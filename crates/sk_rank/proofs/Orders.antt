@@ -24,7 +24,7 @@ use Rattle.sk_fill.proofs.Joined.{items_joined}
 use Rattle.sk_fill.proofs.Cutting.{all_lines_more}
 use Rattle.sk_rank.specs.declared.plan.Plan.{Plan}
 use Rattle.sk_rank.specs.Feeding.{Course}
-use Rattle.sk_rank.specs.Ranks.{IsListOf}
+use Rattle.sk_rank.specs.Headline.{IsListOf}
 use Rattle.sk_learn.proofs.Lists.{by_cons}
 
 -- ---- lists of a range of numbers

@@ -11,7 +11,7 @@ use Rattle.sk_snap.specs.History.{entries_in, name_of}
 use Rattle.sk_snap.specs.Versions.{Learnt}
 use Rattle.sk_rank.specs.declared.plan.Plan.{Plan}
 use Rattle.sk_rank.specs.Plans.{lines_of_window, share_of}
-use Rattle.sk_rank.specs.Moments.{Moment, AreMomentsOf}
+use Rattle.sk_rank.specs.Moments.{Moment, AreMoments}
 use Rattle.sk_rank.specs.Texts.{interim_text}
 
 -- it has kept nothing and holds nothing told, and has buffers of this size
@@ -41,7 +41,7 @@ pub record Course (plan : Plan) (units : List (List ℕ)) : Type 0 where
   pub moments : List Moment
   pub good : All (IsGood Raw) units
   pub cut : AreWindows (lines_of_window plan) units windows rest
-  pub asks : AreMomentsOf plan windows moments
+  pub asks : AreMoments plan windows moments
 
 -- all lines were fed, and the full windows reported: each updater kept its share of them
 pub record Fed (plan : Plan) (w w' : Option (List ℕ)) (hub : Hub) (reader : Learnt) (units : List (List ℕ)) : Type 0 where

@@ -5,4 +5,5 @@ pub mod Reports
 pub mod Moments
 pub mod Steps
 pub mod Feeding
+pub mod Headline
 pub mod Ranks

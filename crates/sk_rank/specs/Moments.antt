@@ -1,8 +1,7 @@
 -- The moments at which a ranking asks, one after each full window, and what each rank is worth: it is the sequential
 -- sketch's over one growing list of updates, which lacks of what each updater was fed at most its last two buffers
 -- (the r-relaxation of Rinberg and others, PPoPP 2020, for each updater).
-use Rattle.std.specs.Prelude.{◌≡◌, ℕ, ◌*◌, ◌<◌, List, [], ◌∷◌, ◌++◌, length, is_some}
-use Rattle.std.specs.Bool.{MatchBool}
+use Rattle.std.specs.Prelude.{◌≡◌, ℕ, ◌+◌, ◌*◌, ◌<◌, if◌then◌else◌, List, length, take, AllPairs, slice_index_or, is_some}
 use Rattle.sk_model.specs.Entries.{Entry, items_of_entries, entries_by}
 use Rattle.sk_model.specs.Missing.{Begins, LacksAtMost}
 use Rattle.sk_fill.specs.Windows.{all_lines}
@@ -23,14 +22,16 @@ pub record IsMoment (plan : Plan) (windows : List (List (List ℕ))) (m : Moment
   pub lacks : (i : ℕ) → i < plan.updaters → LacksAtMost (share_of plan windows i) (entries_by i m.list) (2 * plan.size)
   pub near : IsNear plan.at plan.k plan.key (items_of_entries m.list)
 
--- moments, one after each of these windows, which follow those before; the list of each goes on from the one before
-unfoldable pub AreMoments : Plan → List (List (List ℕ)) → List Entry → List (List (List ℕ)) → List Moment → Type 0
-AreMoments plan before last [] [] = Unit {0}
-AreMoments plan before last [] (m ∷ moments) = ⊥
-AreMoments plan before last (window ∷ windows) [] = ⊥
-AreMoments plan before last (window ∷ windows) (m ∷ moments) =
-    IsMoment plan (before ++ window ∷ []) m × Begins last m.list × AreMoments plan (before ++ window ∷ []) m.list windows moments
+-- how many moments there are after these windows: one after each if a window is asked for, else none
+abbrev pub moments_due : Plan → List (List (List ℕ)) → ℕ
+moments_due plan windows = if is_some plan.window then length windows else 0
 
--- the moments after windows, if a window was asked for; else there are none
-abbrev pub AreMomentsOf : Plan → List (List (List ℕ)) → List Moment → Type 0
-AreMomentsOf plan windows moments = MatchBool (is_some plan.window) (AreMoments plan [] [] windows moments) (moments ≡ [])
+-- the list of a later moment goes on from this one's
+abbrev pub Follows : Moment → Moment → Type 0
+Follows m m' = Begins m.list m'.list
+
+-- the moments after these windows, each later than those before it
+pub record AreMoments (plan : Plan) (windows : List (List (List ℕ))) (moments : List Moment) : Type 0 where
+  pub count : length moments ≡ moments_due plan windows
+  pub grows : AllPairs Follows moments
+  pub each : (j : ℕ) (d : Moment) → j < length moments → IsMoment plan (take (j + 1) windows) (slice_index_or moments j d)

@@ -1,5 +1,5 @@
 -- The rank that was told of a source.
-use Rattle.std.proofs.Common.{◌≡◌, ℕ, ◌≤◌, List, [], ◌++◌, length, Option, None, is_some, MatchBool, ap, subst, ◌∙◌}
+use Rattle.std.proofs.Common.{◌≡◌, ℕ, ◌≤◌, List, [], ◌++◌, ◌∷◌, if◌then◌else◌, length, Option, None, is_some, refl, ap, subst, ◌∙◌, arith}
 use Rattle.std.specs.Int.{abs_diff}
 use Rattle.std.specs.Io.KnownBytes.{Appends, Consumes, IsAtEnd}
 use Rattle.sk_hub.specs.Hearts.{HeartState}
@@ -8,30 +8,31 @@ use Rattle.sk_quant.specs.Ranks.{rank_of, rank_error}
 use Rattle.sk_read.specs.Units.{units_by, units_of}
 use Rattle.sk_snap.specs.Versions.{Learnt, items_in}
 use Rattle.sk_rank.specs.declared.plan.Plan.{Plan}
-use Rattle.sk_rank.specs.Moments.{Moment, AreMoments}
+use Rattle.sk_rank.specs.Moments.{Moment}
 use Rattle.sk_rank.specs.Ranks.{Setting, TellsAll}
 use Rattle.sk_rank.specs.Texts.{told_line, rank_line, interim_text}
 use Rattle.uses.specs.Told.{items_of_text, TellsRank}
 
-no_text : (plan : Plan) (moments : List Moment) → moments ≡ [] → interim_text plan moments ≡ []
+no_text : (plan : Plan) (moments : List Moment) → length moments ≡ 0 → interim_text plan moments ≡ []
 unfolding interim_text
-no_text plan moments none = ap (interim_text plan) none
+no_text plan [] none = refl
+no_text plan (m ∷ moments) none = absurd (omega (arith, none))
 
 pub tells_rank : (at : ℕ) (plan : Plan) (old new : Setting) (h : HeartState) (reader : Learnt) (left left' : Option (List ℕ)) (text : List ℕ) → Consumes left left' text → IsAtEnd left' → plan.window ≡ None → plan.at ≡ at
     → TellsAll plan old new h reader (units_of (units_by 0) text) → length (items_in reader.known) ≡ length (items_of_text text) → rank_of plan.at (items_in reader.known) ≡ rank_of plan.at (items_of_text text)
     → TellsRank at plan.k left left' old.written new.written
 tells_rank at plan old new h reader left left' text consumed end none at_is all count rank =
-    let c = all.course in
+    let told = all.exactly in
     let below : ℕ = ranked plan.at plan.k plan.key (items_in reader.known) in
-    let no_moments : c.moments ≡ [] = subst (λ (w : Option ℕ). MatchBool (is_some w) (AreMoments plan [] [] c.windows c.moments) (c.moments ≡ [])) none c.asks in
-    let line : interim_text plan c.moments ++ rank_line plan (items_in reader.known) ≡ told_line (length (items_of_text text)) below (rank_error (length (items_of_text text)) plan.k) =
-    ap (λ l. l ++ rank_line plan (items_in reader.known)) (no_text plan c.moments no_moments) ∙ (λ e. told_line (count e) below (rank_error (count e) plan.k)) in
+    let few : length told.moments ≡ 0 = told.asked ∙ ap (λ (w : Option ℕ). if is_some w then length told.windows else 0) none in
+    let line : all.text ≡ told_line (length (items_of_text text)) below (rank_error (length (items_of_text text)) plan.k) =
+    told.written ∙ ap (λ l. l ++ rank_line plan (items_in reader.known)) (no_text plan told.moments few) ∙ (λ e. told_line (count e) below (rank_error (count e) plan.k)) in
     record {
       text = text;
       consumed = consumed;
       end = end;
       below = below;
       near = subst (λ (m : ℕ). abs_diff below (rank_of m (items_of_text text)) ≤ rank_error (length (items_of_text text)) plan.k) at_is
-          (subst (λ n. abs_diff below (rank_of plan.at (items_of_text text)) ≤ rank_error n plan.k) count (subst (λ m. abs_diff below m ≤ rank_error (length (items_in reader.known)) plan.k) rank all.near));
+          (subst (λ n. abs_diff below (rank_of plan.at (items_of_text text)) ≤ rank_error n plan.k) count (subst (λ m. abs_diff below m ≤ rank_error (length (items_in reader.known)) plan.k) rank told.near));
       written = subst (Appends old.written new.written) line all.written;
     }

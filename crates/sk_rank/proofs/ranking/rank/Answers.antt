@@ -49,4 +49,4 @@ returns-clause-ranks g c =
     let w = g.O.Sink.written c.args.out.now in let w' = g.O.Sink.written c.feed.new.out in let w'' = g.O.Sink.written c.write_last.new.out in
     let b = hub_of c.feed.new.opened in
     reads_so c.args.most (Fed plan w w' b c.feed.new.reader) (TellsAll plan (setting left w) (setting left' w'') c.close.new.heart c.close.new.reader) left left'
-    (λ units fed. all_told plan left left' w w' w'' b c.feed.new.reader c.close.new.reader c.in_ok-rank.rank c.close.new.heart units fed c.in_ok-rank.ensures.closed c.in_ok-write_last.ensures.ok) c.in_ok-feed.ensures.fed
+    (λ units fed. all_told plan left left' w w' w'' b c.feed.new.reader c.close.new.reader c.in_ok-rank.rank c.close.new.heart units fed c.in_ok-rank.ensures.closed c.requires.within.updaters.0 c.in_ok-write_last.ensures.ok) c.in_ok-feed.ensures.fed
