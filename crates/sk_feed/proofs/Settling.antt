@@ -1,14 +1,14 @@
 -- Updaters that are settled one after another.
-use Rattle.std.proofs.Common.{◌≡◌, ◌≢◌, ⊎_elim, ℕ, ◌<◌, Bool, List, [], ◌∷◌, length, get_or, set, sym, refl, ◌∙◌, subst, arith}
+use Rattle.std.proofs.Common.{◌≡◌, ◌≢◌, ⊎_elim, ℕ, ◌<◌, Bool, true, ◌&&◌, List, [], ◌∷◌, ◌++◌, length, get_or, set, sym, ap, refl, ◌∙◌, subst, arith, append-nil}
 use Rattle.std.proofs.lemmas.Bool.{cases_eq}
 use Rattle.std.proofs.lemmas.List.{get_or-set_same, get_or-set_other, get_or_read, length-set}
-use Rattle.sk_model.specs.Entries.{Entry}
-use Rattle.sk_hub.specs.Updaters.{UpdaterState}
+use Rattle.sk_model.specs.Entries.{Entry, entries_by}
+use Rattle.sk_hub.specs.Updaters.{UpdaterState, base_of, handed_of, kept_of}
 use Rattle.sk_hub.specs.Calls.{KeepsNone}
 use Rattle.sk_hub.proofs.Calls.{none_refl, none_trans, takes_then_none}
 use Rattle.sk_read.specs.declared.kind.Kind.{Kind}
 use Rattle.sk_feed.specs.Shares.{share, KeepNone}
-use Rattle.sk_feed.specs.Hubs.{Hub, HeartGoesOn, FeedsWindow}
+use Rattle.sk_feed.specs.Hubs.{Hub, HeartGoesOn, HasAllPublished, HandsOverEarly, FeedsWindow}
 use Rattle.sk_feed.proofs.HubLaws.{heart_goes}
 
 pub none_each : (us : List UpdaterState) → KeepNone us us
@@ -43,3 +43,7 @@ fed_and_settled keeps hint_of kind lines a x y fed heart none token = record {
   };
   token = token ∙ fed.token;
 }
+
+-- nothing waits in its fill buffer
+pub base_of_eager : (early : ℕ → Bool) (u : UpdaterState) → HasAllPublished u → HandsOverEarly early u → (u.eager && early u.hint) ≡ true → entries_by u.number (base_of u) ≡ kept_of u
+base_of_eager early u published early_handed eager = published ∙ sym (ap (λ l. handed_of u ++ l) (early_handed eager) ∙ append-nil (handed_of u))

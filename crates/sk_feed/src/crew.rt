@@ -92,8 +92,8 @@ impl Crew {
         }
     }
 
-    /// The reader, which has waited `times` times, waits for a feeder once more and returns `true`; or `false` if it
-    /// should end: a feeder has ended, or they do not begin.
+    /// Waits for a feeder to take something; `times` counts the waits so far. Returns `false` if the reader should end:
+    /// a feeder has ended, or after many waits not all have begun.
     pub fn wait_for_feeders<R: Wait>(&self, rt: &R, times: u32) -> bool {
         if self.has_left() {
             return false;

@@ -1,11 +1,12 @@
 //! What follows from the definitions alone.
-ghost use Rattle.std.specs.Prelude.{ℕ, Bool, List, ◌≤◌, ◌+◌, ◌++◌, length, slice_range};
-ghost use Rattle.sk_model.specs.Entries.{Entry};
+ghost use Rattle.std.specs.Prelude.{◌≡◌, ℕ, Bool, true, ◌&&◌, List, ◌≤◌, ◌+◌, ◌++◌, length, slice_range};
+ghost use Rattle.sk_model.specs.Entries.{Entry, entries_by};
 ghost use Rattle.sk_model.specs.Missing.{Begins};
-ghost use Rattle.sk_hub.specs.Updaters.{UpdaterState, kept_of};
+ghost use Rattle.sk_hub.specs.Updaters.{UpdaterState, base_of, kept_of};
 ghost use Rattle.sk_read.specs.declared.kind.Kind.{Kind};
 ghost use Rattle.sk_fill.specs.Windows.{items_in};
 ghost use Rattle.sk_hub.specs.Calls.{Takes};
+ghost use Rattle.sk_feed.specs.Hubs.{HasAllPublished, HandsOverEarly};
 
 pub mod shares;
 
@@ -34,4 +35,10 @@ pub fn kept_begins_later()
 pub fn takes_few()
     ensures { (keeps : ℕ → ℕ → Bool) (hint_of : List ℕ → List Entry → ℕ) (u u' : UpdaterState) (items : List ℕ)
         → Takes keeps hint_of u items u' → length (kept_of u') ≤ length (kept_of u) + length items }
+{}
+
+/// While an updater is eager, the base of a settled one has all that it has kept.
+pub fn an_eager_base_lacks_nothing()
+    ensures { (early : ℕ → Bool) (u : UpdaterState) → HasAllPublished u → HandsOverEarly early u → (u.eager && early u.hint) ≡ true
+        → entries_by u.number (base_of u) ≡ kept_of u }
 {}

@@ -1,6 +1,6 @@
 -- What is known of a hub, a window and a report while a source's units are fed.
-use Rattle.std.specs.Prelude.{◌≡◌, ◌≢◌, ◌⊎◌, ℕ, ◌≤◌, Bool, true, false, List, [], length, Option, IfSome}
-use Rattle.sk_model.specs.Causes.{Rose}
+use Rattle.std.specs.Prelude.{◌≡◌, ◌≢◌, ◌⊎◌, ℕ, ◌≤◌, Bool, true, false, List, [], length, Option, Result, IfSome, OnOk, IfErr}
+use Rattle.sk_model.specs.Causes.{Rose, HasCauseIn}
 use Rattle.sk_model.specs.Entries.{Entry}
 use Rattle.sk_model.specs.Limits.{most_kept}
 use Rattle.sk_read.specs.declared.fault.Fault.{Fault}
@@ -11,7 +11,7 @@ use Rattle.sk_ingest.specs.declared.report.Stop.TheVariants as stop
 use Rattle.sk_fill.specs.Windows.{WindowState}
 use Rattle.sk_feed.specs.Rounds.{HaveFew}
 use Rattle.sk_feed.specs.Hubs.{Hub, IsHub}
-use Rattle.sk_ingest.specs.Ingests.{Terms, terms_of, Feeds, IsReady, GoesThrough, Ingests}
+use Rattle.sk_ingest.specs.Ingests.{Terms, terms_of, Feeds, IsReady, IsReported, GoesThrough, Ingests}
 
 -- the window is the plan's, and the report is of the hub's sketch
 pub record IsSetUp (plan : Intake) (window : WindowState) (hub : Hub) (sketch : Option (List ℕ)) : Type 0 where
@@ -32,6 +32,12 @@ pub record UnitsWent {R : Type 0} (t : Terms R) (units : List (List ℕ)) (a : H
   pub few : HaveFew (length units) [] b.updaters
 
 -- ---- the report
+
+-- the same report after a call with this result: it failed if that says so
+pub record ReportGoesOn {R T E : Type 0} (faults : R → ℕ) (stands_on : R → List ℕ) (sketch : R → Option (List ℕ)) (failed : E) (r s : R) (result : Result T E) : Type 0 where
+  pub cause : HasCauseIn failed (faults r) (faults s) result
+  pub stands : stands_on s ≡ stands_on r
+  pub named : sketch s ≡ sketch r
 
 -- no call of it failed, and what no call changes
 pub record SameReport {R : Type 0} (faults : R → ℕ) (stands_on : R → List ℕ) (sketch : R → Option (List ℕ)) (r s : R) : Type 0 where
@@ -59,6 +65,11 @@ StopsPassing t lines line a r s fault.TooMuch = ⊥
 StopsPassing t lines line a r s (fault.LongLine n) = ⊥
 StopsPassing t lines line a r s (fault.BadItem n) = ⊥
 StopsPassing t lines line a r s (fault.BadCsv n) = ⊥
+
+-- a full window was fed and reported, or it says why not
+pub record PassesOn {R T : Type 0} (t : Terms R) (lines : List (List ℕ)) (line : ℕ) (a : Hub) (r : R) (b : Hub) (s : R) (result : Result T Fault) : Type 0 where
+  pub passed : OnOk result ((x : Hub) × Feeds t lines a x × IsReported t line x r b s)
+  pub stopped : IfErr result (StopsPassing t lines line a r s)
 
 -- ---- one updater that takes units at once
 

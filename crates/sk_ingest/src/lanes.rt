@@ -216,7 +216,7 @@ fn run_all<T: TakesStretches + Send, R: Threads + Wait + Sync>(
     run_each(rt, lanes.as_mut_slice(), crew, kind);
 }
 
-// The same.
+// Split off for the proof: borrows the lanes as a slice.
 fn run_each<T: TakesStretches + Send, R: Threads + Wait + Sync>(
     rt: &R,
     lanes: &mut [Lane<T>],

@@ -1,11 +1,10 @@
 //! A full window, which is fed and reported.
 ghost use Rattle.std.specs.Prelude.{◌≡◌, ◌≤◌, [], ℕ, List, OnOk, IfErr, IfSome, true};
-ghost use Rattle.sk_model.specs.Causes.{HasCauseIn};
 ghost use Rattle.sk_model.specs.Limits.{most_updaters};
 ghost use Rattle.sk_feed.specs.Hubs.{Hub, hub_of, IsHub, FeedsWindow};
 ghost use Rattle.sk_feed.specs.Rounds.{HaveRoom};
 ghost use Rattle.sk_ingest.specs.Ingests.{terms_of, IsReady, IsReported};
-ghost use Rattle.sk_ingest.specs.Takers.{IsSetUp, StopsPassing};
+ghost use Rattle.sk_ingest.specs.Takers.{IsSetUp, PassesOn, ReportGoesOn};
 
 use crate::report::{Report, Stop};
 use crate::ways::{feed_in_threads, feed_window};
@@ -40,15 +39,11 @@ where
     requires places { most_updaters ≤ round.old.feeders.most }
     requires hub { IsHub (hub_of opened.old) }
     requires room { HaveRoom round.old.window.lines opened.old.updaters.items }
-    ensures passed { OnOk result ((x : Hub) × FeedsWindow C.keeps_of C.hint_of plan.now.kind round.old.window.lines (hub_of opened.old) x
-        × IsReported (terms_of C.keeps_of C.hint_of P.reports P.breaks plan.now) line x report.old (hub_of opened.new) report.new) }
-    ensures stopped { IfErr result (StopsPassing (terms_of C.keeps_of C.hint_of P.reports P.breaks plan.now) round.old.window.lines line (hub_of opened.old) report.old report.new) }
+    ensures passes { PassesOn (terms_of C.keeps_of C.hint_of P.reports P.breaks plan.now) round.old.window.lines line (hub_of opened.old) report.old (hub_of opened.new) report.new result }
     ensures cleared { OnOk result (round.new.window.lines ≡ []) }
     ensures setup { OnOk result (IsSetUp plan.now round.new.window (hub_of opened.new) (P.sketch report.new)) }
     ensures feeders { round.new.feeders ≡ round.old.feeders }
-    ensures cause { HasCauseIn Fault.WriteFault (P.faults report.old) (P.faults report.new) result }
-    ensures stays { P.stands_on report.new ≡ P.stands_on report.old }
-    ensures named { P.sketch report.new ≡ P.sketch report.old }
+    ensures report { ReportGoesOn P.faults P.stands_on P.sketch Fault.WriteFault report.old report.new result }
 {
     feed_in_threads(rt, opened, &mut round.feeders, &round.window, plan)?;
     round.window.clear();
@@ -71,12 +66,8 @@ pub(crate) fn pass_in_turn<C: Composable, P: Report<C>, R: Wait>(
     requires setup { IsSetUp plan.now window.old (hub_of opened.old) (P.sketch report.old) }
     ensures cleared { OnOk result (window.new.lines ≡ []) }
     ensures setup { OnOk result (IsSetUp plan.now window.new (hub_of opened.new) (P.sketch report.new)) }
-    ensures passed { OnOk result ((x : Hub) × FeedsWindow C.keeps_of C.hint_of plan.now.kind window.old.lines (hub_of opened.old) x
-        × IsReported (terms_of C.keeps_of C.hint_of P.reports P.breaks plan.now) line x report.old (hub_of opened.new) report.new) }
-    ensures stopped { IfErr result (StopsPassing (terms_of C.keeps_of C.hint_of P.reports P.breaks plan.now) window.old.lines line (hub_of opened.old) report.old report.new) }
-    ensures stays { P.stands_on report.new ≡ P.stands_on report.old }
-    ensures named { P.sketch report.new ≡ P.sketch report.old }
-    ensures cause { HasCauseIn Fault.WriteFault (P.faults report.old) (P.faults report.new) result }
+    ensures passes { PassesOn (terms_of C.keeps_of C.hint_of P.reports P.breaks plan.now) window.old.lines line (hub_of opened.old) report.old (hub_of opened.new) report.new result }
+    ensures report { ReportGoesOn P.faults P.stands_on P.sketch Fault.WriteFault report.old report.new result }
 {
     feed_window(rt, opened, window, plan)?;
     window.clear();
@@ -118,9 +109,7 @@ fn report_at<C: Composable, P: Report<C>>(
     requires sketch { IfSome (P.sketch report.old) (λ name. opened.old.heart.view.name ≡ name) }
     ensures reported { OnOk result (IsReported (terms_of C.keeps_of C.hint_of P.reports P.breaks plan.now) line (hub_of opened.old) report.old (hub_of opened.new) report.new) }
     ensures stopped { IfErr result (λ stop. (plan.now.interim ≡ true) × P.breaks report.old stop line (hub_of opened.old) (hub_of opened.new) report.new) }
-    ensures cause { HasCauseIn Stop.Failed (P.faults report.old) (P.faults report.new) result }
-    ensures stays { P.stands_on report.new ≡ P.stands_on report.old }
-    ensures named { P.sketch report.new ≡ P.sketch report.old }
+    ensures report { ReportGoesOn P.faults P.stands_on P.sketch Stop.Failed report.old report.new result }
     ensures name { opened.new.heart.view.name ≡ opened.old.heart.view.name }
 {
     if plan.interim {

@@ -8,7 +8,7 @@ ghost use Rattle.sk_read.specs.Reads.{Reads};
 ghost use Rattle.sk_read.specs.Units.{units_by};
 ghost use Rattle.sk_feed.specs.Hubs.{Hub, hub_of};
 ghost use Rattle.sk_ingest.specs.Ingests.{terms_of, StopsAtUnit};
-ghost use Rattle.sk_ingest.specs.Takers.{IsSetUp, WindowsWent, SameReport, ReportStops};
+ghost use Rattle.sk_ingest.specs.Takers.{IsSetUp, WindowsWent, SameReport, ReportStops, ReportGoesOn};
 
 use crate::passing::pass_in_turn;
 use crate::report::Report;
@@ -88,10 +88,8 @@ fn take_unit<C: Composable, P: Report<C>, R: Wait>(
     ensures stopped { IfErr result (λ why. (a : Hub) (r : _) (units : List (List ℕ)) → length units + 1 ≡ number
         → WindowsWent (terms_of C.keeps_of C.hint_of P.reports P.breaks plan.now) units a r window.old.lines (hub_of opened.old) report.old
         → StopsAtUnit (terms_of C.keeps_of C.hint_of P.reports P.breaks plan.now) a r report.new why units unit.now) }
-    ensures cause { HasCauseIn Fault.WriteFault (P.faults report.old) (P.faults report.new) result }
     ensures fault { IfErr result (IsOfTaker number) }
-    ensures stays { P.stands_on report.new ≡ P.stands_on report.old }
-    ensures named { P.sketch report.new ≡ P.sketch report.old }
+    ensures report { ReportGoesOn P.faults P.stands_on P.sketch Fault.WriteFault report.old report.new result }
 {
     if !is_good(plan.kind, unit) {
         return Err(Fault::BadItem(number));
@@ -117,14 +115,12 @@ pub(crate) fn read_field_windows<S: Source, C: Composable, P: Report<C>, R: Wait
     requires setup { IsSetUp plan.now window.old (hub_of opened.old) (P.sketch report.old) }
     requires bound { plan.now.most ≤ source_limit }
     ensures stays { S.stands_on source.new ≡ S.stands_on source.old }
-    ensures report { P.stands_on report.new ≡ P.stands_on report.old }
-    ensures named { P.sketch report.new ≡ P.sketch report.old }
+    ensures report { ReportGoesOn P.faults P.stands_on P.sketch Fault.WriteFault report.old report.new result }
     ensures setup { OnOk result (IsSetUp plan.now window.new (hub_of opened.new) (P.sketch report.new)) }
     ensures read { Reads (units_by plan.now.column) plan.now.most
         (λ units. WindowsWent (terms_of C.keeps_of C.hint_of P.reports P.breaks plan.now) units (hub_of opened.old) report.old window.new.lines (hub_of opened.new) report.new)
         (StopsAtUnit (terms_of C.keeps_of C.hint_of P.reports P.breaks plan.now) (hub_of opened.old) report.old report.new) (S.left source.old) (S.left source.new) result }
     ensures reads { HasCauseIn Fault.ReadFault (S.faults source.old) (S.faults source.new) result }
-    ensures writes { HasCauseIn Fault.WriteFault (P.faults report.old) (P.faults report.new) result }
 {
     let mut taker = Windowed {
         rt,

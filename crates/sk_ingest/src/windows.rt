@@ -6,7 +6,7 @@ ghost use Rattle.sk_read.specs.Reads.{Reads};
 ghost use Rattle.sk_read.specs.Units.{units_by};
 ghost use Rattle.sk_feed.specs.Hubs.{hub_of};
 ghost use Rattle.sk_ingest.specs.Ingests.{terms_of, StopsAtUnit};
-ghost use Rattle.sk_ingest.specs.Takers.{IsSetUp, WindowsWent};
+ghost use Rattle.sk_ingest.specs.Takers.{IsSetUp, WindowsWent, ReportGoesOn};
 
 use crate::passing::{Round, pass_on};
 use crate::report::Report;
@@ -41,10 +41,8 @@ where
         (λ units. WindowsWent (terms_of C.keeps_of C.hint_of P.reports P.breaks plan.now) units (hub_of opened.old) report.old round.new.window.lines (hub_of opened.new) report.new)
         (StopsAtUnit (terms_of C.keeps_of C.hint_of P.reports P.breaks plan.now) (hub_of opened.old) report.old report.new) (S.left source.old) (S.left source.new) result }
     ensures reads { HasCauseIn Fault.ReadFault (S.faults source.old) (S.faults source.new) result }
-    ensures writes { HasCauseIn Fault.WriteFault (P.faults report.old) (P.faults report.new) result }
     ensures stays { S.stands_on source.new ≡ S.stands_on source.old }
-    ensures report { P.stands_on report.new ≡ P.stands_on report.old }
-    ensures named { P.sketch report.new ≡ P.sketch report.old }
+    ensures report { ReportGoesOn P.faults P.stands_on P.sketch Fault.WriteFault report.old report.new result }
     ensures feeders { round.new.feeders ≡ round.old.feeders }
 {
     if plan.column > 0 {

@@ -1,7 +1,4 @@
-use Rattle.std.proofs.Common.{◌≡◌, ◌∷◌, [], ◌++◌, length, sym, ap, ◌∙◌, subst, arith}
-use Rattle.sk_model.specs.Limits.{most_updaters}
-use Rattle.sk_feed.specs.Rounds.{HaveFew}
-use Rattle.sk_feed.specs.Shares.{TakeShares}
+use Rattle.std.proofs.Common.{◌∷◌, [], ap, ◌∙◌, arith}
 use Rattle.sk_ingest.proofs.SupplyLaws.{nothing_fed, told_otherwise}
 use Rattle.sk_ingest.proofs.TakerLaws.{few_all, shares_of_one, none_left}
 use Rattle.sk_ingest.proofs.lanes.feed_in_one_lane.Goals as goal

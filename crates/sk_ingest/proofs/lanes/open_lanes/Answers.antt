@@ -1,7 +1,7 @@
-use Rattle.std.proofs.Common.{◌≡◌, ◌∷◌, [], ◌++◌, map, sym, ap, ◌∙◌, subst, append-nil, append_assoc}
+use Rattle.std.proofs.Common.{◌∷◌, [], ◌++◌, map, sym, ap, ◌∙◌, subst, append_assoc}
 use Rattle.std.proofs.lemmas.List.{map-append}
 use Rattle.sk_ingest.specs.Lanes.{AreOpen}
-use Rattle.sk_ingest.proofs.LaneLaws.{no_rings, rings_more, next_of_all}
+use Rattle.sk_ingest.proofs.LaneLaws.{rings_more, next_of_all}
 use Rattle.sk_ingest.proofs.lanes.open_lanes.Goals as goal
 
 pub open-requires-clause-few : goal.open-requires-clause-few

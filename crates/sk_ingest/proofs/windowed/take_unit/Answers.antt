@@ -29,7 +29,7 @@ returns-clause-went g c =
     let y = hub_of c.pass_in_turn.new.opened in let q = c.pass_in_turn.new.report in
     let good : IsGood plan.kind unit = c.is_good.ensures.good c.if-not-is_good.false in
     let full = full_is plan.window c.args.window.now.most c.push.new.self.most lines c.push.new.self.lines unit c.is_full.result _ c.push.ensures.most c.requires.setup.most c.in_ok-push.ensures.lines c.is_full.ensures c.if-not-is_full.false in
-    ok_two c.pass_in_turn.result c.pass_in_turn.ensures.passed c.pass_in_turn.ensures.cleared
+    ok_two c.pass_in_turn.result c.pass_in_turn.ensures.passes.passed c.pass_in_turn.ensures.cleared
     (λ passed cleared. λ a r units count went.
     let small : length units + 1 ≤ most_kept = omega (arith, count, c.requires.room) in
     let fed = subst (λ l. FeedsWindow k.keeps_of k.hint_of plan.kind l hub passed.0) c.in_ok-push.ensures.lines passed.1 in
@@ -42,7 +42,7 @@ returns-clause-stopped g c =
     let t = terms_of k.keeps_of k.hint_of p.reports p.breaks plan in let hub = hub_of c.args.opened.now in let s = c.args.report.now in let q = c.pass_in_turn.new.report in
     let good : IsGood plan.kind unit = c.is_good.ensures.good c.if-not-is_good.false in
     let full = full_is plan.window c.args.window.now.most c.push.new.self.most lines c.push.new.self.lines unit c.is_full.result _ c.push.ensures.most c.requires.setup.most c.in_ok-push.ensures.lines c.is_full.ensures c.if-not-is_full.false in
-    if_err_then c.pass_in_turn.result (StopsPassing t c.push.new.self.lines c.args.number hub s q) _ c.pass_in_turn.ensures.stopped
+    if_err_then c.pass_in_turn.result (StopsPassing t c.push.new.self.lines c.args.number hub s q) _ c.pass_in_turn.ensures.passes.stopped
     (λ why stops. λ a r units count went.
     pass_stops t units unit a hub r s q lines why went good c.requires.setup.least full
     (subst (λ l. StopsPassing t l (length units + 1) hub s q why) c.in_ok-push.ensures.lines (subst (λ n. StopsPassing t c.push.new.self.lines n hub s q why) (sym count) stops)))

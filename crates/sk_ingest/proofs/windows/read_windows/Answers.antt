@@ -85,7 +85,7 @@ window-preserved g c =
     let full = subst (λ m. IsFullWindow m (front ++ line ∷ [])) (c.fill.ensures.most ∙ inv.setup.most) (subst (IsFullWindow c.fill.new.window.most) last.2 (c.fill.ensures.full gave)) in
     let good = subst (All (IsGood plan.kind)) last.2 c.fill.ensures.good in
     let small : length units + 1 ≤ most_kept = omega (arith, read_few c.fill.new.reader (g.S.Source.left c.fill.new.source) (units ++ line ∷ []) (inv.taken ++ one.more) one.read, length-append units (line ∷ [])) in
-    let passed = c.in_ok-pass_on.ensures.passed in
+    let passed = c.in_ok-pass_on.ensures.passes.passed in
     let place = line_number c.fill.new.reader (g.S.Source.left c.window.source) (g.S.Source.left c.fill.new.source) units line inv.taken c.number-number.result one c.number-number.ensures in
     record {
       given = units ++ line ∷ [];
@@ -104,9 +104,9 @@ window-preserved g c =
       stays = c.fill.ensures.stays ∙ inv.stays;
       feeders = c.pass_on.ensures.feeders ∙ inv.feeders;
       same = record {
-        steady = subst (λ x. OnOk x (p.faults q ≡ p.faults s)) c.in_ok-pass_on.was (steady_on_ok _ (p.faults s) (p.faults q) c.pass_on.result c.pass_on.ensures.cause) ∙ inv.same.steady;
-        stands = c.pass_on.ensures.stays ∙ inv.same.stands;
-        named = c.pass_on.ensures.named ∙ inv.same.named;
+        steady = subst (λ x. OnOk x (p.faults q ≡ p.faults s)) c.in_ok-pass_on.was (steady_on_ok _ (p.faults s) (p.faults q) c.pass_on.result c.pass_on.ensures.report.cause) ∙ inv.same.steady;
+        stands = c.pass_on.ensures.report.stands ∙ inv.same.stands;
+        named = c.pass_on.ensures.report.named ∙ inv.same.named;
       };
     }
 
@@ -125,7 +125,7 @@ returns-in_err-pass_on-clause-read g c =
     let small : length units + 1 ≤ most_kept = omega (arith, read_few c.fill.new.reader left (units ++ line ∷ []) (inv.taken ++ one.more) one.read, length-append units (line ∷ [])) in
     let n = c.number-number.result in let f = c.in_err-pass_on.field-0.0 in
     let place = line_number c.fill.new.reader (g.S.Source.left c.window.source) left units line inv.taken n one c.number-number.ensures in
-    let stops = c.in_err-pass_on.ensures.stopped in
+    let stops = c.in_err-pass_on.ensures.passes.stopped in
     let Gave : List (List ℕ) → Type 0 = λ l. WindowsWent t l hub r c.pass_on.new.round.window.lines y q in
     let stopped = pass_stops t units line hub b r s q front f (front_waits t inv.given front line hub b r s inv.went small good full)
     (All-pop (IsGood plan.kind) (front ++ line ∷ []) front (Some line) refl good).1 inv.setup.least full.full
