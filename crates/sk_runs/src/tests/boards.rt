@@ -1,6 +1,6 @@
 // Boards of watchers that a test makes.
-ghost use Rattle.std.specs.Prelude.{◌≡◌, [], All, IsSome, IfOk, length};
-ghost use Rattle.sk_cli.specs.Beside.{board_places};
+ghost use Rattle.std.specs.Prelude.{[], IfOk};
+ghost use Rattle.sk_cli.specs.Beside.{IsFullBoard};
 
 use super::rows::{bytes_of, due_of, shelf_of};
 use super::stage::{FINE, Ran, expect, run_beside};
@@ -34,8 +34,7 @@ impl Watcher for Fake {
 
 // Fakes of which the first alone goes.
 fn fakes(alloc: Global) -> Result<Board, Fail>
-    ensures places { IfOk result (λ board. length (⟦<Board as Seen>⟧.places board) ≡ board_places) }
-    ensures live { IfOk result (λ board. All IsSome (⟦<Board as Seen>⟧.places board)) }
+    ensures { IfOk result (λ board. IsFullBoard (⟦<Board as Seen>⟧.places board)) }
 {
     let mut boxes: Vec<Option<Box<dyn Watcher>>> = Vec::new(alloc);
     'place: for place in 0..BOARD_PLACES {

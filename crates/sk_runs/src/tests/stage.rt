@@ -1,6 +1,6 @@
 // One run over streams in memory, and the boards that it is handed.
-ghost use Rattle.std.specs.Prelude.{◌≡◌, All, IsSome, IfOk, length};
-ghost use Rattle.sk_cli.specs.Beside.{board_places};
+ghost use Rattle.std.specs.Prelude.{IfOk};
+ghost use Rattle.sk_cli.specs.Beside.{IsFullBoard};
 
 use sk_cli::{BOARD_PLACES, Remains, board_of, run};
 use sk_io::{Door, MemDoor, MemSink, MemSource, Shelf};
@@ -60,8 +60,7 @@ pub fn words_of(alloc: Global, line: &str) -> Result<Vec<String>, Fail> {
 
 /// An alarm at each place.
 pub fn alarms(alloc: Global) -> Result<Board, Fail>
-    ensures places { IfOk result (λ board. length (⟦<Board as Seen>⟧.places board) ≡ board_places) }
-    ensures live { IfOk result (λ board. All IsSome (⟦<Board as Seen>⟧.places board)) }
+    ensures { IfOk result (λ board. IsFullBoard (⟦<Board as Seen>⟧.places board)) }
 {
     let mut boxes: Vec<Option<Box<dyn Watcher>>> = Vec::new(alloc);
     'place: for _place in 0..BOARD_PLACES {
@@ -93,8 +92,7 @@ pub fn run_beside<R: Threads + Wait + Sync, F: Shelf, B: Seen>(
     shelf: &mut F,
     board: &mut B,
 ) -> Result<Ran, Fail>
-    requires places { length (B.places board.old) ≡ board_places }
-    requires live { All IsSome (B.places board.old) }
+    requires { IsFullBoard (B.places board.old) }
 {
     let mut door = MemDoor::new(Vec::new(alloc), Vec::new(alloc));
     run_at(rt, alloc, streams, line, text, shelf, &mut door, board)
@@ -113,8 +111,7 @@ pub fn run_at<R: Threads + Wait + Sync, F: Shelf, D: Door, B: Seen>(
 ) -> Result<Ran, Fail>
 where
     D::Link: Send,
-    requires places { length (B.places board.old) ≡ board_places }
-    requires live { All IsSome (B.places board.old) }
+    requires { IsFullBoard (B.places board.old) }
 {
     let words = words_of(alloc, line)?;
     let mut input = input_of(alloc, streams, text)?;
