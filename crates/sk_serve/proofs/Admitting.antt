@@ -1,5 +1,6 @@
 -- Links that are accepted, one after another.
-use Rattle.std.proofs.Common.{◌≡◌, ℕ, ◌+◌, List, [], ◌∷◌, ◌++◌, ◌-◌, ◌^◌, min, length, Result, Err, IsErrOf, sym, ap, subst, ◌∙◌, arith}
+use Rattle.std.proofs.Common.{◌≡◌, ℕ, ◌+◌, List, [], ◌∷◌, ◌++◌, ◌-◌, ◌^◌, ◌<◌, ◌≤◌, min, length, Option, Some, Result, Err, IsErrOf, sym, ap, subst, ◌∙◌, arith}
+use Rattle.std.proofs.lemmas.List.{length-map}
 use Rattle.atomic_table.specs.Seated.{TableId}
 use Rattle.sk_model.specs.Causes.{HasCauseIn}
 use Rattle.sk_model.specs.Entries.{Entry}
@@ -7,10 +8,13 @@ use Rattle.sk_compose.specs.Numbers.{k_of}
 use Rattle.sk_hub.specs.Drains.{IsNew}
 use Rattle.sk_hub.specs.Hearts.{HeartState}
 use Rattle.sk_hub.specs.Updaters.{UpdaterState}
+use Rattle.sk_line.specs.declared.sessions.End.{End}
 use Rattle.sk_report.specs.Sizes.{size_at}
 use Rattle.sk_serve.specs.declared.plan.ServePlan.{ServePlan}
-use Rattle.sk_serve.specs.Served.{IsFresh}
-use Rattle.sk_serve.specs.Waves.{Visit, IsHeartOf, IsReady, AreReady}
+use Rattle.sk_serve.specs.Plans.{IsServable}
+use Rattle.sk_serve.specs.Served.{IsFresh, Served, links_of}
+use Rattle.sk_serve.specs.Doors.{DoorView, LetsIn}
+use Rattle.sk_serve.specs.Waves.{Visit, CanServe, IsHeartOf, IsNewHub, IsReady, AreReady, ServesSome, left_after, next_count}
 use Rattle.sk_serve.proofs.Each.{each_none, each_last}
 
 pub new_fresh : (hint_of : List ℕ → List Entry → ℕ) (plan : ServePlan) (i b : ℕ) (h : HeartState) (u : UpdaterState) → IsNew hint_of i b h u → b ≡ size_at plan.sizes i → IsHeartOf plan h → IsFresh plan i u
@@ -26,8 +30,38 @@ admitted_more h h1 h2 n first then =
     let next : h.admitted + n + 1 ≡ h.admitted + (n + 1) = omega arith in
     then ∙ ap (λ (z : HeartState). record z { admitted = z.admitted + 1 }) first ∙ ap (λ m. record h { admitted = m }) next
 
-pub still_hub : (plan : ServePlan) (h h1 : HeartState) (n : ℕ) → h1 ≡ record h { admitted = h.admitted + n } → IsHeartOf plan h → IsHeartOf plan h1
-still_hub plan h h1 n is hub = subst (IsHeartOf plan) (sym is) (record { updaters = hub.updaters; k = hub.k; eager_is = hub.eager_is })
+-- after some were admitted, and their links accepted, one more can be
+pub still_can : (plan : ServePlan) (count n : ℕ) (h h1 : HeartState) (a b : DoorView) (texts : List (Option (List ℕ))) → n < count → h1 ≡ record h { admitted = h.admitted + n } → LetsIn texts a b → CanServe plan count h a → CanServe plan 1 h1 b
+still_can plan count n h h1 a b texts below is came can = record {
+  within = can.within;
+  hub = subst (IsHeartOf plan) (sym is) (record { updaters = can.hub.updaters; k = can.hub.k; eager_is = can.hub.eager_is });
+  vacant = let admitted : h1.admitted ≡ h.admitted + n = ap (λ z. z.admitted) is in omega (arith, below, admitted, can.vacant);
+  listens = came.arrive.port ∙ can.listens;
+  room = omega (arith, below, can.room, came.room);
+}
+
+-- a new hub at a door that listens
+pub can_begin : (plan : ServePlan) (h : HeartState) (a : DoorView) → IsServable plan → IsNewHub plan h → a.doorway.port ≡ Some plan.port → a.room ≡ plan.sessions → CanServe plan plan.sessions h a
+can_begin plan h a within new listens room = record { within = within; hub = new.hub; vacant = omega (arith, new.admitted); listens = listens; room = omega (arith, room) }
+
+-- the next wave can be, of those that are left
+pub can_next : (plan : ServePlan) (h : HeartState) (a : DoorView) (count : ℕ) → count ≡ next_count plan h → CanServe plan (left_after plan h) h a → CanServe plan count h a
+can_next plan h a count is can = record { within = can.within; hub = can.hub; vacant = omega (arith, is, can.vacant); listens = can.listens; room = omega (arith, is, can.room) }
+
+-- after some waves, those that are left can be
+pub can_go_on : (plan : ServePlan) (most : ℕ) (h h' : HeartState) (a b : DoorView) (ends : List End) (sessions : List Served) → CanServe plan plan.sessions h a → ServesSome plan most h h' a b ends sessions → length sessions ≤ plan.sessions → CanServe plan (left_after plan h') h' b
+can_go_on plan most h h' a b ends sessions can s within =
+    let links : length (links_of sessions) ≡ length sessions = length-map sessions (λ (z : Served). z.ended) in record {
+      within = can.within;
+      hub = s.hub;
+      vacant = omega (arith, s.heart.admitted, within);
+      listens = s.through.port ∙ can.listens;
+      room = omega (arith, s.through.room, links, can.room, s.heart.admitted);
+    }
+
+-- all that a hub can admit is still to come
+pub is_new : (plan : ServePlan) (h : HeartState) (a : DoorView) → CanServe plan plan.sessions h a → h.view.drained ≡ [] → IsNewHub plan h
+is_new plan h a can drained = record { hub = can.hub; admitted = omega (arith, can.vacant); drained = drained }
 
 -- ---- jobs
 

@@ -12,11 +12,11 @@ lines_append from (x ∷ xs) ys =
     ap (λ l. session_line from x ++ l) (lines_append (from + 1) xs ys ∙ ap (λ n. session_lines (from + 1) xs ++ session_lines n ys) next)
     ∙ sym (append_assoc (session_line from x) (session_lines (from + 1) xs) (session_lines (from + suc (length xs)) ys))
 
--- the lines of the first so many
+-- the lines of the first sessions
 abbrev pub lines_before : List End → ℕ → List ℕ
 lines_before ends i = session_lines 0 (take i ends)
 
--- and of those behind one more
+-- the lines after those of one more
 abbrev pub lines_behind : List End → ℕ → List ℕ
 lines_behind ends i = session_lines (i + 1) (drop (i + 1) ends)
 

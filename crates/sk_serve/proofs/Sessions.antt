@@ -3,7 +3,7 @@ use Rattle.std.proofs.Common.{◌≡◌, ℕ, ◌+◌, ◌-◌, ◌^◌, ◌<◌
 use Rattle.std.proofs.lemmas.List.{map-append, length-map}
 use Rattle.atomic_table.specs.Seated.{TableId}
 use Rattle.sk_model.specs.Causes.{Rose}
-use Rattle.sk_io.specs.Traffic.{Traffic, Ended, Doorway, SendsPart, text_of}
+use Rattle.sk_io.specs.Traffic.{Traffic, Ended, text_of}
 use Rattle.sk_io.proofs.Links.{text_kept}
 use Rattle.sk_theta.specs.Sizes.{Sizes}
 use Rattle.sk_hub.specs.Updaters.{UpdaterState}
@@ -15,9 +15,11 @@ use Rattle.sk_line.specs.declared.sessions.End.TheVariants as end
 use Rattle.sk_line.proofs.Added.{answers_keep}
 use Rattle.sk_hub.proofs.Calls.{goes_trans}
 use Rattle.sk_serve.specs.declared.plan.ServePlan.{ServePlan}
+use Rattle.sk_serve.specs.Doors.{DoorView, LetsOut}
 use Rattle.sk_serve.specs.Plans.{shape_of}
 use Rattle.sk_serve.specs.Served.{Served, IsServed, links_of, ends_of, answered_in}
 use Rattle.sk_serve.specs.Waves.{Visit, IsReady, WasRun, ClosesLinks}
+use Rattle.sk_serve.proofs.Closed.{closes_none}
 use Rattle.sk_serve.proofs.Each.{each_none, each_last}
 use Rattle.sk_serve.proofs.Going.{answers_of}
 
@@ -76,22 +78,20 @@ ready_run plan shape most table i v v' shape_is ready done =
 
 -- ---- links that are closed
 
-pub none_closed : (plan : ServePlan) (most : ℕ) (table : TableId) (from : ℕ) (before : Doorway) (ends : List End) (us : List UpdaterState) → us ≡ [] → ClosesLinks plan most table from 0 [] before before ends ends us
-none_closed plan most table from before ends us none = record {
+pub none_closed : (plan : ServePlan) (most : ℕ) (table : TableId) (from : ℕ) (door : DoorView) (ends : List End) (us : List UpdaterState) → us ≡ [] → ClosesLinks plan most table from 0 [] door door ends ends us
+none_closed plan most table from door ends us none = record {
   sessions = [];
   as_many = refl;
   served = each_none (IsServed plan most) from;
-  are = refl;
-  coming = refl;
-  closed = sym (append-nil before.closed);
+  closes = closes_none door;
   ended = sym (append-nil ends);
   updaters = none;
   of_hub = record { tables = λ i d within. absurd (let no : ⊥ = omega (arith, within, ap length none) in no); numbers = λ i d within. absurd (let no : ⊥ = omega (arith, within, ap length none) in no) };
 }
 
-pub one_closed : (plan : ServePlan) (most : ℕ) (table : TableId) (from n : ℕ) (texts : List (Option (List ℕ))) (before mid now : Doorway) (ends ends1 ends2 : List End) (us us2 : List UpdaterState) (v : Visit) (e : End)
-    → ClosesLinks plan most table from n texts before mid ends ends1 us → WasRun plan most table (from + n) v → v.told ≡ Some e → now ≡ record mid { closed = mid.closed ++ v.link ∷ [] } → ends2 ≡ ends1 ++ e ∷ [] → us2 ≡ us ++ v.updater ∷ [] → ClosesLinks plan most table from (n + 1) (texts ++ text_of v.link.traffic ∷ []) before now ends ends2 us2
-one_closed plan most table from n texts before mid now ends ends1 ends2 us us2 v e c run told closed ended updaters =
+pub one_closed : (plan : ServePlan) (most : ℕ) (table : TableId) (from n : ℕ) (texts : List (Option (List ℕ))) (old mid new : DoorView) (ends ends1 ends2 : List End) (us us2 : List UpdaterState) (v : Visit) (e : End)
+    → ClosesLinks plan most table from n texts old mid ends ends1 us → WasRun plan most table (from + n) v → v.told ≡ Some e → ((links : List Ended) → LetsOut texts links old mid → LetsOut (texts ++ text_of v.link.traffic ∷ []) (links ++ v.link ∷ []) old new) → ends2 ≡ ends1 ++ e ∷ [] → us2 ≡ us ++ v.updater ∷ [] → ClosesLinks plan most table from (n + 1) (texts ++ text_of v.link.traffic ∷ []) old new ends ends2 us2
+one_closed plan most table from n texts old mid new ends ends1 ends2 us us2 v e c run told closed ended updaters =
     let s = run.session in
     let same : e ≡ s.end = ap (λ (o : Option End). unwrap_or o e) (sym told ∙ run.told_is) in
     let links : links_of (c.sessions ++ s ∷ []) ≡ links_of c.sessions ++ v.link ∷ [] = map-append (λ (z : Served). z.ended) c.sessions (s ∷ []) ∙ ap (λ x. links_of c.sessions ++ x ∷ []) (sym run.link_is) in
@@ -100,9 +100,7 @@ one_closed plan most table from n texts before mid now ends ends1 ends2 us us2 v
       sessions = c.sessions ++ s ∷ [];
       as_many = length-append c.sessions (s ∷ []) ∙ ap (λ m. m + 1) c.as_many;
       served = each_last (IsServed plan most) from c.sessions s c.served (subst (λ m. IsServed plan most (from + m) s) (sym c.as_many) run.served);
-      are = ap (λ l. map (λ (z : Ended). text_of z.traffic) l) links ∙ map-append (λ (z : Ended). text_of z.traffic) (links_of c.sessions) (v.link ∷ []) ∙ ap (λ l. l ++ text_of v.link.traffic ∷ []) c.are;
-      coming = ap (λ d. d.coming) closed ∙ c.coming;
-      closed = ap (λ d. d.closed) closed ∙ ap (λ l. l ++ v.link ∷ []) c.closed ∙ append_assoc before.closed (links_of c.sessions) (v.link ∷ []) ∙ ap (λ l. before.closed ++ l) (sym links);
+      closes = subst (λ l. LetsOut (texts ++ text_of v.link.traffic ∷ []) l old new) (sym links) (closed (links_of c.sessions) c.closes);
       ended = ended ∙ ap (λ l. l ++ e ∷ []) c.ended ∙ append_assoc ends (ends_of c.sessions) (e ∷ []) ∙ ap (λ l. ends ++ l) (ap (λ x. ends_of c.sessions ++ x ∷ []) same ∙ sym (map-append (λ (z : Served). z.end) c.sessions (s ∷ [])));
       updaters = updaters ∙ ap (λ l. l ++ v.updater ∷ []) c.updaters ∙ ap (λ x. map (λ z. z.updater) c.sessions ++ x ∷ []) run.updater_is ∙ sym (map-append (λ (z : Served). z.updater) c.sessions (s ∷ []));
       of_hub = record {

@@ -30,11 +30,17 @@ use Rattle.sk_report.specs.Texts.{alarm_lines, reply_of, armed_with}
 use Rattle.sk_serve.specs.declared.plan.ServePlan.{ServePlan}
 use Rattle.sk_report.specs.declared.remains.Remains.{Remains}
 use Rattle.sk_serve.specs.declared.fault.ServeFault.{ServeFault}
-use Rattle.sk_serve.specs.Served.{Served, ShowsSessions, ServesSessions, ends_of}
+use Rattle.sk_serve.specs.declared.fault.ServeFault.TheVariants as fault
+use Rattle.sk_serve.specs.Around.{Surroundings, surroundings, armed_for}
+use Rattle.sk_serve.specs.Doors.{DoorView}
+use Rattle.sk_serve.specs.Headline.{ServesExactly}
+use Rattle.sk_serve.specs.Plans.{IsServable}
+use Rattle.sk_serve.specs.Served.{Served, ShowsSessions, ServesSessions, StopsServing, ends_of}
 use Rattle.sk_hub.proofs.Taking.{exactly_taken}
-use Rattle.sk_serve.specs.Waves.{IsHeartOf, HasDrainedThem, ServesSome}
+use Rattle.sk_serve.specs.Waves.{IsHeartOf, HasDrainedThem, ServesSome, ServesAndAsks}
 use Rattle.sk_serve.specs.Texts.{session_lines, served_text}
-use Rattle.sk_serve.specs.Serves.{Surroundings, surroundings, ServesAndTells, TellsSessions, TellsPartOfSessions, ServeEnds, ServesPlan}
+use Rattle.sk_serve.specs.Serves.{WritesPart, ServeEnds, ServesPlan}
+use Rattle.sk_serve.proofs.Conclusions.{one_estimate, shares_list}
 
 -- ---- the last ask
 
@@ -75,15 +81,15 @@ had_memory sessions ends are all i d within =
     let inside : i < length ends = omega (arith, within, ap length are, length-map sessions (λ (s : Served). s.end)) in
     subst (λ (e : End). e ≢ OutOfMemory) (ap (λ l. get_or l i d.end) are ∙ get_or-map (λ (s : Served). s.end) sessions i d d.end within) (all i d.end inside)
 
-pub all_served : (plan : ServePlan) (most : ℕ) (before now : Doorway) (ends : List End) (sessions : List Served) (h h' : HeartState) (word : ℕ) → now.port ≡ Some plan.port → length sessions ≡ plan.sessions → ServesSome plan most before now ends sessions h → All (λ e. e ≢ OutOfMemory) ends → IsWholeHeart h → IsHeartOf plan h → IsRelaxedReply packed h.view word h'.view → HasDrained h.view h'.view
-    → ServesSessions plan most before now sessions h'
-all_served plan most before now ends sessions h h' word listens count s memory whole hub r drained = record {
-  listens = listens;
+pub all_served : (plan : ServePlan) (most : ℕ) (h h' h'' : HeartState) (a b : DoorView) (ends : List End) (sessions : List Served) (word : ℕ) → a.doorway.port ≡ Some plan.port → length sessions ≡ plan.sessions → ServesSome plan most h h' a b ends sessions → All (λ e. e ≢ OutOfMemory) ends → IsWholeHeart h'
+    → IsRelaxedReply packed h'.view word h''.view → HasDrained h'.view h''.view → ServesSessions plan most a.doorway b.doorway sessions h''
+all_served plan most h h' h'' a b ends sessions word port count s memory whole r drained = record {
+  listens = s.through.port ∙ port;
   count = count;
   served = s.served;
   memory = had_memory sessions ends s.ended memory;
-  passes = s.passes;
-  shows = shows plan sessions h h' word count s.heart whole hub r drained;
+  passes = s.through.passes;
+  shows = shows plan sessions h' h'' word count s.heart whole s.hub r drained;
 }
 
 pub served_from : (plan : ServePlan) (most : ℕ) (before before' now : Doorway) (sessions : List Served) (h : HeartState) → before'.coming ≡ before.coming → before'.closed ≡ before.closed → ServesSessions plan most before' now sessions h → ServesSessions plan most before now sessions h
@@ -117,23 +123,40 @@ module _ (plan : ServePlan) (list : List Entry) (entries : All (IsEntry plan.ses
   pub places_are : (places armed places' : List Place) → armed ≡ armed_with plan.k plan.alarms places → places' ≡ map (told reply) armed → places' ≡ map (told (reply_of plan.k list)) (armed_with plan.k plan.alarms places)
   places_are places armed places' armed_is is = is ∙ ap (λ p. map (told reply) p) armed_is ∙ ap (λ z. map (told z) (armed_with plan.k plan.alarms places)) reply_is
 
--- ---- a server that served all sessions
+-- ---- how a server ends
 
-pub ends_by : (plan : ServePlan) (most : ℕ) (old new : Surroundings) (remains : Remains) (r : Result (Unit {0}) ServeFault) (f : ServeFault) → IsErrAnd r (λ e. e ≡ f) → ServeEnds plan most old new f → ServesPlan plan most old new remains r
-ends_by plan most old new remains (Ok x) f is ends = absurd is
-ends_by plan most old new remains (Err e) f is ends = subst (ServeEnds plan most old new) (sym is) ends
+pub ends_by : (plan : ServePlan) (most : ℕ) (old new : Surroundings) (r : Result Remains ServeFault) (f : ServeFault) → IsErrAnd r (λ e. e ≡ f) → ServeEnds plan most old new f → ServesPlan plan most old new r
+ends_by plan most old new (Ok x) f is ends = absurd is
+ends_by plan most old new (Err e) f is ends = subst (ServeEnds plan most old new) (sym is) ends
 
-module _ (plan : ServePlan) (most : ℕ) (w w' : Option (List ℕ)) (places armed places' : List Place) (before now : Doorway) (ends : List End) (sessions : List Served) (h : HeartState) (word : ℕ) (reply : Reply) (gone : ℕ) (estimate : ℕ × ℕ)
-    (armed_is : armed ≡ armed_with plan.k plan.alarms places) (serves : ServesSessions plan most before now sessions h) (ends_are : ends ≡ ends_of sessions) (word_of : word ≡ packed_of plan.k (items_of_entries h.view.seen)) (reads : pair_of reply ≡ unpacked plan.k word)
+-- otherwise than by a failed write
+pub ends_early : (plan : ServePlan) (most : ℕ) (old new : Surroundings) (f : ServeFault) → f ≢ fault.WriteFault → StopsServing plan most old.door new.door f → new.places ≡ armed_for plan old.places → ServeEnds plan most old new f
+ends_early plan most old new fault.NetFault other stops places = (stops, places)
+ends_early plan most old new fault.OutOfMemory other stops places = (stops, places)
+ends_early plan most old new fault.WriteFault other stops places = absurd (other refl)
+
+module _ (plan : ServePlan) (most : ℕ) (w w' : Option (List ℕ)) (places armed places' : List Place) (before now : Doorway) (ends : List End) (h0 h : HeartState) (word : ℕ) (reply : Reply) (gone : ℕ) (estimate : ℕ × ℕ)
+    (within : IsServable plan) (armed_is : armed ≡ armed_with plan.k plan.alarms places) (s : ServesAndAsks plan most h0 h before now ends word) (reads : pair_of reply ≡ unpacked plan.k word)
     (gone_is : gone ≡ mask_of (map (answers_at reply) armed)) (places_is : places' ≡ map (told reply) armed) (estimate_is : estimate ≡ fraction_of plan.k reply.count reply.theta) where
-  text : session_lines 0 ends ++ (alarm_lines gone ++ estimate_line estimate) ≡ served_text plan.k (armed_with plan.k plan.alarms places) (ends_of sessions) h.view.seen
-  text = text_is plan h.view.seen serves.shows.entries word word_of reply reads places armed ends sessions gone estimate armed_is ends_are gone_is estimate_is
+  text : session_lines 0 ends ++ (alarm_lines gone ++ estimate_line estimate) ≡ served_text plan.k (armed_with plan.k plan.alarms places) (ends_of s.sessions) h.view.seen
+  text = text_is plan h.view.seen s.serves.shows.entries word s.word_is reply reads places armed ends s.sessions gone estimate armed_is s.ended gone_is estimate_is
 
-  tells : ServesAndTells plan most (surroundings w places before) (surroundings w' places' now) sessions h
-  tells = record { serves = serves; places = places_are plan h.view.seen serves.shows.entries word word_of reply reads places armed places' armed_is places_is }
+  shown : places' ≡ map (told (reply_of plan.k h.view.seen)) (armed_with plan.k plan.alarms places)
+  shown = places_are plan h.view.seen s.serves.shows.entries word s.word_is reply reads places armed places' armed_is places_is
 
-  pub told_all : (token : TokenState) → token.table ≡ h.table → Appends w w' (session_lines 0 ends ++ (alarm_lines gone ++ estimate_line estimate)) → TellsSessions plan most (surroundings w places before) (surroundings w' places' now) (record { heart = Some h; token = Some token })
-  told_all token hub written = record { sessions = sessions; heart = h; token = token; served = tells; written = subst (Appends w w') text written; left = refl; hub = hub }
+  pub exactly : (token : TokenState) → token.table ≡ h0.table → Appends w w' (session_lines 0 ends ++ (alarm_lines gone ++ estimate_line estimate)) → ServesExactly plan most (surroundings w places before) (surroundings w' places' now) (record { heart = Some h; token = Some token })
+  exactly token hub written = record {
+    sessions = s.sessions;
+    list = h.view.seen;
+    written = subst (Appends w w') text written;
+    estimate = one_estimate plan most before now s.sessions h within s.serves;
+    board = shown;
+    count = s.serves.count;
+    shares = λ i d inside. shares_list plan most before now s.sessions h s.serves i d inside;
+    port = s.serves.listens;
+    links = s.serves.passes;
+    hub = record { heart = h; token = token; left_is = refl; hub = hub ∙ sym s.table; list_is = refl; shows = s.serves.shows };
+  }
 
-  pub told_part : AppendsPart w w' (session_lines 0 ends ++ (alarm_lines gone ++ estimate_line estimate)) → TellsPartOfSessions plan most (surroundings w places before) (surroundings w' places' now)
-  told_part written = record { sessions = sessions; heart = h; served = tells; written = subst (AppendsPart w w') text written }
+  pub in_part : AppendsPart w w' (session_lines 0 ends ++ (alarm_lines gone ++ estimate_line estimate)) → WritesPart plan most (surroundings w places before) (surroundings w' places' now)
+  in_part written = record { sessions = s.sessions; heart = h; serves = s.serves; places = shown; written = subst (AppendsPart w w') text written }

@@ -1,11 +1,11 @@
 -- Waves, one after another.
-use Rattle.std.proofs.Common.{◌≡◌, ℕ, ◌+◌, ◌*◌, ◌-◌, ◌<◌, min, ◌≤◌, zero, suc, List, [], ◌∷◌, ◌++◌, length, map, get_or, Option, refl, sym, ap, subst, ◌∙◌, arith, append-nil, append_assoc, length-append}
+use Rattle.std.proofs.Common.{◌≡◌, ℕ, ◌+◌, ◌*◌, ◌-◌, ◌<◌, min, ◌≤◌, zero, suc, List, [], ◌∷◌, ◌++◌, length, map, get_or, Option, Some, refl, sym, ap, subst, ◌∙◌, arith, length-append}
 use Rattle.std.specs.List.{range_with_len}
 use Rattle.std.proofs.lemmas.List.{map-append, get_or-map, length-map}
 use Rattle.std.proofs.lemmas.List.Elements.{All-nil, All-append}
-use Rattle.std.proofs.Math.Nat.{suc-mul}
-use Rattle.sk_io.specs.Traffic.{Doorway, Ended, Arrive, Pass, text_of}
-use Rattle.sk_io.proofs.Doors.{pass_none, pass_more, pass_late, pass_from}
+use Rattle.std.proofs.Math.Nat.{suc-mul, mul-le-mul_left}
+use Rattle.sk_io.specs.Traffic.{Doorway, Ended, text_of}
+use Rattle.sk_io.proofs.Doors.{pass_none, pass_from}
 use Rattle.sk_compose.specs.Numbers.{k_of}
 use Rattle.sk_hub.specs.Hearts.{HeartState}
 use Rattle.sk_hub.specs.Drains.{HasTakenIn}
@@ -13,10 +13,14 @@ use Rattle.sk_hub.specs.Updaters.{UpdaterState}
 use Rattle.sk_hub.proofs.Taking.{taken_with_view}
 use Rattle.sk_line.specs.declared.sessions.End.{End}
 use Rattle.sk_report.proofs.MaskLines.{range_split}
+use Rattle.sk_serve.specs.declared.fault.ServeFault.{ServeFault}
+use Rattle.sk_serve.specs.declared.fault.ServeFault.TheVariants.{NetFault}
 use Rattle.sk_serve.specs.declared.plan.ServePlan.{ServePlan}
+use Rattle.sk_serve.specs.Doors.{DoorView, LetsIn, LetsOut, LetsThrough}
 use Rattle.sk_serve.specs.Plans.{IsServable}
-use Rattle.sk_serve.specs.Served.{Served, IsServed, AreServed, IsUnread, StopsAccepting, links_of, ends_of}
-use Rattle.sk_serve.specs.Waves.{IsHeartOf, ClosesUnread, StopsShort, ClosesLinks, DrainsFrom, ServesWave, ServesSome}
+use Rattle.sk_serve.specs.Served.{Served, IsServed, AreServed, IsUnread, StopsServing, links_of, ends_of}
+use Rattle.sk_serve.specs.Waves.{Visit, texts_by, ClosesUnread, StopsShort, ClosesLinks, DrainsFrom, ServesWave, ServesSome, IsNewHub, next_count}
+use Rattle.sk_serve.proofs.Closed.{closes_none, closes_more, through_none, through_late, through_more}
 use Rattle.sk_serve.proofs.Each.{each_none, each_append}
 
 -- ---- records of links
@@ -24,52 +28,64 @@ use Rattle.sk_serve.proofs.Each.{each_none, each_append}
 pub records_append : (xs ys : List Served) → links_of (xs ++ ys) ≡ links_of xs ++ links_of ys
 records_append xs ys = map-append (λ (s : Served). s.ended) xs ys
 
-pub unread_none : (before : Doorway) → ClosesUnread [] before before
-unread_none before = record { unread = []; none = All-nil IsUnread; are = refl; coming = refl; closed = sym (append-nil before.closed) }
+pub unread_none : (door : DoorView) → ClosesUnread [] door door
+unread_none door = record { unread = []; none = All-nil IsUnread; closes = closes_none door }
 
-pub unread_more : (texts : List (Option (List ℕ))) (before mid now : Doorway) (e : Ended) → ClosesUnread texts before mid → IsUnread e → now ≡ record mid { closed = mid.closed ++ e ∷ [] } → ClosesUnread (texts ++ text_of e.traffic ∷ []) before now
-unread_more texts before mid now e c unread now_is = record {
-  unread = c.unread ++ e ∷ [];
-  none = All-append IsUnread c.unread (e ∷ []) c.none one;
-  are = map-append (λ (z : Ended). text_of z.traffic) c.unread (e ∷ []) ∙ ap (λ l. l ++ text_of e.traffic ∷ []) c.are;
-  coming = ap (λ d. d.coming) now_is ∙ c.coming;
-  closed = ap (λ d. d.closed) now_is ∙ ap (λ l. l ++ e ∷ []) c.closed ∙ append_assoc before.closed c.unread (e ∷ []);
+pub unread_more : (texts : List (Option (List ℕ))) (a b c : DoorView) (e : Ended) → ClosesUnread texts a b → IsUnread e
+    → c.doorway ≡ record b.doorway { closed = b.doorway.closed ++ e ∷ [] } → c.accepted ≡ b.accepted → c.room + 1 ≡ b.room → c.faults ≡ b.faults → ClosesUnread (texts ++ text_of e.traffic ∷ []) a c
+unread_more texts a b c e u unread doorway accepted room faults = record {
+  unread = u.unread ++ e ∷ [];
+  none = All-append IsUnread u.unread (e ∷ []) u.none one;
+  closes = closes_more texts u.unread a b c e u.closes doorway accepted room faults;
 }
   where
     one : (i : ℕ) (d : Ended) → i < 1 → IsUnread (get_or (e ∷ []) i d)
     one zero d within = unread
     one (suc i) d within = absurd (omega arith)
 
+-- the door can close the next of these
+pub unread_room : {J : Type 0} (visit_of : J → Visit) (jobs before : List J) (job : J) (rest : List J) (a b : DoorView) → before ++ job ∷ rest ≡ jobs → ClosesUnread (texts_by visit_of before) a b → length jobs ≤ a.room → 0 < b.room
+unread_room visit_of jobs before job rest a b all u room =
+    let closed : length u.unread ≡ length before = sym (length-map u.unread (λ (z : Ended). text_of z.traffic)) ∙ ap length u.closes.are ∙ length-map before (λ j. text_of (visit_of j).link.traffic) in
+    let split : length before + length (job ∷ rest) ≡ length jobs = sym (length-append before (job ∷ rest)) ∙ ap length all in
+    omega (arith, closed, split, room, u.closes.room)
+
 -- links that came, and then were closed unread
-pub stops_short : (count n : ℕ) (before mid mid' now : Doorway) (texts : List (Option (List ℕ))) → Arrive before mid texts → mid' ≡ mid → length texts ≡ n → n < count → ClosesUnread texts mid' now → StopsShort count before now
-stops_short count n before mid mid' now texts came same len below c = record {
-  unread = c.unread;
-  fewer = omega (arith, below, len, ap length c.are, length-map c.unread (λ (z : Ended). text_of z.traffic));
-  none = c.none;
-  passes = pass_late before mid now texts c.unread came (c.coming ∙ ap (λ d. d.coming) same) (c.closed ∙ ap (λ d. d.closed ++ c.unread) same) c.are;
+pub stops_short : (count n : ℕ) (texts : List (Option (List ℕ))) (a b b' c : DoorView) → LetsIn texts a b → b' ≡ record b { faults = b'.faults } → length texts ≡ n → n < count → ClosesUnread texts b' c → StopsShort count a c
+stops_short count n texts a b b' c came same len below u = record {
+  unread = u.unread;
+  fewer = omega (arith, below, len, ap length u.closes.are, length-map u.unread (λ (z : Ended). text_of z.traffic));
+  none = u.none;
+  through = through_late texts u.unread a b b' c came same u.closes;
 }
+
+-- none came
+pub stops_at_once : (count : ℕ) (a : DoorView) → 0 < count → StopsShort count a a
+stops_at_once count a some = record { unread = []; fewer = some; none = All-nil IsUnread; through = through_none a }
 
 -- ---- a wave
 
-pub a_wave : (plan : ServePlan) (most count : ℕ) (h h1 h2 : HeartState) (before mid now : Doorway) (texts texts' : List (Option (List ℕ))) (ends ends' : List End) (n : ℕ) (us : List UpdaterState) → n ≡ count → Arrive before mid texts → texts' ≡ texts → h1 ≡ record h { admitted = h.admitted + count }
-    → ClosesLinks plan most h.table h.admitted n texts' mid now ends ends' us → DrainsFrom h.admitted h1 us h2 → ServesWave plan most count h h2 before now ends ends'
-a_wave plan most count h h1 h2 before mid now texts texts' ends ends' n us n_is came same h1_is c d = record {
-  sessions = c.sessions;
-  as_many = c.as_many ∙ n_is;
-  served = c.served;
-  passes = pass_late before mid now texts (links_of c.sessions) came c.coming c.closed (c.are ∙ same);
-  ended = c.ended;
-  drains = subst (λ l. DrainsFrom h.admitted (record h { admitted = h.admitted + count }) l h2) c.updaters (subst (λ z. DrainsFrom h.admitted z us h2) h1_is d);
+pub a_wave : (plan : ServePlan) (most n : ℕ) (h h1 h2 : HeartState) (a b c : DoorView) (texts texts' : List (Option (List ℕ))) (ends ends' : List End) (us : List UpdaterState) → n ≡ next_count plan h → LetsIn texts a b → texts' ≡ texts → h1 ≡ record h { admitted = h.admitted + next_count plan h }
+    → ClosesLinks plan most h.table h.admitted n texts' b c ends ends' us → DrainsFrom h.admitted h1 us h2 → ServesWave plan most h h2 a c ends ends'
+a_wave plan most n h h1 h2 a b c texts texts' ends ends' us n_is came same h1_is l d = record {
+  sessions = l.sessions;
+  as_many = l.as_many ∙ n_is;
+  served = l.served;
+  through = through_late texts (links_of l.sessions) a b b c came refl (subst (λ t. LetsOut t (links_of l.sessions) b c) same l.closes);
+  ended = l.ended;
+  drains = subst (λ l'. DrainsFrom h.admitted (record h { admitted = h.admitted + next_count plan h }) l' h2) l.updaters (subst (λ z. DrainsFrom h.admitted z us h2) h1_is d);
 }
 
 -- ---- all so far
 
-pub none_served : (plan : ServePlan) (most : ℕ) (before : Doorway) (ends : List End) (h : HeartState) → ends ≡ [] → h.admitted ≡ 0 → h.view.drained ≡ [] → ServesSome plan most before before ends [] h
-none_served plan most before ends h none admitted drained = record {
+pub none_served : (plan : ServePlan) (most : ℕ) (h : HeartState) (door : DoorView) (ends : List End) → ends ≡ [] → IsNewHub plan h → ServesSome plan most h h door door ends []
+none_served plan most h door ends none new = record {
   served = each_none (IsServed plan most) 0;
-  passes = pass_none before before refl refl;
+  through = through_none door;
   ended = none;
-  heart = record { admitted = admitted; drained = drained; numbered = λ i d within. absurd (omega arith); taken_in = All-nil (λ s. HasTakenIn h s.updater) };
+  heart = record { admitted = new.admitted; drained = new.drained; numbered = λ i d within. absurd (omega arith); taken_in = All-nil (λ s. HasTakenIn h s.updater) };
+  hub = new.hub;
+  table = refl;
 }
 
 -- of sessions that were served and of those of a wave
@@ -85,67 +101,111 @@ both P xs ys from from_is first then i d within =
     subst (λ n. P n (get_or ys j e).updater) there (subst (P (from + j)) (get_or-map (λ (s : Served). s.updater) ys j e e.updater inside) (then j e.updater inside')))
     i d within)
 
-pub wave_more : (plan : ServePlan) (most count : ℕ) (h h' : HeartState) (before mid now : Doorway) (ends ends' : List End) (sessions : List Served) → ServesSome plan most before mid ends sessions h → (w : ServesWave plan most count h h' mid now ends ends') → ServesSome plan most before now ends' (sessions ++ w.sessions) h'
-wave_more plan most count h h' before mid now ends ends' sessions s w = record {
-  served = each_append (IsServed plan most) 0 sessions w.sessions s.served (let from : h.admitted ≡ 0 + length sessions = omega (arith, s.heart.admitted) in subst (λ n. AreServed plan most n w.sessions) from w.served);
-  passes = subst (Pass before now) (sym (records_append sessions w.sessions)) (pass_more before mid now (links_of sessions) (links_of w.sessions) s.passes w.passes);
+pub wave_more : (plan : ServePlan) (most : ℕ) (h h1 h2 : HeartState) (a b c : DoorView) (ends ends' : List End) (sessions : List Served) → ServesSome plan most h h1 a b ends sessions → (w : ServesWave plan most h1 h2 b c ends ends') → ServesSome plan most h h2 a c ends' (sessions ++ w.sessions)
+wave_more plan most h h1 h2 a b c ends ends' sessions s w = record {
+  served = each_append (IsServed plan most) 0 sessions w.sessions s.served (let from : h1.admitted ≡ 0 + length sessions = omega (arith, s.heart.admitted) in subst (λ n. AreServed plan most n w.sessions) from w.served);
+  through = subst (λ l. LetsThrough l a c) (sym (records_append sessions w.sessions)) (through_more (links_of sessions) (links_of w.sessions) a b c s.through w.through);
   ended = w.ended ∙ ap (λ l. l ++ ends_of w.sessions) s.ended ∙ sym (map-append (λ (z : Served). z.end) sessions w.sessions);
   heart = record {
     admitted = let is = w.drains.admitted in omega (arith, is, s.heart.admitted, w.as_many, length-append sessions w.sessions);
-    drained = w.drains.drained ∙ ap (λ l. l ++ range_with_len h.admitted (length (map (λ (z : Served). z.updater) w.sessions))) s.heart.drained ∙ ranged;
-    numbered = both (λ i u. u.number ≡ i) sessions w.sessions h.admitted s.heart.admitted s.heart.numbered w.drains.numbered;
-    taken_in = both (λ i u. HasTakenIn h' u) sessions w.sessions h.admitted s.heart.admitted
+    drained = w.drains.drained ∙ ap (λ l. l ++ range_with_len h1.admitted (length (map (λ (z : Served). z.updater) w.sessions))) s.heart.drained ∙ ranged;
+    numbered = both (λ i u. u.number ≡ i) sessions w.sessions h1.admitted s.heart.admitted s.heart.numbered w.drains.numbered;
+    taken_in = both (λ i u. HasTakenIn h2 u) sessions w.sessions h1.admitted s.heart.admitted
         (λ i d within. w.drains.stays (get_or sessions i d).updater (omega (arith, within, s.heart.admitted, s.heart.numbered i d within))
-        (taken_with_view h (record h { admitted = h.admitted + count }) (get_or sessions i d).updater refl (s.heart.taken_in i d within)))
+        (taken_with_view h1 (record h1 { admitted = h1.admitted + next_count plan h1 }) (get_or sessions i d).updater refl (s.heart.taken_in i d within)))
         w.drains.taken_in;
   };
+  hub = record { updaters = w.drains.updaters ∙ s.hub.updaters; k = ap k_of w.drains.numbers ∙ s.hub.k; eager_is = w.drains.eager ∙ s.hub.eager_is };
+  table = w.drains.table ∙ s.table;
 }
   where
-    ranged : range_with_len 0 (length sessions) ++ range_with_len h.admitted (length (map (λ (z : Served). z.updater) w.sessions)) ≡ range_with_len 0 (length (sessions ++ w.sessions))
+    ranged : range_with_len 0 (length sessions) ++ range_with_len h1.admitted (length (map (λ (z : Served). z.updater) w.sessions)) ≡ range_with_len 0 (length (sessions ++ w.sessions))
     ranged =
-        let from : h.admitted ≡ 0 + length sessions = omega (arith, s.heart.admitted) in
+        let from : h1.admitted ≡ 0 + length sessions = omega (arith, s.heart.admitted) in
         ap (λ n. range_with_len 0 (length sessions) ++ range_with_len n (length (map (λ (z : Served). z.updater) w.sessions))) from
         ∙ ap (λ n. range_with_len 0 (length sessions) ++ range_with_len (0 + length sessions) n) (length-map w.sessions (λ (z : Served). z.updater))
         ∙ sym (range_split 0 (length sessions) (length w.sessions))
         ∙ ap (range_with_len 0) (sym (length-append sessions w.sessions))
 
--- a wave that was not accepted whole
-pub stops : (plan : ServePlan) (most count : ℕ) (before mid now : Doorway) (ends : List End) (sessions : List Served) (h : HeartState) → ServesSome plan most before mid ends sessions h → count ≤ plan.wave → length sessions + count ≤ plan.sessions
-    → StopsShort count mid now → (waves : ℕ) → length sessions ≡ waves * plan.wave → StopsAccepting plan most before now
-stops plan most count before mid now ends sessions h s small few c waves whole = record {
+-- it adds an end for each of its sessions
+pub wave_ends : (plan : ServePlan) (most : ℕ) (h h' : HeartState) (a b : DoorView) (ends ends' : List End) → (w : ServesWave plan most h h' a b ends ends') → length ends' ≡ length ends + length w.sessions
+wave_ends plan most h h' a b ends ends' w = ap length w.ended ∙ length-append ends (ends_of w.sessions) ∙ ap (λ n. length ends + n) (length-map w.sessions (λ (z : Served). z.end))
+
+-- ---- a server that stops early
+
+-- a wave was not accepted whole
+pub stops : (plan : ServePlan) (most : ℕ) (fault : ServeFault) (h h' : HeartState) (a b c : DoorView) (ends : List End) (sessions : List Served) → a.doorway.port ≡ Some plan.port → ServesSome plan most h h' a b ends sessions → length sessions < plan.sessions → StopsShort (next_count plan h') b c
+    → (waves : ℕ) → length sessions ≡ min (waves * plan.wave) plan.sessions → StopsServing plan most a.doorway c.doorway fault
+stops plan most fault h h' a b c ends sessions port s few u waves whole =
+    let all : length sessions + length u.unread < plan.sessions = omega (arith, u.fewer, few, s.heart.admitted) in
+    record {
+      sessions = sessions;
+      unread = u.unread;
+      served = s.served;
+      none = u.none;
+      passes = (through_more (links_of sessions) u.unread a b c s.through u.through).passes;
+      listens = λ _. u.through.port ∙ s.through.port ∙ port;
+      waves = waves;
+      whole = whole;
+      in_wave = omega (arith, u.fewer);
+      within = omega (arith, all);
+      fewer = λ _. all;
+    }
+
+-- all waves were served
+pub stops_after_all : (plan : ServePlan) (most : ℕ) (fault : ServeFault) (h h' : HeartState) (a b : DoorView) (ends : List End) (sessions : List Served) → IsServable plan → a.doorway.port ≡ Some plan.port → ¬ (fault ≡ NetFault) → ServesSome plan most h h' a b ends sessions → length sessions ≡ plan.sessions
+    → StopsServing plan most a.doorway b.doorway fault
+stops_after_all plan most fault h h' a b ends sessions within port other s all = record {
   sessions = sessions;
-  unread = c.unread;
-  fewer = omega (arith, c.fewer, few);
-  in_wave = omega (arith, c.fewer, small);
-  waves = waves;
-  whole = whole;
+  unread = [];
   served = s.served;
-  none = c.none;
-  passes = pass_more before mid now (links_of sessions) c.unread s.passes c.passes;
+  none = All-nil IsUnread;
+  passes = (through_more (links_of sessions) [] a b b s.through (through_none b)).passes;
+  listens = λ _. s.through.port ∙ port;
+  waves = plan.sessions;
+  whole = all ∙ all_waves plan.sessions plan.wave within.wave;
+  in_wave = within.wave;
+  within = omega (arith, all);
+  fewer = λ is. absurd (other is);
+}
+  where
+    -- a wave for each session is enough
+    all_waves : (n wave : ℕ) → 1 ≤ wave → n ≡ min (n * wave) n
+    all_waves n wave some = omega (arith, some, mul-le-mul_left {m = 1} {n = wave} n some)
+
+-- nothing was accepted
+pub none_accepted : (plan : ServePlan) (most : ℕ) (fault : ServeFault) (before now : Doorway) → IsServable plan → now.coming ≡ before.coming → now.closed ≡ before.closed → StopsServing plan most before now fault
+none_accepted plan most fault before now within coming closed = record {
+  sessions = [];
+  unread = [];
+  served = each_none (IsServed plan most) 0;
+  none = All-nil IsUnread;
+  passes = pass_none before now coming closed;
+  listens = λ some. absurd (omega arith);
+  waves = 0;
+  whole = omega arith;
+  in_wave = omega (arith, within.wave);
+  within = omega arith;
+  fewer = λ _. omega (arith, within.sessions.0);
 }
 
 -- the same from a door that shows the same links, maybe at another port
-pub stops_from : (plan : ServePlan) (most : ℕ) (before before' now : Doorway) → before'.coming ≡ before.coming → before'.closed ≡ before.closed → StopsAccepting plan most before' now → StopsAccepting plan most before now
-stops_from plan most before before' now coming closed s = record { sessions = s.sessions; unread = s.unread; fewer = s.fewer; in_wave = s.in_wave; waves = s.waves; whole = s.whole; served = s.served; none = s.none; passes = pass_from before before' now _ coming closed s.passes }
-
--- if nothing was accepted
-pub none_accepted : (plan : ServePlan) (most : ℕ) (before now : Doorway) → IsServable plan → now ≡ before → StopsAccepting plan most before now
-none_accepted plan most before now within same = record {
-  sessions = [];
-  unread = [];
-  fewer = omega (arith, within.sessions.0);
-  in_wave = omega (arith, within.wave);
-  waves = 0;
-  whole = omega arith;
-  served = each_none (IsServed plan most) 0;
-  none = All-nil IsUnread;
-  passes = pass_none before now (ap (λ d. d.coming) same) (ap (λ d. d.closed) same);
+pub stops_from : (plan : ServePlan) (most : ℕ) (fault : ServeFault) (before before' now : Doorway) → before'.coming ≡ before.coming → before'.closed ≡ before.closed → StopsServing plan most before' now fault → StopsServing plan most before now fault
+stops_from plan most fault before before' now coming closed s = record {
+  sessions = s.sessions;
+  unread = s.unread;
+  served = s.served;
+  none = s.none;
+  passes = pass_from before before' now _ coming closed s.passes;
+  listens = s.listens;
+  waves = s.waves;
+  whole = s.whole;
+  in_wave = s.in_wave;
+  within = s.within;
+  fewer = s.fewer;
 }
 
-pub drained_hub : (plan : ServePlan) (from : ℕ) (h h' : HeartState) (us : List UpdaterState) (n : ℕ) → IsHeartOf plan h → DrainsFrom from (record h { admitted = n }) us h' → IsHeartOf plan h'
-drained_hub plan from h h' us n hub d = record { updaters = d.updaters ∙ hub.updaters; k = ap k_of d.numbers ∙ hub.k; eager_is = d.eager ∙ hub.eager_is }
-
--- so many were served in so many waves, the last of which may be short; one wave more, if some are left
+-- if some sessions are left after these waves, the next wave serves them or a whole wave of them
 pub next_wave : (waves wave served sessions count : ℕ) → served ≡ min (waves * wave) sessions → served < sessions → count ≡ min wave (sessions - served) → served + count ≡ min (suc waves * wave) sessions
 next_wave waves wave served sessions count is left count_is =
     omega (arith, is, left, count_is, suc-mul waves wave)

@@ -1,7 +1,10 @@
 pub mod Plans
 pub mod Faults
+pub mod Doors
 pub mod Served
 pub mod Waves
 pub mod Texts
+pub mod Around
 pub mod Serves
 pub mod Lists
+pub mod Headline

@@ -1,5 +1,5 @@
 -- The sessions of a server: each from its link's accept to its close, and what becomes of what its updater kept.
-use Rattle.std.specs.Prelude.{◌≡◌, ◌≢◌, ℕ, ◌+◌, ◌*◌, ◌<◌, List, [], ◌∷◌, ◌++◌, length, All, Option, Some, IfSome, slice_index_or, map, flat_map, ◌-◌, ◌^◌, min}
+use Rattle.std.specs.Prelude.{◌≡◌, ◌≢◌, ℕ, ◌+◌, ◌*◌, ◌<◌, ◌≤◌, List, [], ◌∷◌, ◌++◌, length, All, Option, Some, IfSome, slice_index_or, map, flat_map, ◌-◌, ◌^◌, min}
 use Rattle.std.specs.List.{range_with_len}
 use Rattle.std.proofs.Common.{inl, inr}
 use Rattle.sk_model.specs.Entries.{Entry, entries_by, items_of_entries}
@@ -19,6 +19,8 @@ use Rattle.sk_line.specs.Sessions.{SessionState, session_state, ComesTo, Session
 use Rattle.sk_line.specs.declared.sessions.End.{End}
 use Rattle.sk_line.specs.declared.sessions.End.TheVariants.{Quit, Closed, LinkFault, Long, TooMuch, OutOfMemory}
 use Rattle.sk_report.specs.Sizes.{size_at}
+use Rattle.sk_serve.specs.declared.fault.ServeFault.{ServeFault}
+use Rattle.sk_serve.specs.declared.fault.ServeFault.TheVariants.{NetFault}
 use Rattle.sk_serve.specs.declared.plan.ServePlan.{ServePlan}
 use Rattle.sk_serve.specs.Plans.{shape_of}
 
@@ -120,7 +122,7 @@ pub record AreClosed (accepted accepted' : ℕ) (before now : Doorway) : Type 0 
   pub records : now.closed ≡ before.closed ++ closed
   pub as_many : min accepted' (2 ^ 64 - 1) ≡ min (accepted + length closed) (2 ^ 64 - 1)
 
--- ---- when an accept fails
+-- ---- when no further link is served
 
 -- nothing was read of the link or written on it
 pub record IsUnread (ended : Ended) : Type 0 where
@@ -128,15 +130,17 @@ pub record IsUnread (ended : Ended) : Type 0 where
   pub faults : ended.faults ≡ 0
   pub waiting : ended.waiting ≡ 0
 
--- so many whole waves of sessions were served, and of the next one some links were accepted and closed unread, all in
--- the order in which they came
-pub record StopsAccepting (plan : ServePlan) (most : ℕ) (before now : Doorway) : Type 0 where
+-- whole waves of sessions were served, and of the next one some links were accepted and closed unread, all in the order
+-- in which they came; at a fault of the door fewer links came than the plan has sessions
+pub record StopsServing (plan : ServePlan) (most : ℕ) (before now : Doorway) (fault : ServeFault) : Type 0 where
   pub sessions : List Served
   pub unread : List Ended
-  pub fewer : length sessions + length unread < plan.sessions
-  pub in_wave : length unread < plan.wave
-  pub waves : ℕ
-  pub whole : length sessions ≡ waves * plan.wave
   pub served : AreServed plan most 0 sessions
   pub none : All IsUnread unread
   pub passes : Pass before now (links_of sessions ++ unread)
+  pub listens : 0 < length sessions + length unread → now.port ≡ Some plan.port
+  pub waves : ℕ
+  pub whole : length sessions ≡ min (waves * plan.wave) plan.sessions
+  pub in_wave : length unread < plan.wave
+  pub within : length sessions + length unread ≤ plan.sessions
+  pub fewer : fault ≡ NetFault → length sessions + length unread < plan.sessions

@@ -1,28 +1,21 @@
-//! What follows from how a server went, for a caller that says it of a whole run.
-ghost use Rattle.std.specs.Prelude.{◌≡◌, ℕ, ◌<◌, List, [], length, slice_index_or};
+//! What follows from how a server went, for a caller that says it of a whole run: also if a write of
+//! what is due fails in the end.
+ghost use Rattle.std.specs.Prelude.{◌≡◌, ℕ, ◌<◌, List, length, slice_index_or};
 ghost use Rattle.sk_io.specs.Traffic.{Doorway};
-ghost use Rattle.sk_model.specs.Entries.{entries_by, items_of_entries};
+ghost use Rattle.sk_model.specs.Entries.{items_of_entries};
 ghost use Rattle.sk_model.specs.Sketch.{estimate_of};
 ghost use Rattle.sk_hub.specs.Hearts.{HeartState};
-ghost use Rattle.sk_line.specs.Serving.{items_kept};
-ghost use Rattle.sk_report.specs.Sizes.{size_at};
-ghost use Rattle.sk_serve.specs.Lists.{AreBusyBehind, SayOfOneList, HoldsReplies};
 ghost use Rattle.sk_serve.specs.declared.plan.ServePlan.{ServePlan};
+ghost use Rattle.sk_serve.specs.Headline.{SharesList};
 ghost use Rattle.sk_serve.specs.Plans.{IsServable};
 ghost use Rattle.sk_serve.specs.Served.{Served, ServesSessions, all_offered};
 
-/// Of each session the list that the heart saw has exactly the items of the adds that were answered
-/// `kept`, in order; its answers say of this one list what they say; those that were `busy` had a cause
-/// in what was kept; and its link's record holds its replies.
+/// All sessions share the list that the heart saw: it has of each exactly the items of the adds that were
+/// answered `kept`, its answers are of this one list, each `busy` had a cause in what was kept, and its
+/// link's record holds its replies.
 pub fn sessions_share_a_list()
-    ensures kept { (plan : ServePlan) (most : ℕ) (before now : Doorway) (sessions : List Served) (h : HeartState) → ServesSessions plan most before now sessions h
-        → (i : ℕ) (d : Served) → i < length sessions → entries_by i h.view.seen ≡ items_kept plan.seed (slice_index_or sessions i d).answered }
-    ensures answers { (plan : ServePlan) (most : ℕ) (before now : Doorway) (sessions : List Served) (h : HeartState) → ServesSessions plan most before now sessions h
-        → (i : ℕ) (d : Served) → i < length sessions → SayOfOneList plan.k plan.seed i (size_at plan.sizes i) [] [] (slice_index_or sessions i d).answered h.view.seen }
-    ensures busy { (plan : ServePlan) (most : ℕ) (before now : Doorway) (sessions : List Served) (h : HeartState) → ServesSessions plan most before now sessions h
-        → (i : ℕ) (d : Served) → i < length sessions → AreBusyBehind (size_at plan.sizes i) (slice_index_or sessions i d).answered }
-    ensures records { (plan : ServePlan) (most : ℕ) (before now : Doorway) (sessions : List Served) (h : HeartState) → ServesSessions plan most before now sessions h
-        → (i : ℕ) (d : Served) → i < length sessions → HoldsReplies (slice_index_or sessions i d).ended (slice_index_or sessions i d).answered }
+    ensures { (plan : ServePlan) (most : ℕ) (before now : Doorway) (sessions : List Served) (h : HeartState) → ServesSessions plan most before now sessions h
+        → (i : ℕ) (d : Served) → i < length sessions → SharesList plan most i (slice_index_or sessions i d) h.view.seen }
 {}
 
 /// The estimate of that list is one thread's, over the items of all adds of all sessions that were

@@ -1,4 +1,4 @@
-//! The serving command: clients' sessions at once, over links that a door accepts, by the updaters of one hub.
+//! The serving command: clients' sessions in parallel, over links that a door accepts, by the updaters of one hub.
 #![tactic(auto)]
 
 mod accepting;

@@ -25,7 +25,7 @@ pub struct ServePlan {
     pub eager: bool,
     /// The marks of the alarms at the first places of the board.
     pub alarms: Numbers,
-    /// How many sessions run at once at most.
+    /// How many sessions run in parallel at most.
     pub wave: u32,
 }
 

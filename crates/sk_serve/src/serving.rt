@@ -1,18 +1,18 @@
 //! The server.
-ghost use Rattle.std.specs.Prelude.{◌≡◌, ◌≢◌, ℕ, ◌<◌, ◌≤◌, ◌++◌, List, [], All, length, IfOk, IfErr, OnOk, OnErr};
+ghost use Rattle.std.specs.Prelude.{◌≡◌, ◌≢◌, ℕ, ◌<◌, ◌≤◌, ◌++◌, All, length, IfOk, IfErr, OnOk, OnErr};
 ghost use Rattle.std.specs.Io.KnownBytes.{Appends};
 ghost use Rattle.sk_model.specs.Causes.{AppendsPart, HasCause, HasCauseIn};
-ghost use Rattle.sk_model.specs.Entries.{items_of_entries};
 ghost use Rattle.sk_model.specs.Limits.{most_kept};
-ghost use Rattle.sk_model.specs.Sketch.{packed_of};
 ghost use Rattle.sk_lines.specs.Fractions.{estimate_line};
 ghost use Rattle.sk_watch.specs.Places.{IsLive};
 ghost use Rattle.sk_report.specs.Texts.{alarm_lines};
 ghost use Rattle.sk_serve.specs.Plans.{IsServable};
-ghost use Rattle.sk_serve.specs.Served.{AreClosed, Served, ServesSessions, StopsAccepting, ends_of};
-ghost use Rattle.sk_serve.specs.Serves.{surroundings, ServesPlan};
+ghost use Rattle.sk_serve.specs.Faults.{HasNetCause};
+ghost use Rattle.sk_serve.specs.Served.{AreClosed, StopsServing};
+ghost use Rattle.sk_serve.specs.Around.{surroundings};
+ghost use Rattle.sk_serve.specs.Serves.{ServesPlan};
 ghost use Rattle.sk_serve.specs.Texts.{session_lines};
-ghost use Rattle.sk_serve.specs.Waves.{IsHeartOf};
+ghost use Rattle.sk_serve.specs.Waves.{IsNewHub, ServesAndAsks};
 
 use crate::fault::ServeFault;
 use crate::plan::{ServePlan, shape_of};
@@ -32,7 +32,7 @@ use std::thread::Threads;
 
 /// Accepts as many links as the plan has sessions, answers the requests of each, fewer than `most` bytes,
 /// by an updater of one hub, and then writes how each session ended and the estimate of all that was kept,
-/// which it also shows to the board. If it ends well the handles of its hub are left.
+/// which it also shows to the board. If it ends well it returns the handles of its hub.
 pub fn serve<O: Sink, D: Door, B: Seen, R: Threads + Wait + Sync>(
     rt: &R,
     alloc: Global,
@@ -41,17 +41,15 @@ pub fn serve<O: Sink, D: Door, B: Seen, R: Threads + Wait + Sync>(
     out: &mut O,
     door: &mut D,
     board: &mut B,
-    remains: &mut Remains,
-) -> Result<(), ServeFault>
+) -> Result<Remains, ServeFault>
 where
     D::Link: Send,
     requires within { IsServable plan.now }
     requires bound { most ≤ most_kept }
     requires live { (i : ℕ) → i < length plan.now.alarms → IsLive i (B.places board.old) }
     ensures serves { ServesPlan plan.now most (surroundings (O.written out.old) (B.places board.old) (D.doorway door.old))
-        (surroundings (O.written out.new) (B.places board.new) (D.doorway door.new)) remains.new result }
+        (surroundings (O.written out.new) (B.places board.new) (D.doorway door.new)) result }
     ensures closed { AreClosed (D.accepted door.old) (D.accepted door.new) (D.doorway door.old) (D.doorway door.new) }
-    ensures nothing { IfErr result (λ _. remains.new ≡ remains.old) }
     ensures quiet { IfErr result (λ fault. fault ≢ ServeFault.WriteFault → out.new ≡ out.old) }
     ensures net { HasCauseIn ServeFault.NetFault (D.faults door.old) (D.faults door.new) result }
     ensures writes { HasCauseIn ServeFault.WriteFault (O.faults out.old) (O.faults out.new) result }
@@ -62,9 +60,10 @@ where
     let reply = unpack(word, plan.k);
     let gone = board.show(reply);
     write_last(out, ends.as_slice(), gone, reply.fraction(plan.k))?;
-    remains.heart = Some(heart);
-    remains.token = Some(token);
-    Ok(())
+    Ok(Remains {
+        heart: Some(heart),
+        token: Some(token),
+    })
 }
 
 // A hub whose updaters are all to be admitted.
@@ -74,9 +73,7 @@ fn open_hub(
     plan: &ServePlan,
 ) -> Result<(Heart<HeapTheta>, Token<HeapTheta>), OutOfMemory>
     requires within { IsServable plan.now }
-    ensures hub { IfOk result (λ made. IsHeartOf plan.now made.0) }
-    ensures admitted { IfOk result (λ made. made.0.admitted ≡ 0) }
-    ensures drained { IfOk result (λ made. made.0.view.drained ≡ []) }
+    ensures hub { IfOk result (λ made. IsNewHub plan.now made.0) }
     ensures table { IfOk result (λ made. made.1.table ≡ made.0.table) }
 {
     let global = HeapTheta::new(alloc, plan.k)?;
@@ -89,7 +86,7 @@ fn open_hub(
     Ok((heart, token))
 }
 
-// Listens, serves all sessions, and answers how they ended, and the word of all that was kept.
+// Listens, serves all sessions, and returns how they ended, and the word of all that was kept.
 fn serve_all<D: Door, R: Threads + Wait + Sync>(
     rt: &R,
     alloc: Global,
@@ -102,22 +99,16 @@ where
     D::Link: Send,
     requires within { IsServable plan.now }
     requires bound { most ≤ most_kept }
-    requires hub { IsHeartOf plan.now heart.old }
-    requires admitted { heart.old.admitted ≡ 0 }
-    requires drained { heart.old.view.drained ≡ [] }
-    ensures serves { IfOk result (λ told. (sessions : List Served)
-        × ServesSessions plan.now most (D.doorway door.old) (D.doorway door.new) sessions heart.new × (told.0.items ≡ ends_of sessions)) }
-    ensures word { IfOk result (λ told. told.1 ≡ packed_of plan.now.k (items_of_entries heart.new.view.seen)) }
-    ensures table { IfOk result (λ _. heart.new.table ≡ heart.old.table) }
-    ensures stops { IfErr result (λ fault. fault ≡ ServeFault.NetFault → StopsAccepting plan.now most (D.doorway door.old) (D.doorway door.new)) }
+    requires hub { IsNewHub plan.now heart.old }
+    ensures serves { IfOk result (λ served. ServesAndAsks plan.now most heart.old heart.new (D.doorway door.old) (D.doorway door.new) served.0.items served.1) }
+    ensures stops { IfErr result (λ fault. StopsServing plan.now most (D.doorway door.old) (D.doorway door.new) fault) }
     ensures closed { AreClosed (D.accepted door.old) (D.accepted door.new) (D.doorway door.old) (D.doorway door.new) }
-    ensures write { IfErr result (λ fault. fault ≢ ServeFault.WriteFault) }
-    ensures cause { HasCauseIn ServeFault.NetFault (D.faults door.old) (D.faults door.new) result }
+    ensures net { HasNetCause (D.faults door.old) (D.faults door.new) result }
 {
     door.listen(plan.port, plan.sessions)?;
     let ends = serve_waves(rt, alloc, plan, most, heart, door)?;
     had_memory(ends.as_slice())?;
-    // It tells the proof how many updaters the hub has.
+    // Its clause says how many updaters the hub has.
     let _admitted = heart.admitted();
     let word = heart.ask();
     Ok((ends, word))

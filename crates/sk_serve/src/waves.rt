@@ -1,14 +1,14 @@
-//! Sessions in waves: those of one run at once, and the next begins once all their updaters are drained.
-ghost use Rattle.std.specs.Prelude.{◌≡◌, ◌≢◌, ℕ, ◌+◌, ◌<◌, ◌≤◌, [], true, length, map, vec_capacity, is_some, List, Some, All, IfOk, OnOk, IfErr};
+//! Sessions in waves: those of one run in parallel, and the next begins once all their updaters are drained.
+ghost use Rattle.std.specs.Prelude.{◌≡◌, ℕ, ◌+◌, ◌<◌, ◌≤◌, [], true, length, vec_capacity, is_some, List, All, IfOk, OnOk, OnErr, IfErr};
 ghost use Rattle.atomic_table.specs.Seated.{TableId};
 ghost use Rattle.sk_compose.specs.Numbers.{k_of};
 ghost use Rattle.sk_hub.specs.Updaters.{kept_of};
-ghost use Rattle.sk_io.specs.Traffic.{text_of};
-ghost use Rattle.sk_model.specs.Causes.{HasCauseIn};
 ghost use Rattle.sk_model.specs.Limits.{most_kept};
+ghost use Rattle.sk_serve.specs.Doors.{door_of};
+ghost use Rattle.sk_serve.specs.Faults.{HasNetCause};
 ghost use Rattle.sk_serve.specs.Plans.{IsServable};
-ghost use Rattle.sk_serve.specs.Served.{AreClosed, Served, StopsAccepting};
-ghost use Rattle.sk_serve.specs.Waves.{IsHeartOf, visit, AreReady, WereRun, StopsShort, AreOfHub, ClosesLinks, DrainsFrom, ServesWave, ServesSome};
+ghost use Rattle.sk_serve.specs.Served.{AreClosed, Served, StopsServing};
+ghost use Rattle.sk_serve.specs.Waves.{CanServe, visit_of, texts_by, left_after, next_count, AreReady, WereRun, StopsShort, AreOfHub, ClosesLinks, DrainsFrom, ServesWave, ServesSome};
 
 use crate::accepting::accept_wave;
 use crate::fault::ServeFault;
@@ -21,7 +21,7 @@ use std::alloc::Global;
 use std::sync::Wait;
 use std::thread::Threads;
 
-// Serves all sessions, a wave at a time, and answers how they ended.
+// Serves all sessions, a wave at a time, and returns how they ended.
 pub(crate) fn serve_waves<D: Door, R: Threads + Wait + Sync>(
     rt: &R,
     alloc: Global,
@@ -32,34 +32,23 @@ pub(crate) fn serve_waves<D: Door, R: Threads + Wait + Sync>(
 ) -> Result<Vec<End>, ServeFault>
 where
     D::Link: Send,
-    requires within { IsServable plan.now }
     requires bound { most ≤ most_kept }
-    requires hub { IsHeartOf plan.now heart.old }
-    requires admitted { heart.old.admitted ≡ 0 }
+    requires can { CanServe plan.now plan.now.sessions heart.old (door_of D.Door door.old) }
     requires drained { heart.old.view.drained ≡ [] }
-    requires listens { (D.doorway door.old).port ≡ Some plan.now.port }
-    requires room { D.room door.old ≡ plan.now.sessions }
     ensures serves { IfOk result (λ ends. (sessions : List Served) × (length sessions ≡ plan.now.sessions)
-        × ServesSome plan.now most (D.doorway door.old) (D.doorway door.new) ends.items sessions heart.new) }
-    ensures stops { IfErr result (λ fault. fault ≡ ServeFault.NetFault → StopsAccepting plan.now most (D.doorway door.old) (D.doorway door.new)) }
-    ensures closed { AreClosed (D.accepted door.old) (D.accepted door.new) (D.doorway door.old) (D.doorway door.new) }
-    ensures listens { IfOk result (λ _. (D.doorway door.new).port ≡ Some plan.now.port) }
-    ensures hub { IfOk result (λ _. IsHeartOf plan.now heart.new) }
-    ensures table { IfOk result (λ _. heart.new.table ≡ heart.old.table) }
-    ensures write { IfErr result (λ fault. fault ≢ ServeFault.WriteFault) }
-    ensures cause { HasCauseIn ServeFault.NetFault (D.faults door.old) (D.faults door.new) result }
+        × ServesSome plan.now most heart.old heart.new (door_of D.Door door.old) (door_of D.Door door.new) ends.items sessions) }
+    ensures stops { IfErr result (λ fault. StopsServing plan.now most (D.doorway door.old) (D.doorway door.new) fault) }
+    ensures closed { OnErr result (AreClosed (D.accepted door.old) (D.accepted door.new) (D.doorway door.old) (D.doorway door.new)) }
+    ensures net { HasNetCause (D.faults door.old) (D.faults door.new) result }
 {
     let mut ends = Vec::with_capacity(alloc, plan.sessions as usize)?;
-    let mut served = 0;
-    'wave: while served < plan.sessions {
-        let count = plan.wave.min(plan.sessions - served);
-        serve_wave(rt, alloc, plan, most, heart, door, count, &mut ends)?;
-        served += count;
+    'wave: while ends.len() < plan.sessions as usize {
+        serve_wave(rt, alloc, plan, most, heart, door, &mut ends)?;
     }
     Ok(ends)
 }
 
-// Serves the next `count` sessions at once, closes their links, and drains their updaters.
+// Serves the sessions of the next wave in parallel, closes their links, and drains their updaters.
 fn serve_wave<D: Door, R: Threads + Wait + Sync>(
     rt: &R,
     alloc: Global,
@@ -67,28 +56,20 @@ fn serve_wave<D: Door, R: Threads + Wait + Sync>(
     most: u64,
     heart: &mut Heart<HeapTheta>,
     door: &mut D,
-    count: u32,
     ends: &mut Vec<End>,
 ) -> Result<(), ServeFault>
 where
     D::Link: Send,
-    requires within { IsServable plan.now }
     requires bound { most ≤ most_kept }
-    requires hub { IsHeartOf plan.now heart.old }
-    requires vacant { heart.old.admitted + count ≤ plan.now.sessions }
-    requires some { 0 < count }
-    requires listens { (D.doorway door.old).port ≡ Some plan.now.port }
-    requires room { count ≤ D.room door.old }
-    requires reserved { length ends.old.items + count ≤ vec_capacity ends.old }
-    ensures serves { IfOk result (λ _. ServesWave plan.now most count heart.old heart.new (D.doorway door.old) (D.doorway door.new) ends.old.items ends.new.items) }
-    ensures unread { IfErr result (λ fault. fault ≡ ServeFault.NetFault → StopsShort count (D.doorway door.old) (D.doorway door.new)) }
-    ensures closed { AreClosed (D.accepted door.old) (D.accepted door.new) (D.doorway door.old) (D.doorway door.new) }
-    ensures room { OnOk result (D.room door.new + count ≡ D.room door.old) }
+    requires can { CanServe plan.now (left_after plan.now heart.old) heart.old (door_of D.Door door.old) }
+    requires some { heart.old.admitted < plan.now.sessions }
+    requires reserved { length ends.old.items + left_after plan.now heart.old ≤ vec_capacity ends.old }
+    ensures serves { OnOk result (ServesWave plan.now most heart.old heart.new (door_of D.Door door.old) (door_of D.Door door.new) ends.old.items ends.new.items) }
     ensures reserved { OnOk result (vec_capacity ends.new ≡ vec_capacity ends.old) }
-    ensures listens { (D.doorway door.new).port ≡ Some plan.now.port }
-    ensures write { IfErr result (λ fault. fault ≢ ServeFault.WriteFault) }
-    ensures cause { HasCauseIn ServeFault.NetFault (D.faults door.old) (D.faults door.new) result }
+    ensures short { OnErr result (StopsShort (next_count plan.now heart.old) (door_of D.Door door.old) (door_of D.Door door.new)) }
+    ensures net { HasNetCause (D.faults door.old) (D.faults door.new) result }
 {
+    let count = plan.wave.min(plan.sessions - heart.admitted());
     let mut updaters = Vec::with_capacity(alloc, count as usize)?;
     let jobs = accept_wave(alloc, plan, heart, door, count)?;
     let jobs = run_wave(rt, alloc, plan, most, jobs);
@@ -97,7 +78,7 @@ where
     Ok(())
 }
 
-// Runs the sessions of a wave at once.
+// Runs the sessions of a wave in parallel.
 fn run_wave<L: Link + Drop + Send, R: Threads + Wait + Sync>(
     rt: &R,
     alloc: Global,
@@ -109,10 +90,10 @@ fn run_wave<L: Link + Drop + Send, R: Threads + Wait + Sync>(
     requires bound { most ≤ most_kept }
     requires fresh { All (λ job. (k_of job.updater.view.numbers ≡ plan.now.k) × (kept_of job.updater ≡ [])) jobs.items }
     ensures count { length result.items ≡ length jobs.items }
-    ensures texts { map (λ job. text_of (L.traffic job.link)) result.items ≡ map (λ job. text_of (L.traffic job.link)) jobs.items }
+    ensures texts { texts_by (visit_of L.Link) result.items ≡ texts_by (visit_of L.Link) jobs.items }
     ensures run { (table : TableId) (from : ℕ)
-        → AreReady plan.now table from (λ job. visit (L.traffic job.link) (L.faults job.link) (L.waiting job.link) job.updater job.pump.count job.end) jobs.items
-        → WereRun plan.now most table from (λ job. visit (L.traffic job.link) (L.faults job.link) (L.waiting job.link) job.updater job.pump.count job.end) result.items }
+        → AreReady plan.now table from (visit_of L.Link) jobs.items
+        → WereRun plan.now most table from (visit_of L.Link) result.items }
 {
     let mut jobs = jobs;
     run_all(rt, alloc, plan, most, jobs.as_mut_slice());
@@ -131,16 +112,16 @@ fn run_all<L: Link + Drop + Send, R: Threads + Wait + Sync>(
     requires bound { most ≤ most_kept }
     requires fresh { All (λ job. (k_of job.updater.view.numbers ≡ plan.now.k) × (kept_of job.updater ≡ [])) jobs.old }
     ensures count { length jobs.new ≡ length jobs.old }
-    ensures texts { map (λ job. text_of (L.traffic job.link)) jobs.new ≡ map (λ job. text_of (L.traffic job.link)) jobs.old }
+    ensures texts { texts_by (visit_of L.Link) jobs.new ≡ texts_by (visit_of L.Link) jobs.old }
     ensures run { (table : TableId) (from : ℕ)
-        → AreReady plan.now table from (λ job. visit (L.traffic job.link) (L.faults job.link) (L.waiting job.link) job.updater job.pump.count job.end) jobs.old
-        → WereRun plan.now most table from (λ job. visit (L.traffic job.link) (L.faults job.link) (L.waiting job.link) job.updater job.pump.count job.end) jobs.new }
+        → AreReady plan.now table from (visit_of L.Link) jobs.old
+        → WereRun plan.now most table from (visit_of L.Link) jobs.new }
 {
     let shape = shape_of(plan);
     serve_links(rt, alloc, &shape, jobs, most);
 }
 
-// Closes the links of a wave, in order, and answers how their sessions ended and their updaters.
+// Closes the links of a wave, in order, and hands out how their sessions ended and their updaters.
 fn close_links<D: Door>(
     door: &mut D,
     jobs: Vec<Job<HeapTheta, D::Link, HelpPump>>,
@@ -153,14 +134,10 @@ fn close_links<D: Door>(
     requires place { length jobs.items ≤ vec_capacity updaters.old }
     requires none { updaters.old.items ≡ [] }
     ensures closes { (plan : ServePlan) (most : ℕ) (table : TableId) (from : ℕ)
-        → WereRun plan most table from (λ job. visit (D.Link.traffic job.link) (D.Link.faults job.link) (D.Link.waiting job.link) job.updater job.pump.count job.end) jobs.items
+        → WereRun plan most table from (visit_of D.Link.Link) jobs.items
         → ClosesLinks plan most table from (length jobs.items)
-        (map (λ job. text_of (D.Link.traffic job.link)) jobs.items) (D.doorway door.old) (D.doorway door.new) ends.old.items ends.new.items updaters.new.items }
-    ensures room { D.room door.new + length jobs.items ≡ D.room door.old }
+        (texts_by (visit_of D.Link.Link) jobs.items) (door_of D.Door door.old) (door_of D.Door door.new) ends.old.items ends.new.items updaters.new.items }
     ensures reserved { vec_capacity ends.new ≡ vec_capacity ends.old }
-    ensures accepted { D.accepted door.new ≡ D.accepted door.old }
-    ensures faults { D.faults door.new ≡ D.faults door.old }
-    ensures listens { (D.doorway door.new).port ≡ (D.doorway door.old).port }
 {
     'job: for job in jobs {
         let Job {

@@ -2,7 +2,9 @@
 use Rattle.std.specs.Prelude.{◌≡◌, ℕ, ◌≤◌, List, length, Option, option_and_then, option_map, Result, MatchResult}
 use Rattle.sk_model.specs.Limits.{least_k, most_k, most_updaters}
 use Rattle.sk_serve.specs.Plans.{IsServable}
-use Rattle.sk_serve.specs.Serves.{surroundings, TellsSessions, ServeEnds}
+use Rattle.sk_serve.specs.Around.{surroundings}
+use Rattle.sk_serve.specs.Headline.{ServesExactly}
+use Rattle.sk_serve.specs.Serves.{ServeEnds}
 use Rattle.sk_serve.specs.declared.fault.ServeFault.TheVariants as serve
 use Rattle.sk_serve.specs.declared.plan.ServePlan.{ServePlan}
 use Rattle.sk_report.specs.declared.remains.Remains.{Remains}
@@ -19,7 +21,7 @@ use Rattle.sk_cli.specs.declared.fault.Fault.TheVariants.{OutOfMemory, WriteFaul
 abbrev pub most_port : ℕ
 most_port = 65535
 
--- the plan that options spell; all sessions are one wave where nothing else is said
+-- the plan that options spell; all sessions are one wave by default
 abbrev pub plan_by : List Given → Option ServePlan
 plan_by given =
     option_and_then (λ port. option_and_then (λ k. option_and_then (λ sizes. option_and_then (λ sessions. option_and_then (λ wave. option_and_then (λ seed. option_and_then (λ eager.
@@ -39,12 +41,12 @@ pub record IsWithin (plan : ServePlan) : Type 0 where
 abbrev pub counted_left : Left → Remains
 counted_left left = record { heart = left.heart; token = left.token }
 
--- all its sessions were served, and all that is due for them was written
+-- all its sessions were served, and all that is due for them was written: the headline of a server
 abbrev pub ServesAll : ServePlan → ℕ → Beside → Beside → Option (List ℕ) → Option (List ℕ) → Doorways → Type 0
 ServesAll plan most from to old new links =
-    TellsSessions plan most (surroundings old from.board links.before) (surroundings new to.board links.after) (counted_left to.remains)
+    ServesExactly plan most (surroundings old from.board links.before) (surroundings new to.board links.after) (counted_left to.remains)
 
--- where it may end by a fault: with nothing written save at a failed write
+-- which faults may end it, and how: nothing is written except at a failed write
 abbrev pub EndsServing : ServePlan → ℕ → Beside → Beside → Option (List ℕ) → Option (List ℕ) → Doorways → Fault → Type 0
 EndsServing plan most from to old new links WriteFault =
     ServeEnds plan most (surroundings old from.board links.before) (surroundings new to.board links.after) serve.WriteFault

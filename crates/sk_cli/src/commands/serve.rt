@@ -1,9 +1,8 @@
 // The command that answers clients' requests over links.
-ghost use Rattle.std.specs.Prelude.{◌≡◌, ◌≢◌, ◌≤◌, [], All, IsSome, length, IfErr, IfSome, MatchResult};
+ghost use Rattle.std.specs.Prelude.{◌≡◌, ◌≢◌, ◌≤◌, [], IfErr, IfSome};
 ghost use Rattle.sk_model.specs.Causes.{HasCauseIn};
 ghost use Rattle.sk_model.specs.Limits.{source_limit};
-ghost use Rattle.sk_cli.specs.Beside.{beside_of, board_places, cleared, SameRanks};
-ghost use Rattle.sk_cli.specs.Fault.{fault_by_serve};
+ghost use Rattle.sk_cli.specs.Beside.{IsFullBoard, beside_of, cleared, SameRanks};
 ghost use Rattle.sk_cli.specs.Outside.{doorways};
 ghost use Rattle.sk_cli.specs.commands.Serve.{plan_by, IsWithin, ServesSo};
 ghost use Rattle.sk_serve.specs.Served.{AreClosed};
@@ -13,7 +12,7 @@ use crate::options::{Name, Options};
 use crate::remains::Remains;
 use sk_io::{Door, Sink};
 use sk_model::limits::{LEAST_K, MOST_K, MOST_UPDATERS};
-use sk_serve::{ServeFault, ServePlan};
+use sk_serve::ServePlan;
 use sk_watch::Seen;
 use std::alloc::Global;
 use std::sync::Wait;
@@ -22,7 +21,7 @@ use std::thread::Threads;
 // The greatest number of a port.
 const MOST_PORT: u64 = 65_535;
 
-/// The plan that the options spell. `None` where a value is out of its form or its limits, or no port is given.
+/// The plan that the options spell. `None` if a value is out of its form or its limits, or no port is given.
 pub fn plan_of(options: &Options<'_>) -> Option<ServePlan>
     ensures value { result ≡ plan_by options.now }
     ensures limits { IfSome result IsWithin }
@@ -47,13 +46,6 @@ pub fn plan_of(options: &Options<'_>) -> Option<ServePlan>
     })
 }
 
-// The answer of a server, with its fault as one of the program.
-fn answer_of(served: Result<(), ServeFault>) -> Result<(), Fault>
-    ensures { MatchResult served (λ done. result ≡ Ok done) (λ fault. result ≡ Err (fault_by_serve fault)) }
-{
-    served.map_err(Fault::of_serving)
-}
-
 /// Serves the sessions of the plan, each over a link of fewer than `most` bytes, and writes how each ended and the
 /// estimate of all that was added.
 pub fn serve<R: Threads + Wait + Sync, O: Sink, D: Door, B: Seen, W: Wait + Drop>(
@@ -70,8 +62,7 @@ where
     D::Link: Send,
     requires within { IsWithin plan.now }
     requires bound { most ≤ source_limit }
-    requires places { length (B.places board.old) ≡ board_places }
-    requires live { All IsSome (B.places board.old) }
+    requires board { IsFullBoard (B.places board.old) }
     ensures done { ServesSo plan.now most (beside_of (B.places board.old) remains.old) (beside_of (B.places board.new) remains.new)
         (O.written out.old) (O.written out.new) (doorways (D.doorway door.old) (D.doorway door.new)) result }
     ensures last { IfErr result (λ fault. fault ≢ Fault.WriteFault → out.new ≡ out.old) }
@@ -82,8 +73,11 @@ where
     ensures net { HasCauseIn Fault.NetFault (D.faults door.old) (D.faults door.new) result }
     ensures links { AreClosed (D.accepted door.old) (D.accepted door.new) (D.doorway door.old) (D.doorway door.new) }
 {
-    let mut left = remains.take_counted();
-    let served = sk_serve::serve(rt, alloc, plan, most, out, door, board, &mut left);
-    remains.put_counted(left);
-    answer_of(served)
+    match sk_serve::serve(rt, alloc, plan, most, out, door, board) {
+        Ok(left) => {
+            remains.put_counted(left);
+            Ok(())
+        }
+        Err(fault) => Err(Fault::of_serving(fault)),
+    }
 }

@@ -4,7 +4,7 @@ ghost use Rattle.sk_io.specs.Memory.{IsNew};
 ghost use Rattle.sk_serve.specs.Plans.{IsServable};
 
 use super::stage::{FINE, Ran, alarms, expect, run_at};
-use sk_count::{Numbers, Remains};
+use sk_count::Numbers;
 use sk_io::{MemDoor, MemLink, MemShelf, MemSink};
 use sk_model::OutOfMemory;
 use sk_serve::{ServePlan, serve as serve_plan};
@@ -163,12 +163,8 @@ fn replies_of<R: Threads + Wait + Sync, B: Seen>(
     requires none { door.old.closed ≡ [] }
 {
     let mut out = MemSink::new(alloc, 1_000, 7, Vec::new(alloc))?;
-    let mut remains = Remains {
-        heart: None,
-        token: None,
-    };
-    match serve_plan(rt, alloc, plan, 1_000, &mut out, door, board, &mut remains) {
-        Ok(()) => {
+    match serve_plan(rt, alloc, plan, 1_000, &mut out, door, board) {
+        Ok(_) => {
             let first = door.written(0).to_vec(alloc)?;
             Ok((first, door.written(1).to_vec(alloc)?))
         }

@@ -1,42 +1,40 @@
-use Rattle.std.proofs.Common.{◌≡◌, ◌≤◌, ◌+◌, ◌∷◌, [], length, map, refl, sym, ap, subst, ◌∙◌, length-append}
+use Rattle.std.proofs.Common.{◌≤◌, ◌+◌, ◌∷◌, [], length, sym, ap, subst, ◌∙◌, arith, length-append}
 use Rattle.std.proofs.lemmas.List.{map-append, length-map}
-use Rattle.sk_io.specs.Traffic.{Arrive, text_of}
-use Rattle.sk_io.proofs.Doors.{arrive_none, arrive_more}
-use Rattle.sk_serve.specs.Waves.{visit, StopsShort}
+use Rattle.sk_io.specs.Traffic.{text_of}
+use Rattle.sk_serve.specs.Doors.{door_of, LetsIn}
+use Rattle.sk_serve.specs.Waves.{visit_of, texts_by}
 use Rattle.sk_serve.specs.declared.fault.ServeFault.TheVariants as fault
-use Rattle.sk_serve.proofs.Admitting.{admitted_more, ready_more, cause_of_err}
+use Rattle.sk_serve.proofs.Admitting.{admitted_more, ready_more, still_can, cause_of_err}
 use Rattle.sk_serve.proofs.Waving.{stops_short}
-use Rattle.sk_serve.proofs.Closed.{counted_one, closed_none, closed_late, where_err}
+use Rattle.sk_serve.proofs.Closed.{accepts_more}
 use Rattle.sk_serve.proofs.accepting.accept_wave.Goals as goal
+
+pub accept_one-requires : goal.accept_one-requires
+accept_one-requires g c =
+    let i = c.link.invariant in let door = door_of g.D.Door in
+    record { can = still_can c.args.plan.now c.args.count c.link.counter c.args.heart.now c.link.heart (door c.args.door.now) (door c.link.door) _ (omega (arith, c.link-test.true)) i.heart i.accepts c.requires.can }
 
 pub link-preserved : goal.link-preserved
 link-preserved g c =
-    let i = c.link.invariant in let link = g.D.Link.Link in let job = c.in-Ok.job in let h = c.args.heart.now in
+    let i = c.link.invariant in let visit = visit_of g.D.Link.Link in let job = c.in-Ok.job in let h = c.args.heart.now in let door = door_of g.D.Door in
     let more = c.push_reserved.ensures.items in record {
       count = ap length more ∙ length-append c.link.jobs.items (job ∷ []) ∙ ap (λ n. n + 1) i.count;
       place = subst (λ n. c.args.count ≤ n) (sym c.push_reserved.ensures.capacity) i.place;
-      ready = ready_more c.args.plan.now h c.link.heart c.link.counter (λ job. visit (link.traffic job.link) (link.faults job.link) (link.waiting job.link) job.updater job.pump.count job.end) c.link.jobs.items c.push_reserved.new.self.items job i.heart i.count more i.ready c.in-Ok.ensures.ready;
+      ready = ready_more c.args.plan.now h c.link.heart c.link.counter visit c.link.jobs.items c.push_reserved.new.self.items job i.heart i.count more i.ready c.in-Ok.ensures.ready;
       heart = admitted_more h c.link.heart c.accept_one.new.heart c.link.counter i.heart c.in-Ok.ensures.heart;
-      accepted = counted_one (g.D.Door.accepted c.args.door.now) c.link.counter (g.D.Door.accepted c.link.door) (g.D.Door.accepted c.accept_one.new.door) i.accepted c.in-Ok.ensures.accepts;
-      arrive = subst (Arrive (g.D.Door.doorway c.args.door.now) (g.D.Door.doorway c.accept_one.new.door)) (sym (ap (λ l. map (λ job. text_of (link.traffic job.link)) l) more ∙ map-append (λ job. text_of (link.traffic job.link)) c.link.jobs.items (job ∷ [])))
-          (arrive_more _ _ _ _ _ i.arrive c.in-Ok.ensures.arrives);
-      room = c.in-Ok.ensures.room ∙ i.room;
-      listens = c.accept_one.ensures.listens;
-      faults = c.in-Ok.ensures.cause.steady (λ no. cc) ∙ i.faults;
+      accepts = subst (λ t. LetsIn t (door c.args.door.now) (door c.accept_one.new.door)) (sym (ap (λ l. texts_by visit l) more ∙ map-append (λ j. text_of (visit j).link.traffic) c.link.jobs.items (job ∷ [])))
+          (accepts_more (texts_by visit c.link.jobs.items) _ (door c.args.door.now) (door c.link.door) (door c.accept_one.new.door) i.accepts c.in-Ok.ensures.accepts);
+      faults = c.in-Ok.ensures.net.cause.steady (λ no. cc) ∙ i.faults;
     }
 
-pub returns-in_err-jobs-clause-closed : goal.returns-in_err-jobs-clause-closed
-returns-in_err-jobs-clause-closed g c = where_err c.from_residual.result _ (closed_none _ _ _ _ refl refl)
+pub returns-in-Err-clause-short : goal.returns-in-Err-clause-short
+returns-in-Err-clause-short g c =
+    let i = c.link.invariant in let visit = visit_of g.D.Link.Link in let door = door_of g.D.Door in
+    stops_short c.args.count c.link.counter (texts_by visit c.link.jobs.items) (door c.args.door.now) (door c.link.door) (door c.accept_one.new.door) (door c.close_unread.new.door) i.accepts c.in-Err.ensures.none
+    (length-map c.link.jobs.items _ ∙ i.count) c.link-test.true c.close_unread.ensures.closes
 
-pub returns-in-Err-clause-closed : goal.returns-in-Err-clause-closed
-returns-in-Err-clause-closed g c =
-    let i = c.link.invariant in let u = c.close_unread.ensures.closed in
-    closed_late _ _ _ _ c.link.counter _ _ _ _ u.unread i.arrive.closed i.accepted c.in-Err.ensures.closed c.close_unread.ensures.accepted (sym (length-map u.unread (λ e. text_of e.traffic)) ∙ ap length u.are ∙ length-map c.link.jobs.items _ ∙ i.count) u.closed
-
-pub returns-in-Err-clause-cause : goal.returns-in-Err-clause-cause
-returns-in-Err-clause-cause g c = cause_of_err fault.NetFault c.in-Err.fault _ _ _ _ c.link.invariant.faults c.close_unread.ensures.faults c.in-Err.ensures.cause
-
-pub returns-in-Err-clause-unread : goal.returns-in-Err-clause-unread
-returns-in-Err-clause-unread g c = λ is.
-    let i = c.link.invariant in let link = g.D.Link.Link in
-    stops_short c.args.count c.link.counter _ _ _ _ (map (λ job. text_of (link.traffic job.link)) c.link.jobs.items) i.arrive (c.in-Err.ensures.unread is) (length-map c.link.jobs.items _ ∙ i.count) c.link-test.true c.close_unread.ensures.closed
+pub returns-in-Err-clause-net : goal.returns-in-Err-clause-net
+returns-in-Err-clause-net g c = record {
+  cause = cause_of_err fault.NetFault c.in-Err.fault _ _ _ _ c.link.invariant.faults c.close_unread.ensures.closes.closes.faults c.in-Err.ensures.net.cause;
+  no_write = c.in-Err.ensures.net.no_write;
+}

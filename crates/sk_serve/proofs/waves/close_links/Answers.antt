@@ -1,23 +1,22 @@
-use Rattle.std.proofs.Common.{◌≡◌, ◌+◌, ◌++◌, ◌∷◌, [], length, map, true, false, is_some, sym, ap, subst, refl, ◌∙◌, arith, append_assoc, length-append}
+use Rattle.std.proofs.Common.{◌≡◌, ◌+◌, ◌++◌, ◌∷◌, [], length, true, false, is_some, sym, ap, subst, refl, ◌∙◌, arith, append_assoc, length-append}
 use Rattle.std.proofs.lemmas.List.{map-append}
 use Rattle.sk_io.specs.Traffic.{text_of}
-use Rattle.sk_serve.specs.Waves.{visit, WasRun, ClosesLinks}
+use Rattle.sk_serve.specs.Doors.{door_of}
+use Rattle.sk_serve.specs.Waves.{visit_of, texts_by, WasRun, ClosesLinks}
+use Rattle.sk_serve.proofs.Closed.{closes_more}
 use Rattle.sk_serve.proofs.Each.{each_next, nothing_left}
 use Rattle.sk_serve.proofs.Sessions.{none_closed, one_closed}
 use Rattle.sk_serve.proofs.waves.close_links.Goals as goal
 
 pub job-init : goal.job-init
-job-init g c = let door = g.D.Door in record {
+job-init g c = record {
   all = c.into_iter-job-iterator.ensures.into_iter_gives.0;
-  closes = λ plan most table from run. none_closed plan most table from (door.doorway c.args.door.now) c.args.ends.now.items c.args.updaters.now.items c.requires.none;
+  closes = λ plan most table from run. none_closed plan most table from (door_of g.D.Door c.args.door.now) c.args.ends.now.items c.args.updaters.now.items c.requires.none;
   room = omega arith;
   ends = omega arith;
   updaters = ap length c.requires.none;
   reserved = refl;
   place = refl;
-  accepted = refl;
-  faults = refl;
-  listens = refl;
 }
 
 pub unreachable-requires : goal.unreachable-requires
@@ -29,7 +28,7 @@ unreachable-requires g c =
 
 pub job-preserved : goal.job-preserved
 job-preserved g c =
-    let i = c.job.invariant in let door = g.D.Door in let link = g.D.Link.Link in let job = c.in-Some.job in let e = c.in-Some-end.end in
+    let i = c.job.invariant in let door = door_of g.D.Door in let visit = visit_of g.D.Link.Link in let job = c.in-Some.job in let e = c.in-Some-end.end in
     let before = c.job.yielded in let rest = c.next.new.self.rest.items in
     let all = ap (λ l. before ++ l) (sym c.in-Some.ensures.steps.0) ∙ i.all in
     let count : length before + 1 ≡ length (before ++ job ∷ []) = omega (arith, length-append before (job ∷ [])) in
@@ -38,26 +37,25 @@ job-preserved g c =
     record {
       all = append_assoc before (job ∷ []) rest ∙ all;
       closes = λ plan most table from run.
-          subst (λ l. ClosesLinks plan most table from (length (before ++ job ∷ [])) l (door.doorway c.args.door.now) (door.doorway c.close.new.self) c.args.ends.now.items c.push_reserved.new.self.items c.push_reserved-in-job.new.self.items)
-          (sym (map-append (λ job. text_of (link.traffic job.link)) before (job ∷ [])))
-          (subst (λ n. ClosesLinks plan most table from n (map (λ job. text_of (link.traffic job.link)) before ++ text_of (link.traffic job.link) ∷ []) (door.doorway c.args.door.now) (door.doorway c.close.new.self) c.args.ends.now.items c.push_reserved.new.self.items c.push_reserved-in-job.new.self.items) count
-          (one_closed plan most table from (length before) (map (λ job. text_of (link.traffic job.link)) before) (door.doorway c.args.door.now) (door.doorway c.job.door) (door.doorway c.close.new.self) c.args.ends.now.items c.job.ends.items c.push_reserved.new.self.items c.job.updaters.items c.push_reserved-in-job.new.self.items
-          (visit (link.traffic job.link) (link.faults job.link) (link.waiting job.link) job.updater job.pump.count job.end) e (i.closes plan most table from run)
-          (each_next (λ n job. WasRun plan most table n (visit (link.traffic job.link) (link.faults job.link) (link.waiting job.link) job.updater job.pump.count job.end)) from c.args.jobs.items before rest job all run)
-          c.in-Some-end.is c.close.ensures.closed c.push_reserved.ensures.items c.push_reserved-in-job.ensures.items));
+          subst (λ l. ClosesLinks plan most table from (length (before ++ job ∷ [])) l (door c.args.door.now) (door c.close.new.self) c.args.ends.now.items c.push_reserved.new.self.items c.push_reserved-in-job.new.self.items)
+          (sym (map-append (λ j. text_of (visit j).link.traffic) before (job ∷ [])))
+          (subst (λ n. ClosesLinks plan most table from n (texts_by visit before ++ text_of (visit job).link.traffic ∷ []) (door c.args.door.now) (door c.close.new.self) c.args.ends.now.items c.push_reserved.new.self.items c.push_reserved-in-job.new.self.items) count
+          (one_closed plan most table from (length before) (texts_by visit before) (door c.args.door.now) (door c.job.door) (door c.close.new.self) c.args.ends.now.items c.job.ends.items c.push_reserved.new.self.items c.job.updaters.items c.push_reserved-in-job.new.self.items
+          (visit job) e (i.closes plan most table from run)
+          (each_next (λ n j. WasRun plan most table n (visit j)) from c.args.jobs.items before rest job all run)
+          c.in-Some-end.is
+          (λ links closed. closes_more (texts_by visit before) links (door c.args.door.now) (door c.job.door) (door c.close.new.self) (visit job).link closed c.close.ensures.closed c.close.ensures.accepted c.close.ensures.room c.close.ensures.faults)
+          c.push_reserved.ensures.items c.push_reserved-in-job.ensures.items));
       room = let r = c.close.ensures.room in omega (arith, r, i.room, count);
       ends = omega (arith, ended, length-append c.job.ends.items (e ∷ []), i.ends, count);
       updaters = omega (arith, kept, length-append c.job.updaters.items (job.updater ∷ []), i.updaters, count);
       reserved = c.push_reserved.ensures.capacity ∙ i.reserved;
       place = c.push_reserved-in-job.ensures.capacity ∙ i.place;
-      accepted = c.close.ensures.accepted ∙ i.accepted;
-      faults = c.close.ensures.faults ∙ i.faults;
-      listens = ap (λ d. d.port) c.close.ensures.closed ∙ i.listens;
     }
 
 pub returns-clause-closes : goal.returns-clause-closes
 returns-clause-closes g c = λ plan most table from run.
-    let door = g.D.Door in let link = g.D.Link.Link in
-    subst (λ l. ClosesLinks plan most table from (length l) (map (λ job. text_of (link.traffic job.link)) l) (door.doorway c.args.door.now) (door.doorway c.job.door) c.args.ends.now.items c.job.ends.items c.job.updaters.items)
+    let door = door_of g.D.Door in
+    subst (λ l. ClosesLinks plan most table from (length l) (texts_by (visit_of g.D.Link.Link) l) (door c.args.door.now) (door c.job.door) c.args.ends.now.items c.job.ends.items c.job.updaters.items)
     (nothing_left c.job.yielded c.job.job-iterator.rest.items c.args.jobs.items c.job.invariant.all (sym c.job.job-iterator.rest.ok.0 ∙ c.in-None.ensures.steps.0))
     (c.job.invariant.closes plan most table from run)
