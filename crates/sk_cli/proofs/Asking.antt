@@ -14,10 +14,11 @@ use Rattle.sk_cli.specs.commands.Serve.{EndsServing, ServesSo}
 use Rattle.sk_serve.specs.declared.plan.ServePlan.{ServePlan}
 use Rattle.sk_serve.specs.Served.{AreClosed}
 use Rattle.sk_serve.proofs.Closed.{closed_none}
+use Rattle.sk_cli.specs.Statuses.{IsCallStatus}
 use Rattle.sk_cli.specs.declared.command.Command.{Command}
 use Rattle.sk_cli.specs.declared.fault.Fault.{Fault}
 use Rattle.sk_cli.specs.declared.fault.Fault.TheVariants as fault
-use Rattle.sk_cli.proofs.Completing.{IsCallStatus, fine_fails, refusal_fails, refusal_succeeds, long_fails, long_succeeds}
+use Rattle.sk_cli.proofs.Completing.{fine_fails, refusal_fails, refusal_succeeds, long_fails, long_succeeds}
 use Rattle.sk_cli.proofs.Endings.{never_opens}
 use Rattle.sk_cli.proofs.JoinDeciding.{fine_file, fine_join, refused_join, refused_or_joined}
 use Rattle.sk_cli.proofs.Opening.{opens_none}

@@ -11,6 +11,7 @@ use Rattle.sk_cli.specs.Fault.{status_of}
 use Rattle.sk_cli.specs.Values.{Word}
 use Rattle.sk_cli.specs.Outside.{Streams, Outside, over_input, over_file, beside_in}
 use Rattle.sk_cli.specs.Run.{Finishes, Stops, Refuses, Ends, Over, SucceedsText, FailsText, told_text}
+use Rattle.sk_cli.specs.Statuses.{IsCallStatus}
 use Rattle.sk_cli.specs.declared.command.Command.{Command}
 use Rattle.sk_cli.specs.declared.command.Command.TheVariants.{Count, Hash, Image, Make, Quantile, Replay, Help, Version}
 use Rattle.sk_cli.specs.declared.commands.about.TheConstants.{HELP, VERSION}
@@ -21,10 +22,6 @@ use Rattle.sk_cli.proofs.CountDeciding.{count_decides}
 use Rattle.sk_cli.proofs.RankDeciding.{rank_decides}
 use Rattle.sk_cli.proofs.ToldItems.{items_decide}
 use Rattle.sk_cli.proofs.Deciding.{hash_decides, make_decides, replay_decides, about_decides}
-
--- the status of a fault that no text decides
-abbrev pub IsCallStatus : ℕ → Type 0
-IsCallStatus status = (status ≡ 1) ⊎ (status ≡ 3) ⊎ (status ≡ 4) ⊎ (status ≡ 8) ⊎ (status ≡ 10)
 
 decides : (command : Command) → IsDecided (behaviour_of command)
 decides (Count plan) = count_decides plan

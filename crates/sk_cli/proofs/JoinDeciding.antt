@@ -11,10 +11,11 @@ use Rattle.sk_image.proofs.Texts.{same_text}
 use Rattle.sk_cli.specs.Fault.{status_of}
 use Rattle.sk_cli.specs.commands.Join.{TwoImages, Files, IsFileOf, StopsIn, EndsFile, ReadsBoth, stamp_of, stamp_in, Fit, Differ, EndsAtOne, EndsJoin, IsToldImage, IsToldBad, IsToldLong, AreToldImages, AreFineFiles, AreMixed, IsBadOne, IsLongOne, AreRefused}
 use Rattle.sk_cli.specs.Run.{IsOfReads}
+use Rattle.sk_cli.specs.Statuses.{IsCallStatus}
 use Rattle.sk_cli.specs.declared.fault.Stamp.{Stamp}
 use Rattle.sk_cli.specs.declared.fault.Fault.{Fault}
 use Rattle.sk_cli.specs.declared.fault.Fault.TheVariants as fault
-use Rattle.sk_cli.proofs.Completing.{IsCallStatus, no_more_told}
+use Rattle.sk_cli.proofs.Completing.{no_more_told}
 use Rattle.sk_cli.proofs.Joining.{same_stamps}
 
 -- ---- one file

@@ -27,6 +27,7 @@ pub mod Reporting
 pub mod Schedules
 pub mod Serving
 pub mod Showing
+pub mod StatusLaws
 pub mod Telling
 pub mod ToldItems
 pub mod Touching

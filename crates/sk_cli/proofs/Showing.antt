@@ -1,8 +1,7 @@
 -- What a run with one of the commands shows that have a headline.
-use Rattle.std.proofs.Common.{◌≡◌, ◌≢◌, ℕ, true, Option, Some, None, Result, refl, sym, ap, subst, arith}
+use Rattle.std.proofs.Common.{◌≡◌, ◌≢◌, ℕ, true, Option, Some, None, Result, refl, sym, ap, subst}
 use Rattle.sk_model.specs.Limits.{source_limit}
 use Rattle.sk_cli.specs.Command.{Asked, OfLinks, behaviour_of, over_text, frame_of}
-use Rattle.sk_cli.specs.Fault.{status_of}
 use Rattle.sk_cli.specs.Outside.{Outside, beside_in}
 use Rattle.sk_cli.specs.Run.{SucceedsText, Succeeds, Performs, RunsMake, exit_of, TakesWhole, CountsText, RanksText, ServesLinks}
 use Rattle.sk_cli.specs.Values.{Word}
@@ -10,18 +9,12 @@ use Rattle.sk_cli.specs.declared.command.Command.{Command}
 use Rattle.sk_cli.specs.declared.command.Command.TheVariants.{Count, Make, Quantile}
 use Rattle.sk_cli.specs.declared.commands.make.MakePlan.{MakePlan}
 use Rattle.sk_cli.specs.declared.fault.Fault.{Fault}
-use Rattle.sk_cli.specs.declared.fault.Fault.TheVariants as fault
 use Rattle.sk_count.specs.declared.plan.Plan.{Plan as CountPlan}
 use Rattle.sk_rank.specs.declared.plan.Plan.{Plan as RankPlan}
 use Rattle.sk_serve.specs.declared.plan.ServePlan.{ServePlan}
 use Rattle.sk_cli.proofs.Completing.{on}
 use Rattle.sk_cli.proofs.MadeRuns.{made_so}
 use Rattle.sk_cli.proofs.Reporting.{asked_is}
-
--- no fault has the status of a run that ends well
-pub not_well : {P : Type 0} (f : Fault) → status_of f ≡ 0 → P
-not_well fault.OutOfMemory is = absurd (omega (arith, is))
-not_well f is = absurd (omega (arith, is))
 
 module _ (request : Option Asked) (old new : Outside) where
   -- a command that reads took its text whole

@@ -8,6 +8,7 @@ pub mod Options
 pub mod Outside
 pub mod Readable
 pub mod Run
+pub mod Statuses
 pub mod Told
 pub mod Touches
 pub mod Values

@@ -1,5 +1,5 @@
 //! Laws of what is due and what is refused.
-ghost use Rattle.std.specs.Prelude.{◌≡◌, ℕ, ◌+◌, ◌<◌, None, All, List, ◌∷◌, ◌++◌};
+ghost use Rattle.std.specs.Prelude.{◌≡◌, ℕ, ◌+◌, ◌<◌, None, All, List, ◌∷◌, ◌++◌, Result};
 ghost use Rattle.sk_cli.specs.Behaviour.{IsDecided, WritesOneText};
 ghost use Rattle.sk_cli.specs.commands.Count.{counting};
 ghost use Rattle.sk_cli.specs.commands.Hash.{hashing};
@@ -18,6 +18,11 @@ ghost use Rattle.sk_quant.specs.Ranks.{rank_of};
 ghost use Rattle.sk_read.specs.Items.{items_by, IsGood};
 ghost use Rattle.sk_read.specs.declared.kind.Kind.TheVariants.{Raw};
 ghost use Rattle.sk_cli.specs.Beside.{Beside};
+ghost use Rattle.sk_cli.specs.Command.{Asked};
+ghost use Rattle.sk_cli.specs.Outside.{Outside};
+ghost use Rattle.sk_cli.specs.Run.{Performs, exit_of};
+ghost use Rattle.sk_cli.specs.Statuses.{ShowsAt};
+ghost use Rattle.sk_cli.specs.declared.fault.Fault.{Fault};
 
 /// A line that does not go on with a schedule stands in none that was answered.
 pub fn no_more_is_last()
@@ -73,4 +78,11 @@ pub fn ranks_are_of_numbers()
 pub fn make_decides()
     ensures decided { (plan : MakePlan) → IsDecided (making plan) }
     ensures one_text { (plan : MakePlan) → WritesOneText (making plan) }
+{}
+
+/// How a run ended shows in its status: at 0 all was done, at each other a fault has its place, and a count of faults
+/// rose where the status says so.
+pub fn a_status_shows_how_a_run_ended()
+    ensures { (asked : Asked) (most : ℕ) (old new : Outside) (result : Result (Unit {0}) Fault)
+        → Performs asked most old new result → ShowsAt asked most old new (exit_of result) }
 {}

@@ -4,7 +4,8 @@ use Rattle.sk_cli.specs.Run.{Tells, exit_of}
 use Rattle.sk_cli.specs.declared.fault.Fault.{Fault}
 use Rattle.sk_cli.proofs.Asking.{not_usage}
 use Rattle.sk_cli.proofs.Reporting.{runs_nothing, runs_so, some_request, nothing_asked}
-use Rattle.sk_cli.proofs.Showing.{not_well, make_shown, count_shown, ranks_shown, serve_shown}
+use Rattle.sk_cli.proofs.Showing.{make_shown, count_shown, ranks_shown, serve_shown}
+use Rattle.sk_cli.proofs.StatusLaws.{some_status}
 use Rattle.sk_cli.proofs.Touching.{touches_nothing, touches_asked}
 use Rattle.sk_cli.proofs.program.run.Goals as goal
 
@@ -57,7 +58,7 @@ pub returns-in-Ok-clause-count : goal.returns-in-Ok-clause-count
 returns-in-Ok-clause-count g c = λ plan file asks well. count_shown _ _ _ _ c.in-Some.ensures.value c.in-Ok.ensures.done.done plan file asks
 
 pub returns-in-Err-clause-count : goal.returns-in-Err-clause-count
-returns-in-Err-clause-count g c = λ plan file asks well. not_well c.in-Err.fault (sym c.report-in-Err.ensures.status ∙ well)
+returns-in-Err-clause-count g c = λ plan file asks well. absurd (some_status c.in-Err.fault (sym c.report-in-Err.ensures.status ∙ well))
 
 pub returns-in_default-clause-quantile : goal.returns-in_default-clause-quantile
 returns-in_default-clause-quantile g c = λ plan file asks. nothing_asked _ _ c.in_default.ensures.value asks
@@ -66,7 +67,7 @@ pub returns-in-Ok-clause-quantile : goal.returns-in-Ok-clause-quantile
 returns-in-Ok-clause-quantile g c = λ plan file asks well. ranks_shown _ _ _ _ c.in-Some.ensures.value c.in-Ok.ensures.done.done plan file asks
 
 pub returns-in-Err-clause-quantile : goal.returns-in-Err-clause-quantile
-returns-in-Err-clause-quantile g c = λ plan file asks well. not_well c.in-Err.fault (sym c.report-in-Err.ensures.status ∙ well)
+returns-in-Err-clause-quantile g c = λ plan file asks well. absurd (some_status c.in-Err.fault (sym c.report-in-Err.ensures.status ∙ well))
 
 pub returns-in_default-clause-serve : goal.returns-in_default-clause-serve
 returns-in_default-clause-serve g c = λ plan asks. nothing_asked _ _ c.in_default.ensures.value asks
@@ -75,7 +76,7 @@ pub returns-in-Ok-clause-serve : goal.returns-in-Ok-clause-serve
 returns-in-Ok-clause-serve g c = λ plan asks well. serve_shown _ _ _ _ c.in-Some.ensures.value c.in-Ok.ensures.done.done plan asks
 
 pub returns-in-Err-clause-serve : goal.returns-in-Err-clause-serve
-returns-in-Err-clause-serve g c = λ plan asks well. not_well c.in-Err.fault (sym c.report-in-Err.ensures.status ∙ well)
+returns-in-Err-clause-serve g c = λ plan asks well. absurd (some_status c.in-Err.fault (sym c.report-in-Err.ensures.status ∙ well))
 
 pub returns-in_default-clause-make : goal.returns-in_default-clause-make
 returns-in_default-clause-make g c = λ plan asks. nothing_asked _ _ c.in_default.ensures.value asks
