@@ -1,5 +1,5 @@
 -- `count` decides of a text: one estimate is due for it, or it is refused in one way.
-use Rattle.std.proofs.Common.{◌≡◌, ◌≢◌, ◌⊎◌, inl, inr, ℕ, zero, suc, ◌+◌, ◌-◌, ◌<◌, ◌≤◌, List, [], ◌++◌, length, take, get_or, All, IsSome, IsNone, Option, Some, None, is_some, refl, sym, ap, ◌∙◌, subst, arith, length-take}
+use Rattle.std.proofs.Common.{◌≡◌, ◌≢◌, ◌⊎◌, inl, inr, ℕ, zero, suc, ◌+◌, ◌-◌, ◌<◌, ◌≤◌, if◌then◌else◌, List, [], ◌∷◌, ◌++◌, length, take, get_or, All, IsSome, IsNone, Option, Some, None, is_some, refl, sym, ap, ◌∙◌, subst, arith, length-take}
 use Rattle.std.proofs.lemmas.Bool.{cases_lt, false≢true}
 use Rattle.std.proofs.lemmas.List.{get_or-take, take-map, length-map}
 use Rattle.sk_model.specs.Limits.{line_limit}
@@ -11,10 +11,9 @@ use Rattle.sk_read.specs.declared.kind.Kind.{Kind}
 use Rattle.sk_read.specs.declared.units.Units.{Units}
 use Rattle.sk_read.specs.declared.units.Units.TheVariants.{Lines, Column}
 use Rattle.sk_cli.specs.Behaviour.{IsDecided, WritesOneText}
-use Rattle.std.specs.Bool.{MatchBool}
-use Rattle.sk_count.specs.Counts.{Course, armed_by, last_lines}
-use Rattle.sk_count.specs.Moments.{Moment, AreMoments, start}
-use Rattle.sk_count.specs.Texts.{interim_text}
+use Rattle.sk_count.specs.Counts.{Course}
+use Rattle.sk_count.specs.Moments.{Moment}
+use Rattle.sk_count.specs.Texts.{interim_by, last_lines}
 use Rattle.sk_cli.specs.Fault.{bad_unit}
 use Rattle.sk_cli.specs.Lines.{lines_before}
 use Rattle.sk_cli.specs.Readable.{IsReadable, IsRefusedBy}
@@ -244,17 +243,22 @@ count_decides plan = record {
   apart = λ f text one two. readable_or_refused plan.kind plan.column f text one two;
 }
 
+-- a list of length 0
+pub nothing_in : {A : Type 0} (xs : List A) → length xs ≡ 0 → xs ≡ []
+nothing_in [] none = refl
+nothing_in (x ∷ xs) none = absurd (omega (arith, none))
+
 -- without a window nobody asks
 pub no_moments : (plan : Plan) (units : List (List ℕ)) → plan.window ≡ None → (course : Course plan units) → course.moments ≡ []
-no_moments plan units none course = subst (λ (w : Option ℕ). MatchBool (is_some w) (AreMoments plan [] start course.windows course.moments) (course.moments ≡ [])) none course.asks
+no_moments plan units none course = nothing_in course.moments (course.asks.count ∙ ap (λ (w : Option ℕ). if is_some w then length course.windows else 0) none)
 
 -- without a window one text is due
 pub one_estimate : (plan : Plan) → plan.window ≡ None → WritesOneText (counting plan)
 one_estimate plan none = record {
   due = λ from text due other one two.
-      one.is ∙ ap (λ (m : List Moment). interim_text plan.k (armed_by plan from.board) m ++ last_lines plan (units_of (counted plan) text)) (same (units_of (counted plan) text) one.course two.course) ∙ sym two.is;
+      one.is ∙ ap (λ (m : List Moment). interim_by plan from.board m ++ last_lines plan (units_of (counted plan) text)) (same (units_of (counted plan) text) one.course two.course) ∙ sym two.is;
   refused = λ from f text due other one two.
-      one.is ∙ ap (λ (m : List Moment). interim_text plan.k (armed_by plan from.board) m) (same (lines_before f (units_of (counted plan) text)) one.course two.course) ∙ sym two.is;
+      one.is ∙ ap (λ (m : List Moment). interim_by plan from.board m) (same (lines_before f (units_of (counted plan) text)) one.course two.course) ∙ sym two.is;
 }
   where
     same : (units : List (List ℕ)) (one two : Course plan units) → one.moments ≡ two.moments

@@ -4,9 +4,9 @@ use Rattle.sk_read.specs.declared.fault.Fault.{Fault}
 use Rattle.sk_read.specs.declared.fault.Fault.TheVariants as fault
 use Rattle.sk_count.specs.declared.plan.Plan.{Plan}
 use Rattle.sk_report.specs.declared.remains.Remains.{Remains}
-use Rattle.sk_count.specs.Counts.{Setting, TellsSoFar, EndsBefore, EndsBehind, Counts, armed_by}
+use Rattle.sk_count.specs.Counts.{Setting, TellsSoFar, EndsBefore, EndsBehind, Counts}
 use Rattle.sk_count.specs.Moments.{Moment}
-use Rattle.sk_count.specs.Texts.{places_after}
+use Rattle.sk_count.specs.Texts.{places_after, armed_by}
 
 module _ (plan : Plan) (most : ℕ) (old new : Setting) where
   -- it is as the last moment left it
@@ -29,6 +29,6 @@ module _ (plan : Plan) (most : ℕ) (old new : Setting) where
   behind f ends = absurd ends
 
   pub places_left : (remains : Remains) (r : Result (Unit {0}) Fault) → Counts plan most old new remains r → (moments : List Moment) × (new.places ≡ places_after plan.k (armed_by plan old.places) moments)
-  places_left remains (Ok x) (n, all) = (all.gave.course.moments, all.gave.places)
+  places_left remains (Ok x) (n, all) = (all.gave.exactly.moments, all.gave.exactly.alarms)
   places_left remains (Err f) (inl ends) = before f ends
   places_left remains (Err f) (inr ends) = behind f ends

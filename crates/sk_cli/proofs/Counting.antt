@@ -1,6 +1,8 @@
 -- How `count` goes.
-use Rattle.std.proofs.Common.{◌≡◌, ◌⊎◌, inl, inr, ℕ, List, ◌++◌, Result, Ok, Err, is_none, refl, sym, ap, ◌∙◌, subst}
+use Rattle.std.proofs.Common.{◌≡◌, ◌⊎◌, inl, inr, ℕ, List, [], ◌∷◌, ◌++◌, Result, Ok, Err, is_none, refl, sym, ap, ◌∙◌, subst}
 use Rattle.std.specs.Result.{MatchResult}
+use Rattle.sk_model.proofs.Missing.{begins_more}
+use Rattle.sk_read.specs.Items.{IsGood}
 use Rattle.sk_read.specs.Reads.{ReadsAll}
 use Rattle.sk_read.specs.Units.{units_of}
 use Rattle.sk_read.specs.declared.fault.Fault.{Fault as ReadingFault}
@@ -8,7 +10,10 @@ use Rattle.sk_read.specs.declared.fault.Fault.TheVariants as reading
 use Rattle.sk_watch.specs.Places.{Place}
 use Rattle.sk_count.specs.declared.plan.Plan.{Plan}
 use Rattle.sk_report.specs.declared.remains.Remains.{Remains}
-use Rattle.sk_count.specs.Counts.{Setting, setting, interim_by, last_lines, TellsSoFar, TellsAll, TellsPartOfAll, StopsFor, EndsBefore, EndsBehind, Counts}
+use Rattle.sk_count.specs.Headline.{CountsExactly}
+use Rattle.sk_count.specs.Texts.{interim_by, last_lines}
+use Rattle.sk_count.proofs.HeadlineLaws.{course_of}
+use Rattle.sk_count.specs.Counts.{Setting, setting, TellsSoFar, TellsAll, TellsPartOfAll, StopsFor, EndsBefore, EndsBehind, Counts}
 use Rattle.sk_ingest.proofs.Endings.{ends_so, all_so}
 use Rattle.sk_cli.specs.Beside.{Beside, CountingHub}
 use Rattle.sk_cli.specs.commands.Count.{counted, counting, IsInterim, IsWhole, LeavesHub}
@@ -16,6 +21,8 @@ use Rattle.sk_cli.specs.Fault.{fault_by}
 use Rattle.sk_cli.specs.Outside.{Streams}
 use Rattle.sk_cli.specs.Run.{Finishes, Ends, Executes}
 use Rattle.sk_cli.specs.declared.fault.Fault.{Fault}
+use Rattle.sk_cli.proofs.CountFronts.{due_in_all, due_before_last}
+use Rattle.sk_cli.proofs.Units.{all_front}
 use Rattle.sk_cli.proofs.OnTheWay.{ToldSoFar, ToldPart, Stopped, ended_before, gave_up_behind, broke_off_behind}
 
 module _ (plan : Plan) (most : ℕ) (from : Beside) (a b : Streams) (places : List Place) where
@@ -26,20 +33,27 @@ module _ (plan : Plan) (most : ℕ) (from : Beside) (a b : Streams) (places : Li
   new = setting b.left b.written places
 
   so_far : (units : List (List ℕ)) → TellsSoFar plan old new units → ToldSoFar plan.kind (IsInterim plan from) a b units
-  so_far units told = record { due = interim_by plan old told.course.moments; is = record { course = told.course; is = refl }; good = told.course.good; written = told.written }
+  so_far units told = record { due = interim_by plan from.board told.course.moments; is = record { course = told.course; is = refl }; good = told.course.good; written = told.written }
 
   stopped : (f : ReadingFault) (units : List (List ℕ)) (unit : List ℕ) → StopsFor plan old new f units unit → Stopped plan.kind (IsInterim plan from) a b f units unit
   stopped (reading.BadItem n) units unit stop = (so_far units stop.0, stop.1, stop.2)
-  stopped reading.WriteFault units unit part = record { due = interim_by plan old part.course.moments; is = record { course = part.course; is = refl }; good = part.course.good; written = part.written }
+  stopped reading.WriteFault units unit part = record {
+    due = interim_by plan from.board part.course.moments;
+    is = record { course = part.course; is = refl };
+    good = part.course.good;
+    earlier = λ front begins.
+        due_before_last plan old new from units front unit refl part begins (all_front (IsGood plan.kind) front (units ++ unit ∷ []) (begins_more front units (unit ∷ []) begins) part.course.good) (interim_by plan from.board part.course.moments) part.written;
+  }
   stopped reading.OutOfMemory units unit told = so_far units told
   stopped f units unit stop = absurd stop
 
-  part_of_all : (units : List (List ℕ)) → TellsPartOfAll plan old new units → ToldPart plan.kind (IsWhole plan from) a b units
+  part_of_all : (units : List (List ℕ)) → TellsPartOfAll plan old new units → ToldPart plan.kind (IsInterim plan from) (IsWhole plan from) a b units units
   part_of_all units part = record {
-    due = interim_by plan old part.course.moments ++ last_lines plan units;
+    due = interim_by plan from.board part.course.moments ++ last_lines plan units;
     is = record { course = part.course; is = refl };
     good = part.course.good;
-    written = part.written;
+    earlier = λ front begins.
+        due_in_all plan old new from units front refl part begins (all_front (IsGood plan.kind) front units begins part.course.good) (interim_by plan from.board part.course.moments ++ last_lines plan units) part.written;
   }
 
   -- what was told of all units, in other words
@@ -62,27 +76,17 @@ module _ (plan : Plan) (most : ℕ) (from : Beside) (a b : Streams) (places : Li
   finished : (left : Remains) (to : Beside) → to.board ≡ places → to.remains.heart ≡ left.heart → to.remains.token ≡ left.token → (n : ℕ) → ReadsAll (counted plan) most n (TellsAll plan old new left) a.left b.left → Finishes (counting plan) most from to a b
   finished left to board heart token n all =
       let gave = all.gave in
-      let due = interim_by plan old gave.course.moments ++ last_lines plan (units_of (counted plan) all.taken) in
+      let left_is : left ≡ record { heart = to.remains.heart; token = to.remains.token } = λ i. record { heart = sym heart i; token = sym token i } in
       record {
         text = all.taken;
-        due = due;
+        due = gave.text;
         consumed = all.consumed;
         end = all.end;
         size = all.size;
-        fine = (all.sound, gave.course.good);
-        is_due = record { course = gave.course; is = refl };
-        leaves = record {
-          course = gave.course;
-          is = refl;
-          board = board ∙ gave.places;
-          heart = gave.heart;
-          token = gave.token;
-          heart_left = heart ∙ ap (λ (r : Remains). r.heart) gave.left;
-          token_left = token ∙ ap (λ (r : Remains). r.token) gave.left;
-          hub = gave.hub;
-          shows = gave.shows;
-          asked = gave.asked;
-        };
+        fine = (all.sound, gave.exactly.good);
+        is_due = record { course = course_of plan (units_of (counted plan) all.taken) from.board places left gave.text gave.exactly; is = gave.exactly.written };
+        leaves = subst (λ (p : List Place). CountsExactly plan (units_of (counted plan) all.taken) from.board p (record { heart = to.remains.heart; token = to.remains.token }) gave.text) (sym board)
+            (subst (λ (r : Remains). CountsExactly plan (units_of (counted plan) all.taken) from.board places r gave.text) left_is gave.exactly);
         written = gave.written;
       }
 

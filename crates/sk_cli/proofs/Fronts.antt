@@ -1,5 +1,5 @@
 -- Texts that were written whole.
-use Rattle.std.proofs.Common.{List, length, Option, sym, subst, arith}
+use Rattle.std.proofs.Common.{ℕ, List, length, Option, sym, subst, arith}
 use Rattle.std.proofs.lemmas.List.{take_all}
 use Rattle.std.specs.Io.KnownBytes.{Appends}
 use Rattle.sk_model.specs.Causes.{AppendsFront}

@@ -2,8 +2,9 @@ pub mod Asking
 pub mod ByAnswers
 pub mod Completing
 pub mod CountDeciding
-pub mod Counting
+pub mod CountFronts
 pub mod CountPlaces
+pub mod Counting
 pub mod Deciding
 pub mod Endings
 pub mod Executing
@@ -20,6 +21,7 @@ pub mod Opening
 pub mod OptionLaws
 pub mod Performing
 pub mod RankDeciding
+pub mod RankFronts
 pub mod Ranking
 pub mod Reading
 pub mod Replaying
@@ -34,3 +36,5 @@ pub mod Touching
 pub mod Units
 pub mod ValueLaws
 pub mod WatcherLaws
+pub mod WholeTexts
+pub mod WindowFronts

@@ -11,9 +11,8 @@ use Rattle.sk_make.proofs.Texts.{size_is, lines_are_short, lines_are_read, items
 use Rattle.sk_read.specs.Items.{items_by}
 use Rattle.sk_read.specs.declared.kind.Kind.TheVariants.{Raw}
 use Rattle.sk_count.specs.declared.plan.Plan.{Plan}
-use Rattle.sk_count.specs.Counts.{armed_by, last_lines}
 use Rattle.sk_count.specs.Moments.{Moment}
-use Rattle.sk_count.specs.Texts.{interim_text, last_text}
+use Rattle.sk_count.specs.Texts.{interim_text, last_text, armed_by, last_lines}
 use Rattle.sk_cli.specs.Beside.{Beside}
 use Rattle.sk_cli.specs.Outside.{Streams}
 use Rattle.sk_cli.specs.Run.{Finishes, BreaksOff, IsDueWhole, IsDueOnTheWay, Refuses, Stops, Ends, Executes, HasCauses}

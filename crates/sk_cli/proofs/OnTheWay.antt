@@ -2,14 +2,14 @@
 use Rattle.std.proofs.Common.{◌≡◌, inl, inr, ℕ, zero, suc, ◌+◌, ◌<◌, ◌≤◌, Bool, List, [], ◌∷◌, ◌++◌, length, take, All, IsNone, refl, sym, subst, arith, length-append, append-nil}
 use Rattle.std.proofs.lemmas.List.{take_all, length-map}
 use Rattle.std.specs.Io.KnownBytes.{Appends, Consumes}
-use Rattle.sk_model.specs.Causes.{AppendsPart}
 use Rattle.sk_model.specs.Limits.{line_limit}
 use Rattle.sk_model.specs.Lines.{lines_of, AreWithin}
 use Rattle.sk_model.specs.Missing.{Begins}
+use Rattle.sk_model.proofs.Missing.{begins_refl}
 use Rattle.sk_read.specs.Items.{item_of, IsGood}
-use Rattle.sk_read.specs.Reads.{IsSettled, ReadsAll, ReadsSome, BreaksOff as ReadingBreaksOff, Ends as ReadingEnds}
+use Rattle.sk_read.specs.Reads.{IsSettled, ReadsAll, ReadsSome, IsInTime as IsReadInTime, BreaksOff as ReadingBreaksOff, Ends as ReadingEnds}
 use Rattle.sk_read.specs.Records.{records_of, field_of, AreSoundRows}
-use Rattle.sk_read.specs.Units.{units_by, units_of, IsSound, IsSoundUpTo, IsLongBehind, IsUnevenBehind}
+use Rattle.sk_read.specs.Units.{units_by, units_of, complete_units_of, IsSound, IsSoundUpTo, IsLongBehind, IsUnevenBehind}
 use Rattle.sk_read.specs.declared.fault.Fault.{Fault as ReadingFault}
 use Rattle.sk_read.specs.declared.fault.Fault.TheVariants as reading
 use Rattle.sk_read.specs.declared.kind.Kind.{Kind}
@@ -17,17 +17,21 @@ use Rattle.sk_read.specs.declared.units.Units.{Units}
 use Rattle.sk_read.specs.declared.units.Units.TheVariants.{Lines, Column}
 use Rattle.sk_read.proofs.ItemLaws.{front_is}
 use Rattle.sk_read.proofs.LineEnds.{settled_so}
+use Rattle.sk_report.specs.Parts.{AppendsPartAfter}
+use Rattle.sk_report.proofs.Fronts.{part_at_all}
 use Rattle.sk_cli.specs.Behaviour.{Behaviour}
 use Rattle.sk_cli.specs.Beside.{Beside, MadeHub}
 use Rattle.sk_cli.specs.Fault.{fault_by, bad_unit}
 use Rattle.sk_cli.specs.Lines.{lines_before}
 use Rattle.sk_cli.specs.Outside.{Streams}
 use Rattle.sk_cli.specs.Readable.{IsRefusedBy, IsBadUnit}
-use Rattle.sk_cli.specs.Run.{Stops, Refuses, IsDueOnTheWay, BreaksOff, GivesUp, Ends}
+use Rattle.sk_cli.specs.Run.{Stops, Refuses, IsDueOnTheWay, WritesOn, BreaksOff, GivesUp, Ends}
 use Rattle.sk_cli.specs.Told.{telling_on}
 use Rattle.sk_cli.specs.declared.fault.Fault.{Fault}
 use Rattle.sk_cli.specs.declared.fault.Fault.TheVariants as fault
 use Rattle.sk_cli.proofs.Fronts.{front_of_all}
+use Rattle.sk_cli.proofs.Reading.{on_true}
+use Rattle.sk_cli.proofs.WholeTexts.{sound_so_far, units_begin}
 use Rattle.sk_cli.proofs.Units.{all_front, front_at, sound_less, in_time, good_before, bad_at}
 
 -- a text that is sound is so up to its last unit
@@ -37,23 +41,25 @@ sound_up_to_all (Column c) text sound =
     let all : take (length (units_of (Column c) text)) (records_of text) ≡ records_of text = take_all (length (units_of (Column c) text)) (records_of text) (omega (arith, length-map (records_of text) (field_of c))) in
     subst (AreSoundRows c) (sym all) sound
 
--- units of which none is refused, and what was written for them: all that is due on the way, or a part of it
+-- units of which none is refused, and all that is due for them on the way was written
 pub record ToldSoFar (kind : Kind) (Interim : List (List ℕ) → List ℕ → Type 0) (a b : Streams) (units : List (List ℕ)) : Type 0 where
   pub due : List ℕ
   pub is : Interim units due
   pub good : All (IsGood kind) units
   pub written : Appends a.written b.written due
 
-pub record ToldPart (kind : Kind) (Due : List (List ℕ) → List ℕ → Type 0) (a b : Streams) (units : List (List ℕ)) : Type 0 where
+-- of what is due for units, of which none is refused, a part was written; what was due for any first ones of those given
+-- was written whole
+pub record ToldPart (kind : Kind) (Interim Due : List (List ℕ) → List ℕ → Type 0) (a b : Streams) (given units : List (List ℕ)) : Type 0 where
   pub due : List ℕ
   pub is : Due units due
   pub good : All (IsGood kind) units
-  pub written : AppendsPart a.written b.written due
+  pub earlier : (front : List (List ℕ)) → Begins front given → (text : List ℕ) × Interim front text × AppendsPartAfter text a.written b.written due
 
 -- what was told where it stopped at a unit behind these: the unit is no item, or a write failed behind it
 abbrev pub Stopped : Kind → (List (List ℕ) → List ℕ → Type 0) → Streams → Streams → ReadingFault → List (List ℕ) → List ℕ → Type 0
 Stopped kind Interim a b (reading.BadItem n) units unit = ToldSoFar kind Interim a b units × (0 < length unit) × IsNone (item_of kind unit)
-Stopped kind Interim a b reading.WriteFault units unit = ToldPart kind Interim a b (units ++ unit ∷ [])
+Stopped kind Interim a b reading.WriteFault units unit = ToldPart kind Interim Interim a b units (units ++ unit ∷ [])
 Stopped kind Interim a b reading.OutOfMemory units unit = ToldSoFar kind Interim a b units
 Stopped kind Interim a b other units unit = ⊥
 
@@ -120,27 +126,46 @@ module _ (kind : Kind) (column : ℕ) (last : Bool) (arms : List ℕ) (makes : M
       (λ (text : List ℕ). Begins off.given (units_of units text) × IsSoundUpTo units (length off.given) text) b.left off.taken
       (λ text found. (found.0, sound_less units (length off.given) text found.1.1)) off.comes)
 
+  -- what was due before the last read was written whole
+  writes_on : (given : List (List ℕ)) (taken due : List ℕ) → (earlier : (front : List (List ℕ)) → Begins front given → (text : List ℕ) × Interim from front text × AppendsPartAfter text a.written b.written due)
+      → IsReadInTime units given taken → All (IsGood kind) given → WritesOn how from taken due a.written b.written
+  writes_on given taken due earlier in_time good =
+      let before = earlier (complete_units_of units in_time.front) in_time.earlier in
+      record {
+        earlier = before.0;
+        was_due = record {
+          front = in_time.front;
+          piece = in_time.piece;
+          joined = in_time.joined;
+          size = in_time.size;
+          so_far = ((in_time.sound, all_front (IsGood kind) (complete_units_of units in_time.front) given in_time.earlier good), before.1);
+        };
+        written = before.2;
+      }
+
   -- a write failed behind a unit
-  breaks_off : (unit : List ℕ) → (off : ReadingBreaksOff units most (λ given. ToldPart kind (Interim from) a b (given ++ unit ∷ [])) (λ given text. Begins (given ++ unit ∷ []) (units_of units text) × IsSoundUpTo units (length given + 1) text) a.left b.left) →
+  breaks_off : (unit : List ℕ) → (off : ReadingBreaksOff units most (λ given. ToldPart kind (Interim from) (Interim from) a b given (given ++ unit ∷ [])) (λ given text. Begins (given ++ unit ∷ []) (units_of units text) × IsSoundUpTo units (length given + 1) text) a.left b.left) →
       BreaksOff how most from a b
   breaks_off unit off =
       let behind : List (List ℕ) = off.given ++ unit ∷ [] in
       let part = off.known in
       let count : length behind ≡ length off.given + 1 = length-append off.given (unit ∷ []) in
+      let good : All (IsGood kind) off.given = all_front (IsGood kind) off.given behind (unit ∷ [], refl) part.good in
+      let whole = part.earlier off.given (begins_refl off.given) in
       record {
         taken = off.taken;
         due = part.due;
         consumed = off.consumed;
         size = off.size;
         is_due = inr (
-          in_time kind column off.given off.taken off.in_time (all_front (IsGood kind) off.given behind (unit ∷ [], refl) part.good),
+          in_time kind column off.given off.taken off.in_time good,
           due_before behind part.due off.taken part.is
               (settled_so (λ (text : List ℕ). Begins off.given (units_of units text) × (Begins behind (units_of units text) × IsSoundUpTo units (length off.given + 1) text))
               (λ (text : List ℕ). Begins behind (units_of units text) × IsSoundUpTo units (length behind) text) b.left off.taken
               (λ text found. (found.1.0, subst (λ (m : ℕ). IsSoundUpTo units m text) (sym count) found.1.1)) off.comes),
         );
-        written = part.written;
-        by_lines = tt;
+        written = part_at_all whole.0 a.written b.written part.due whole.2;
+        by_lines = on_true how.writes_by_lines (WritesOn how from off.taken part.due a.written b.written) (writes_on off.given off.taken part.due part.earlier off.in_time good);
       }
 
   -- it ended while it read
@@ -184,13 +209,25 @@ module _ (kind : Kind) (column : ℕ) (last : Bool) (arms : List ℕ) (makes : M
       gives_up given all.taken all.gave all.consumed (omega (arith, all.size)) (inr (all.end, (([], sym (append-nil given)), sound_up_to_all units all.taken all.sound)))
 
   -- it had read all, and a write failed
-  pub broke_off_behind : (n : ℕ) → ReadsAll units most n (ToldPart kind (Whole from) a b) a.left b.left → BreaksOff how most from a b
-  broke_off_behind n all = record {
-    taken = all.taken;
-    due = all.gave.due;
-    consumed = all.consumed;
-    size = omega (arith, all.size);
-    is_due = inl (record { end = all.end; fine = (all.sound, all.gave.good); is_due = all.gave.is });
-    written = all.gave.written;
-    by_lines = tt;
-  }
+  pub broke_off_behind : (n : ℕ) → ReadsAll units most n (λ given. ToldPart kind (Interim from) (Whole from) a b given given) a.left b.left → BreaksOff how most from a b
+  broke_off_behind n all =
+      let given : List (List ℕ) = units_of units all.taken in
+      let part = all.gave in
+      let whole = part.earlier given (begins_refl given) in
+      let all_in_time : IsReadInTime units given all.taken = record {
+        front = all.taken;
+        piece = [];
+        joined = sym (append-nil all.taken);
+        size = omega arith;
+        sound = sound_so_far units all.taken all.sound;
+        earlier = units_begin units all.taken;
+      } in
+      record {
+        taken = all.taken;
+        due = part.due;
+        consumed = all.consumed;
+        size = omega (arith, all.size);
+        is_due = inl (record { end = all.end; fine = (all.sound, part.good); is_due = part.is });
+        written = part_at_all whole.0 a.written b.written part.due whole.2;
+        by_lines = on_true how.writes_by_lines (WritesOn how from all.taken part.due a.written b.written) (writes_on given all.taken part.due part.earlier all_in_time part.good);
+      }

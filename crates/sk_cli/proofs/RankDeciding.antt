@@ -1,5 +1,5 @@
 -- What `quantile` decides of a text, and what its lines are worth.
-use Rattle.std.proofs.Common.{◌≡◌, ℕ, ◌<◌, ◌≤◌, List, [], ◌++◌, length, MatchBool, Option, None, is_some, sym, ap, ◌∙◌, subst}
+use Rattle.std.proofs.Common.{◌≡◌, ℕ, ◌<◌, ◌≤◌, List, [], ◌++◌, if◌then◌else◌, length, Option, None, is_some, sym, ap, ◌∙◌, subst}
 use Rattle.std.specs.Int.{abs_diff}
 use Rattle.sk_model.specs.Entries.{items_of_entries}
 use Rattle.sk_model.specs.Lines.{lines_of}
@@ -10,14 +10,14 @@ use Rattle.sk_read.specs.Items.{items_by}
 use Rattle.sk_read.specs.declared.kind.Kind.TheVariants.{Raw}
 use Rattle.sk_rank.specs.declared.plan.Plan.{Plan}
 use Rattle.sk_rank.specs.Feeding.{Course}
-use Rattle.sk_rank.specs.Moments.{Moment, AreMoments}
+use Rattle.sk_rank.specs.Moments.{Moment}
 use Rattle.sk_rank.specs.Texts.{interim_text, told_line, rank_line}
 use Rattle.sk_rank.proofs.Orders.{all_items, as_many, in_order_of_one}
 use Rattle.sk_cli.specs.Behaviour.{IsDecided, WritesOneText}
 use Rattle.sk_cli.specs.Beside.{Beside}
 use Rattle.sk_cli.specs.Lines.{lines_before}
 use Rattle.sk_cli.specs.commands.Quantile.{ranking, IsInterim, IsWhole, TellsNear}
-use Rattle.sk_cli.proofs.CountDeciding.{readable_or_refused, refused_once}
+use Rattle.sk_cli.proofs.CountDeciding.{nothing_in, readable_or_refused, refused_once}
 
 pub rank_decides : (plan : Plan) → IsDecided (ranking plan)
 rank_decides plan = record {
@@ -32,7 +32,7 @@ no_text plan moments none = ap (interim_text plan) none
 module _ (plan : Plan) (none : plan.window ≡ None) (from : Beside) where
   -- without a window nobody asks
   no_interim : (units : List (List ℕ)) (course : Course plan units) → interim_text plan course.moments ≡ []
-  no_interim units course = no_text plan course.moments (subst (λ (w : Option ℕ). MatchBool (is_some w) (AreMoments plan [] [] course.windows course.moments) (course.moments ≡ [])) none course.asks)
+  no_interim units course = no_text plan course.moments (nothing_in course.moments (course.asks.count ∙ ap (λ (w : Option ℕ). if is_some w then length course.windows else 0) none))
 
   -- and one updater keeps the order of the lines
   in_order : plan.updaters ≡ 1 → (units : List (List ℕ)) (due : List ℕ) → IsWhole plan from units due → due ≡ rank_line plan (items_by Raw units)

@@ -1,5 +1,5 @@
 -- A command that reads all items of a text: one that writes once that has ended, and one that writes on the way too.
-use Rattle.std.specs.Prelude.{◌≡◌, ℕ, Bool, true, false, List, [], take}
+use Rattle.std.specs.Prelude.{◌≡◌, ℕ, Bool, true, false, not, List, [], take}
 use Rattle.sk_read.specs.declared.kind.Kind.{Kind}
 use Rattle.sk_read.specs.Items.{items_by}
 use Rattle.sk_read.specs.Units.{units_by, units_of, complete_units_of, IsSoundUpTo}
@@ -38,7 +38,7 @@ telling_on kind column last arms makes Interim Whole Left = record {
   reads = true;
   takes_file = true;
   writes_last = last;
-  writes_by_lines = false;
+  writes_by_lines = not last;
   arms = arms;
   makes = makes;
   IsFine = IsReadable kind column;

@@ -1,19 +1,16 @@
 -- What `count` is asked, and what it does.
-use Rattle.std.specs.Prelude.{◌≡◌, ℕ, ◌≤◌, List, [], ◌∷◌, ◌++◌, length, All, if◌then◌else◌, Option, None, Some, IfSome, is_none, option_and_then, option_map}
+use Rattle.std.specs.Prelude.{◌≡◌, ℕ, ◌≤◌, List, ◌++◌, length, All, if◌then◌else◌, Option, None, Some, IfSome, is_none, option_and_then, option_map}
 use Rattle.sk_model.specs.Limits.{least_k, most_k, most_size, most_updaters, IsFrom}
-use Rattle.sk_gate.specs.Hands.{TokenState}
-use Rattle.sk_hub.specs.Hearts.{HeartState}
 use Rattle.sk_read.specs.declared.kind.Kind.{Kind}
 use Rattle.sk_read.specs.declared.kind.Kind.TheVariants as kind
-use Rattle.sk_read.specs.Items.{items_by}
 use Rattle.sk_read.specs.Units.{units_by}
 use Rattle.sk_read.specs.declared.units.Units.{Units}
 use Rattle.sk_fill.specs.Windows.{most_lines}
 use Rattle.sk_count.specs.declared.plan.Plan.{Plan}
 use Rattle.sk_count.specs.Plans as plans
-use Rattle.sk_count.specs.Counts.{Course, armed_by, last_lines}
-use Rattle.sk_count.specs.Hubs.{ShowsAll, ShowsMoments}
-use Rattle.sk_count.specs.Texts.{interim_text, places_after}
+use Rattle.sk_count.specs.Counts.{Course}
+use Rattle.sk_count.specs.Headline.{CountsExactly}
+use Rattle.sk_count.specs.Texts.{interim_by, last_lines}
 use Rattle.sk_cli.specs.Behaviour.{Behaviour}
 use Rattle.sk_cli.specs.Beside.{Beside, board_places, CountingHub}
 use Rattle.sk_cli.specs.Told.{telling_on}
@@ -90,26 +87,16 @@ counted plan = units_by plan.column
 -- the interim text of these units: a line for each moment, with the alarms that its reply sets off
 pub record IsInterim (plan : Plan) (from : Beside) (units : List (List ℕ)) (due : List ℕ) : Type 0 where
   pub course : Course plan units
-  pub is : due ≡ interim_text plan.k (armed_by plan from.board) course.moments
+  pub is : due ≡ interim_by plan from.board course.moments
 
 -- the whole text of these units: the interim text, and then one thread's estimate of all items
 pub record IsWhole (plan : Plan) (from : Beside) (units : List (List ℕ)) (due : List ℕ) : Type 0 where
   pub course : Course plan units
-  pub is : due ≡ interim_text plan.k (armed_by plan from.board) course.moments ++ last_lines plan units
+  pub is : due ≡ interim_by plan from.board course.moments ++ last_lines plan units
 
--- once this is written, the board is as the last moment left it, and the heart and the token of the one hub that counted
--- are left, and show this run
-pub record LeavesHub (plan : Plan) (from : Beside) (units : List (List ℕ)) (due : List ℕ) (to : Beside) : Type 0 where
-  pub course : Course plan units
-  pub is : due ≡ interim_text plan.k (armed_by plan from.board) course.moments ++ last_lines plan units
-  pub board : to.board ≡ places_after plan.k (armed_by plan from.board) course.moments
-  pub heart : HeartState
-  pub token : TokenState
-  pub heart_left : to.remains.heart ≡ Some heart
-  pub token_left : to.remains.token ≡ Some token
-  pub hub : token.table ≡ heart.table
-  pub shows : ShowsAll plan (items_by plan.kind units) (course.windows ++ course.rest ∷ []) course.moments heart
-  pub asked : ShowsMoments plan course.moments token
+-- once this is written, the headline is so of it: with the board as it is then, and the heart and the token that are left
+abbrev pub LeavesHub : Plan → Beside → List (List ℕ) → List ℕ → Beside → Type 0
+LeavesHub plan from units due to = CountsExactly plan units from.board to.board (record { heart = to.remains.heart; token = to.remains.token }) due
 
 -- it writes the interim text as it reads, and last the estimate
 abbrev pub counting : Plan → Behaviour

@@ -11,12 +11,11 @@ use Rattle.sk_quant.specs.Limits.{least_quantile_k, most_quantile_k, key_end}
 use Rattle.sk_quant.specs.Ranks.{rank_of, rank_error}
 use Rattle.sk_fill.specs.Windows.{most_lines}
 use Rattle.sk_read.specs.declared.kind.Kind.TheVariants.{Raw}
-use Rattle.sk_snap.specs.History.{entries_in}
-use Rattle.sk_snap.specs.Versions.{Learnt, items_in}
+use Rattle.sk_snap.specs.Versions.{Learnt}
 use Rattle.sk_rank.specs.declared.plan.Plan.{Plan}
 use Rattle.sk_rank.specs.Feeding.{Course}
 use Rattle.sk_rank.specs.Nearness.{IsNear}
-use Rattle.sk_rank.specs.Ranks.{IsListOf, Goes, Shows}
+use Rattle.sk_rank.specs.Headline.{IsListOf, Goes, RanksNear}
 use Rattle.sk_rank.specs.Texts.{interim_text, told_line, rank_line}
 use Rattle.sk_cli.specs.Behaviour.{Behaviour}
 use Rattle.sk_cli.specs.Beside.{Beside, RankingHub}
@@ -89,19 +88,13 @@ pub record IsWhole (plan : Plan) (from : Beside) (units : List (List ℕ)) (due 
   pub near : IsNear plan.at plan.k plan.key (items_of_entries list)
   pub is : due ≡ interim_text plan course.moments ++ rank_line plan (items_of_entries list)
 
--- once this is written, the heart of the one hub that ranked is left, and the reader that knows exactly the list of the
--- last line, and both show this run
+-- once this is written, a heart and a reader are left, and the headline is so of it
 pub record LeavesRanks (plan : Plan) (from : Beside) (units : List (List ℕ)) (due : List ℕ) (to : Beside) : Type 0 where
-  pub course : Course plan units
   pub heart : HeartState
   pub reader : Learnt
-  pub is : due ≡ interim_text plan course.moments ++ rank_line plan (items_in reader.known)
   pub heart_left : to.remains.ranks ≡ Some heart
   pub reader_left : to.remains.reader ≡ Some reader
-  pub has_all : IsListOf plan (course.windows ++ course.rest ∷ []) (entries_in reader.known)
-  pub goes : Goes course.moments (entries_in reader.known)
-  pub near : IsNear plan.at plan.k plan.key (items_in reader.known)
-  pub shows : Shows plan heart reader
+  pub ranks : RanksNear plan units heart reader due
 
 -- each line spells a number, and its item is one more; it writes the interim text as it reads, and last the rank in all
 abbrev pub ranking : Plan → Behaviour
