@@ -1,4 +1,4 @@
--- The headline: what a server that ends well did, in every interleaving of its sessions.
+-- What a server that ends well did, in every interleaving of its sessions.
 use Rattle.std.specs.Prelude.{◌≡◌, ◌≢◌, ℕ, ◌<◌, List, [], length, map, Some, slice_index_or}
 use Rattle.std.specs.Io.KnownBytes.{Appends}
 use Rattle.sk_model.specs.Entries.{Entry, entries_by, items_of_entries}
@@ -28,7 +28,7 @@ pub record SharesList (plan : ServePlan) (most i : ℕ) (s : Served) (list : Lis
   pub answers : SayOfOneList plan.k plan.seed i (size_at plan.sizes i) [] [] s.answered list
   -- what was kept before it is the cause of each `busy`
   pub busy : AreBusyBehind (size_at plan.sizes i) s.answered
-  -- its link was sent these answers
+  -- its link's record holds their replies; if no call of it failed all of them, and sent
   pub replies : HoldsReplies s.ended s.answered
 
 -- a heart that drained the updater of each session and shows this list, and the token of the same hub
@@ -40,6 +40,7 @@ pub record HubShows (plan : ServePlan) (sessions : List Served) (list : List Ent
   pub list_is : list ≡ heart.view.seen
   pub shows : ShowsSessions plan sessions heart
 
+-- the headline: a server that ended well
 pub record ServesExactly (plan : ServePlan) (most : ℕ) (old new : Surroundings) (left : Remains) : Type 0 where
   pub sessions : List Served
   pub list : List Entry
