@@ -15,8 +15,7 @@ use Rattle.sk_hub.specs.Hearts.{HeartState, IsWholeHeart}
 use Rattle.sk_hub.specs.Updaters.{UpdaterState, kept_of, IsWholeUpdater}
 use Rattle.sk_hub.proofs.Taking.{taken_when_drained, taken_after_drain, taken_after_serving, taken_with_view}
 use Rattle.sk_snap.specs.History.{Beginning, entries_in}
-use Rattle.sk_snap.specs.Versions.{Learnt, IsRank, items_in}
-use Rattle.sk_snap.specs.declared.version.Rank.{Rank}
+use Rattle.sk_snap.specs.Versions.{Learnt}
 use Rattle.sk_learn.specs.Learning.{ReaderGoesOn}
 use Rattle.sk_learn.specs.Closing.{AreApart, numbers_of, items_kept, counted, TakesIn, TakesFirst, GivesBack, GivesFirstBack, TakesInAll, StopsEarly, Closes}
 use Rattle.sk_learn.proofs.LearningLaws.{goes_refl, goes_trans, TellsThese, told_begins}
@@ -171,8 +170,8 @@ stopped_early o h h1 h2 all us us' taken r r1 r2 before now is t count gives sam
 
 -- ---- the end
 
-module _ (h h1 : HeartState) (us : List UpdaterState) (r r1 r2 : Learnt) (x n : ℕ) (rank : Rank) (apart : AreApart us) (t : TakesInAll h us r h1 r1) (count : n ≡ counted 0 us) (goes : ReaderGoesOn r1 r2)
-    (is : IsRank x r2.k r2.key (items_in r2.known) rank.n rank.below rank.within) (whole : length (entries_in r2.known) ≡ n) where
+module _ (h h1 : HeartState) (us : List UpdaterState) (r r1 r2 : Learnt) (n : ℕ) (apart : AreApart us) (t : TakesInAll h us r h1 r1) (count : n ≡ counted 0 us) (goes : ReaderGoesOn r1 r2)
+    (whole : length (entries_in r2.known) ≡ n) where
   learnt : All (λ u. Begins (kept_of u) (entries_by u.number (entries_in r2.known))) us
   learnt = λ i d within. begins_trans _ _ _ (t.learnt i d within) (entries_by_begins (get_or us i d).number (entries_in r1.known) (entries_in r2.known) goes.grows)
 
@@ -180,9 +179,8 @@ module _ (h h1 : HeartState) (us : List UpdaterState) (r r1 r2 : Learnt) (x n : 
   as_many : length (entries_in r2.known) ≡ items_kept us
   as_many = omega (arith, whole, count, at_least us (entries_in r2.known) apart learnt)
 
-  pub closed : Closes h us r x rank h1 r2
+  pub closed : Closes h us r h1 r2
   closed = record {
     takes = record { table = t.table; name = t.name; drained = t.drained; taken_in = t.taken_in; goes = goes_trans r r1 r2 t.goes goes; learnt = learnt };
     exactly = exactly us (entries_in r2.known) apart learnt as_many;
-    rank_is = is;
   }

@@ -16,10 +16,10 @@ use Rattle.sk_learn.specs.Learning.{ReaderGoesOn, Knows, LearnsOf, LearnsFirst, 
 -- ---- a reader that goes on
 
 pub goes_refl : (r : Learnt) → ReaderGoesOn r r
-goes_refl r = record { grows = begins_refl (entries_in r.known); k = refl; key = refl; book = refl }
+goes_refl r = record { grows = begins_refl (entries_in r.known); numbers = refl; book = refl }
 
 pub goes_trans : (r s t : Learnt) → ReaderGoesOn r s → ReaderGoesOn s t → ReaderGoesOn r t
-goes_trans r s t a b = record { grows = begins_trans _ _ _ a.grows b.grows; k = b.k ∙ a.k; key = b.key ∙ a.key; book = b.book ∙ a.book }
+goes_trans r s t a b = record { grows = begins_trans _ _ _ a.grows b.grows; numbers = b.numbers ∙ a.numbers; book = b.book ∙ a.book }
 
 pub knows_more : (r s : Learnt) (u : UpdaterState) → ReaderGoesOn r s → Knows r u → Knows s u
 knows_more r s u goes knows = record {

@@ -8,8 +8,7 @@ use Rattle.sk_hub.specs.Hearts.{HeartState}
 use Rattle.sk_hub.specs.Rounds.{KnowsAsMuch}
 use Rattle.sk_hub.specs.Updaters.{UpdaterState, kept_of}
 use Rattle.sk_snap.specs.History.{entries_in}
-use Rattle.sk_snap.specs.Versions.{Learnt, IsRank, items_in}
-use Rattle.sk_snap.specs.declared.version.Rank.{Rank}
+use Rattle.sk_snap.specs.Versions.{Learnt}
 use Rattle.sk_learn.specs.Learning.{ReaderGoesOn}
 
 -- no two of them have one number
@@ -89,8 +88,7 @@ pub record HasExactly (list : List Entry) (us : List UpdaterState) : Type 0 wher
   pub each : All (λ u. entries_by u.number list ≡ kept_of u) us
   pub only : All (λ entry. Contains (numbers_of us) entry.0) list
 
--- the heart took them in, the reader knows exactly what they kept, and the rank of a number in that was read
-pub record Closes (h : HeartState) (us : List UpdaterState) (r : Learnt) (x : ℕ) (rank : Rank) (h' : HeartState) (s : Learnt) : Type 0 where
+-- the heart took them in, and the reader knows exactly what they kept
+pub record Closes (h : HeartState) (us : List UpdaterState) (r : Learnt) (h' : HeartState) (s : Learnt) : Type 0 where
   pub takes : TakesInAll h us r h' s
   pub exactly : HasExactly (entries_in s.known) us
-  pub rank_is : IsRank x s.k s.key (items_in s.known) rank.n rank.below rank.within

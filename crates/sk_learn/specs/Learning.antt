@@ -9,8 +9,7 @@ use Rattle.sk_snap.specs.Versions.{Learnt}
 -- the reader of the same sketch, which knows as much or more
 pub record ReaderGoesOn (r s : Learnt) : Type 0 where
   pub grows : Begins (entries_in r.known) (entries_in s.known)
-  pub k : s.k ≡ r.k
-  pub key : s.key ≡ r.key
+  pub numbers : s.numbers ≡ r.numbers
   pub book : s.known.book ≡ r.known.book
 
 -- if an updater holds a told value, the reader knows all but its last hand, which was of one buffer at most

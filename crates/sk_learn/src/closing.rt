@@ -2,44 +2,47 @@
 ghost use Rattle.std.specs.Prelude.{◌≡◌, ◌<◌, ℕ, [], All, length, IfOk, IfErr, OnOk, OnErr};
 ghost use Rattle.sk_hub.specs.Updaters.{UpdaterState, kept_of};
 ghost use Rattle.sk_snap.specs.History.{entries_in, name_of};
-ghost use Rattle.sk_snap.specs.Versions.{IsRank, items_in};
+ghost use Rattle.sk_snap.specs.Versions.{items_in};
 ghost use Rattle.sk_learn.specs.Learning.{ReaderGoesOn};
 ghost use Rattle.sk_learn.specs.Closing.{AreApart, counted, TakesIn, TakesFirst, GivesBack, GivesFirstBack, TakesInAll, StopsEarly, Closes};
 
+use crate::whole::Whole;
 use sk_hub::{Drain, Heart, Updater};
 use sk_model::OutOfMemory;
-use sk_snap::{QuantReader, Rank, VersionedQuant};
+use sk_snap::{Query, Sequential, VersionReader, Versioned};
 use std::sync::Wait;
 
-/// Takes in updaters of a hub, in order, and reads the rank of a number in exactly what they kept. It waits for ever
+/// Takes in updaters of a hub, in order, and asks a version of exactly what they kept. It waits for ever
 /// if others have kept items too. On out of memory those that were not taken in are left, in order; whoever goes on with
 /// them uses `take_in_all`, which counts over several calls.
-pub fn close<W: Wait + Drop, R: Wait>(
+pub fn close<S: Sequential, Q: Query<S>, W: Wait + Drop, R: Wait>(
     rt: &R,
-    heart: &mut Heart<VersionedQuant<W>>,
-    updaters: &mut Vec<Updater<VersionedQuant<W>>>,
-    reader: &mut QuantReader,
-    x: u64,
-) -> Result<Rank, OutOfMemory>
+    heart: &mut Heart<Versioned<S, W>>,
+    updaters: &mut Vec<Updater<Versioned<S, W>>>,
+    reader: &mut VersionReader<S>,
+    query: Q,
+) -> Result<Q::Answer, OutOfMemory>
     requires table { All (λ (u : UpdaterState). u.table ≡ heart.old.table) updaters.old.items }
     requires apart { AreApart updaters.old.items }
     requires name { heart.old.view.name ≡ name_of reader.old.known.book }
-    ensures closed { IfOk result (λ rank. Closes heart.old updaters.old.items reader.old x rank heart.new reader.new) }
+    requires fits { Q.fits query reader.old.numbers }
+    ensures closed { OnOk result (Closes heart.old updaters.old.items reader.old heart.new reader.new) }
+    ensures gives { IfOk result (λ answer. Q.gives query reader.old.numbers (items_in reader.new.known) answer) }
     ensures none { OnOk result (updaters.new.items ≡ []) }
     ensures early { OnErr result ((n : ℕ) × StopsEarly heart.old updaters.old.items reader.old 0 heart.new updaters.new.items reader.new n) }
 {
     let mut taken = 0;
     take_in_all(rt, heart, updaters, reader, &mut taken)?;
-    Ok(read_whole(rt, reader, x, taken))
+    Ok(read_whole(rt, reader, query, taken))
 }
 
 /// Takes in updaters of a hub, in order, learns what the last parcel of each told, and counts the items that they kept.
 /// On out of memory those that were not taken in are left, in order.
-pub fn take_in_all<W: Wait + Drop, R: Wait>(
+pub fn take_in_all<S: Sequential, W: Wait + Drop, R: Wait>(
     rt: &R,
-    heart: &mut Heart<VersionedQuant<W>>,
-    updaters: &mut Vec<Updater<VersionedQuant<W>>>,
-    reader: &mut QuantReader,
+    heart: &mut Heart<Versioned<S, W>>,
+    updaters: &mut Vec<Updater<Versioned<S, W>>>,
+    reader: &mut VersionReader<S>,
     taken: &mut u64,
 ) -> Result<(), OutOfMemory>
     requires table { All (λ (u : UpdaterState). u.table ≡ heart.old.table) updaters.old.items }
@@ -61,11 +64,11 @@ pub fn take_in_all<W: Wait + Drop, R: Wait>(
 }
 
 // Takes in the first updater, and returns how many items it kept. On out of memory it is again the first.
-fn take_in_first<W: Wait + Drop, R: Wait>(
+fn take_in_first<S: Sequential, W: Wait + Drop, R: Wait>(
     rt: &R,
-    heart: &mut Heart<VersionedQuant<W>>,
-    updaters: &mut Vec<Updater<VersionedQuant<W>>>,
-    reader: &mut QuantReader,
+    heart: &mut Heart<Versioned<S, W>>,
+    updaters: &mut Vec<Updater<Versioned<S, W>>>,
+    reader: &mut VersionReader<S>,
 ) -> Result<u64, OutOfMemory>
     requires some { 0 < length updaters.old.items }
     requires table { All (λ (u : UpdaterState). u.table ≡ heart.old.table) updaters.old.items }
@@ -87,12 +90,12 @@ fn take_in_first<W: Wait + Drop, R: Wait>(
 }
 
 // Takes in an updater, and learns what its last parcel told. On out of memory it comes back.
-fn take_in<W: Wait + Drop, R: Wait>(
+fn take_in<S: Sequential, W: Wait + Drop, R: Wait>(
     rt: &R,
-    heart: &mut Heart<VersionedQuant<W>>,
-    u: Updater<VersionedQuant<W>>,
-    reader: &mut QuantReader,
-) -> Result<(), Updater<VersionedQuant<W>>>
+    heart: &mut Heart<Versioned<S, W>>,
+    u: Updater<Versioned<S, W>>,
+    reader: &mut VersionReader<S>,
+) -> Result<(), Updater<Versioned<S, W>>>
     requires table { u.table ≡ heart.old.table }
     requires name { heart.old.view.name ≡ name_of reader.old.known.book }
     ensures taken { OnOk result (TakesIn heart.old u reader.old heart.new reader.new) }
@@ -112,16 +115,23 @@ fn take_in<W: Wait + Drop, R: Wait>(
     Ok(())
 }
 
-/// The rank of a number in a list of exactly `total` items, for which it waits.
-pub fn read_whole<R: Wait>(rt: &R, reader: &mut QuantReader, x: u64, total: u64) -> Rank
-    ensures rank { IsRank x reader.new.k reader.new.key (items_in reader.new.known) result.n result.below result.within }
+/// Asks a version of a list of exactly `total` items, for which it waits.
+pub fn read_whole<S: Sequential, Q: Query<S>, R: Wait>(
+    rt: &R,
+    reader: &mut VersionReader<S>,
+    query: Q,
+    total: u64,
+) -> Q::Answer
+    requires fits { Q.fits query reader.old.numbers }
+    ensures gives { Q.gives query reader.old.numbers (items_in reader.new.known) result }
     ensures total { length (entries_in reader.new.known) ≡ total }
     ensures goes { ReaderGoesOn reader.old reader.new }
 {
+    let mut query = query;
     'again: for _ in rt.forever() {
-        let rank = reader.read(rt, x);
-        if rank.n == total {
-            return rank;
+        match reader.read(rt, Whole { total, query }) {
+            Ok(answer) => return answer,
+            Err(back) => query = back,
         }
     }
     unreachable!()

@@ -5,13 +5,13 @@ ghost use Rattle.sk_snap.specs.History.{name_of};
 ghost use Rattle.sk_learn.specs.Learning.{LearnsOf, LearnsFirst, AreAsked, untold};
 
 use sk_hub::Updater;
-use sk_snap::{QuantReader, VersionedQuant};
+use sk_snap::{Sequential, VersionReader, Versioned};
 use std::sync::Wait;
 
 /// Learns what each updater was told, in order.
-pub fn learn_all<W: Wait + Drop>(
-    reader: &mut QuantReader,
-    updaters: &mut [Updater<VersionedQuant<W>>],
+pub fn learn_all<S: Sequential, W: Wait + Drop>(
+    reader: &mut VersionReader<S>,
+    updaters: &mut [Updater<Versioned<S, W>>],
 )
     requires names { All (λ (u : UpdaterState). u.view.name ≡ name_of reader.old.known.book) updaters.old }
     ensures learns { LearnsFirst reader.old updaters.old (length updaters.old) reader.new }
@@ -23,7 +23,10 @@ pub fn learn_all<W: Wait + Drop>(
 }
 
 // Learns what an updater was told.
-fn learn<W: Wait + Drop>(reader: &mut QuantReader, u: &mut Updater<VersionedQuant<W>>)
+fn learn<S: Sequential, W: Wait + Drop>(
+    reader: &mut VersionReader<S>,
+    u: &mut Updater<Versioned<S, W>>,
+)
     requires name { u.old.view.name ≡ name_of reader.old.known.book }
     ensures learns { LearnsOf reader.old u.old reader.new }
     ensures asked { u.new ≡ untold u.old }

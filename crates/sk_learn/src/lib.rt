@@ -4,6 +4,7 @@
 mod closing;
 pub mod laws;
 mod learning;
+mod whole;
 
 pub use closing::{close, read_whole, take_in_all};
 pub use learning::learn_all;

@@ -9,6 +9,7 @@ use Rattle.sk_model.specs.Causes.{AppendsPart}
 use Rattle.sk_model.specs.Missing.{Begins, LacksAtMost}
 use Rattle.sk_model.proofs.Missing.{begins_refl, begins_trans, begins_nil, begins_take}
 use Rattle.sk_compose.specs.Kept.{AreKept}
+use Rattle.sk_compose.specs.Numbers.{k_of}
 use Rattle.sk_machine.proofs.Coarse.{entries_by_begins}
 use Rattle.sk_gate.specs.Hands.{is_empty}
 use Rattle.sk_hub.specs.Updaters.{UpdaterState, handed_of, kept_of, earlier_of, HoldsTold}
@@ -24,6 +25,7 @@ use Rattle.sk_report.specs.Parts.{AppendsPartAfter}
 use Rattle.sk_report.proofs.Fronts.{part_alone, part_after_behind}
 use Rattle.sk_rank.proofs.MomentLaws.{MomentsFrom}
 use Rattle.sk_snap.specs.History.{entries_in}
+use Rattle.sk_snap.specs.Quants.{quant_numbers, key_of}
 use Rattle.sk_snap.specs.Versions.{Learnt, items_in}
 use Rattle.sk_rank.specs.declared.plan.Plan.{Plan}
 use Rattle.sk_rank.specs.Plans.{lines_of_window, share_of}
@@ -107,8 +109,7 @@ stands_fed plan before last lines a x r stands fed = record {
       took_more plan before lines (entries_in r.reader.known) i (get_or a.updaters i d) (get_or x.updaters i d) (stands.took i d within')
       (subst (λ n. Takes keeps hint_of (get_or a.updaters i d) (share_at n i) (get_or x.updaters i d)) stands.count (fed.updaters.each i d within'));
   at = stands.at;
-  k = stands.k;
-  key = stands.key;
+  numbers = stands.numbers;
   began = stands.began;
 }
   where
@@ -121,10 +122,10 @@ stands_fed plan before last lines a x r stands fed = record {
 abbrev pub moment_at : ℕ → Learnt → Moment
 moment_at lines s = record { lines = lines; list = entries_in s.known }
 
-pub is_moment : (plan : Plan) (windows : List (List (List ℕ))) (last : List Entry) (lines : ℕ) (x : Hub) (r : Showing) (s : Learnt) → lines ≡ length (all_lines windows) → Stands plan windows last x r → LearnsHub r.reader x.updaters s → IsNear r.at s.k s.key (items_in s.known) → IsMoment plan windows (moment_at lines s)
+pub is_moment : (plan : Plan) (windows : List (List (List ℕ))) (last : List Entry) (lines : ℕ) (x : Hub) (r : Showing) (s : Learnt) → lines ≡ length (all_lines windows) → Stands plan windows last x r → LearnsHub r.reader x.updaters s → IsNear r.at (k_of s.numbers) (key_of s.numbers) (items_in s.known) → IsMoment plan windows (moment_at lines s)
 is_moment plan windows last lines x r s count stands learns near = record {
-  near = let k : s.k ≡ plan.k = learns.goes.k ∙ stands.k in let key : s.key ≡ plan.key = learns.goes.key ∙ stands.key in
-      subst (λ (z : ℕ × ℕ × ℕ). IsNear z.0 z.1 z.2 (items_in s.known)) (λ e. (stands.at e, k e, key e)) near;
+  near = let numbers : s.numbers ≡ quant_numbers plan.k plan.key = learns.goes.numbers ∙ stands.numbers in
+      subst (λ (z : ℕ × List ℕ). IsNear z.0 (k_of z.1) (key_of z.1) (items_in s.known)) (λ e. (stands.at e, numbers e)) near;
   lines = count;
   lacks = λ i within. let within' : i < length x.updaters = omega (arith, stands.count) in
       at_some x.updaters i within' (λ d.
@@ -140,16 +141,15 @@ stands_reported plan windows last x y r s stands leaves learns at = record {
   took = λ i d within. let within' : i < length x.updaters = omega (arith, leaves.count) in
       took_left plan windows r.reader s.reader i (get_or x.updaters i d) (get_or y.updaters i d) (stands.took i d within') learns.goes (learns.knows i d within') (leaves.updaters i d within');
   at = at ∙ stands.at;
-  k = learns.goes.k ∙ stands.k;
-  key = learns.goes.key ∙ stands.key;
+  numbers = learns.goes.numbers ∙ stands.numbers;
   began = begins_refl (entries_in s.reader.known);
 }
 
 -- what is due for it
 pub due_is : (plan : Plan) (windows : List (List (List ℕ))) (last : List Entry) (lines : ℕ) (x : Hub) (r : Showing) (s : Learnt) → Stands plan windows last x r → ReaderGoesOn r.reader s → due_line lines r.at s ≡ moment_text plan (moment_at lines s)
 due_is plan windows last lines x r s stands goes =
-    let k : s.k ≡ plan.k = goes.k ∙ stands.k in let key : s.key ≡ plan.key = goes.key ∙ stands.key in
-    λ e. interim_line lines (line_by (stands.at e) (k e) (key e) (items_of_entries (entries_in s.known)))
+    let numbers : s.numbers ≡ quant_numbers plan.k plan.key = goes.numbers ∙ stands.numbers in
+    λ e. interim_line lines (line_by (stands.at e) (k_of (numbers e)) (key_of (numbers e)) (items_of_entries (entries_in s.known)))
 
 -- ---- windows, one after another
 
@@ -173,7 +173,7 @@ module _ (plan : Plan) (before : List (List (List ℕ))) (count : ℕ) (last : L
   pub counted : count + length lines ≡ length (all_lines (before ++ lines ∷ []))
   counted = omega (arith, is, length-append (all_lines before) lines, ap length (all_lines_more before lines))
 
-  pub is_next : (s : Learnt) → LearnsHub r.reader x.updaters s → IsNear r.at s.k s.key (items_in s.known) → IsMoment plan (before ++ lines ∷ []) (moment_at (count + length lines) s) × Begins last (entries_in s.known)
+  pub is_next : (s : Learnt) → LearnsHub r.reader x.updaters s → IsNear r.at (k_of s.numbers) (key_of s.numbers) (items_in s.known) → IsMoment plan (before ++ lines ∷ []) (moment_at (count + length lines) s) × Begins last (entries_in s.known)
   is_next s learns near = (
     is_moment plan (before ++ lines ∷ []) last (count + length lines) x r s counted at_x learns near,
     begins_trans _ _ _ stands.began learns.goes.grows,

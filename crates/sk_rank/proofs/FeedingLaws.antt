@@ -55,8 +55,7 @@ stands_start plan a r opened new at = record {
     knows = λ _. subst (λ l. Begins l (entries_by i (entries_in r.reader.known))) (sym (nothing_before (get_or a.updaters i d) idle.kept)) (begins_nil (entries_by i (entries_in r.reader.known)));
   };
   at = at;
-  k = new.k;
-  key = new.key;
+  numbers = new.numbers;
   began = begins_nil (entries_in r.reader.known);
 }
 
@@ -126,8 +125,7 @@ module _ {R : Type 0} (r s : R) (shown : R → Showing) (plan : Plan) (most : �
           drained = ap (λ v. v.drained) heart.knows.view ∙ opened.drained;
           whole = i.hub;
           name = ap (λ v. v.name) heart.knows.view ∙ new.name_is ∙ ap name_of (sym p.goes.book);
-          k = at_end.k;
-          key = at_end.key;
+          numbers = at_end.numbers;
         }
 
     pub fed_whole : (n : ℕ) (b : Hub) → ReadsAll (units_by intake.column) intake.most n (λ units. Ingests (terms_at shown intake) units a r b s) left left'

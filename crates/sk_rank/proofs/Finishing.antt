@@ -18,8 +18,10 @@ use Rattle.sk_read.specs.Units.{units_by}
 use Rattle.sk_ingest.proofs.Endings.{all_so}
 use Rattle.sk_report.proofs.Fronts.{part_of_next}
 use Rattle.sk_snap.specs.History.{entries_in, name_of}
+use Rattle.sk_compose.specs.Numbers.{k_of}
+use Rattle.sk_snap.specs.Quants.{quant_numbers, key_of, IsRank}
 use Rattle.sk_snap.specs.Versions.{Learnt, items_in}
-use Rattle.sk_snap.specs.declared.version.Rank.{Rank}
+use Rattle.sk_snap.specs.declared.quant.Rank.{Rank}
 use Rattle.sk_rank.specs.declared.plan.Plan.{Plan}
 use Rattle.sk_rank.specs.Nearness.{IsNear}
 use Rattle.sk_learn.specs.Closing.{Closes, numbers_of}
@@ -46,7 +48,8 @@ at_some : {A P : Type 0} (xs : List A) (i : ℕ) → i < length xs → (A → P)
 at_some [] i within f = let none : ⊥ = omega arith in absurd none
 at_some (x ∷ xs) i within f = f x
 
-module _ (plan : Plan) (left left' w w' w'' : Option (List ℕ)) (b : Hub) (reader s : Learnt) (rank : Rank) (h : HeartState) (units : List (List ℕ)) (fed : Fed plan w w' b reader units) (end : Closes b.heart b.updaters reader plan.at rank h s) where
+module _ (plan : Plan) (left left' w w' w'' : Option (List ℕ)) (b : Hub) (reader s : Learnt) (rank : Rank) (h : HeartState) (units : List (List ℕ)) (fed : Fed plan w w' b reader units) (end : Closes b.heart b.updaters reader h s)
+    (is : IsRank plan.at (k_of reader.numbers) (key_of reader.numbers) (items_in s.known) rank.n rank.below rank.within) where
   numbers : numbers_of b.updaters ≡ range_with_len 0 (length b.updaters)
   numbers = numbered_from_0 b.updaters (λ i d within. (fed.whole.updaters i d within).number)
 
@@ -67,27 +70,20 @@ module _ (plan : Plan) (left left' w w' w'' : Option (List ℕ)) (b : Hub) (read
   goes : Goes fed.course.moments (entries_in s.known)
   goes = λ i m inside. begins_trans _ _ _ (fed.seen i m inside) end.takes.goes.grows
 
-  k : s.k ≡ plan.k
-  k = end.takes.goes.k ∙ fed.k
-
-  key : s.key ≡ plan.key
-  key = end.takes.goes.key ∙ fed.key
-
   line_is : told_line rank.n rank.below rank.within ≡ rank_line plan (items_in s.known)
   line_is =
-      (λ e. told_line (end.rank_is.count e) (end.rank_is.value e) (end.rank_is.error e))
-      ∙ (λ e. told_line (length (items_in s.known)) (ranked plan.at (k e) (key e) (items_in s.known)) (rank_error (length (items_in s.known)) (k e)))
+      (λ e. told_line (is.count e) (is.value e) (is.error e))
+      ∙ (λ e. told_line (length (items_in s.known)) (ranked plan.at (k_of (fed.numbers e)) (key_of (fed.numbers e)) (items_in s.known)) (rank_error (length (items_in s.known)) (k_of (fed.numbers e))))
 
   near : IsNear plan.at plan.k plan.key (items_in s.known)
-  near = near_so plan.at s.k s.key plan.k plan.key (items_in s.known) rank.n rank.below rank.within (sym k) (sym key) end.rank_is
+  near = near_so plan.at reader.numbers (quant_numbers plan.k plan.key) (items_in s.known) rank.n rank.below rank.within fed.numbers is
 
   shows : Shows plan h s
   shows = record {
     drained = end.takes.drained ∙ ap (λ l. l ++ numbers_of b.updaters) fed.drained ∙ numbers ∙ ap (range_with_len 0) fed.count;
     known = λ i within. let within' : i < length b.updaters = omega (arith, fed.count) in at_some b.updaters i within' (λ d. knows i d within' ∙ sym (each i d within'));
     name = end.takes.name ∙ fed.name ∙ ap name_of (sym end.takes.goes.book);
-    k = k;
-    key = key;
+    numbers = end.takes.goes.numbers ∙ fed.numbers;
   }
 
   pub all_told : 0 < plan.updaters → Appends w' w'' (told_line rank.n rank.below rank.within) → TellsAll plan (setting left w) (setting left' w'') h s units

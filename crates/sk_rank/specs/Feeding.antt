@@ -8,6 +8,7 @@ use Rattle.sk_read.specs.declared.kind.Kind.TheVariants.{Raw}
 use Rattle.sk_feed.specs.Hubs.{Hub, IsHub}
 use Rattle.sk_fill.specs.Windows.{AreWindows}
 use Rattle.sk_snap.specs.History.{entries_in, name_of}
+use Rattle.sk_snap.specs.Quants.{quant_numbers}
 use Rattle.sk_snap.specs.Versions.{Learnt}
 use Rattle.sk_rank.specs.declared.plan.Plan.{Plan}
 use Rattle.sk_rank.specs.Plans.{lines_of_window, share_of}
@@ -29,8 +30,7 @@ pub record IsOpened (plan : Plan) (hub : Hub) : Type 0 where
 
 -- the reader of the sketch of this name, which has learnt nothing
 pub record IsNewReader (plan : Plan) (name : List ℕ) (reader : Learnt) : Type 0 where
-  pub k : reader.k ≡ plan.k
-  pub key : reader.key ≡ plan.key
+  pub numbers : reader.numbers ≡ quant_numbers plan.k plan.key
   pub name_is : name ≡ name_of reader.known.book
   pub learnt : entries_in reader.known ≡ []
 
@@ -53,5 +53,4 @@ pub record Fed (plan : Plan) (w w' : Option (List ℕ)) (hub : Hub) (reader : Le
   pub drained : hub.heart.view.drained ≡ []
   pub whole : IsHub hub
   pub name : hub.heart.view.name ≡ name_of reader.known.book
-  pub k : reader.k ≡ plan.k
-  pub key : reader.key ≡ plan.key
+  pub numbers : reader.numbers ≡ quant_numbers plan.k plan.key

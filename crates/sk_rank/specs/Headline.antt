@@ -10,6 +10,7 @@ use Rattle.sk_read.specs.Items.{items_by, IsGood}
 use Rattle.sk_read.specs.declared.kind.Kind.TheVariants.{Raw}
 use Rattle.sk_fill.specs.Windows.{AreWindows}
 use Rattle.sk_snap.specs.History.{entries_in, name_of}
+use Rattle.sk_snap.specs.Quants.{quant_numbers}
 use Rattle.sk_snap.specs.Versions.{Learnt, items_in}
 use Rattle.sk_rank.specs.declared.plan.Plan.{Plan}
 use Rattle.sk_rank.specs.Plans.{lines_of_window, share_of}
@@ -34,8 +35,7 @@ pub record Shows (plan : Plan) (h : HeartState) (reader : Learnt) : Type 0 where
   pub drained : h.view.drained ≡ range_with_len 0 plan.updaters
   pub known : (i : ℕ) → i < plan.updaters → known_of h.view i ≡ entries_by i (entries_in reader.known)
   pub name : h.view.name ≡ name_of reader.known.book
-  pub k : reader.k ≡ plan.k
-  pub key : reader.key ≡ plan.key
+  pub numbers : reader.numbers ≡ quant_numbers plan.k plan.key
 
 -- ---- the headline
 

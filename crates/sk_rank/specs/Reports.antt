@@ -2,10 +2,12 @@
 use Rattle.std.specs.Prelude.{◌≡◌, ℕ, ◌<◌, List, length, Option, slice_index_or}
 use Rattle.std.specs.Io.KnownBytes.{Appends}
 use Rattle.sk_model.specs.Causes.{AppendsPart}
+use Rattle.sk_compose.specs.Numbers.{k_of}
 use Rattle.sk_hub.specs.Updaters.{UpdaterState}
 use Rattle.sk_feed.specs.Hubs.{Hub}
 use Rattle.sk_ingest.specs.declared.report.Stop.{Stop}
 use Rattle.sk_ingest.specs.declared.report.Stop.TheVariants.{Failed, OutOfMemory}
+use Rattle.sk_snap.specs.Quants.{key_of}
 use Rattle.sk_snap.specs.Versions.{Learnt, items_in}
 use Rattle.sk_learn.specs.Learning.{ReaderGoesOn, Knows}
 use Rattle.sk_rank.specs.Nearness.{IsNear}
@@ -22,7 +24,7 @@ showing at reader written = record { at = at; reader = reader; written = written
 
 -- what is due for what a reader knows, after a number of units
 abbrev pub due_line : ℕ → ℕ → Learnt → List ℕ
-due_line lines at reader = interim_line lines (line_by at reader.k reader.key (items_in reader.known))
+due_line lines at reader = interim_line lines (line_by at (k_of reader.numbers) (key_of reader.numbers) (items_in reader.known))
 
 -- the reader learnt what each updater of a hub was told
 pub record LearnsHub (r : Learnt) (us : List UpdaterState) (s : Learnt) : Type 0 where
@@ -33,13 +35,13 @@ pub record LearnsHub (r : Learnt) (us : List UpdaterState) (s : Learnt) : Type 0
 pub record Reports (r : Showing) (lines : ℕ) (a b : Hub) (s : Showing) : Type 0 where
   pub at : s.at ≡ r.at
   pub learns : LearnsHub r.reader a.updaters s.reader
-  pub near : IsNear r.at s.reader.k s.reader.key (items_in s.reader.known)
+  pub near : IsNear r.at (k_of s.reader.numbers) (key_of s.reader.numbers) (items_in s.reader.known)
   pub written : Appends r.written s.written (due_line lines r.at s.reader)
 
 -- it did, and of that line a part was written
 pub record Breaks (r : Showing) (lines : ℕ) (a b : Hub) (s : Showing) : Type 0 where
   pub learns : LearnsHub r.reader a.updaters s.reader
-  pub near : IsNear r.at s.reader.k s.reader.key (items_in s.reader.known)
+  pub near : IsNear r.at (k_of s.reader.numbers) (key_of s.reader.numbers) (items_in s.reader.known)
   pub written : AppendsPart r.written s.written (due_line lines r.at s.reader)
 
 -- it stops if a write failed, and for nothing else

@@ -6,6 +6,7 @@ use Rattle.sk_model.specs.Missing.{Begins}
 use Rattle.sk_hub.specs.Updaters.{UpdaterState, kept_of, earlier_of}
 use Rattle.sk_feed.specs.Hubs.{Hub}
 use Rattle.sk_snap.specs.History.{entries_in}
+use Rattle.sk_snap.specs.Quants.{quant_numbers}
 use Rattle.sk_rank.specs.declared.plan.Plan.{Plan}
 use Rattle.sk_rank.specs.Plans.{share_of}
 use Rattle.sk_rank.specs.Moments.{Moment}
@@ -32,8 +33,7 @@ pub record Stands (plan : Plan) (windows : List (List (List ℕ))) (last : List 
   pub count : length a.updaters ≡ plan.updaters
   pub took : (i : ℕ) (d : UpdaterState) → i < length a.updaters → Took plan windows (entries_in r.reader.known) i (slice_index_or a.updaters i d)
   pub at : r.at ≡ plan.at
-  pub k : r.reader.k ≡ plan.k
-  pub key : r.reader.key ≡ plan.key
+  pub numbers : r.reader.numbers ≡ quant_numbers plan.k plan.key
   pub began : Begins last (entries_in r.reader.known)
 
 -- how windows were fed and reported, from one hub and report to others; these are all windows so far

@@ -9,7 +9,7 @@ use sk_hub::Opened;
 use sk_ingest::{Report, Stop};
 use sk_io::Sink;
 use sk_learn::learn_all;
-use sk_snap::{QuantReader, Rank, VersionedQuant};
+use sk_snap::{Below, QuantReader, Rank, VersionedQuant};
 use std::sync::Wait;
 
 /// Writes a rank after each full window, of what the updaters were told by then.
@@ -40,7 +40,7 @@ impl<O: Sink, R: Wait, W: Wait + Drop> Report<VersionedQuant<W>> for Interim<'_,
 
     fn at(&mut self, line: u64, opened: &mut Opened<VersionedQuant<W>>) -> Result<(), Stop> {
         learn_all(self.reader, opened.updaters.as_mut_slice());
-        let rank = self.reader.read(self.rt, self.at);
+        let rank = self.reader.read(self.rt, Below { x: self.at });
         write_or_stop(self.out, line, rank)
     }
 }

@@ -21,7 +21,7 @@ use sk_model::OutOfMemory;
 use sk_model::limits::LEAST_K;
 use sk_read::{Fault, Intake, Kind};
 use sk_report::USUAL_WINDOW;
-use sk_snap::{QuantReader, Rank, VersionedQuant};
+use sk_snap::{Below, QuantReader, QuantSetup, Rank, VersionedQuant};
 use sk_theta::Shape;
 use std::alloc::Global;
 use std::sync::Wait;
@@ -49,7 +49,11 @@ pub fn rank<'r, S: Source, O: Sink, R: Threads + Wait + Sync>(
     ensures writes { HasCauseIn Fault.WriteFault (O.faults out.old) (O.faults out.new) result }
     ensures stays { S.stands_on source.new ≡ S.stands_on source.old }
 {
-    let (sketch, reader) = VersionedQuant::new(alloc, rt, plan.k, plan.key)?;
+    let setup = QuantSetup {
+        k: plan.k,
+        key: plan.key,
+    };
+    let (sketch, reader) = VersionedQuant::new(alloc, rt, setup)?;
     let mut reader = reader;
     let mut opened = open_hub(alloc, plan, sketch)?;
     feed(rt, alloc, plan, most, source, out, &mut opened, &mut reader)?;
@@ -58,7 +62,8 @@ pub fn rank<'r, S: Source, O: Sink, R: Threads + Wait + Sync>(
         mut updaters,
         token: _,
     } = opened;
-    let rank = close(rt, &mut heart, &mut updaters, &mut reader, plan.at)?;
+    let below = Below { x: plan.at };
+    let rank = close(rt, &mut heart, &mut updaters, &mut reader, below)?;
     write_last(out, rank)?;
     Ok((heart, reader))
 }

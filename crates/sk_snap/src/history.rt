@@ -69,18 +69,20 @@ impl<'a> Plain<Asked<'a>, Entries, u64> for Add {
 #[derive(Drop)]
 pub struct Known {
     turns: u64,
+    count: u64,
     seen: Seen<Entries, u64, Counted>,
 }
 
 impl Model for Known {
     ghost use Rattle.std.specs.Prelude.{◌≡◌, length};
-    ghost use Rattle.sk_snap.specs.History.{Beginning};
+    ghost use Rattle.sk_snap.specs.History.{Beginning, joined};
 
     ghost Value = { Beginning };
 
     ghost view = { λ known. record { book = known.seen.book; batches = known.seen.log } };
 
-    ghost invariant = { λ known. known.turns ≡ length known.seen.log };
+    ghost invariant = { λ known. (known.turns ≡ length known.seen.log)
+        × (known.count ≡ length (joined known.seen.log)) };
 }
 
 /// The word that has the length of the history, and is the writer's alone.
@@ -97,12 +99,20 @@ impl Known {
         self.turns
     }
 
+    /// How many entries its list has.
+    pub fn count(&self) -> u64
+        ensures { result ≡ length (entries_in self.now) }
+    {
+        self.count
+    }
+
     /// A copy.
     pub fn again(&self) -> Known
         ensures { result ≡ self.now }
     {
         Known {
             turns: self.turns,
+            count: self.count,
             seen: self.seen.again(),
         }
     }
@@ -149,28 +159,31 @@ impl History {
         let history = History {
             word: Word::tracked(0, &mut first),
         };
-        (history, Known { turns: 0, seen })
+        (
+            history,
+            Known {
+                turns: 0,
+                count: 0,
+                seen,
+            },
+        )
     }
 
-    /// Adds a batch to all that is known, and answers whether it did. Where somebody else has added
-    /// one, or the count is at its end, it does not.
+    /// Adds a batch to all that is known, and returns that. It returns nothing if somebody else has added
+    /// one, or if a count is at its end.
     pub fn add(&self, known: &Known, from: u32, items: &[u64]) -> Option<Known>
         requires word { self.now.word ≡ length_word known.now.book }
         ensures book { IfSome result (λ more. more.book ≡ known.now.book) }
         ensures batches { IfSome result (λ more.
             more.batches ≡ known.now.batches ++ tagged from items.now ∷ []) }
     {
-        if known.turns == u64::MAX {
-            return None;
-        }
+        let turns = known.turns.checked_add(1)?;
+        let count = known.count.checked_add(items.len() as u64)?;
         let mut seen = known.seen.again();
         if !self.adds(&mut seen, known.turns, &Asked { from, items }) {
             return None;
         }
-        Some(Known {
-            turns: known.turns + 1,
-            seen,
-        })
+        Some(Known { turns, count, seen })
     }
 
     // The step.

@@ -1,18 +1,25 @@
-//! Quantiles by versions, for readers beside a writer.
+//! Sketches by versions, for readers beside a writer.
 #![tactic(auto)]
 
 mod history;
 mod kind;
+mod quant;
+mod query;
 mod reader;
 mod rule;
-mod sketch;
+mod sequential;
+mod theta;
 mod version;
+mod versioned;
 
 pub use history::Known;
-pub use reader::QuantReader;
+pub use quant::{Below, QuantReader, QuantSetup, Rank, VersionedQuant};
+pub use query::Query;
+pub use reader::VersionReader;
+pub use sequential::Sequential;
 pub use sk_model::OutOfMemory;
-pub use sketch::VersionedQuant;
-pub use version::Rank;
+pub use theta::{JoinInto, ThetaReader, VersionedTheta};
+pub use versioned::Versioned;
 
 #[cfg(test)]
 mod tests;

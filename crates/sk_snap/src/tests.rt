@@ -1,10 +1,12 @@
-ghost use Rattle.std.specs.Prelude.{◌≡◌, ◌<◌, ◌≤◌, IfOk};
+ghost use Rattle.std.specs.Prelude.{[], ◌∷◌, ◌≡◌, ◌≢◌, ◌+◌, ◌<◌, ◌≤◌, ◌^◌, length, Some, false, IfOk};
 ghost use Rattle.sk_model.specs.Width.{IsItem, AreItems};
 ghost use Rattle.sk_quant.specs.Limits.{least_quantile_k, most_quantile_k, key_end};
-ghost use Rattle.sk_snap.specs.History.{name_of};
+ghost use Rattle.sk_snap.specs.History.{Taken, entries_in, name_of};
 
 use super::*;
 use sk_compose::{Buffer, Composable};
+use sk_heap::HeapTheta;
+use sk_model::limits::ITEM_END;
 use std::alloc::Global;
 use std::process::Abort;
 use std::sync::Wait;
@@ -36,28 +38,44 @@ fn merge_two<R: Wait + Drop, W: Wait + Abort>(
     Ok(Composable::told(sketch))
 }
 
+// Offers a batch while another one is refused: it is not merged.
+fn offer_another<R: Wait + Drop, W: Wait>(
+    rt: &W,
+    sketch: &mut VersionedQuant<R>,
+    batch: &Buffer,
+) -> bool
+    requires room { length (entries_in sketch.old.known) + length batch.now.items ≤ 2 ^ 46 }
+    requires other { (other : Taken) × (sketch.old.refused ≡ Some other)
+        × (other.items ≢ batch.now.items) }
+    ensures refused { result ≡ false }
+    ensures stays { sketch.new.refused ≡ sketch.old.refused }
+    ensures known { sketch.new.known ≡ sketch.old.known }
+{
+    Composable::merge(sketch, rt, 0, batch).is_ok()
+}
+
 // Merges two batches of two items, reads below a number after each, and expects these ranks.
 fn expect_ranks<R: Wait + Abort>(
     rt: &R,
     alloc: Global,
-    setting: (u32, u64),
+    setup: QuantSetup,
     items: [u64; 4],
     x: u64,
     want: [Rank; 2],
 ) -> Result<(), OutOfMemory>
-    requires least { least_quantile_k ≤ setting.0 }
-    requires most { setting.0 ≤ most_quantile_k }
-    requires key { setting.1 < key_end }
+    requires least { least_quantile_k ≤ setup.k }
+    requires most { setup.k ≤ most_quantile_k }
+    requires key { setup.key < key_end }
     requires items { AreItems items }
 {
-    let (mut sketch, mut reader) = VersionedQuant::new(alloc, rt, setting.0, setting.1)?;
-    expect(rt, reader.read(rt, x), 0, 0, 0);
+    let (mut sketch, mut reader) = VersionedQuant::new(alloc, rt, setup)?;
+    expect(rt, reader.read(rt, Below { x }), 0, 0, 0);
     let told = merge_two(rt, alloc, &mut sketch, items[0], items[1])?;
     reader.learn(told);
-    assert_eq!(rt; reader.read(rt, x), want[0]);
+    assert_eq!(rt; reader.read(rt, Below { x }), want[0]);
     let told = merge_two(rt, alloc, &mut sketch, items[2], items[3])?;
     reader.learn(told);
-    assert_eq!(rt; reader.read(rt, x), want[1]);
+    assert_eq!(rt; reader.read(rt, Below { x }), want[1]);
     assert_eq!(rt; Composable::packed(&sketch), 4);
     Ok(())
 }
@@ -72,7 +90,7 @@ fn a_reader_reads_what_it_learnt(rt: HostRuntime) -> Result<(), Fail> {
     expect_ranks(
         &rt,
         alloc,
-        (2, 0),
+        QuantSetup { k: 2, key: 0 },
         [1, 2, 3, 4],
         3,
         [rank(2, 2, 0), rank(4, 2, 1)],
@@ -80,7 +98,7 @@ fn a_reader_reads_what_it_learnt(rt: HostRuntime) -> Result<(), Fail> {
     expect_ranks(
         &rt,
         alloc,
-        (2, 1),
+        QuantSetup { k: 2, key: 1 },
         [1, 2, 3, 4],
         3,
         [rank(2, 2, 0), rank(4, 2, 1)],
@@ -88,7 +106,7 @@ fn a_reader_reads_what_it_learnt(rt: HostRuntime) -> Result<(), Fail> {
     expect_ranks(
         &rt,
         alloc,
-        (2, 0),
+        QuantSetup { k: 2, key: 0 },
         [4, 2, 3, 1],
         2,
         [rank(2, 0, 0), rank(4, 2, 1)],
@@ -96,7 +114,7 @@ fn a_reader_reads_what_it_learnt(rt: HostRuntime) -> Result<(), Fail> {
     expect_ranks(
         &rt,
         alloc,
-        (2, 1),
+        QuantSetup { k: 2, key: 1 },
         [4, 2, 3, 1],
         2,
         [rank(2, 0, 0), rank(4, 0, 1)],
@@ -104,7 +122,7 @@ fn a_reader_reads_what_it_learnt(rt: HostRuntime) -> Result<(), Fail> {
     expect_ranks(
         &rt,
         alloc,
-        (4, 0),
+        QuantSetup { k: 4, key: 0 },
         [1, 2, 3, 4],
         3,
         [rank(2, 2, 0), rank(4, 2, 0)],
@@ -129,13 +147,13 @@ fn write<R: Wait + Drop, W: Wait + Abort>(
 fn look<W: Wait>(rt: &W, mut reader: QuantReader) -> (QuantReader, Rank)
     ensures name { result.0.known.book ≡ reader.known.book }
 {
-    let rank = reader.read(rt, 3);
+    let rank = reader.read(rt, Below { x: 3 });
     (reader, rank)
 }
 
 #[test]
 fn a_reader_runs_beside_a_writer(rt: HostRuntime) -> Result<(), Fail> {
-    let (sketch, reader) = VersionedQuant::new(rt.alloc(), &rt, 4, 0)?;
+    let (sketch, reader) = VersionedQuant::new(rt.alloc(), &rt, QuantSetup { k: 4, key: 0 })?;
     let (written, (mut reader, seen)) = thread::join(
         &rt,
         || write(&rt, rt.alloc(), sketch),
@@ -144,6 +162,39 @@ fn a_reader_runs_beside_a_writer(rt: HostRuntime) -> Result<(), Fail> {
     let (_sketch, told) = written?;
     assert!(rt; seen == rank(0, 0, 0) || seen == rank(2, 2, 0) || seen == rank(4, 2, 0));
     reader.learn(told);
-    expect(&rt, reader.read(&rt, 3), 4, 2, 0);
+    expect(&rt, reader.read(&rt, Below { x: 3 }), 4, 2, 0);
+    Ok(())
+}
+
+// Reads a version of a sketch of the 2 smallest into an empty sketch, and expects this count and theta.
+fn expect_theta<R: Wait + Abort>(
+    rt: &R,
+    alloc: Global,
+    reader: &mut ThetaReader,
+    want: (u64, u32, u64),
+) -> Result<(), OutOfMemory>
+    requires k { reader.old.numbers ≡ 2 ∷ [] }
+    ensures name { reader.new.known.book ≡ reader.old.known.book }
+    ensures numbers { reader.new.numbers ≡ reader.old.numbers }
+{
+    let sketch = HeapTheta::new(alloc, 2)?;
+    let (sketch, n) = reader.read(rt, JoinInto { sketch });
+    assert_eq!(rt; (n, sketch.count(), sketch.theta()), want);
+    Ok(())
+}
+
+#[test]
+fn a_reader_joins_the_smallest(rt: HostRuntime) -> Result<(), Fail> {
+    let alloc = rt.alloc();
+    let (mut sketch, mut reader) = VersionedTheta::new(alloc, &rt, 2)?;
+    expect_theta(&rt, alloc, &mut reader, (0, 0, ITEM_END))?;
+    let mut batch = Buffer::new(alloc, 3)?;
+    batch.push(5);
+    batch.push(3);
+    batch.push(5);
+    Composable::merge(&mut sketch, &rt, 0, &batch)?;
+    reader.learn(Composable::told(&mut sketch));
+    expect_theta(&rt, alloc, &mut reader, (3, 2, 5))?;
+    assert_eq!(&rt; Composable::hint(&sketch), 5);
     Ok(())
 }

@@ -4,7 +4,7 @@ ghost use Rattle.std.specs.Prelude.{◌≤◌};
 use sk_compose::OutOfMemory;
 use sk_hub::{Update, Updater, open};
 use sk_model::limits::ITEM_END;
-use sk_snap::{QuantReader, VersionedQuant};
+use sk_snap::{Below, QuantReader, QuantSetup, VersionedQuant};
 use sk_theta::Shape;
 use std::alloc::Global;
 use std::sync::Wait;
@@ -58,7 +58,7 @@ fn keep_until<W: Wait + Drop, R: Wait>(
 fn read_all<R: Wait>(rt: &R, reader: QuantReader, count: u64, done: &AtomicBool) {
     let mut reader = reader;
     'read: for _ in 0..count {
-        let _ = reader.read(rt, ITEM_END / 2);
+        let _ = reader.read(rt, Below { x: ITEM_END / 2 });
     }
     done.store(true, SeqCst);
 }
@@ -69,7 +69,7 @@ pub fn reads<R: Threads + Wait + Sync>(
     alloc: Global,
     count: u64,
 ) -> Result<u64, OutOfMemory> {
-    let (sketch, reader) = VersionedQuant::new(alloc, rt, K, 0)?;
+    let (sketch, reader) = VersionedQuant::new(alloc, rt, QuantSetup { k: K, key: 0 })?;
     let Ok(shape) = Shape::new(K, BUFFER, UPDATERS, 0, false) else {
         return Err(OutOfMemory);
     };

@@ -7,7 +7,7 @@ use sk_hub::{OutOfMemory, Update, Updater, open};
 use sk_io::{MemSink, MemSource};
 use sk_model::limits::ITEM_END;
 use sk_rank::{Fault, Plan, rank};
-use sk_snap::{QuantReader, VersionedQuant};
+use sk_snap::{Below, QuantReader, QuantSetup, VersionedQuant};
 use sk_theta::Shape;
 use std::alloc::Global;
 use std::process::Abort;
@@ -202,7 +202,7 @@ fn read_often<R: Abort + Wait>(rt: &R, reader: QuantReader) -> QuantReader {
     let mut reader = reader;
     let mut n = 0;
     'read: for _ in 0..3_000 {
-        let rank = reader.read(rt, 5);
+        let rank = reader.read(rt, Below { x: 5 });
         assert!(rt; n <= rank.n && rank.n % 2 == 0);
         assert!(rt; rank.below.abs_diff(rank.n / 2) <= rank.within);
         n = rank.n;
@@ -213,7 +213,7 @@ fn read_often<R: Abort + Wait>(rt: &R, reader: QuantReader) -> QuantReader {
 #[test]
 fn a_reader_is_near_while_four_updaters_run(rt: HostRuntime) -> Result<(), Fail> {
     let alloc = rt.alloc();
-    let (sketch, reader) = VersionedQuant::new(alloc, &rt, 2, 7)?;
+    let (sketch, reader) = VersionedQuant::new(alloc, &rt, QuantSetup { k: 2, key: 7 })?;
     let Ok(shape) = Shape::new(2, 2, 4, 0, false) else {
         return Ok(());
     };

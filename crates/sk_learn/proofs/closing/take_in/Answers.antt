@@ -1,4 +1,5 @@
 use Rattle.std.proofs.Common.{◌<◌, length, arith, subst, sym}
+use Rattle.sk_model.specs.Entries.{items_of_entries}
 use Rattle.sk_learn.specs.Learning.{ReaderGoesOn}
 use Rattle.sk_learn.specs.Closing.{TakesIn}
 use Rattle.sk_learn.proofs.LearningLaws.{goes_refl}
@@ -20,12 +21,12 @@ returns-clause-taken g c =
     elim c.match-told.branch [
       | in-Some w ↦
           let s = w.learn.new.self in
-          let goes : ReaderGoesOn r s = record { grows = w.learn.ensures.mine; k = w.learn.ensures.k; key = w.learn.ensures.key; book = w.learn.ensures.name } in
+          let goes : ReaderGoesOn r s = record { grows = w.learn.ensures.mine; numbers = w.learn.ensures.numbers; book = w.learn.ensures.name } in
           subst (λ z. TakesIn h u r c.told.new.self z) (sym w.reader-is)
           (took_in h b c.told.new.self u r s d (told_stays c.told.new.self b _ c.told.ensures.stays) goes
           (all_told h b u s c.number-number.result w.in-Some.told c.number-number.ensures.value d (c.told.ensures.tells w.in-Some.told w.in-Some.is) w.learn.ensures.theirs))
       | in_default w ↦
-          let place : u.number < h.updaters = has_place (λ numbers list. 1) h u c.number-number.ensures.whole c.admitted-admitted.ensures.whole c.requires.table in
+          let place : u.number < h.updaters = has_place (λ numbers list. g.S.Sequential.hint_of numbers (items_of_entries list)) h u c.number-number.ensures.whole c.admitted-admitted.ensures.whole c.requires.table in
           let within : u.number < length h.news = omega (arith, place, c.admitted-admitted.ensures.whole.news) in
           subst (λ z. TakesIn h u r c.told.new.self z) (sym w.reader-is)
           (took_in h b c.told.new.self u r r d (told_stays c.told.new.self b _ c.told.ensures.stays) (goes_refl r)

@@ -40,7 +40,7 @@ returns-in_err-write_last-clause-ranks g c =
     ended_by plan c.args.most (setting left w) (setting left' w'') c.from_residual-in_err-write_last.result c.in_err-write_last.field-0.0 c.from_residual-in_err-write_last.ensures.1
     (subst (EndsAt plan c.args.most (setting left w) (setting left' w'')) (sym c.in_err-write_last.ensures.fault)
     (inr (reads_so c.args.most (Fed plan w w' b c.feed.new.reader) (TellsPartOfAll plan (setting left w) (setting left' w'')) left left'
-    (λ units fed. part_told plan left left' w w' w'' b c.feed.new.reader c.close.new.reader c.in_ok-rank.rank c.close.new.heart units fed c.in_ok-rank.ensures.closed c.in_err-write_last.ensures.part) c.in_ok-feed.ensures.fed)))
+    (λ units fed. part_told plan left left' w w' w'' b c.feed.new.reader c.close.new.reader c.in_ok-rank.rank c.close.new.heart units fed c.in_ok-rank.ensures.closed c.in_ok-rank.ensures.gives c.in_err-write_last.ensures.part) c.in_ok-feed.ensures.fed)))
 
 pub returns-clause-ranks : goal.returns-clause-ranks
 returns-clause-ranks g c =
@@ -49,4 +49,4 @@ returns-clause-ranks g c =
     let w = g.O.Sink.written c.args.out.now in let w' = g.O.Sink.written c.feed.new.out in let w'' = g.O.Sink.written c.write_last.new.out in
     let b = hub_of c.feed.new.opened in
     reads_so c.args.most (Fed plan w w' b c.feed.new.reader) (TellsAll plan (setting left w) (setting left' w'') c.close.new.heart c.close.new.reader) left left'
-    (λ units fed. all_told plan left left' w w' w'' b c.feed.new.reader c.close.new.reader c.in_ok-rank.rank c.close.new.heart units fed c.in_ok-rank.ensures.closed c.requires.within.updaters.0 c.in_ok-write_last.ensures.ok) c.in_ok-feed.ensures.fed
+    (λ units fed. all_told plan left left' w w' w'' b c.feed.new.reader c.close.new.reader c.in_ok-rank.rank c.close.new.heart units fed c.in_ok-rank.ensures.closed c.in_ok-rank.ensures.gives c.requires.within.updaters.0 c.in_ok-write_last.ensures.ok) c.in_ok-feed.ensures.fed
