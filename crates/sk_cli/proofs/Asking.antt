@@ -153,7 +153,7 @@ module _ (most : ℕ) (old new : Outside) where
         opens = never fault.OpenFault _ _ r opens (never_opens _ _ _ _ _ _ r went.done);
         net = never fault.NetFault _ _ r (ap (λ (n : Net). n.faults) net) (text_no_net one r done);
       })
-      (λ misses. absurd misses) (λ misses. absurd misses) files (opens_none _ _ opened) (no_links _ _ net) went.board went.remains went.leaves stays
+      (λ misses. absurd misses) (λ misses. absurd misses) files (opens_none _ _ opened) (no_links _ _ net) went.beside.board went.beside.remains went.beside.leaves stays
 
   -- over a file that was opened
   file_performs : (command : Command) (name : Word) (a b : Streams) (r : Result (Unit {0}) Fault) → a ≡ over_file (told_file old.files name) old → b ≡ over_file new.file_left new →
@@ -174,7 +174,7 @@ module _ (most : ℕ) (old new : Outside) where
         opens = never fault.OpenFault _ _ r opens (never_opens _ _ _ _ _ _ r went'.done);
         net = never fault.NetFault _ _ r (ap (λ (n : Net). n.faults) net) (text_no_net one r done);
       })
-      (λ misses. absurd (there misses)) (λ misses. absurd misses) files opened (no_links _ _ net) went.board went.remains went.leaves stays
+      (λ misses. absurd (there misses)) (λ misses. absurd misses) files opened (no_links _ _ net) went.beside.board went.beside.remains went.beside.leaves stays
 
   -- a file that could not be opened
   unopened_performs : (command : Command) (name : Word) → new.written ≡ old.written → new.file_faults ≡ old.file_faults → new.write_faults ≡ old.write_faults → Rose old.open_faults new.open_faults →

@@ -1,5 +1,5 @@
 -- How `count` goes.
-use Rattle.std.proofs.Common.{◌≡◌, ◌⊎◌, inl, inr, ℕ, List, [], ◌∷◌, ◌++◌, Result, Ok, Err, is_none, refl, sym, ap, ◌∙◌, subst}
+use Rattle.std.proofs.Common.{◌≡◌, ◌⊎◌, inl, inr, ℕ, List, [], ◌∷◌, ◌++◌, Result, Ok, Err, is_none, refl, sym, subst}
 use Rattle.std.specs.Result.{MatchResult}
 use Rattle.sk_model.proofs.Missing.{begins_more}
 use Rattle.sk_read.specs.Items.{IsGood}

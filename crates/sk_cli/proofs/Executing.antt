@@ -15,9 +15,7 @@ pub streams_alone : (how : Behaviour) (most : ℕ) (from to : Beside) (a b : Str
 streams_alone how most from to a b r done causes board remains = record {
   done = done;
   causes = causes;
-  board = λ _. board;
-  remains = if_err r _ remains;
-  leaves = leaves_nothing how.makes from.remains to.remains remains;
+  beside = record { board = λ _. board; remains = if_err r _ remains; leaves = leaves_nothing how.makes from.remains to.remains remains };
 }
 
 -- what is left of hubs, by the handles

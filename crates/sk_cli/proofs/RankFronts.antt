@@ -1,5 +1,5 @@
 -- What was due of a ranking for its first lines.
-use Rattle.std.proofs.Common.{◌≡◌, ℕ, ◌+◌, ◌<◌, ◌≤◌, Bool, true, false, if◌then◌else◌, List, [], ◌∷◌, ◌++◌, length, take, get_or, All, Option, is_some, refl, sym, ap, subst, ◌∙◌, arith, append_assoc, append-nil, length-append, length-take-le}
+use Rattle.std.proofs.Common.{◌≡◌, ℕ, ◌+◌, ◌≤◌, List, [], ◌∷◌, ◌++◌, length, take, get_or, All, Option, is_some, refl, sym, ap, subst, ◌∙◌, arith, append_assoc, append-nil, length-append, length-take-le}
 use Rattle.std.proofs.lemmas.List.{get_or-take, take-take, take-append-le}
 use Rattle.sk_model.specs.Missing.{Begins}
 use Rattle.sk_model.proofs.Missing.{begins_front}

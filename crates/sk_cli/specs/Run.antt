@@ -10,7 +10,7 @@ use Rattle.sk_read.specs.Reads.{piece_limit, IsSettled}
 use Rattle.sk_report.specs.Parts.{AppendsPartAfter}
 use Rattle.sk_serve.specs.Served.{AreClosed}
 use Rattle.sk_cli.specs.Behaviour.{Behaviour}
-use Rattle.sk_cli.specs.Beside.{Beside, cleared, LeavesOnly}
+use Rattle.sk_cli.specs.Beside.{Beside, MadeHub, cleared, LeavesOnly}
 use Rattle.sk_cli.specs.Values.{Word}
 use Rattle.sk_cli.specs.Outside.{Streams, Outside, over_input, over_file, beside_in, doorways_of}
 use Rattle.sk_cli.specs.Command.{OneText, Asked, OfText, OfImages, OfLinks, behaviour_of, frame_of, IsInOrder}
@@ -130,15 +130,19 @@ pub record HasCauses (old new : Streams) (result : Result (Unit {0}) Fault) : Ty
   pub read : HasCauseIn ReadFault old.read_faults new.read_faults result
   pub write : HasCauseIn WriteFault old.write_faults new.write_faults result
 
--- how a command went over a source and a sink, and what it left of what stood beside them
+-- what a command that arms these and makes this hub left beside its streams
+pub record LeavesBeside (arms : List ℕ) (makes : MadeHub) (from to : Beside) (result : Result (Unit {0}) Fault) : Type 0 where
+  -- watchers stay for alarms alone
+  pub board : arms ≡ [] → to.board ≡ cleared from.board
+  -- handles are left of the hub that it makes alone, and only if it ended well
+  pub remains : IfErr result (λ _. to.remains ≡ from.remains)
+  pub leaves : LeavesOnly makes from.remains to.remains
+
+-- how a command went over a source and a sink, and what it left beside them
 pub record ExecutesSo (b : Behaviour) (most : ℕ) (from to : Beside) (old new : Streams) (result : Result (Unit {0}) Fault) : Type 0 where
   pub done : Executes b most from to old new result
   pub causes : HasCauses old new result
-  -- watchers stay for alarms alone
-  pub board : b.arms ≡ [] → to.board ≡ cleared from.board
-  -- handles are left of the hub that it makes alone, and only if it ended well
-  pub remains : IfErr result (λ _. to.remains ≡ from.remains)
-  pub leaves : LeavesOnly b.makes from.remains to.remains
+  pub beside : LeavesBeside b.arms b.makes from to result
 
 -- ---- a run over the standard input or a file
 

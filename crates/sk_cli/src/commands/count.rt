@@ -1,10 +1,10 @@
 // The command that estimates how many distinct items there are.
-ghost use Rattle.std.specs.Prelude.{◌≡◌, ◌≢◌, ◌≤◌, All, IsSome, None, [], Ok, Err, IfErr, IfSome, MatchResult, length, true};
+ghost use Rattle.std.specs.Prelude.{◌≡◌, ◌≢◌, ◌≤◌, None, Ok, Err, IfErr, IfSome, MatchResult, true};
 ghost use Rattle.sk_model.specs.Limits.{source_limit};
-ghost use Rattle.sk_cli.specs.Beside.{beside_of, board_places, cleared, SameRanks};
+ghost use Rattle.sk_cli.specs.Beside.{beside_of, CountingHub, IsFullBoard};
 ghost use Rattle.sk_cli.specs.Fault.{fault_by};
 ghost use Rattle.sk_cli.specs.Outside.{streams_of};
-ghost use Rattle.sk_cli.specs.Run.{Executes, HasCauses};
+ghost use Rattle.sk_cli.specs.Run.{Executes, HasCauses, LeavesBeside};
 ghost use Rattle.sk_cli.specs.commands.Count.{what_by, how_by, plan_by, column_by, IsWithin, IsWhat, IsHow, counting};
 
 use crate::fault::Fault;
@@ -142,17 +142,14 @@ pub fn count<R: Threads + Wait + Sync, S: Source, O: Sink, B: Seen, W: Wait + Dr
 ) -> Result<(), Fault>
     requires within { IsWithin plan.now }
     requires bound { most ≤ source_limit }
-    requires places { length (B.places board.old) ≡ board_places }
-    requires live { All IsSome (B.places board.old) }
+    requires board { IsFullBoard (B.places board.old) }
     ensures done { let old = streams_of S.Source O.Sink source.old out.old in
         let new = streams_of S.Source O.Sink source.new out.new in
         Executes (counting plan.now) most (beside_of (B.places board.old) remains.old) (beside_of (B.places board.new) remains.new) old new result }
     ensures causes { let old = streams_of S.Source O.Sink source.old out.old in
         let new = streams_of S.Source O.Sink source.new out.new in HasCauses old new result }
     ensures last { (counting plan.now).writes_last ≡ true → IfErr result (λ fault. fault ≢ Fault.WriteFault → out.new ≡ out.old) }
-    ensures board { plan.now.alarms ≡ [] → B.places board.new ≡ cleared (B.places board.old) }
-    ensures remains { IfErr result (λ _. remains.new ≡ remains.old) }
-    ensures ranks { SameRanks remains.old remains.new }
+    ensures beside { LeavesBeside plan.now.alarms CountingHub (beside_of (B.places board.old) remains.old) (beside_of (B.places board.new) remains.new) result }
     ensures stays { S.stands_on source.new ≡ S.stands_on source.old }
 {
     let mut left = remains.take_counted();

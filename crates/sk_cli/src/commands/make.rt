@@ -1,8 +1,8 @@
 // The command that counts lines which it makes itself.
-ghost use Rattle.std.specs.Prelude.{◌≡◌, ◌≢◌, ℕ, All, IsSome, Option, List, IfErr, IfSome, length};
-ghost use Rattle.sk_cli.specs.Beside.{beside_of, board_places, cleared, SameRanks};
+ghost use Rattle.std.specs.Prelude.{◌≡◌, ◌≢◌, ℕ, [], Option, List, IfErr, IfSome};
+ghost use Rattle.sk_cli.specs.Beside.{beside_of, CountingHub, IsFullBoard};
 ghost use Rattle.sk_cli.specs.Outside.{over_output};
-ghost use Rattle.sk_cli.specs.Run.{Executes, HasCauses};
+ghost use Rattle.sk_cli.specs.Run.{Executes, HasCauses, LeavesBeside};
 ghost use Rattle.sk_cli.specs.commands.Make.{plan_by, IsWithin, counted_by, making};
 
 use crate::commands::count::count;
@@ -93,17 +93,14 @@ pub fn make<R: Threads + Wait + Sync, O: Sink, B: Seen, W: Wait + Drop>(
     remains: &mut Remains<W>,
 ) -> Result<(), Fault>
     requires within { IsWithin plan.now }
-    requires places { length (B.places board.old) ≡ board_places }
-    requires live { All IsSome (B.places board.old) }
+    requires board { IsFullBoard (B.places board.old) }
     ensures done { (most : ℕ) (left : Option (List ℕ)) (faults : ℕ) → let old = over_output O.Sink left faults out.old in
         let new = over_output O.Sink left faults out.new in
         Executes (making plan.now) most (beside_of (B.places board.old) remains.old) (beside_of (B.places board.new) remains.new) old new result }
     ensures causes { (left : Option (List ℕ)) (faults : ℕ) → let old = over_output O.Sink left faults out.old in
         let new = over_output O.Sink left faults out.new in HasCauses old new result }
     ensures last { IfErr result (λ fault. fault ≢ Fault.WriteFault → out.new ≡ out.old) }
-    ensures board { B.places board.new ≡ cleared (B.places board.old) }
-    ensures remains { IfErr result (λ _. remains.new ≡ remains.old) }
-    ensures ranks { SameRanks remains.old remains.new }
+    ensures beside { LeavesBeside [] CountingHub (beside_of (B.places board.old) remains.old) (beside_of (B.places board.new) remains.new) result }
 {
     let Ok(mut source) = MakeSource::new(plan.n, plan.key) else {
         return Err(Fault::OutOfMemory);

@@ -1,9 +1,10 @@
 // The command that answers clients' requests over links.
-ghost use Rattle.std.specs.Prelude.{◌≡◌, ◌≢◌, ◌≤◌, [], IfErr, IfSome};
+ghost use Rattle.std.specs.Prelude.{◌≡◌, ◌≢◌, ◌≤◌, IfErr, IfSome};
 ghost use Rattle.sk_model.specs.Causes.{HasCauseIn};
 ghost use Rattle.sk_model.specs.Limits.{source_limit};
-ghost use Rattle.sk_cli.specs.Beside.{IsFullBoard, beside_of, cleared, SameRanks};
+ghost use Rattle.sk_cli.specs.Beside.{CountingHub, IsFullBoard, beside_of};
 ghost use Rattle.sk_cli.specs.Outside.{doorways};
+ghost use Rattle.sk_cli.specs.Run.{LeavesBeside};
 ghost use Rattle.sk_cli.specs.commands.Serve.{plan_by, IsWithin, ServesSo};
 ghost use Rattle.sk_serve.specs.Served.{AreClosed};
 
@@ -66,11 +67,9 @@ where
     ensures done { ServesSo plan.now most (beside_of (B.places board.old) remains.old) (beside_of (B.places board.new) remains.new)
         (O.written out.old) (O.written out.new) (doorways (D.doorway door.old) (D.doorway door.new)) result }
     ensures last { IfErr result (λ fault. fault ≢ Fault.WriteFault → out.new ≡ out.old) }
-    ensures board { plan.now.alarms ≡ [] → B.places board.new ≡ cleared (B.places board.old) }
-    ensures remains { IfErr result (λ _. remains.new ≡ remains.old) }
-    ensures ranks { SameRanks remains.old remains.new }
-    ensures writes { HasCauseIn Fault.WriteFault (O.faults out.old) (O.faults out.new) result }
-    ensures net { HasCauseIn Fault.NetFault (D.faults door.old) (D.faults door.new) result }
+    ensures beside { LeavesBeside plan.now.alarms CountingHub (beside_of (B.places board.old) remains.old) (beside_of (B.places board.new) remains.new) result }
+    ensures causes { HasCauseIn Fault.WriteFault (O.faults out.old) (O.faults out.new) result
+        × HasCauseIn Fault.NetFault (D.faults door.old) (D.faults door.new) result }
     ensures links { AreClosed (D.accepted door.old) (D.accepted door.new) (D.doorway door.old) (D.doorway door.new) }
 {
     match sk_serve::serve(rt, alloc, plan, most, out, door, board) {

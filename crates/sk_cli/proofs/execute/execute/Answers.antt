@@ -17,7 +17,7 @@ returns-in-Count-clause-done g c =
     let b : Streams = streams_of g.S.Source g.O.Sink c.count.new.source c.count.new.out in
     let went = c.count.ensures in
     subst (λ (command : Command). ExecutesSo (behaviour_of command) c.args.most from to a b c.count.result) (sym c.in-Count.is)
-    (record { done = went.done; causes = went.causes; board = went.board; remains = (remains_left c.count.result _ _ went.remains); leaves = went.ranks })
+    (record { done = went.done; causes = went.causes; beside = went.beside })
 
 pub returns-in-Hash-clause-done : goal.returns-in-Hash-clause-done
 returns-in-Hash-clause-done g c =
@@ -78,7 +78,7 @@ returns-in-Make-clause-done g c =
     let faults = g.S.Source.faults c.args.source.now in
     let went = c.make.ensures in
     subst (λ (command : Command). ExecutesSo (behaviour_of command) c.args.most from to a b c.make.result) (sym c.in-Make.is)
-    (record { done = went.done c.args.most left faults; causes = went.causes left faults; board = λ _. went.board; remains = remains_left c.make.result _ _ went.remains; leaves = went.ranks })
+    (record { done = went.done c.args.most left faults; causes = went.causes left faults; beside = went.beside })
 
 pub returns-in-Quantile-clause-done : goal.returns-in-Quantile-clause-done
 returns-in-Quantile-clause-done g c =
@@ -90,4 +90,4 @@ returns-in-Quantile-clause-done g c =
     let b : Streams = streams_of g.S.Source g.O.Sink c.quantile.new.source c.quantile.new.out in
     let went = c.quantile.ensures in
     subst (λ (command : Command). ExecutesSo (behaviour_of command) c.args.most from to a b c.quantile.result) (sym c.in-Quantile.is)
-    (record { done = went.done before after; causes = went.causes; board = λ _. c.clear-in-Quantile.ensures; remains = remains_left c.quantile.result _ _ went.remains; leaves = went.hub })
+    (record { done = went.done before after; causes = went.causes; beside = record { board = λ _. c.clear-in-Quantile.ensures; remains = remains_left c.quantile.result _ _ went.remains; leaves = went.hub } })

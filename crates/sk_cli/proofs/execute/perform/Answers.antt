@@ -7,7 +7,6 @@ use Rattle.sk_cli.specs.Touches.{handed, TouchesOnly}
 use Rattle.sk_cli.specs.commands.Join.{images_of}
 use Rattle.sk_cli.specs.declared.command.Request.{Request}
 use Rattle.sk_cli.proofs.Asking.{join_performs, serve_performs}
-use Rattle.sk_cli.proofs.Executing.{remains_left}
 use Rattle.sk_cli.proofs.Touching.{beside_door, touched_only, closed_too, not_both}
 use Rattle.sk_cli.proofs.execute.perform.Goals as goal
 
@@ -44,7 +43,7 @@ returns-in-Serve-clause-done g c =
     let old : Outside = outside_with g.S.Source g.O.Sink g.F.Shelf g.B.Seen c.args.input.now c.args.out.now c.args.shelf.now c.args.board.now (left_of c.args.remains.now) (net_of g.D.Door c.args.door.now) in
     let new : Outside = outside_with g.S.Source g.O.Sink g.F.Shelf g.B.Seen c.args.input.now c.serve.new.out c.args.shelf.now c.serve.new.board (left_of c.serve.new.remains) (net_of g.D.Door c.serve.new.door) in
     subst (λ (r : Request). Performs (asked_of r) c.args.most old new c.serve.result) (sym c.in-Serve.is)
-    (serve_performs c.args.most old new c.in-Serve.plan c.serve.result c.serve.ensures.done c.serve.ensures.writes c.serve.ensures.net c.serve.ensures.links c.serve.ensures.board (remains_left c.serve.result _ _ c.serve.ensures.remains) c.serve.ensures.ranks refl refl refl refl refl)
+    (serve_performs c.args.most old new c.in-Serve.plan c.serve.result c.serve.ensures.done c.serve.ensures.causes.0 c.serve.ensures.causes.1 c.serve.ensures.links c.serve.ensures.beside.board c.serve.ensures.beside.remains c.serve.ensures.beside.leaves refl refl refl refl refl)
 
 pub returns-in-Serve-clause-touches : goal.returns-in-Serve-clause-touches
 returns-in-Serve-clause-touches g c =

@@ -1,5 +1,6 @@
-use Rattle.std.proofs.Common.{◌≡◌, true, sym, subst, ap}
-use Rattle.sk_cli.specs.Beside.{Beside, beside_of}
+use Rattle.std.proofs.Common.{◌≡◌, ℕ, List, true, sym, subst, ap}
+use Rattle.sk_cli.specs.Beside.{Beside, CountingHub, beside_of}
+use Rattle.sk_cli.specs.Run.{LeavesBeside}
 use Rattle.sk_cli.specs.commands.Count.{counting}
 use Rattle.sk_cli.specs.commands.Count as counts
 use Rattle.sk_count.specs.declared.plan.Plan.{Plan}
@@ -25,3 +26,9 @@ returns-clause-causes g c = λ left faults.
     made_causes c.args.plan.now c.requires.within from from c.in-Ok.source c.count.new.source c.in-Ok.ensures.text left
     (g.O.Sink.written c.args.out.now) (g.O.Sink.written c.count.new.out) faults (g.O.Sink.faults c.args.out.now) (g.O.Sink.faults c.count.new.out) 0
     c.count.result c.count.ensures.causes
+
+pub returns-clause-beside : goal.returns-clause-beside
+returns-clause-beside g c =
+    let from : Beside = beside_of (g.B.Seen.places c.args.board.now) c.args.remains.now in
+    let to : Beside = beside_of (g.B.Seen.places c.count.new.board) c.count.new.remains in
+    subst (λ (marks : List ℕ). LeavesBeside marks CountingHub from to c.count.result) (ap (λ (p : Plan). p.alarms) c.counted.ensures) c.count.ensures.beside
