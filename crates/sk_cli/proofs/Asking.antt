@@ -4,7 +4,7 @@ use Rattle.std.specs.Result.{MatchResult}
 use Rattle.sk_model.specs.Causes.{HasCauseIn, Rose}
 use Rattle.sk_io.specs.Files.{IsMissing, told_file, Opens}
 use Rattle.sk_cli.specs.Beside.{Left, LeavesOnly, MadeHub, NoHub, CountingHub, RankingHub, cleared}
-use Rattle.sk_cli.specs.Command.{OneText, Asked, OfText, OfImages, OfLinks, behaviour_of, frame_of}
+use Rattle.sk_cli.specs.Command.{OneText, Asked, OfText, OfImages, OfLinks, behaviour_of, armed_at_start, frame_of}
 use Rattle.sk_cli.specs.Fault.{status_of}
 use Rattle.sk_cli.specs.Outside.{Outside, Net, Streams, over_input, over_file, beside_in, doorways_of}
 use Rattle.sk_cli.specs.Run.{ExecutesSo, HasCausesFor, Succeeds, Fails, FailsText, Performs, OpensFor, IsFineFor, IsRefusedFor, MissesFirst, MissesSecond, IsOfCalls, IsOfReads}
@@ -23,6 +23,7 @@ use Rattle.sk_cli.proofs.Endings.{never_opens}
 use Rattle.sk_cli.proofs.JoinDeciding.{fine_file, fine_join, refused_join, refused_or_joined}
 use Rattle.sk_cli.proofs.Opening.{opens_none}
 use Rattle.sk_cli.proofs.Performing.{TextDone, streams_are, performs_over_input, performs_over_file, text_not_usage}
+use Rattle.sk_cli.proofs.WatcherLaws.{unarmed}
 
 -- ---- what is told decides
 
@@ -178,16 +179,16 @@ module _ (most : ℕ) (old new : Outside) where
 
   -- a file that could not be opened
   unopened_performs : (command : Command) (name : Word) → new.written ≡ old.written → new.file_faults ≡ old.file_faults → new.write_faults ≡ old.write_faults → Rose old.open_faults new.open_faults →
-      new.files ≡ old.files → Opens old.opened new.opened (name ∷ []) → ((behaviour_of command).arms ≡ [] → new.board ≡ cleared old.board) → new.remains ≡ old.remains → new.net ≡ old.net → new.input_on ≡ old.input_on → Performs (OfText (record { command = command; file = Some name })) most old new (Err fault.OpenFault)
+      new.files ≡ old.files → Opens old.opened new.opened (name ∷ []) → new.board ≡ armed_at_start command old.board → new.remains ≡ old.remains → new.net ≡ old.net → new.input_on ≡ old.input_on → Performs (OfText (record { command = command; file = Some name })) most old new (Err fault.OpenFault)
   unopened_performs command name written reads writes opens files opened board remains net stays =
-      performed most old new (OfText (record { command = command; file = Some name })) (Err fault.OpenFault) written
+      performed most old new (OfText (record { command = command; file = Some name })) (Err fault.OpenFault) (written, board)
       (record {
         reads = never fault.ReadFault _ _ (Err fault.OpenFault) reads (λ is. cc);
         writes = never fault.WriteFault _ _ (Err fault.OpenFault) writes (λ is. cc);
         opens = record { steady = λ other. absurd (other refl); failed = λ _. opens };
         net = never fault.NetFault _ _ (Err fault.OpenFault) (ap (λ (n : Net). n.faults) net) (λ is. cc);
       })
-      (λ misses. refl) (λ misses. absurd misses) files opened (no_links _ _ net) board remains (leaves_nothing _ _ _ remains) stays
+      (λ misses. refl) (λ misses. absurd misses) files opened (no_links _ _ net) (unarmed command old.board new.board board) remains (leaves_nothing _ _ _ remains) stays
 
   -- a file that was opened and read, by what the source of it shows
   pub opened_performs : (command : Command) (file : Option Word) (name : Word) (a b : Streams) (r : Result (Unit {0}) Fault) → file ≡ Some name → a.left ≡ told_file old.files name → a.read_faults ≡ old.file_faults → a.written ≡ old.written →
@@ -199,7 +200,7 @@ module _ (most : ℕ) (old new : Outside) where
       subst (λ (f : Option Word). Performs (OfText (record { command = command; file = f })) most old new r) (sym is) (file_performs command name a b r before after went there files opened opens net stays)
 
   pub not_opened_performs : (command : Command) (file : Option Word) (name : Word) → file ≡ Some name → new.written ≡ old.written → new.file_faults ≡ old.file_faults → new.write_faults ≡ old.write_faults → Rose old.open_faults new.open_faults →
-      new.files ≡ old.files → Opens old.opened new.opened (name ∷ []) → ((behaviour_of command).arms ≡ [] → new.board ≡ cleared old.board) → new.remains ≡ old.remains → new.net ≡ old.net → new.input_on ≡ old.input_on → Performs (OfText (record { command = command; file = file })) most old new (Err fault.OpenFault)
+      new.files ≡ old.files → Opens old.opened new.opened (name ∷ []) → new.board ≡ armed_at_start command old.board → new.remains ≡ old.remains → new.net ≡ old.net → new.input_on ≡ old.input_on → Performs (OfText (record { command = command; file = file })) most old new (Err fault.OpenFault)
   not_opened_performs command file name is written reads writes opens files opened board remains net stays =
       subst (λ (f : Option Word). Performs (OfText (record { command = command; file = f })) most old new (Err fault.OpenFault)) (sym is) (unopened_performs command name written reads writes opens files opened board remains net stays)
 

@@ -190,56 +190,56 @@ held_given Refused r left most lines taken (Err f) is ends = absurd ends
 module _ (how : Behaviour) (from to : Beside) (Due : List (List ℕ) → List ℕ → Type 0) (Refused : List (List ℕ) → List ℕ → Type 0) (given : List (List ℕ)) (by : GoesByAnswers how from to Due Refused given) (most : ℕ) (a b : Streams) where
   -- a fault behind the answers, which were written
   pub ends_behind : (f : Fault) (r : Reading) (lines : List (List ℕ)) (due taken : List ℕ) → r.most ≡ most → Consumes a.left b.left taken → IsReadInTime Lines lines taken → EndsHeld Refused r b.left lines taken (Err f) → Due lines due →
-      Appends a.written b.written due → Ends how most from a b f
+      Appends a.written b.written due → Ends how most from to a b f
   ends_behind fault.OutOfMemory r lines due taken is consumed time ends is_due written =
-      gives_up how from Due by.by_lines most a b lines due taken (held_given Refused r b.left most lines taken (Err fault.OutOfMemory) is ends) consumed is_due (front_of_all a.written b.written due written)
+      gives_up how from to Due by.by_lines most a b lines due taken (held_given Refused r b.left most lines taken (Err fault.OutOfMemory) is ends) consumed is_due (front_of_all a.written b.written due written)
   ends_behind (fault.LongLine n) r lines due taken is consumed time ends is_due written =
       let on : Went r a.left b.left most lines (Err (stop.LongLine n)) = record { taken = taken; consumed = consumed; goes = ends; most_is = is } in
-      failed how from Due by.by_lines most a b r lines due (stop.LongLine n) on is_due written
+      failed how from to Due by.by_lines most a b r lines due (stop.LongLine n) on is_due written
   ends_behind (fault.BadEvent n) r lines due taken is consumed time ends is_due written =
       let were = were_given r b.left most (lines ++ ends.0 ∷ []) taken is ends.1 in
-      let refused : Refuses how most (fault.BadEvent (length lines + 1)) from a b = record {
+      let refused : Refuses how most (fault.BadEvent (length lines + 1)) from to a b = record {
         taken = taken;
         due = due;
         consumed = consumed;
         size = were.size;
-        in_time = in_time how from Due by.by_lines most a b lines due taken time is_due;
-        refused = settled_so (λ (text : List ℕ). Begins (lines ++ ends.0 ∷ []) (lines_of text)) (λ (text : List ℕ). how.Refuses (fault.BadEvent (length lines + 1)) text × how.IsDueAt from (fault.BadEvent (length lines + 1)) text due) b.left taken
+        in_time = in_time how from to Due by.by_lines most a b lines due taken time is_due;
+        refused = settled_so (λ (text : List ℕ). Begins (lines ++ ends.0 ∷ []) (lines_of text)) (λ (text : List ℕ). how.Refuses (fault.BadEvent (length lines + 1)) text × how.IsDueAt from to (fault.BadEvent (length lines + 1)) text due) b.left taken
             (λ text begins. by.refused lines ends.0 due is_due ends.3 text begins were.within) were.settled;
         written = written;
       } in
-      subst (λ (m : ℕ). Refuses how most (fault.BadEvent m) from a b) (sym ends.2) refused
+      subst (λ (m : ℕ). Refuses how most (fault.BadEvent m) from to a b) (sym ends.2) refused
   ends_behind f r lines due taken is consumed time ends is_due written = absurd ends
 
   module _ (Led : List (List ℕ) → List ℕ → Type 0) (is_due : (lines : List (List ℕ)) (text : List ℕ) → Led lines text → Due lines text) where
     -- no memory for the first of them
-    pub no_room : (r : Reading) (taken : List ℕ) → r.most ≡ most → HasRead r b.left given taken → Consumes a.left b.left taken → a.written ≡ b.written → Led given [] → Ends how most from a b fault.OutOfMemory
+    pub no_room : (r : Reading) (taken : List ℕ) → r.most ≡ most → HasRead r b.left given taken → Consumes a.left b.left taken → a.written ≡ b.written → Led given [] → Ends how most from to a b fault.OutOfMemory
     no_room r taken is read consumed same led =
-        gives_up how from Due by.by_lines most a b given [] taken (were_given r b.left most given taken is read) consumed (is_due given [] led) (subst (λ (w : Option (List ℕ)). AppendsFront a.written w []) same (front_of_any a.written []))
+        gives_up how from to Due by.by_lines most a b given [] taken (were_given r b.left most given taken is read) consumed (is_due given [] led) (subst (λ (w : Option (List ℕ)). AppendsFront a.written w []) same (front_of_any a.written []))
 
     module _ (old : Reading) (before mid : Option (List ℕ)) (came : CameTo Led old a before most mid given) where
       -- no further line came
-      pub no_line : (r : Reading) (s : LineFault) → Went r a.left b.left most (given ++ came.more) (Err s) → b.written ≡ mid → Ends how most from a b (fault_by_line s)
+      pub no_line : (r : Reading) (s : LineFault) → Went r a.left b.left most (given ++ came.more) (Err s) → b.written ≡ mid → Ends how most from to a b (fault_by_line s)
       no_line r s on same =
-          failed how from Due by.by_lines most a b r (given ++ came.more) came.text s on (is_due (given ++ came.more) came.text came.led) (subst (λ (w : Option (List ℕ)). Appends a.written w came.text) (sym same) came.whole)
+          failed how from to Due by.by_lines most a b r (given ++ came.more) came.text s on (is_due (given ++ came.more) came.text came.led) (subst (λ (w : Option (List ℕ)). Appends a.written w came.text) (sym same) came.whole)
 
       -- the source has ended
       pub ended : (r : Reading) → Went r a.left b.left most (given ++ came.more) (Ok false) → b.written ≡ mid → Finishes how most from to a b
       ended r on same =
-          read_to_end how from Due by.by_lines most a b to r (given ++ came.more) came.text on
+          read_to_end how from to Due by.by_lines most a b r (given ++ came.more) came.text on
           (λ text is. by.whole came.more came.text (is_due (given ++ came.more) came.text came.led) text is (within_given old a.left before most (given ++ came.more) came.taken came.reads))
           (subst (λ (w : Option (List ℕ)). Appends a.written w came.text) (sym same) came.whole)
 
       module _ (Is : List (List ℕ) → List ℕ → Type 0) (at r : Reading) (text : List ℕ) (result : Result (Unit {0}) Fault) (got : GotLine at a.left b.left most (given ++ came.more)) (same : r.most ≡ at.most)
           (held : AnswersHeld Due Is Refused r b.left (given ++ came.more) got.taken came.text text result) where
         -- the answers to the lines of a read were written in part or not at all
-        pub answers_cut_short : AppendsPart mid b.written text → Ends how most from a b fault.WriteFault
+        pub answers_cut_short : AppendsPart mid b.written text → Ends how most from to a b fault.WriteFault
         answers_cut_short part =
             let were = held_given Refused r b.left most ((given ++ came.more) ++ held.more) got.taken result (same ∙ got.reads.most_is) held.ends in
-            cut_short how from Due by.by_lines most a b (given ++ came.more) held.more came.text text got.taken mid were got.reads.consumed got.time (is_due (given ++ came.more) came.text came.led) held.is_due came.whole part
+            cut_short how from to Due by.by_lines most a b (given ++ came.more) held.more came.text text got.taken mid were got.reads.consumed got.time (is_due (given ++ came.more) came.text came.led) held.is_due came.whole part
 
         -- they were written, and a fault stands behind them
-        pub fault_behind_answers : (f : Fault) → result ≡ Err f → Appends mid b.written text → Ends how most from a b f
+        pub fault_behind_answers : (f : Fault) → result ≡ Err f → Appends mid b.written text → Ends how most from to a b f
         fault_behind_answers f was wrote =
             let lines = (given ++ came.more) ++ held.more in
             ends_behind f r lines (came.text ++ text) got.taken (same ∙ got.reads.most_is) got.reads.consumed (time_longer (given ++ came.more) held.more got.taken got.time)

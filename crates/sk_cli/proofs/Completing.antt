@@ -53,18 +53,18 @@ no_more_told text taken (Some rest) consumed less = absurd (omega (arith, ap len
 pub on : {P : Type 0} (b : Behaviour) → b.reads ≡ true → OnTrue b.reads P → P
 on {P} b reads holds = subst (λ t. OnTrue t P) reads holds
 
-module _ (command : Command) (most : ℕ) (from : Beside) (a b : Streams) (text : List ℕ) (told : a.left ≡ Some text) where
+module _ (command : Command) (most : ℕ) (from to : Beside) (a b : Streams) (text : List ℕ) (told : a.left ≡ Some text) where
   took : (taken : List ℕ) → Consumes a.left b.left taken → Consumes (Some text) b.left taken
   took taken consumed = subst (λ (l : Option (List ℕ)). Consumes l b.left taken) told consumed
 
-  finished : (to : Beside) → (behaviour_of command).reads ≡ true → Finishes (behaviour_of command) most from to a b → (behaviour_of command).IsFine text
-  finished to reads done = subst (behaviour_of command).IsFine (whole_told text done.text b.left (took done.text done.consumed) (on (behaviour_of command) reads done.end)) done.fine
+  finished : (behaviour_of command).reads ≡ true → Finishes (behaviour_of command) most from to a b → (behaviour_of command).IsFine text
+  finished reads done = subst (behaviour_of command).IsFine (whole_told text done.text b.left (took done.text done.consumed) (on (behaviour_of command) reads done.end)) done.fine
 
-  refused : (f : Fault) → Refuses (behaviour_of command) most f from a b → (behaviour_of command).Refuses f text
+  refused : (f : Fault) → Refuses (behaviour_of command) most f from to a b → (behaviour_of command).Refuses f text
   refused f is =
-      (settled_told (λ (t : List ℕ). (behaviour_of command).Refuses f t × (behaviour_of command).IsDueAt from f t is.due) text is.taken b.left (took is.taken is.consumed) is.refused).0
+      (settled_told (λ (t : List ℕ). (behaviour_of command).Refuses f t × (behaviour_of command).IsDueAt from to f t is.due) text is.taken b.left (took is.taken is.consumed) is.refused).0
 
-  within : length text < most → Stops (behaviour_of command) (λ size. size ≡ most) from a b → ⊥
+  within : length text < most → Stops (behaviour_of command) (λ size. size ≡ most) from to a b → ⊥
   within less stop = no_more_told text stop.taken b.left (took stop.taken stop.consumed) (omega (arith, less, stop.size))
 
   -- what was taken up to the bound begins the text
@@ -76,16 +76,16 @@ module _ (command : Command) (most : ℕ) (from : Beside) (a b : Streams) (text 
       of (Some rest) consumed =
           (omega (arith, ap length consumed, length-append taken rest, size), ap (λ (l : List ℕ). take most l) consumed ∙ take_at taken rest most size)
 
-  early : (most ≤ length text → ¬ (behaviour_of command).IsFineSoFar (take most text)) → Stops (behaviour_of command) (λ size. size ≡ most) from a b → ⊥
+  early : (most ≤ length text → ¬ (behaviour_of command).IsFineSoFar (take most text)) → Stops (behaviour_of command) (λ size. size ≡ most) from to a b → ⊥
   early never stop =
       let all = bounded stop.taken stop.consumed stop.size in
       never all.0 (subst (behaviour_of command).IsFineSoFar (sym all.1) stop.fine)
 
   -- a text that is fine ends at no refusal
-  apart : (f : Fault) → (behaviour_of command).IsFine text → Refuses (behaviour_of command) most f from a b → ⊥
+  apart : (f : Fault) → (behaviour_of command).IsFine text → Refuses (behaviour_of command) most f from to a b → ⊥
   apart f fine is = (decides command).apart f text fine (refused f is)
 
-  fine_ends : (f : Fault) → (behaviour_of command).IsFine text → length text < most → Ends (behaviour_of command) most from a b f → IsCallStatus (status_of f)
+  fine_ends : (f : Fault) → (behaviour_of command).IsFine text → length text < most → Ends (behaviour_of command) most from to a b f → IsCallStatus (status_of f)
   fine_ends fault.OutOfMemory is less ends = inl refl
   fine_ends fault.Usage is less ends = absurd ends
   fine_ends fault.ReadFault is less ends = inr (inl refl)
@@ -96,10 +96,10 @@ module _ (command : Command) (most : ℕ) (from : Beside) (a b : Streams) (text 
   fine_ends f is less ends = absurd (apart f is ends)
 
   -- a text that is refused ends at that refusal
-  same : (f g : Fault) → (behaviour_of command).Refuses f text → Refuses (behaviour_of command) most g from a b → (status_of g ≡ status_of f) ⊎ IsCallStatus (status_of g)
+  same : (f g : Fault) → (behaviour_of command).Refuses f text → Refuses (behaviour_of command) most g from to a b → (status_of g ≡ status_of f) ⊎ IsCallStatus (status_of g)
   same f g is ends = inl (ap status_of ((decides command).refused g f text (refused g ends) is))
 
-  refusal_ends : (f g : Fault) → (behaviour_of command).Refuses f text → (most ≤ length text → ¬ (behaviour_of command).IsFineSoFar (take most text)) → Ends (behaviour_of command) most from a b g → (status_of g ≡ status_of f) ⊎ IsCallStatus (status_of g)
+  refusal_ends : (f g : Fault) → (behaviour_of command).Refuses f text → (most ≤ length text → ¬ (behaviour_of command).IsFineSoFar (take most text)) → Ends (behaviour_of command) most from to a b g → (status_of g ≡ status_of f) ⊎ IsCallStatus (status_of g)
   refusal_ends f fault.OutOfMemory is never ends = inr (inl refl)
   refusal_ends f fault.Usage is never ends = absurd ends
   refusal_ends f fault.ReadFault is never ends = inr (inr (inl refl))
@@ -125,12 +125,12 @@ module _ (command : Command) (most : ℕ) (from : Beside) (a b : Streams) (text 
         let all : text ≡ taken = consumed ∙ ap (λ (l : List ℕ). taken ++ l) here.0 ∙ append-nil taken in
         subst P (sym (whole (omega (arith, ap length all, size, long)) ∙ all)) here.1
 
-    never_refused : (g : Fault) → Refuses (behaviour_of command) most g from a b → ⊥
+    never_refused : (g : Fault) → Refuses (behaviour_of command) most g from to a b → ⊥
     never_refused g ends =
-        let refused = so_of_other (λ (t : List ℕ). (behaviour_of command).Refuses g t × (behaviour_of command).IsDueAt from g t ends.due) ends.taken b.left ends.size (took ends.taken ends.consumed) ends.refused in
+        let refused = so_of_other (λ (t : List ℕ). (behaviour_of command).Refuses g t × (behaviour_of command).IsDueAt from to g t ends.due) ends.taken b.left ends.size (took ends.taken ends.consumed) ends.refused in
         (decides command).apart g other fine refused.0
 
-    long_ends : (g : Fault) → Ends (behaviour_of command) most from a b g → (status_of g ≡ 13) ⊎ IsCallStatus (status_of g)
+    long_ends : (g : Fault) → Ends (behaviour_of command) most from to a b g → (status_of g ≡ 13) ⊎ IsCallStatus (status_of g)
     long_ends fault.OutOfMemory ends = inr (inl refl)
     long_ends fault.Usage ends = absurd ends
     long_ends fault.ReadFault ends = inr (inr (inl refl))
@@ -140,8 +140,8 @@ module _ (command : Command) (most : ℕ) (from : Beside) (a b : Streams) (text 
     long_ends fault.TooMuch ends = inl refl
     long_ends g ends = absurd (never_refused g ends)
 
-  long_or_finished : (to : Beside) → (behaviour_of command).reads ≡ true → most ≤ length text → Finishes (behaviour_of command) most from to a b → ⊥
-  long_or_finished to reads long done =
+  long_or_finished : (behaviour_of command).reads ≡ true → most ≤ length text → Finishes (behaviour_of command) most from to a b → ⊥
+  long_or_finished reads long done =
       let all = whole_told text done.text b.left (took done.text done.consumed) (on (behaviour_of command) reads done.end) in
       let short = on (behaviour_of command) reads done.size in
       omega (arith, ap length all, short, long)
@@ -150,11 +150,11 @@ module _ (command : Command) (most : ℕ) (from : Beside) (a b : Streams) (text 
 module _ (asked : OneText) (most : ℕ) (old new : Outside) (text : List ℕ) where
   -- what holds of every end of a command over its streams, and of a file that could not be opened
   over : (P : Fault → Type 0) → P fault.OpenFault →
-      ((a b : Streams) (g : Fault) → a.left ≡ Some text → Ends (behaviour_of asked.command) most (beside_in old) a b g → P g)
+      ((a b : Streams) (g : Fault) → a.left ≡ Some text → Ends (behaviour_of asked.command) most (beside_in old) (beside_in new) a b g → P g)
       → (f : Fault) → told_text asked.file old ≡ Some text → FailsText asked most old new f → P f
   over P unopened by f told fails = by_fault f fails
     where
-      ended : (file : Option Word) (g : Fault) → told_text file old ≡ Some text → Over file (λ a b. Ends (behaviour_of asked.command) most (beside_in old) a b g) old new → P g
+      ended : (file : Option Word) (g : Fault) → told_text file old ≡ Some text → Over file (λ a b. Ends (behaviour_of asked.command) most (beside_in old) (beside_in new) a b g) old new → P g
       ended None g told ends = by (over_input old) (over_input new) g told ends
       ended (Some name) g told ends = by (over_file (told_text (Some name) old) old) (over_file new.file_left new) g told ends
 
@@ -164,15 +164,15 @@ module _ (asked : OneText) (most : ℕ) (old new : Outside) (text : List ℕ) wh
 
   pub fine_fails : (f : Fault) → told_text asked.file old ≡ Some text → (behaviour_of asked.command).IsFine text → length text < most → FailsText asked most old new f → IsCallStatus (status_of f)
   fine_fails f told is less fails =
-      over (λ g. IsCallStatus (status_of g)) (inr (inr (inr (inl refl)))) (λ a b g told ends. fine_ends asked.command most (beside_in old) a b text told g is less ends) f told fails
+      over (λ g. IsCallStatus (status_of g)) (inr (inr (inr (inl refl)))) (λ a b g told ends. fine_ends asked.command most (beside_in old) (beside_in new) a b text told g is less ends) f told fails
 
   pub refusal_fails : (f g : Fault) → told_text asked.file old ≡ Some text → (behaviour_of asked.command).Refuses f text → (most ≤ length text → ¬ (behaviour_of asked.command).IsFineSoFar (take most text)) → FailsText asked most old new g → (status_of g ≡ status_of f) ⊎ IsCallStatus (status_of g)
   refusal_fails f g told is never fails =
-      over (λ g. (status_of g ≡ status_of f) ⊎ IsCallStatus (status_of g)) (inr (inr (inr (inr (inl refl))))) (λ a b g told ends. refusal_ends asked.command most (beside_in old) a b text told f g is never ends) g told fails
+      over (λ g. (status_of g ≡ status_of f) ⊎ IsCallStatus (status_of g)) (inr (inr (inr (inr (inl refl))))) (λ a b g told ends. refusal_ends asked.command most (beside_in old) (beside_in new) a b text told f g is never ends) g told fails
 
   pub long_fails : (g : Fault) (other : List ℕ) → told_text asked.file old ≡ Some text → (behaviour_of asked.command).IsFine other → take most other ≡ take most text → (length text ≡ most → other ≡ text) → most ≤ length text → FailsText asked most old new g → (status_of g ≡ 13) ⊎ IsCallStatus (status_of g)
   long_fails g other told fine begins whole long fails =
-      over (λ g. (status_of g ≡ 13) ⊎ IsCallStatus (status_of g)) (inr (inr (inr (inr (inl refl))))) (λ a b g told ends. long_ends asked.command most (beside_in old) a b text told other fine begins whole long g ends) g told fails
+      over (λ g. (status_of g ≡ 13) ⊎ IsCallStatus (status_of g)) (inr (inr (inr (inr (inl refl))))) (λ a b g told ends. long_ends asked.command most (beside_in old) (beside_in new) a b text told other fine begins whole long g ends) g told fails
 
   -- a command over streams that tell the text
   finished_over : {P : Type 0} → ((a b : Streams) → a.left ≡ Some text → Finishes (behaviour_of asked.command) most (beside_in old) (beside_in new) a b → P) → told_text asked.file old ≡ Some text → SucceedsText asked most old new → P
@@ -184,7 +184,7 @@ module _ (asked : OneText) (most : ℕ) (old new : Outside) (text : List ℕ) wh
 
   pub refusal_succeeds : (f : Fault) → (behaviour_of asked.command).reads ≡ true → told_text asked.file old ≡ Some text → (behaviour_of asked.command).Refuses f text → SucceedsText asked most old new → ⊥
   refusal_succeeds f reads told is done =
-      finished_over (λ a b told done. (decides asked.command).apart f text (finished asked.command most (beside_in old) a b text told (beside_in new) reads done) is) told done
+      finished_over (λ a b told done. (decides asked.command).apart f text (finished asked.command most (beside_in old) (beside_in new) a b text told reads done) is) told done
 
   pub long_succeeds : (behaviour_of asked.command).reads ≡ true → told_text asked.file old ≡ Some text → most ≤ length text → SucceedsText asked most old new → ⊥
-  long_succeeds reads told long done = finished_over (λ a b told done. long_or_finished asked.command most (beside_in old) a b text told (beside_in new) reads long done) told done
+  long_succeeds reads told long done = finished_over (λ a b told done. long_or_finished asked.command most (beside_in old) (beside_in new) a b text told reads long done) told done

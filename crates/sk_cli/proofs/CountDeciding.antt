@@ -255,9 +255,9 @@ no_moments plan units none course = nothing_in course.moments (course.asks.count
 -- without a window one text is due
 pub one_estimate : (plan : Plan) → plan.window ≡ None → WritesOneText (counting plan)
 one_estimate plan none = record {
-  due = λ from text due other one two.
+  due = λ from to to' text due other one two.
       one.is ∙ ap (λ (m : List Moment). interim_by plan from.board m ++ last_lines plan (units_of (counted plan) text)) (same (units_of (counted plan) text) one.course two.course) ∙ sym two.is;
-  refused = λ from f text due other one two.
+  refused = λ from to to' f text due other one two.
       one.is ∙ ap (λ (m : List Moment). interim_by plan from.board m) (same (lines_before f (units_of (counted plan) text)) one.course two.course) ∙ sym two.is;
 }
   where

@@ -12,7 +12,7 @@ use Rattle.sk_count.specs.declared.plan.Plan.{Plan}
 use Rattle.sk_count.specs.Plans.{lines_of_window}
 use Rattle.sk_count.specs.Counts.{Setting, Course, TellsPart, TellsPartOfAll}
 use Rattle.sk_count.specs.Moments.{Moment, moments_due, IsMoment, Follows, AreMoments}
-use Rattle.sk_count.specs.Texts.{moment_text, places_behind, interim_text, interim_by, armed_by}
+use Rattle.sk_count.specs.Texts.{moment_text, places_behind, interim_text, interim_by, places_by, armed_by}
 use Rattle.sk_cli.specs.Beside.{Beside}
 use Rattle.sk_cli.specs.commands.Count.{IsInterim}
 use Rattle.sk_cli.proofs.WindowFronts.{FrontWindows, front_windows, fewer_windows}
@@ -73,17 +73,18 @@ module _ (plan : Plan) (units : List (List ℕ)) (course : Course plan units) wh
     abbrev front_course : Course plan front
     front_course = record { windows = take is.many course.windows; rest = is.rest; moments = take (first is.many) course.moments; good = good; cut = is.cut; asks = first_moments is.many is.within }
 
-    -- their text was written whole, if that of moments which begin with theirs was
-    was_due : (moments : List Moment) → Begins (take (first is.many) course.moments) moments → AppendsPartAfter (interim_by plan from.board moments) w w' due → (text : List ℕ) × IsInterim plan from front text × AppendsPartAfter text w w' due
+    -- their text was written whole, with this beside it then, if that of moments which begin with theirs was
+    was_due : (moments : List Moment) → Begins (take (first is.many) course.moments) moments → AppendsPartAfter (interim_by plan from.board moments) w w' due → (text : List ℕ) × (beside : Beside) × IsInterim plan from beside front text × AppendsPartAfter text w w' due
     was_due moments begins part = (
       interim_by plan from.board (take (first is.many) course.moments),
-      record { course = front_course; is = refl },
+      record { board = places_by plan from.board (take (first is.many) course.moments); remains = from.remains },
+      record { course = front_course; is = refl; board = refl },
       part_after_less (interim_by plan from.board (take (first is.many) course.moments)) (interim_by plan from.board moments) w w' due (texts_begin plan.k (armed_by plan from.board) (take (first is.many) course.moments) moments begins) part,
     )
 
 -- what was due for the first units was written whole where the text of all of them was, and that of the estimate not
 pub due_in_all : (plan : Plan) (old new : Setting) (from : Beside) (units front : List (List ℕ)) → old.places ≡ from.board → (part : TellsPartOfAll plan old new units) → Begins front units → All (IsGood plan.kind) front → (due : List ℕ)
-    → AppendsPartAfter (interim_by plan old.places part.course.moments) old.written new.written due → (text : List ℕ) × IsInterim plan from front text × AppendsPartAfter text old.written new.written due
+    → AppendsPartAfter (interim_by plan old.places part.course.moments) old.written new.written due → (text : List ℕ) × (beside : Beside) × IsInterim plan from beside front text × AppendsPartAfter text old.written new.written due
 due_in_all plan old new from units front same part begins good due written =
     let c = part.course in
     let is = front_windows (lines_of_window plan) c.windows c.rest front begins.0 (sym c.cut.joined ∙ begins.1) c.cut.full c.cut.unfilled in
@@ -92,7 +93,7 @@ due_in_all plan old new from units front same part begins good due written =
 
 -- and where a unit fills a window, and of the text of its moment a part was written
 pub due_before_last : (plan : Plan) (old new : Setting) (from : Beside) (given front : List (List ℕ)) (unit : List ℕ) → old.places ≡ from.board → (part : TellsPart plan old new (given ++ unit ∷ [])) → Begins front given → All (IsGood plan.kind) front → (due : List ℕ)
-    → AppendsPartAfter (interim_by plan old.places part.earlier) old.written new.written due → (text : List ℕ) × IsInterim plan from front text × AppendsPartAfter text old.written new.written due
+    → AppendsPartAfter (interim_by plan old.places part.earlier) old.written new.written due → (text : List ℕ) × (beside : Beside) × IsInterim plan from beside front text × AppendsPartAfter text old.written new.written due
 due_before_last plan old new from given front unit same part begins good due written =
     let c = part.course in
     let units : List (List ℕ) = given ++ unit ∷ [] in

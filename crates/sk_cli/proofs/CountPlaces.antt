@@ -28,7 +28,7 @@ module _ (plan : Plan) (most : ℕ) (old new : Setting) where
   behind fault.OutOfMemory (n, all) = (all.gave.course.moments, all.gave.places)
   behind f ends = absurd ends
 
-  pub places_left : (remains : Remains) (r : Result (Unit {0}) Fault) → Counts plan most old new remains r → (moments : List Moment) × (new.places ≡ places_after plan.k (armed_by plan old.places) moments)
-  places_left remains (Ok x) (n, all) = (all.gave.exactly.moments, all.gave.exactly.alarms)
-  places_left remains (Err f) (inl ends) = before f ends
-  places_left remains (Err f) (inr ends) = behind f ends
+  pub places_left : (r : Result Remains Fault) → Counts plan most old new r → (moments : List Moment) × (new.places ≡ places_after plan.k (armed_by plan old.places) moments)
+  places_left (Ok left) (n, all) = (all.gave.exactly.moments, all.gave.exactly.alarms)
+  places_left (Err f) (inl ends) = before f ends
+  places_left (Err f) (inr ends) = behind f ends

@@ -60,8 +60,8 @@ hash_decides plan = record { refused = λ f g text one two. hash_once f g (lines
 
 pub one_hashes : (plan : HashPlan) → WritesOneText (hashing plan)
 one_hashes plan = record {
-  due = λ from text due other one two. one ∙ sym two;
-  refused = λ from f text due other one two. one ∙ sym two;
+  due = λ from to to' text due other one two. one ∙ sym two;
+  refused = λ from to to' f text due other one two. one ∙ sym two;
 }
 
 -- ---- replay
@@ -128,8 +128,8 @@ replay_decides = record {
 
 pub one_answers : WritesOneText replaying
 one_answers = record {
-  due = λ from text due other one two. answered_once (lines_of text) due other one two;
-  refused = λ from f text due other one two. answered_once (lines_before f (lines_of text)) due other one two;
+  due = λ from to to' text due other one two. answered_once (lines_of text) due other one two;
+  refused = λ from to to' f text due other one two. answered_once (lines_before f (lines_of text)) due other one two;
 }
 
 -- ---- a text about the program
@@ -143,4 +143,4 @@ pub make_decides : (plan : MakePlan) → IsDecided (making plan)
 make_decides plan = record { refused = λ f g text one two. absurd one; apart = λ f text one two. absurd two }
 
 pub one_report : (plan : MakePlan) → WritesOneText (making plan)
-one_report plan = record { due = λ from text due other one two. one ∙ sym two; refused = λ from f text due other one two. absurd one }
+one_report plan = record { due = λ from to to' text due other one two. one ∙ sym two; refused = λ from to to' f text due other one two. absurd one }

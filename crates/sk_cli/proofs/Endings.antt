@@ -13,15 +13,15 @@ use Rattle.sk_cli.specs.declared.fault.Fault.{Fault}
 use Rattle.sk_cli.specs.declared.fault.Fault.TheVariants as fault
 
 -- a command that was given a fault ends by it
-pub ends_by : (how : Behaviour) (most : ℕ) (from to : Beside) (a b : Streams) (r : Result (Unit {0}) Fault) (f : Fault) → IsErrAnd r (λ (e : Fault). e ≡ f) → Ends how most from a b f → Executes how most from to a b r
+pub ends_by : (how : Behaviour) (most : ℕ) (from to : Beside) (a b : Streams) (r : Result (Unit {0}) Fault) (f : Fault) → IsErrAnd r (λ (e : Fault). e ≡ f) → Ends how most from to a b f → Executes how most from to a b r
 ends_by how most from to a b (Ok x) f gives ends = absurd gives
-ends_by how most from to a b (Err e) f gives ends = subst (λ (x : Fault). Ends how most from a b x) (sym gives) ends
+ends_by how most from to a b (Err e) f gives ends = subst (λ (x : Fault). Ends how most from to a b x) (sym gives) ends
 
 -- a command whose last step is a write
-pub ends_writing : (how : Behaviour) (most : ℕ) (from to : Beside) (a b : Streams) (r : Result (Unit {0}) Fault) → OnOk r (Finishes how most from to a b) → OnErr r (Ends how most from a b fault.WriteFault)
+pub ends_writing : (how : Behaviour) (most : ℕ) (from to : Beside) (a b : Streams) (r : Result (Unit {0}) Fault) → OnOk r (Finishes how most from to a b) → OnErr r (Ends how most from to a b fault.WriteFault)
     → IfErr r (λ (f : Fault). f ≡ fault.WriteFault) → Executes how most from to a b r
 ends_writing how most from to a b (Ok x) ok err is = ok
-ends_writing how most from to a b (Err e) ok err is = subst (λ (x : Fault). Ends how most from a b x) (sym is) err
+ends_writing how most from to a b (Err e) ok err is = subst (λ (x : Fault). Ends how most from to a b x) (sym is) err
 
 pub on_ok_then : {T E : Type 0} (r : Result T E) (P Q : Type 0) → (P → Q) → OnOk r P → OnOk r Q
 on_ok_then (Ok x) P Q follows holds = follows holds
@@ -35,8 +35,8 @@ pub none_within : AreWithin line_limit []
 none_within = λ k d below. absurd (omega arith)
 
 -- a command that has written nothing, of which nothing or little is due
-pub nothing_more : (how : Behaviour) (most : ℕ) (from : Beside) (a b : Streams) (taken due : List ℕ) → Consumes a.left b.left taken → length taken ≤ most → b.written ≡ a.written → ((text : List ℕ) → how.IsDueBefore from text due) → GivesUp how most from a b
-nothing_more how most from a b taken due consumed size same is = record {
+pub nothing_more : (how : Behaviour) (most : ℕ) (from to : Beside) (a b : Streams) (taken due : List ℕ) → Consumes a.left b.left taken → length taken ≤ most → b.written ≡ a.written → ((text : List ℕ) → how.IsDueBefore from to text due) → GivesUp how most from to a b
+nothing_more how most from to a b taken due consumed size same is = record {
   taken = taken;
   due = due;
   consumed = consumed;
@@ -46,8 +46,8 @@ nothing_more how most from a b taken due consumed size same is = record {
 }
 
 -- it has read nothing either
-pub nothing_yet : (how : Behaviour) (most : ℕ) (from : Beside) (a : Streams) (due : List ℕ) → ((text : List ℕ) → how.IsDueBefore from text due) → GivesUp how most from a a
-nothing_yet how most from a due is = nothing_more how most from a a [] due (Consumes-nil a.left) (omega arith) refl is
+pub nothing_yet : (how : Behaviour) (most : ℕ) (from to : Beside) (a : Streams) (due : List ℕ) → ((text : List ℕ) → how.IsDueBefore from to text due) → GivesUp how most from to a a
+nothing_yet how most from to a due is = nothing_more how most from to a a [] due (Consumes-nil a.left) (omega arith) refl is
 
 -- no command opens a file
 pub never_opens : (how : Behaviour) (most : ℕ) (from to : Beside) (a b : Streams) (r : Result (Unit {0}) Fault) → Executes how most from to a b r → r ≡ Err fault.OpenFault → ⊥

@@ -38,8 +38,8 @@ hash_text_front : (seed : ℕ) (lines rest : List (List ℕ)) (due : List ℕ) �
 hash_text_front seed lines rest due is = (hash_text seed rest, is ∙ hash_text_append seed lines rest)
 
 -- `hash` examines line by line
-pub hash_by_lines : (plan : HashPlan) (from : Beside) → ByLines (hashing plan) from (λ lines due. due ≡ hash_text plan.seed lines)
-hash_by_lines plan from = record {
+pub hash_by_lines : (plan : HashPlan) (from to : Beside) → ByLines (hashing plan) from to (λ lines due. due ≡ hash_text plan.seed lines)
+hash_by_lines plan from to = record {
   reads_it = refl;
   fine = λ taken due within is. within;
   so_far = λ taken due is. is;
@@ -48,13 +48,13 @@ hash_by_lines plan from = record {
   front = λ lines rest due is. (hash_text plan.seed lines, refl, hash_text_front plan.seed lines rest due is);
 }
 
-pub no_hash_yet : (plan : HashPlan) (from : Beside) (text : List ℕ) → (hashing plan).IsDueBefore from text (hash_text plan.seed [])
-no_hash_yet plan from text = (0, none_within, refl)
+pub no_hash_yet : (plan : HashPlan) (from to : Beside) (text : List ℕ) → (hashing plan).IsDueBefore from to text (hash_text plan.seed [])
+no_hash_yet plan from to text = (0, none_within, refl)
 
 -- it goes on from any lines by the hashes of further ones
 pub hashes_go : (plan : HashPlan) (from to : Beside) (given : List (List ℕ)) → GoesByAnswers (hashing plan) from to (λ lines text. text ≡ hash_text plan.seed lines) (λ lines line. ⊥) given
 hashes_go plan from to given = record {
-  by_lines = hash_by_lines plan from;
+  by_lines = hash_by_lines plan from to;
   whole = λ more due is text same within. (subst (AreWithin line_limit) (sym same) within, is ∙ ap (λ (l : List (List ℕ)). hash_text plan.seed l) (sym same), tt);
   refused = λ lines line due is bad. absurd bad;
 }

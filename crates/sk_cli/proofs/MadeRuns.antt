@@ -20,7 +20,7 @@ settled_here P left taken (inl always) = (_, always [])
 settled_here P left taken (inr here) = (taken, here.1)
 
 module _ (plan : MakePlan) (old new : Outside) (most : ℕ) where
-  report_due : (taken due : List ℕ) (left : Option (List ℕ)) (P : Type 0) → IsDueWhole (making plan) (beside_in old) left taken due ⊎ (P × IsDueOnTheWay (making plan) (beside_in old) left taken due) → due ≡ made_report plan
+  report_due : (taken due : List ℕ) (left : Option (List ℕ)) (P : Type 0) → IsDueWhole (making plan) (beside_in old) (beside_in new) left taken due ⊎ (P × IsDueOnTheWay (making plan) (beside_in old) (beside_in new) left taken due) → due ≡ made_report plan
   report_due taken due left P (inl whole) = whole.is_due
   report_due taken due left P (inr on_way) = (settled_here (λ (text : List ℕ). due ≡ made_report plan) left taken on_way.1).1
 
@@ -42,7 +42,7 @@ module _ (plan : MakePlan) (old new : Outside) (most : ℕ) where
     part = λ other. absurd (omega (arith, other));
   }
 
-  broke_off : BreaksOff (making plan) most (beside_in old) (over_input old) (over_input new) → RunsMake plan old new 4
+  broke_off : BreaksOff (making plan) most (beside_in old) (beside_in new) (over_input old) (over_input new) → RunsMake plan old new 4
   broke_off off = record {
     ends = inr (inr refl);
     whole = λ other. absurd (omega (arith, other));
@@ -51,8 +51,8 @@ module _ (plan : MakePlan) (old new : Outside) (most : ℕ) where
     part = λ failed. subst (AppendsPart old.written new.written) (report_due off.taken off.due _ _ off.is_due) off.written;
   }
 
-  never_refused : (f : Fault) → Refuses (making plan) most f (beside_in old) (over_input old) (over_input new) → ⊥
-  never_refused f off = (settled_here (λ (text : List ℕ). (making plan).Refuses f text × (making plan).IsDueAt (beside_in old) f text off.due) (over_input new).left off.taken off.refused).1.0
+  never_refused : (f : Fault) → Refuses (making plan) most f (beside_in old) (beside_in new) (over_input old) (over_input new) → ⊥
+  never_refused f off = (settled_here (λ (text : List ℕ). (making plan).Refuses f text × (making plan).IsDueAt (beside_in old) (beside_in new) f text off.due) (over_input new).left off.taken off.refused).1.0
 
   no_reads : {P : Type 0} → false ≡ true → P
   no_reads is = absurd (cc)

@@ -84,7 +84,7 @@ module _ (plan : MakePlan) (within : IsWithin plan) (from to : Beside) (text res
   abbrev pub b : Streams
   b = record { left = left; read_faults = faults; written = w'; write_faults = v' }
 
-  due_is : (taken due : List ℕ) → taken ≡ text_by plan → IsWhole (counted_by plan) from (lines_of taken) due → due ≡ made_report plan
+  due_is : (taken due : List ℕ) → taken ≡ text_by plan → IsWhole (counted_by plan) from to (lines_of taken) due → due ≡ made_report plan
   due_is taken due same whole =
       whole.is
       ∙ ap (λ (m : List Moment). interim_text plan.k (armed_by (counted_by plan) from.board) m ++ last_lines (counted_by plan) (lines_of taken)) (no_moments (counted_by plan) (lines_of taken) refl whole.course)
@@ -108,19 +108,19 @@ module _ (plan : MakePlan) (within : IsWithin plan) (from to : Beside) (text res
       }
 
   -- without a window nothing is due before the end
-  nothing_on_the_way : (n : ℕ) (due : List ℕ) → IsInterim (counted_by plan) from (take n (lines_of text)) due → due ≡ []
+  nothing_on_the_way : (n : ℕ) (due : List ℕ) → IsInterim (counted_by plan) from to (take n (lines_of text)) due → due ≡ []
   nothing_on_the_way n due interim =
       interim.is ∙ ap (λ (m : List Moment). interim_text plan.k (armed_by (counted_by plan) from.board) m) (no_moments (counted_by plan) (take n (lines_of text)) refl interim.course)
       ∙ nothing_interim plan.k from (counted_by plan)
 
-  part_of_report : (taken due : List ℕ) → IsDueWhole (counting (counted_by plan)) from (Some rest) taken due ⊎ IsDueOnTheWay (counting (counted_by plan)) from (Some rest) taken due
+  part_of_report : (taken due : List ℕ) → IsDueWhole (counting (counted_by plan)) from to (Some rest) taken due ⊎ IsDueOnTheWay (counting (counted_by plan)) from to (Some rest) taken due
       → text ≡ taken ++ rest → AppendsPart w w' due → AppendsPart w w' (made_report plan)
   part_of_report taken due (inl whole) consumed part = subst (AppendsPart w w') (due_is taken due (whole_told text taken (Some rest) consumed whole.end ∙ is) whole.is_due) part
   part_of_report taken due (inr on_way) consumed part =
-      let before = settled_told (λ (t : List ℕ). (counting (counted_by plan)).IsDueBefore from t due) text taken (Some rest) consumed on_way in
+      let before = settled_told (λ (t : List ℕ). (counting (counted_by plan)).IsDueBefore from to t due) text taken (Some rest) consumed on_way in
       absurd (no_part_of_nothing w w' due (nothing_on_the_way before.0 due before.2) part)
 
-  breaks_off : BreaksOff (counting (counted_by plan)) source_limit from x y → BreaksOff (making plan) most from a b
+  breaks_off : BreaksOff (counting (counted_by plan)) source_limit from to x y → BreaksOff (making plan) most from to a b
   breaks_off off = record {
     taken = [];
     due = made_report plan;
@@ -135,18 +135,18 @@ module _ (plan : MakePlan) (within : IsWithin plan) (from to : Beside) (text res
       whole_or_not (inl p) = inl p
       whole_or_not (inr qr) = inr qr.1
 
-  too_much : Stops (counting (counted_by plan)) (λ size. size ≡ source_limit) from x y → ⊥
+  too_much : Stops (counting (counted_by plan)) (λ size. size ≡ source_limit) from to x y → ⊥
   too_much stop =
       let size = size_is plan.n plan.key in
       no_more_told text stop.taken (Some rest) stop.consumed (omega (arith, ap length is, size, within.n, stop.size))
 
-  refused : (f : Fault) → Refuses (counting (counted_by plan)) source_limit f from x y → ⊥
+  refused : (f : Fault) → Refuses (counting (counted_by plan)) source_limit f from to x y → ⊥
   refused f off =
       (count_decides (counted_by plan)).apart f text (subst (IsReadable Raw 0) (sym is) (text_is_readable plan))
-      (settled_told (λ (t : List ℕ). IsRefusedBy Raw 0 f t × (counting (counted_by plan)).IsDueAt from f t off.due) text off.taken (Some rest) off.consumed off.refused).0
+      (settled_told (λ (t : List ℕ). IsRefusedBy Raw 0 f t × (counting (counted_by plan)).IsDueAt from to f t off.due) text off.taken (Some rest) off.consumed off.refused).0
 
-  ends : (f : Fault) → Ends (counting (counted_by plan)) source_limit from x y f → (f ≡ fault.ReadFault → ⊥) → (f ≢ fault.WriteFault → w' ≡ w) → Ends (making plan) most from a b f
-  ends fault.OutOfMemory off no_read quiet = nothing_more (making plan) most from a b [] (made_report plan) (Consumes-nil left) (omega arith) (quiet (λ same. cc)) (λ later. refl)
+  ends : (f : Fault) → Ends (counting (counted_by plan)) source_limit from to x y f → (f ≡ fault.ReadFault → ⊥) → (f ≢ fault.WriteFault → w' ≡ w) → Ends (making plan) most from to a b f
+  ends fault.OutOfMemory off no_read quiet = nothing_more (making plan) most from to a b [] (made_report plan) (Consumes-nil left) (omega arith) (quiet (λ same. cc)) (λ later. refl)
   ends fault.Usage off no_read quiet = absurd off
   ends fault.ReadFault off no_read quiet = absurd (no_read refl)
   ends fault.WriteFault off no_read quiet = breaks_off off

@@ -1,6 +1,5 @@
 -- Which count a fault moves.
 use Rattle.std.proofs.Common.{◌≡◌, ℕ, zero, suc, Result, Ok, Err, IsErrAnd, refl, sym, ap, ◌∙◌, subst}
-use Rattle.std.specs.Result.{MatchResult}
 use Rattle.sk_model.specs.Causes.{Rose, HasCauseIn}
 use Rattle.sk_read.specs.declared.fault.Fault.{Fault as ReadingFault}
 use Rattle.sk_read.specs.declared.fault.Fault.TheVariants as reading
@@ -20,14 +19,8 @@ Moves a b other = (b.read_faults ≡ a.read_faults) × (b.write_faults ≡ a.wri
 abbrev error_of : (T : Type 0) {E : Type 0} → E → Result T E
 error_of T e = Err e
 
-abbrev fine : Result (Unit {0}) Fault
-fine = Ok tt
-
 nothing_else : (f g : Fault) → error_of (Unit {0}) f ≡ Err g → f ≡ g
 nothing_else f g same = cc
-
-no_fault : (g : Fault) → fine ≡ Err g → ⊥
-no_fault g same = cc
 
 caused : (g f : Fault) (before now : ℕ) → f ≡ g → Rose before now → HasCauseIn {T = Unit {0}} g before now (Err f)
 caused g f before now is rose = record { steady = λ other. absurd (other (ap (λ (x : Fault). Err x) is)); failed = λ same. rose }
@@ -56,13 +49,6 @@ causes_of a b f stay = elsewhere a b f (λ is. cc) (λ is. cc) stay
 pub caused_elsewhere : (a b : Streams) (r : Result (Unit {0}) Fault) (f : Fault) → IsErrAnd r (λ (e : Fault). e ≡ f) → (f ≡ fault.ReadFault → ⊥) → (f ≡ fault.WriteFault → ⊥) → (b.read_faults ≡ a.read_faults) × (b.write_faults ≡ a.write_faults) → HasCauses a b r
 caused_elsewhere a b (Ok x) f gives no_read no_write stay = absurd gives
 caused_elsewhere a b (Err e) f gives no_read no_write stay = subst (λ (x : Fault). HasCauses a b (Err x)) (sym gives) (elsewhere a b f no_read no_write stay)
-
--- a command that met no fault
-pub no_cause : (a b : Streams) → b.read_faults ≡ a.read_faults → b.write_faults ≡ a.write_faults → HasCauses a b (Ok tt)
-no_cause a b read write = record {
-  read = record { steady = λ no. read; failed = λ is. absurd (no_fault fault.ReadFault is) };
-  write = record { steady = λ no. write; failed = λ is. absurd (no_fault fault.WriteFault is) };
-}
 
 ok_is_no_error : {T E : Type 0} (v : T) (fault : E) → Ok v ≡ Err fault → ⊥
 ok_is_no_error v fault is = cc
@@ -96,9 +82,7 @@ counting_moves T a b column r f is read write = (
   write.steady (λ failed. another T f reading.WriteFault (λ e. cc) (sym is ∙ failed)),
 )
 
--- a count, whose fault became one of the program
-pub counting_causes : (a b : Streams) (column : ℕ) (r : Result (Unit {0}) ReadingFault) (answer : Result (Unit {0}) Fault) → MatchResult r (λ (x : Unit {0}). answer ≡ Ok x) (λ (f : ReadingFault). answer ≡ Err (fault_by column f)) →
-    HasCauseIn reading.ReadFault a.read_faults b.read_faults r → HasCauseIn reading.WriteFault a.write_faults b.write_faults r → HasCauses a b answer
-counting_causes a b column (Ok x) answer is read write =
-    subst (HasCauses a b) (sym is) (no_cause a b (read.steady (λ failed. ok_is_no_error x reading.ReadFault failed)) (write.steady (λ failed. ok_is_no_error x reading.WriteFault failed)))
-counting_causes a b column (Err f) answer is read write = subst (HasCauses a b) (sym is) (causes_of a b (fault_by column f) (counting_moves (Unit {0}) a b column (Err f) f refl read write))
+-- a count that ended by a fault, which became one of the program
+pub counting_causes : {T : Type 0} (a b : Streams) (column : ℕ) (r : Result T ReadingFault) (f : ReadingFault) (g : Fault) → r ≡ Err f → g ≡ fault_by column f →
+    HasCauseIn reading.ReadFault a.read_faults b.read_faults r → HasCauseIn reading.WriteFault a.write_faults b.write_faults r → HasCauses a b (Err g)
+counting_causes {T} a b column r f g ended is read write = subst (λ (x : Fault). HasCauses a b (Err x)) (sym is) (causes_of a b (fault_by column f) (counting_moves T a b column r f ended read write))

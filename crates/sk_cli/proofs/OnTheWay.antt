@@ -49,21 +49,21 @@ pub record ToldSoFar (kind : Kind) (Interim : List (List ℕ) → List ℕ → T
   pub written : Appends a.written b.written due
 
 -- of what is due for units, of which none is refused, a part was written; what was due for any first ones of those given
--- was written whole
-pub record ToldPart (kind : Kind) (Interim Due : List (List ℕ) → List ℕ → Type 0) (a b : Streams) (given units : List (List ℕ)) : Type 0 where
+-- was written whole, with this beside it then
+pub record ToldPart (kind : Kind) (Interim : Beside → List (List ℕ) → List ℕ → Type 0) (Due : List (List ℕ) → List ℕ → Type 0) (a b : Streams) (given units : List (List ℕ)) : Type 0 where
   pub due : List ℕ
   pub is : Due units due
   pub good : All (IsGood kind) units
-  pub earlier : (front : List (List ℕ)) → Begins front given → (text : List ℕ) × Interim front text × AppendsPartAfter text a.written b.written due
+  pub earlier : (front : List (List ℕ)) → Begins front given → (text : List ℕ) × (beside : Beside) × Interim beside front text × AppendsPartAfter text a.written b.written due
 
 -- what was told where it stopped at a unit behind these: the unit is no item, or a write failed behind it
-abbrev pub Stopped : Kind → (List (List ℕ) → List ℕ → Type 0) → Streams → Streams → ReadingFault → List (List ℕ) → List ℕ → Type 0
-Stopped kind Interim a b (reading.BadItem n) units unit = ToldSoFar kind Interim a b units × (0 < length unit) × IsNone (item_of kind unit)
-Stopped kind Interim a b reading.WriteFault units unit = ToldPart kind Interim Interim a b units (units ++ unit ∷ [])
-Stopped kind Interim a b reading.OutOfMemory units unit = ToldSoFar kind Interim a b units
-Stopped kind Interim a b other units unit = ⊥
+abbrev pub Stopped : Kind → (Beside → List (List ℕ) → List ℕ → Type 0) → Beside → Streams → Streams → ReadingFault → List (List ℕ) → List ℕ → Type 0
+Stopped kind Interim to a b (reading.BadItem n) units unit = ToldSoFar kind (Interim to) a b units × (0 < length unit) × IsNone (item_of kind unit)
+Stopped kind Interim to a b reading.WriteFault units unit = ToldPart kind Interim (Interim to) a b units (units ++ unit ∷ [])
+Stopped kind Interim to a b reading.OutOfMemory units unit = ToldSoFar kind (Interim to) a b units
+Stopped kind Interim to a b other units unit = ⊥
 
-module _ (kind : Kind) (column : ℕ) (last : Bool) (arms : List ℕ) (makes : MadeHub) (Interim : Beside → List (List ℕ) → List ℕ → Type 0) (Whole : Beside → List (List ℕ) → List ℕ → Type 0) (Left : Beside → List (List ℕ) → List ℕ → Beside → Type 0) (most : ℕ) (from : Beside) (a b : Streams) where
+module _ (kind : Kind) (column : ℕ) (last : Bool) (arms : List ℕ) (makes : MadeHub) (Interim Whole : Beside → Beside → List (List ℕ) → List ℕ → Type 0) (Left : Beside → List (List ℕ) → List ℕ → Beside → Type 0) (most : ℕ) (from to : Beside) (a b : Streams) where
   abbrev how : Behaviour
   how = telling_on kind column last arms makes Interim Whole Left
 
@@ -71,25 +71,25 @@ module _ (kind : Kind) (column : ℕ) (last : Bool) (arms : List ℕ) (makes : M
   units = units_by column
 
   abbrev SoFar : List (List ℕ) → Type 0
-  SoFar given = ToldSoFar kind (Interim from) a b given
+  SoFar given = ToldSoFar kind (Interim from to) a b given
 
   -- a text that is refused, behind the units given
   refused : (f : Fault) (Known : List (List ℕ) → Type 0) (Comes : List (List ℕ) → List ℕ → Type 0) → (off : ReadingBreaksOff units most Known Comes a.left b.left) → SoFar off.given
-      → ((text : List ℕ) → Begins off.given (units_of units text) → Comes off.given text → IsRefusedBy kind column f text × (lines_before f (units_of units text) ≡ off.given)) → Refuses how most f from a b
+      → ((text : List ℕ) → Begins off.given (units_of units text) → Comes off.given text → IsRefusedBy kind column f text × (lines_before f (units_of units text) ≡ off.given)) → Refuses how most f from to a b
   refused f Known Comes off told is = record {
     taken = off.taken;
     due = told.due;
     consumed = off.consumed;
     size = off.size;
     in_time = in_time kind column off.given off.taken off.in_time told.good;
-    refused = settled_so (λ (text : List ℕ). Begins off.given (units_of units text) × Comes off.given text) (λ (text : List ℕ). how.Refuses f text × how.IsDueAt from f text told.due) b.left off.taken
+    refused = settled_so (λ (text : List ℕ). Begins off.given (units_of units text) × Comes off.given text) (λ (text : List ℕ). how.Refuses f text × how.IsDueAt from to f text told.due) b.left off.taken
         (λ text found.
         let both = is text found.0 found.1 in
-        (both.0, subst (λ (l : List (List ℕ)). Interim from l told.due) (sym both.1) told.is)) off.comes;
+        (both.0, subst (λ (l : List (List ℕ)). Interim from to l told.due) (sym both.1) told.is)) off.comes;
     written = told.written;
   }
 
-  stops : (IsSize : ℕ → Type 0) → ReadsSome units IsSize SoFar a.left b.left → Stops how IsSize from a b
+  stops : (IsSize : ℕ → Type 0) → ReadsSome units IsSize SoFar a.left b.left → Stops how IsSize from to a b
   stops IsSize some = record {
     taken = some.taken;
     due = some.gave.due;
@@ -102,14 +102,14 @@ module _ (kind : Kind) (column : ℕ) (last : Bool) (arms : List ℕ) (makes : M
   }
 
   -- what is due for the units given is due for the first units of each text that goes on so
-  due_before : (given : List (List ℕ)) (due taken : List ℕ) → Interim from given due → IsSettled (λ (text : List ℕ). Begins given (units_of units text) × IsSoundUpTo units (length given) text) b.left taken → IsDueOnTheWay how from b.left taken due
+  due_before : (given : List (List ℕ)) (due taken : List ℕ) → Interim from to given due → IsSettled (λ (text : List ℕ). Begins given (units_of units text) × IsSoundUpTo units (length given) text) b.left taken → IsDueOnTheWay how from to b.left taken due
   due_before given due taken is settled =
-      settled_so (λ (text : List ℕ). Begins given (units_of units text) × IsSoundUpTo units (length given) text) (λ (text : List ℕ). how.IsDueBefore from text due) b.left taken
-      (λ text found. (length given, found.1, subst (λ (l : List (List ℕ)). Interim from l due) (sym (front_is given (units_of units text) found.0)) is)) settled
+      settled_so (λ (text : List ℕ). Begins given (units_of units text) × IsSoundUpTo units (length given) text) (λ (text : List ℕ). how.IsDueBefore from to text due) b.left taken
+      (λ text found. (length given, found.1, subst (λ (l : List (List ℕ)). Interim from to l due) (sym (front_is given (units_of units text) found.0)) is)) settled
 
   -- no memory was found behind the units given
   gives_up : (given : List (List ℕ)) (taken : List ℕ) → SoFar given → Consumes a.left b.left taken → length taken ≤ most →
-      IsSettled (λ (text : List ℕ). Begins given (units_of units text) × IsSoundUpTo units (length given) text) b.left taken → GivesUp how most from a b
+      IsSettled (λ (text : List ℕ). Begins given (units_of units text) × IsSoundUpTo units (length given) text) b.left taken → GivesUp how most from to a b
   gives_up given taken told consumed size settled = record {
     taken = taken;
     due = told.due;
@@ -119,7 +119,7 @@ module _ (kind : Kind) (column : ℕ) (last : Bool) (arms : List ℕ) (makes : M
     written = front_of_all a.written b.written told.due told.written;
   }
 
-  stopped_for_memory : (unit : List ℕ) → (off : ReadingBreaksOff units most (λ given. SoFar given) (λ given text. Begins (given ++ unit ∷ []) (units_of units text) × IsSoundUpTo units (length given + 1) text) a.left b.left) → GivesUp how most from a b
+  stopped_for_memory : (unit : List ℕ) → (off : ReadingBreaksOff units most (λ given. SoFar given) (λ given text. Begins (given ++ unit ∷ []) (units_of units text) × IsSoundUpTo units (length given + 1) text) a.left b.left) → GivesUp how most from to a b
   stopped_for_memory unit off =
       gives_up off.given off.taken off.known off.consumed off.size
       (settled_so (λ (text : List ℕ). Begins off.given (units_of units text) × (Begins (off.given ++ unit ∷ []) (units_of units text) × IsSoundUpTo units (length off.given + 1) text))
@@ -127,25 +127,26 @@ module _ (kind : Kind) (column : ℕ) (last : Bool) (arms : List ℕ) (makes : M
       (λ text found. (found.0, sound_less units (length off.given) text found.1.1)) off.comes)
 
   -- what was due before the last read was written whole
-  writes_on : (given : List (List ℕ)) (taken due : List ℕ) → (earlier : (front : List (List ℕ)) → Begins front given → (text : List ℕ) × Interim from front text × AppendsPartAfter text a.written b.written due)
+  writes_on : (given : List (List ℕ)) (taken due : List ℕ) → (earlier : (front : List (List ℕ)) → Begins front given → (text : List ℕ) × (beside : Beside) × Interim from beside front text × AppendsPartAfter text a.written b.written due)
       → IsReadInTime units given taken → All (IsGood kind) given → WritesOn how from taken due a.written b.written
   writes_on given taken due earlier in_time good =
       let before = earlier (complete_units_of units in_time.front) in_time.earlier in
       record {
         earlier = before.0;
+        beside = before.1;
         was_due = record {
           front = in_time.front;
           piece = in_time.piece;
           joined = in_time.joined;
           size = in_time.size;
-          so_far = ((in_time.sound, all_front (IsGood kind) (complete_units_of units in_time.front) given in_time.earlier good), before.1);
+          so_far = ((in_time.sound, all_front (IsGood kind) (complete_units_of units in_time.front) given in_time.earlier good), before.2);
         };
-        written = before.2;
+        written = before.3;
       }
 
   -- a write failed behind a unit
-  breaks_off : (unit : List ℕ) → (off : ReadingBreaksOff units most (λ given. ToldPart kind (Interim from) (Interim from) a b given (given ++ unit ∷ [])) (λ given text. Begins (given ++ unit ∷ []) (units_of units text) × IsSoundUpTo units (length given + 1) text) a.left b.left) →
-      BreaksOff how most from a b
+  breaks_off : (unit : List ℕ) → (off : ReadingBreaksOff units most (λ given. ToldPart kind (Interim from) (Interim from to) a b given (given ++ unit ∷ [])) (λ given text. Begins (given ++ unit ∷ []) (units_of units text) × IsSoundUpTo units (length given + 1) text) a.left b.left) →
+      BreaksOff how most from to a b
   breaks_off unit off =
       let behind : List (List ℕ) = off.given ++ unit ∷ [] in
       let part = off.known in
@@ -164,12 +165,12 @@ module _ (kind : Kind) (column : ℕ) (last : Bool) (arms : List ℕ) (makes : M
               (λ (text : List ℕ). Begins behind (units_of units text) × IsSoundUpTo units (length behind) text) b.left off.taken
               (λ text found. (found.1.0, subst (λ (m : ℕ). IsSoundUpTo units m text) (sym count) found.1.1)) off.comes),
         );
-        written = part_at_all whole.0 a.written b.written part.due whole.2;
+        written = part_at_all whole.0 a.written b.written part.due whole.3;
         by_lines = on_true how.writes_by_lines (WritesOn how from off.taken part.due a.written b.written) (writes_on off.given off.taken part.due part.earlier off.in_time good);
       }
 
   -- it ended while it read
-  pub ended_before : (f : ReadingFault) → ReadingEnds units most SoFar (Stopped kind (Interim from) a b) a.left b.left f → Ends how most from a b (fault_by column f)
+  pub ended_before : (f : ReadingFault) → ReadingEnds units most SoFar (Stopped kind (Interim from) to a b) a.left b.left f → Ends how most from to a b (fault_by column f)
   ended_before reading.OutOfMemory (inl off) = gives_up off.given off.taken off.known off.consumed off.size off.comes
   ended_before reading.OutOfMemory (inr stop) = stopped_for_memory stop.0 stop.1
   ended_before reading.ReadFault some = stops (λ size. size < most) some
@@ -192,24 +193,24 @@ module _ (kind : Kind) (column : ℕ) (last : Bool) (arms : List ℕ) (makes : M
       unit : List ℕ
       unit = stop.0
 
-      off : ReadingBreaksOff units most (λ given. (n ≡ length given + 1) × Stopped kind (Interim from) a b (reading.BadItem n) given unit) (λ given text. Begins (given ++ unit ∷ []) (units_of units text) × IsSoundUpTo units (length given + 1) text) a.left b.left
+      off : ReadingBreaksOff units most (λ given. (n ≡ length given + 1) × Stopped kind (Interim from) to a b (reading.BadItem n) given unit) (λ given text. Begins (given ++ unit ∷ []) (units_of units text) × IsSoundUpTo units (length given + 1) text) a.left b.left
       off = stop.1
 
       is_bad : (text : List ℕ) → Begins (off.given ++ unit ∷ []) (units_of units text) × IsSoundUpTo units (length off.given + 1) text → IsBadUnit kind column n text
       is_bad text comes = bad_at kind column n off.given unit text off.known.0 off.known.1.0.good off.known.1.1 off.known.1.2 comes.0 (subst (λ (m : ℕ). IsSoundUpTo units m text) (sym off.known.0) comes.1)
 
-      bad : (c : ℕ) → column ≡ c → Ends how most from a b (bad_unit c n)
+      bad : (c : ℕ) → column ≡ c → Ends how most from to a b (bad_unit c n)
       bad zero is = refused (fault.BadItem n) _ _ off off.known.1.0 (λ text begins comes. ((is, is_bad text comes), front_at n off.given (units_of units text) off.known.0 begins))
       bad (suc c) is = refused (fault.BadField n) _ _ off off.known.1.0 (λ text begins comes. ((omega (arith, is), is_bad text comes), front_at n off.given (units_of units text) off.known.0 begins))
 
   -- it had read all, and found no memory
-  pub gave_up_behind : (n : ℕ) → ReadsAll units most n SoFar a.left b.left → GivesUp how most from a b
+  pub gave_up_behind : (n : ℕ) → ReadsAll units most n SoFar a.left b.left → GivesUp how most from to a b
   gave_up_behind n all =
       let given : List (List ℕ) = units_of units all.taken in
       gives_up given all.taken all.gave all.consumed (omega (arith, all.size)) (inr (all.end, (([], sym (append-nil given)), sound_up_to_all units all.taken all.sound)))
 
   -- it had read all, and a write failed
-  pub broke_off_behind : (n : ℕ) → ReadsAll units most n (λ given. ToldPart kind (Interim from) (Whole from) a b given given) a.left b.left → BreaksOff how most from a b
+  pub broke_off_behind : (n : ℕ) → ReadsAll units most n (λ given. ToldPart kind (Interim from) (Whole from to) a b given given) a.left b.left → BreaksOff how most from to a b
   broke_off_behind n all =
       let given : List (List ℕ) = units_of units all.taken in
       let part = all.gave in
@@ -228,6 +229,6 @@ module _ (kind : Kind) (column : ℕ) (last : Bool) (arms : List ℕ) (makes : M
         consumed = all.consumed;
         size = omega (arith, all.size);
         is_due = inl (record { end = all.end; fine = (all.sound, part.good); is_due = part.is });
-        written = part_at_all whole.0 a.written b.written part.due whole.2;
+        written = part_at_all whole.0 a.written b.written part.due whole.3;
         by_lines = on_true how.writes_by_lines (WritesOn how from all.taken part.due a.written b.written) (writes_on given all.taken part.due part.earlier all_in_time part.good);
       }

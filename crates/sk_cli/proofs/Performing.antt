@@ -26,7 +26,7 @@ module _ (command : Command) (most : ℕ) (old new : Outside) where
   performs_over_input (Ok x) went = went
   performs_over_input (Err f) went = fails f went
     where
-      fails : (f : Fault) → Ends (behaviour_of command) most (beside_in old) (over_input old) (over_input new) f → FailsText (record { command = command; file = None }) most old new f
+      fails : (f : Fault) → Ends (behaviour_of command) most (beside_in old) (beside_in new) (over_input old) (over_input new) f → FailsText (record { command = command; file = None }) most old new f
       fails fault.OpenFault ends = absurd ends
       fails f ends = ends
 
@@ -41,6 +41,6 @@ module _ (command : Command) (most : ℕ) (old new : Outside) where
   performs_over_file name (Ok x) went = went
   performs_over_file name (Err f) went = fails f went
     where
-      fails : (f : Fault) → Ends (behaviour_of command) most (beside_in old) (over_file (told_file old.files name) old) (over_file new.file_left new) f → FailsText (record { command = command; file = Some name }) most old new f
+      fails : (f : Fault) → Ends (behaviour_of command) most (beside_in old) (beside_in new) (over_file (told_file old.files name) old) (over_file new.file_left new) f → FailsText (record { command = command; file = Some name }) most old new f
       fails fault.OpenFault ends = absurd ends
       fails f ends = ends

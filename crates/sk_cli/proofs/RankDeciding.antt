@@ -29,34 +29,34 @@ no_text : (plan : Plan) (moments : List Moment) → moments ≡ [] → interim_t
 unfolding interim_text
 no_text plan moments none = ap (interim_text plan) none
 
-module _ (plan : Plan) (none : plan.window ≡ None) (from : Beside) where
+module _ (plan : Plan) (none : plan.window ≡ None) (from to : Beside) where
   -- without a window nobody asks
   no_interim : (units : List (List ℕ)) (course : Course plan units) → interim_text plan course.moments ≡ []
   no_interim units course = no_text plan course.moments (nothing_in course.moments (course.asks.count ∙ ap (λ (w : Option ℕ). if is_some w then length course.windows else 0) none))
 
   -- and one updater keeps the order of the lines
-  in_order : plan.updaters ≡ 1 → (units : List (List ℕ)) (due : List ℕ) → IsWhole plan from units due → due ≡ rank_line plan (items_by Raw units)
+  in_order : plan.updaters ≡ 1 → (units : List (List ℕ)) (due : List ℕ) → IsWhole plan from to units due → due ≡ rank_line plan (items_by Raw units)
   in_order one units due whole =
       whole.is
       ∙ ap (λ (l : List ℕ). l ++ rank_line plan (items_of_entries whole.list)) (no_interim units whole.course)
       ∙ ap (rank_line plan) (in_order_of_one plan units whole.course whole.list whole.has_all one)
 
-  nothing_due : (units : List (List ℕ)) (due : List ℕ) → IsInterim plan from units due → due ≡ []
+  nothing_due : (units : List (List ℕ)) (due : List ℕ) → IsInterim plan from to units due → due ≡ []
   nothing_due units due interim = interim.is ∙ no_interim units interim.course
 
-pub one_line : (plan : Plan) → plan.updaters ≡ 1 → plan.window ≡ None → (from : Beside) (text due : List ℕ) → (ranking plan).IsDue from text due → due ≡ rank_line plan (items_by Raw (lines_of text))
-one_line plan one none from text due whole = in_order plan none from one (lines_of text) due whole
+pub one_line : (plan : Plan) → plan.updaters ≡ 1 → plan.window ≡ None → (from to : Beside) (text due : List ℕ) → (ranking plan).IsDue from to text due → due ≡ rank_line plan (items_by Raw (lines_of text))
+one_line plan one none from to text due whole = in_order plan none from to one (lines_of text) due whole
 
 pub one_rank : (plan : Plan) → plan.updaters ≡ 1 → plan.window ≡ None → WritesOneText (ranking plan)
 one_rank plan one none = record {
-  due = λ from text due other first second. one_line plan one none from text due first ∙ sym (one_line plan one none from text other second);
-  refused = λ from f text due other first second.
-      nothing_due plan none from (lines_before f (lines_of text)) due first ∙ sym (nothing_due plan none from (lines_before f (lines_of text)) other second);
+  due = λ from to to' text due other first second. one_line plan one none from to text due first ∙ sym (one_line plan one none from to' text other second);
+  refused = λ from to to' f text due other first second.
+      nothing_due plan none from to (lines_before f (lines_of text)) due first ∙ sym (nothing_due plan none from to' (lines_before f (lines_of text)) other second);
 }
 
 -- the last line is of as many items as there are, and as near to their rank as it says
-pub near_in_all : (plan : Plan) → 0 < plan.updaters → (from : Beside) (text due : List ℕ) → (ranking plan).IsDue from text due → TellsNear plan (items_by Raw (lines_of text)) due
-near_in_all plan some from text due whole =
+pub near_in_all : (plan : Plan) → 0 < plan.updaters → (from to : Beside) (text due : List ℕ) → (ranking plan).IsDue from to text due → TellsNear plan (items_by Raw (lines_of text)) due
+near_in_all plan some from to text due whole =
     let units = lines_of text in
     let items = items_of_entries whole.list in
     let count : length items ≡ length (items_by Raw units) = as_many plan units whole.course whole.list whole.has_all some in

@@ -63,17 +63,18 @@ module _ (plan : Plan) (units : List (List ℕ)) (course : Course plan units) wh
     abbrev front_course : Course plan front
     front_course = record { windows = take is.many course.windows; rest = is.rest; moments = take (first is.many) course.moments; good = good; cut = is.cut; asks = first_moments is.many is.within }
 
-    -- their text was written whole, if that of moments which begin with theirs was
-    was_due : (moments : List Moment) → Begins (take (first is.many) course.moments) moments → AppendsPartAfter (interim_text plan moments) w w' due → (text : List ℕ) × IsInterim plan from front text × AppendsPartAfter text w w' due
+    -- their text was written whole, with any beside it, if that of moments which begin with theirs was
+    was_due : (moments : List Moment) → Begins (take (first is.many) course.moments) moments → AppendsPartAfter (interim_text plan moments) w w' due → (text : List ℕ) × (beside : Beside) × IsInterim plan from beside front text × AppendsPartAfter text w w' due
     was_due moments begins part = (
       interim_text plan (take (first is.many) course.moments),
+      from,
       record { course = front_course; is = refl },
       part_after_less (interim_text plan (take (first is.many) course.moments)) (interim_text plan moments) w w' due (texts_begin plan (take (first is.many) course.moments) moments begins) part,
     )
 
 -- what was due for the first units was written whole where the text of all of them was, and that of the estimate not
 pub due_in_all : (plan : Plan) (old new : Setting) (from : Beside) (units front : List (List ℕ)) → (part : TellsPartOfAll plan old new units) → Begins front units → All (IsGood Raw) front → (due : List ℕ)
-    → AppendsPartAfter (interim_text plan part.course.moments) old.written new.written due → (text : List ℕ) × IsInterim plan from front text × AppendsPartAfter text old.written new.written due
+    → AppendsPartAfter (interim_text plan part.course.moments) old.written new.written due → (text : List ℕ) × (beside : Beside) × IsInterim plan from beside front text × AppendsPartAfter text old.written new.written due
 due_in_all plan old new from units front part begins good due written =
     let c = part.course in
     let is = front_windows (lines_of_window plan) c.windows c.rest front begins.0 (sym c.cut.joined ∙ begins.1) c.cut.full c.cut.unfilled in
@@ -81,7 +82,7 @@ due_in_all plan old new from units front part begins good due written =
 
 -- and where a unit fills a window, and of the text of its moment a part was written
 pub due_before_last : (plan : Plan) (old new : Setting) (from : Beside) (given front : List (List ℕ)) (unit : List ℕ) → (part : TellsPart plan old new (given ++ unit ∷ [])) → Begins front given → All (IsGood Raw) front → (due : List ℕ)
-    → AppendsPartAfter (interim_text plan part.earlier) old.written new.written due → (text : List ℕ) × IsInterim plan from front text × AppendsPartAfter text old.written new.written due
+    → AppendsPartAfter (interim_text plan part.earlier) old.written new.written due → (text : List ℕ) × (beside : Beside) × IsInterim plan from beside front text × AppendsPartAfter text old.written new.written due
 due_before_last plan old new from given front unit part begins good due written =
     let c = part.course in
     let units : List (List ℕ) = given ++ unit ∷ [] in

@@ -25,17 +25,17 @@ use Rattle.sk_cli.proofs.RankFronts.{due_in_all, due_before_last}
 use Rattle.sk_cli.proofs.Units.{all_front}
 use Rattle.sk_cli.proofs.OnTheWay.{ToldSoFar, ToldPart, Stopped, ended_before, gave_up_behind, broke_off_behind}
 
-module _ (plan : Plan) (most : ℕ) (from : Beside) (a b : Streams) where
+module _ (plan : Plan) (most : ℕ) (from to : Beside) (a b : Streams) where
   abbrev old : Setting
   old = setting a.left a.written
 
   abbrev new : Setting
   new = setting b.left b.written
 
-  so_far : (units : List (List ℕ)) → TellsSoFar plan old new units → ToldSoFar Raw (IsInterim plan from) a b units
+  so_far : (units : List (List ℕ)) → TellsSoFar plan old new units → ToldSoFar Raw (IsInterim plan from to) a b units
   so_far units told = record { due = interim_text plan told.course.moments; is = record { course = told.course; is = refl }; good = told.course.good; written = told.written }
 
-  stopped : (f : ReadingFault) (units : List (List ℕ)) (unit : List ℕ) → StopsFor plan old new f units unit → Stopped Raw (IsInterim plan from) a b f units unit
+  stopped : (f : ReadingFault) (units : List (List ℕ)) (unit : List ℕ) → StopsFor plan old new f units unit → Stopped Raw (IsInterim plan from) to a b f units unit
   stopped (reading.BadItem n) units unit stop = (so_far units stop.0, stop.1, stop.2)
   stopped reading.WriteFault units unit part = record {
     due = interim_text plan part.course.moments;
@@ -47,7 +47,7 @@ module _ (plan : Plan) (most : ℕ) (from : Beside) (a b : Streams) where
   stopped reading.OutOfMemory units unit told = so_far units told
   stopped f units unit stop = absurd stop
 
-  part_of_all : (units : List (List ℕ)) → TellsPartOfAll plan old new units → ToldPart Raw (IsInterim plan from) (IsWhole plan from) a b units units
+  part_of_all : (units : List (List ℕ)) → TellsPartOfAll plan old new units → ToldPart Raw (IsInterim plan from) (IsWhole plan from to) a b units units
   part_of_all units part = record {
     due = interim_text plan part.course.moments ++ rank_line plan (items_of_entries part.whole);
     is = record { course = part.course; list = part.whole; has_all = part.list; goes = part.goes; near = part.near; is = refl };
@@ -60,20 +60,20 @@ module _ (plan : Plan) (most : ℕ) (from : Beside) (a b : Streams) where
   all_told P Q so n all = all_so (units_by 0) most P Q (λ f units unit. ⊥) (λ f units unit. ⊥) so (λ f units unit no. no) n a.left b.left all
 
   -- a ranking that had read all
-  ended_behind : (f : ReadingFault) → EndsBehind plan most old new f → Ends (ranking plan) most from a b (fault_by 0 f)
-  ended_behind reading.WriteFault (n, all) = broke_off_behind Raw 0 (is_none plan.window) [] RankingHub (IsInterim plan) (IsWhole plan) (LeavesRanks plan) most from a b n (all_told _ _ part_of_all n all)
-  ended_behind reading.OutOfMemory (n, all) = gave_up_behind Raw 0 (is_none plan.window) [] RankingHub (IsInterim plan) (IsWhole plan) (LeavesRanks plan) most from a b n (all_told _ _ so_far n all)
+  ended_behind : (f : ReadingFault) → EndsBehind plan most old new f → Ends (ranking plan) most from to a b (fault_by 0 f)
+  ended_behind reading.WriteFault (n, all) = broke_off_behind Raw 0 (is_none plan.window) [] RankingHub (IsInterim plan) (IsWhole plan) (LeavesRanks plan) most from to a b n (all_told _ _ part_of_all n all)
+  ended_behind reading.OutOfMemory (n, all) = gave_up_behind Raw 0 (is_none plan.window) [] RankingHub (IsInterim plan) (IsWhole plan) (LeavesRanks plan) most from to a b n (all_told _ _ so_far n all)
   ended_behind f ends = absurd ends
 
-  pub rank_ended : (f : ReadingFault) → EndsBefore plan most old new f ⊎ EndsBehind plan most old new f → Ends (ranking plan) most from a b (fault_by 0 f)
+  pub rank_ended : (f : ReadingFault) → EndsBefore plan most old new f ⊎ EndsBehind plan most old new f → Ends (ranking plan) most from to a b (fault_by 0 f)
   rank_ended f (inl ends) =
-      ended_before Raw 0 (is_none plan.window) [] RankingHub (IsInterim plan) (IsWhole plan) (LeavesRanks plan) most from a b f
+      ended_before Raw 0 (is_none plan.window) [] RankingHub (IsInterim plan) (IsWhole plan) (LeavesRanks plan) most from to a b f
       (ends_so (units_by 0) most _ _ _ _ so_far stopped a.left b.left f ends)
   rank_ended f (inr ends) = ended_behind f ends
 
   -- a ranking that ended well
-  pub rank_finished : (heart : HeartState) (reader : Learnt) (to : Beside) → to.remains.ranks ≡ Some heart → to.remains.reader ≡ Some reader → (n : ℕ) → ReadsAll (units_by 0) most n (TellsAll plan old new heart reader) a.left b.left → Finishes (ranking plan) most from to a b
-  rank_finished heart reader to heart_left reader_left n all =
+  pub rank_finished : (heart : HeartState) (reader : Learnt) → to.remains.ranks ≡ Some heart → to.remains.reader ≡ Some reader → (n : ℕ) → ReadsAll (units_by 0) most n (TellsAll plan old new heart reader) a.left b.left → Finishes (ranking plan) most from to a b
+  rank_finished heart reader heart_left reader_left n all =
       let gave = all.gave in
       let near = gave.exactly in
       record {

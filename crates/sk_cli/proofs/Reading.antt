@@ -113,14 +113,14 @@ on_true true P holds = holds
 on_true false P holds = tt
 
 -- what was due before the last read
-record Earlier (how : Behaviour) (from : Beside) (taken due : List ℕ) : Type 0 where
+record Earlier (how : Behaviour) (from to : Beside) (taken due : List ℕ) : Type 0 where
   pub text : List ℕ
   pub begins : Begins text due
-  pub was_due : IsInTime (λ front. how.IsFineSoFar front × how.IsDueSoFar from front text) taken
+  pub was_due : IsInTime (λ front. how.IsFineSoFar front × how.IsDueSoFar from to front text) taken
 
-module _ (how : Behaviour) (from : Beside) (Due : List (List ℕ) → List ℕ → Type 0) (by : ByLines how from Due) (most : ℕ) (a b : Streams) where
+module _ (how : Behaviour) (from to : Beside) (Due : List (List ℕ) → List ℕ → Type 0) (by : ByLines how from to Due) (most : ℕ) (a b : Streams) where
   -- nothing before the last read is refused, since it was given
-  earlier : (given : List (List ℕ)) (due taken : List ℕ) → IsReadInTime Lines given taken → Due given due → Earlier how from taken due
+  earlier : (given : List (List ℕ)) (due taken : List ℕ) → IsReadInTime Lines given taken → Due given due → Earlier how from to taken due
   earlier given due taken is is_due =
       let part = by.front (complete_lines_of is.front) is.earlier.0 due (subst (λ (l : List (List ℕ)). Due l due) is.earlier.1 is_due) in
       record {
@@ -142,7 +142,7 @@ module _ (how : Behaviour) (from : Beside) (Due : List (List ℕ) → List ℕ �
 
   -- no line came
   stopped : (IsSize : ℕ → Type 0) (r : Reading) (given : List (List ℕ)) (due taken : List ℕ) → Consumes a.left b.left taken → IsSize (length taken) → complete_lines_of taken ≡ given → AreWithin line_limit (open_lines_of taken) →
-      Due given due → Appends a.written b.written due → Stops how IsSize from a b
+      Due given due → Appends a.written b.written due → Stops how IsSize from to a b
   stopped IsSize r given due taken consumed size is within is_due written =
       let here : Due (complete_lines_of taken) due = subst (λ (l : List (List ℕ)). Due l due) (sym is) is_due in
       record {
@@ -156,7 +156,7 @@ module _ (how : Behaviour) (from : Beside) (Due : List (List ℕ) → List ℕ �
         written = written;
       }
 
-  pub failed : (r : Reading) (given : List (List ℕ)) (due : List ℕ) (f : LineFault) → Went r a.left b.left most given (Err f) → Due given due → Appends a.written b.written due → Ends how most from a b (fault_by_line f)
+  pub failed : (r : Reading) (given : List (List ℕ)) (due : List ℕ) (f : LineFault) → Went r a.left b.left most given (Err f) → Due given due → Appends a.written b.written due → Ends how most from to a b (fault_by_line f)
   failed r given due stop.ReadFault on is_due written =
       stopped (λ size. size < most) r given due on.taken on.consumed (omega (arith, on.goes.1, on.most_is)) on.goes.0.0 on.goes.0.1 is_due written
   failed r given due stop.TooMuch on is_due written = stopped (λ size. size ≡ most) r given due on.taken on.consumed (on.goes.1 ∙ on.most_is) on.goes.0.0 on.goes.0.1 is_due written
@@ -166,7 +166,7 @@ module _ (how : Behaviour) (from : Beside) (Due : List (List ℕ) → List ℕ �
     consumed = on.consumed;
     size = omega (arith, on.goes.1, on.most_is);
     in_time = in_time given due on.taken on.goes.2 is_due;
-    refused = settled_so (λ (text : List ℕ). Begins given (lines_of text) × IsFirstLong line_limit (length given) (lines_of text)) (λ (text : List ℕ). how.Refuses (fault.LongLine n) text × how.IsDueAt from (fault.LongLine n) text due) b.left on.taken
+    refused = settled_so (λ (text : List ℕ). Begins given (lines_of text) × IsFirstLong line_limit (length given) (lines_of text)) (λ (text : List ℕ). how.Refuses (fault.LongLine n) text × how.IsDueAt from to (fault.LongLine n) text due) b.left on.taken
         (λ text found.
         let place : length given ≡ n - 1 = omega (arith, on.goes.0) in
         by.long n text due (omega (arith, on.goes.0), subst (λ (m : ℕ). IsFirstLong line_limit m (lines_of text)) place found.1)
@@ -175,9 +175,9 @@ module _ (how : Behaviour) (from : Beside) (Due : List (List ℕ) → List ℕ �
   }
 
   -- what is due for the lines given is due for the first lines of each text that goes on so
-  due_before : (given : List (List ℕ)) (due taken : List ℕ) → WereGiven b.left most given taken → Due given due → IsDueOnTheWay how from b.left taken due
+  due_before : (given : List (List ℕ)) (due taken : List ℕ) → WereGiven b.left most given taken → Due given due → IsDueOnTheWay how from to b.left taken due
   due_before given due taken were is_due =
-      settled_so (λ (text : List ℕ). Begins given (lines_of text)) (λ (text : List ℕ). how.IsDueBefore from text due) b.left taken
+      settled_so (λ (text : List ℕ). Begins given (lines_of text)) (λ (text : List ℕ). how.IsDueBefore from to text due) b.left taken
       (λ text begins.
       let first : take (length given) (lines_of text) ≡ given = first_are given (lines_of text) (length given) refl begins in
       by.before (length given) text due (subst (AreWithin line_limit) (sym first) were.within) (subst (λ (l : List (List ℕ)). Due l due) (sym first) is_due))
@@ -185,11 +185,11 @@ module _ (how : Behaviour) (from : Beside) (Due : List (List ℕ) → List ℕ �
 
   -- a write that ends early, of what is due for some lines more
   pub cut_short : (given more : List (List ℕ)) (due text taken : List ℕ) (mid : Option (List ℕ)) → WereGiven b.left most (given ++ more) taken → Consumes a.left b.left taken → IsReadInTime Lines given taken → Due given due →
-      Due (given ++ more) (due ++ text) → Appends a.written mid due → AppendsPart mid b.written text → BreaksOff how most from a b
+      Due (given ++ more) (due ++ text) → Appends a.written mid due → AppendsPart mid b.written text → BreaksOff how most from to a b
   cut_short given more due text taken mid were consumed time was_due is_due whole part =
       let before = earlier given due taken time was_due in
       let on = part_on a.written mid b.written before.text due text before.begins whole part in
-      let by_lines : WritesOn how from taken (due ++ text) a.written b.written = record { earlier = before.text; was_due = before.was_due; written = on } in
+      let by_lines : WritesOn how from taken (due ++ text) a.written b.written = record { earlier = before.text; beside = to; was_due = before.was_due; written = on } in
       record {
         taken = taken;
         due = due ++ text;
@@ -201,7 +201,7 @@ module _ (how : Behaviour) (from : Beside) (Due : List (List ℕ) → List ℕ �
       }
 
   -- no memory for what is due next
-  pub gives_up : (given : List (List ℕ)) (due taken : List ℕ) → WereGiven b.left most given taken → Consumes a.left b.left taken → Due given due → AppendsFront a.written b.written due → GivesUp how most from a b
+  pub gives_up : (given : List (List ℕ)) (due taken : List ℕ) → WereGiven b.left most given taken → Consumes a.left b.left taken → Due given due → AppendsFront a.written b.written due → GivesUp how most from to a b
   gives_up given due taken were consumed is_due front = record {
     taken = taken;
     due = due;
@@ -212,9 +212,9 @@ module _ (how : Behaviour) (from : Beside) (Due : List (List ℕ) → List ℕ �
   }
 
   -- the source has ended
-  pub read_to_end : (to : Beside) (r : Reading) (given : List (List ℕ)) (due : List ℕ) → (on : Went r a.left b.left most given (Ok false)) → ((text : List ℕ) → lines_of text ≡ given → how.IsFine text × how.IsDue from text due × how.Leaves from text due to) →
+  pub read_to_end : (r : Reading) (given : List (List ℕ)) (due : List ℕ) → (on : Went r a.left b.left most given (Ok false)) → ((text : List ℕ) → lines_of text ≡ given → how.IsFine text × how.IsDue from to text due × how.Leaves from text due to) →
       Appends a.written b.written due → Finishes how most from to a b
-  read_to_end to r given due on is_due written =
+  read_to_end r given due on is_due written =
       let read = on.goes.0 in
       let here = is_due on.taken (read.has.whole on.goes.1) in
       record {

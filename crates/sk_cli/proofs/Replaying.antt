@@ -64,8 +64,8 @@ played_more k first lines answers from line a to played play = record {
 }
 
 -- `replay` examines line by line
-pub replay_by_lines : (from : Beside) → ByLines replaying from IsAnswered
-replay_by_lines from = record {
+pub replay_by_lines : (from to : Beside) → ByLines replaying from to IsAnswered
+replay_by_lines from to = record {
   reads_it = refl;
   fine = λ taken due within is. (within, (due, is));
   so_far = λ taken due is. is;
@@ -74,11 +74,11 @@ replay_by_lines from = record {
   front = answered_front;
 }
 
-pub no_answer_yet : (from : Beside) (text : List ℕ) → replaying.IsDueBefore from text []
-no_answer_yet from text = (0, none_within, refl)
+pub no_answer_yet : (from to : Beside) (text : List ℕ) → replaying.IsDueBefore from to text []
+no_answer_yet from to text = (0, none_within, refl)
 
 -- a schedule that was played to its end
-pub whole_schedule : (from to : Beside) (lines : List (List ℕ)) (due text : List ℕ) → lines_of text ≡ lines → AreWithin line_limit lines → IsAnswered lines due → 0 < length lines → replaying.IsFine text × replaying.IsDue from text due × replaying.Leaves from text due to
+pub whole_schedule : (from to : Beside) (lines : List (List ℕ)) (due text : List ℕ) → lines_of text ≡ lines → AreWithin line_limit lines → IsAnswered lines due → 0 < length lines → replaying.IsFine text × replaying.IsDue from to text due × replaying.Leaves from text due to
 whole_schedule from to lines due text is within so_far some =
     let here : IsAnswered (lines_of text) due = subst (λ (l : List (List ℕ)). IsAnswered l due) (sym is) so_far in
     ((subst (AreWithin line_limit) (sym is) within, (due, here), omega (arith, ap length is, some)), here, tt)
@@ -107,15 +107,15 @@ bad_line n given line lines is within bad begins =
     )
 
 -- a line that is refused, behind those that were played
-pub refuses : (from : Beside) (a b : Streams) (most n : ℕ) (r : Reading) (given : List (List ℕ)) (line due taken : List ℕ) → Reads r a.left b.left most (given ++ line ∷ []) taken → IsReadInTime Lines given taken → n ≡ length given + 1 →
-    IsAnswered given due → Appends a.written b.written due → IsNoMore given line → Refuses replaying most (fault.BadEvent n) from a b
-refuses from a b most n r given line due taken reads time is so_far written bad = record {
+pub refuses : (from to : Beside) (a b : Streams) (most n : ℕ) (r : Reading) (given : List (List ℕ)) (line due taken : List ℕ) → Reads r a.left b.left most (given ++ line ∷ []) taken → IsReadInTime Lines given taken → n ≡ length given + 1 →
+    IsAnswered given due → Appends a.written b.written due → IsNoMore given line → Refuses replaying most (fault.BadEvent n) from to a b
+refuses from to a b most n r given line due taken reads time is so_far written bad = record {
   taken = taken;
   due = due;
   consumed = reads.consumed;
   size = omega (arith, reads.read.has.count, reads.read.bound, reads.most_is);
-  in_time = in_time replaying from IsAnswered (replay_by_lines from) most a b given due taken time so_far;
-  refused = settled_so (λ (text : List ℕ). Begins (given ++ line ∷ []) (lines_of text)) (λ (text : List ℕ). replaying.Refuses (fault.BadEvent n) text × replaying.IsDueAt from (fault.BadEvent n) text due) b.left taken
+  in_time = in_time replaying from to IsAnswered (replay_by_lines from to) most a b given due taken time so_far;
+  refused = settled_so (λ (text : List ℕ). Begins (given ++ line ∷ []) (lines_of text)) (λ (text : List ℕ). replaying.Refuses (fault.BadEvent n) text × replaying.IsDueAt from to (fault.BadEvent n) text due) b.left taken
       (λ text begins.
       let found = bad_line n given line (lines_of text) is (within_given r a.left b.left most (given ++ line ∷ []) taken reads) bad begins in
       (found.0, subst (λ (l : List (List ℕ)). IsAnswered l due) (sym found.1) so_far))
@@ -128,8 +128,8 @@ unfolding fields_of
 no_first_line = refl
 
 -- a text of no line
-pub refuses_nothing : (from : Beside) (a b : Streams) (most : ℕ) (r : Reading) → (on : Went r a.left b.left most [] (Ok false)) → b.written ≡ a.written → Refuses replaying most (fault.BadEvent 1) from a b
-refuses_nothing from a b most r on same =
+pub refuses_nothing : (from to : Beside) (a b : Streams) (most : ℕ) (r : Reading) → (on : Went r a.left b.left most [] (Ok false)) → b.written ≡ a.written → Refuses replaying most (fault.BadEvent 1) from to a b
+refuses_nothing from to a b most r on same =
     let read = on.goes.0 in
     let bad : IsBadLine 1 [] = record { from = omega arith; to = omega arith; within = none_within; bad = no_first_line } in
     record {
@@ -137,7 +137,7 @@ refuses_nothing from a b most r on same =
       due = [];
       consumed = on.consumed;
       size = omega (arith, read.has.count, read.bound, on.most_is);
-      in_time = in_time replaying from IsAnswered (replay_by_lines from) most a b [] [] on.taken read.in_time refl;
+      in_time = in_time replaying from to IsAnswered (replay_by_lines from to) most a b [] [] on.taken read.in_time refl;
       refused = inr (read.end on.goes.1, subst (λ (lines : List (List ℕ)). IsBadLine 1 lines × IsAnswered (take 0 lines) []) (sym (read.has.whole on.goes.1)) (bad, refl));
       written = subst (λ (w : Option (List ℕ)). Appends a.written w []) (sym same) (Appends-nil a.written);
     }
@@ -147,7 +147,7 @@ refuses_nothing from a b most r on same =
 -- it goes on from its first line by the answers to events
 pub replay_goes : (from to : Beside) (first : List ℕ) → GoesByAnswers replaying from to IsAnswered IsNoMore (first ∷ [])
 replay_goes from to first = record {
-  by_lines = replay_by_lines from;
+  by_lines = replay_by_lines from to;
   whole = λ more due is text same within. whole_schedule from to (first ∷ more) due text same within is (omega arith);
   refused = λ lines line due is bad text begins within.
       let found = bad_line (length lines + 1) lines line (lines_of text) refl within bad begins in

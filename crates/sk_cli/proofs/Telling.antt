@@ -19,7 +19,7 @@ about_told page bytes most from to a b r is same ok part only =
     ends_writing (about page) most from to a b r
     (on_ok_then r (Appends a.written b.written bytes) (Finishes (about page) most from to a b)
     (λ appended. record { text = []; due = bytes; consumed = consumed; end = tt; size = tt; fine = tt; is_due = is; leaves = tt; written = appended }) ok)
-    (on_err_then r (AppendsPart a.written b.written bytes) (Ends (about page) most from a b fault.WriteFault)
+    (on_err_then r (AppendsPart a.written b.written bytes) (Ends (about page) most from to a b fault.WriteFault)
     (λ part. record {
       taken = [];
       due = bytes;

@@ -32,8 +32,8 @@ items_decide kind column tell = record {
 
 pub one_telling : (kind : Kind) (column : ℕ) (tell : List ℕ → List ℕ) → WritesOneText (telling kind column tell)
 one_telling kind column tell = record {
-  due = λ from text due other one two. one ∙ sym two;
-  refused = λ from f text due other one two. one ∙ sym two;
+  due = λ from to to' text due other one two. one ∙ sym two;
+  refused = λ from to to' f text due other one two. one ∙ sym two;
 }
 
 -- nothing was written
@@ -44,7 +44,7 @@ no_write_faults : (T : Type 0) (number : ℕ) → reading.WriteFault ≡ reading
 no_write_faults T number is = cc
 
 module _ (kind : Kind) (column : ℕ) (tell : List ℕ → List ℕ) (most : ℕ) (from to : Beside) (a b : Streams) (Stands : List ℕ → Type 0) where
-  stops : (IsSize : ℕ → Type 0) → ReadsSome (units_by column) IsSize (Gave kind Stands) a.left b.left → b.written ≡ a.written → Stops (telling kind column tell) IsSize from a b
+  stops : (IsSize : ℕ → Type 0) → ReadsSome (units_by column) IsSize (Gave kind Stands) a.left b.left → b.written ≡ a.written → Stops (telling kind column tell) IsSize from to a b
   stops IsSize some same = record {
     taken = some.taken;
     due = [];
@@ -58,21 +58,21 @@ module _ (kind : Kind) (column : ℕ) (tell : List ℕ → List ℕ) (most : ℕ
 
   -- a text that is refused, behind the units given
   refused : (f : Fault) (Known : List (List ℕ) → Type 0) (Comes : List (List ℕ) → List ℕ → Type 0) → (off : ReadingBreaksOff (units_by column) most Known Comes a.left b.left) → All (IsGood kind) off.given → b.written ≡ a.written →
-      ((text : List ℕ) → Begins off.given (units_of (units_by column) text) → Comes off.given text → IsRefusedBy kind column f text) → Refuses (telling kind column tell) most f from a b
+      ((text : List ℕ) → Begins off.given (units_of (units_by column) text) → Comes off.given text → IsRefusedBy kind column f text) → Refuses (telling kind column tell) most f from to a b
   refused f Known Comes off good same is = record {
     taken = off.taken;
     due = [];
     consumed = off.consumed;
     size = off.size;
     in_time = in_time kind column off.given off.taken off.in_time good;
-    refused = settled_so (λ (text : List ℕ). Begins off.given (units_of (units_by column) text) × Comes off.given text) (λ (text : List ℕ). (telling kind column tell).Refuses f text × (telling kind column tell).IsDueAt from f text []) b.left off.taken
+    refused = settled_so (λ (text : List ℕ). Begins off.given (units_of (units_by column) text) × Comes off.given text) (λ (text : List ℕ). (telling kind column tell).Refuses f text × (telling kind column tell).IsDueAt from to f text []) b.left off.taken
         (λ text found. (is text found.0 found.1, refl)) off.comes;
     written = wrote_nothing a.written b.written same;
   }
 
-  ended : (f : ReadingFault) → ReadingEnds (units_by column) most (Gave kind Stands) (Missed kind Stands) a.left b.left f → b.written ≡ a.written → Ends (telling kind column tell) most from a b (fault_by column f)
-  ended reading.OutOfMemory (inl off) same = nothing_more (telling kind column tell) most from a b off.taken [] off.consumed off.size same (λ text. refl)
-  ended reading.OutOfMemory (inr stop) same = nothing_more (telling kind column tell) most from a b stop.1.taken [] stop.1.consumed stop.1.size same (λ text. refl)
+  ended : (f : ReadingFault) → ReadingEnds (units_by column) most (Gave kind Stands) (Missed kind Stands) a.left b.left f → b.written ≡ a.written → Ends (telling kind column tell) most from to a b (fault_by column f)
+  ended reading.OutOfMemory (inl off) same = nothing_more (telling kind column tell) most from to a b off.taken [] off.consumed off.size same (λ text. refl)
+  ended reading.OutOfMemory (inr stop) same = nothing_more (telling kind column tell) most from to a b stop.1.taken [] stop.1.consumed stop.1.size same (λ text. refl)
   ended reading.ReadFault some same = stops (λ size. size < most) some same
   ended reading.TooMuch some same = stops (λ size. size ≡ most) some same
   ended reading.WriteFault stop same = absurd (no_write_faults ℕ _ stop.1.known.0)
@@ -95,13 +95,13 @@ module _ (kind : Kind) (column : ℕ) (tell : List ℕ → List ℕ) (most : ℕ
       is_bad text comes =
           bad_at kind column n off.given unit text off.known.0 off.known.1.1.0 off.known.1.2 off.known.1.3 comes.0 (subst (λ (m : ℕ). IsSoundUpTo (units_by column) m text) (sym off.known.0) comes.1)
 
-      bad : (c : ℕ) → column ≡ c → Ends (telling kind column tell) most from a b (bad_unit c n)
+      bad : (c : ℕ) → column ≡ c → Ends (telling kind column tell) most from to a b (bad_unit c n)
       bad zero is = refused (fault.BadItem n) _ _ off off.known.1.1.0 same (λ text begins comes. (is, is_bad text comes))
       bad (suc c) is = refused (fault.BadField n) _ _ off off.known.1.1.0 same (λ text begins comes. (omega (arith, is), is_bad text comes))
 
   -- a reading that failed, whose fault became one of the program
   pub telling_failed : (f : ReadingFault) (r : Fault) → r ≡ fault_by column f → ReadingEnds (units_by column) most (Gave kind Stands) (Missed kind Stands) a.left b.left f → b.written ≡ a.written → Executes (telling kind column tell) most from to a b (Err r)
-  telling_failed f r is ends same = subst (λ (g : Fault). Ends (telling kind column tell) most from a b g) (sym is) (ended f ends same)
+  telling_failed f r is ends same = subst (λ (g : Fault). Ends (telling kind column tell) most from to a b g) (sym is) (ended f ends same)
 
   -- a reading that came to the end, and a write
   module _ (n : ℕ) (all : ReadsAll (units_by column) most n (Gave kind Stands) a.left b.left) where
@@ -121,7 +121,7 @@ module _ (kind : Kind) (column : ℕ) (tell : List ℕ → List ℕ) (most : ℕ
       written = written;
     }
 
-    broke_off : AppendsPart a.written b.written due → BreaksOff (telling kind column tell) most from a b
+    broke_off : AppendsPart a.written b.written due → BreaksOff (telling kind column tell) most from to a b
     broke_off part = record {
       taken = all.taken;
       due = due;
@@ -132,14 +132,14 @@ module _ (kind : Kind) (column : ℕ) (tell : List ℕ → List ℕ) (most : ℕ
       by_lines = tt;
     }
 
-    found_no_memory : b.written ≡ a.written → GivesUp (telling kind column tell) most from a b
-    found_no_memory same = nothing_more (telling kind column tell) most from a b all.taken [] all.consumed (omega (arith, all.size)) same (λ text. refl)
+    found_no_memory : b.written ≡ a.written → GivesUp (telling kind column tell) most from to a b
+    found_no_memory same = nothing_more (telling kind column tell) most from to a b all.taken [] all.consumed (omega (arith, all.size)) same (λ text. refl)
 
     pub telling_wrote : (r : Result (Unit {0}) Fault) → OnOk r (Appends a.written b.written due) → (IsErrOf r fault.WriteFault → AppendsPart a.written b.written due) → (IsErrOf r fault.OutOfMemory → b.written ≡ a.written) →
         IfErr r (λ (f : Fault). (f ≡ fault.WriteFault) ⊎ (f ≡ fault.OutOfMemory)) → Executes (telling kind column tell) most from to a b r
     telling_wrote (Ok x) ok part memory err = finished ok
-    telling_wrote (Err f) ok part memory (inl is) = subst (λ (g : Fault). Ends (telling kind column tell) most from a b g) (sym is) (broke_off (part (ap (λ (g : Fault). Err g) is)))
-    telling_wrote (Err f) ok part memory (inr is) = subst (λ (g : Fault). Ends (telling kind column tell) most from a b g) (sym is) (found_no_memory (memory (ap (λ (g : Fault). Err g) is)))
+    telling_wrote (Err f) ok part memory (inl is) = subst (λ (g : Fault). Ends (telling kind column tell) most from to a b g) (sym is) (broke_off (part (ap (λ (g : Fault). Err g) is)))
+    telling_wrote (Err f) ok part memory (inr is) = subst (λ (g : Fault). Ends (telling kind column tell) most from to a b g) (sym is) (found_no_memory (memory (ap (λ (g : Fault). Err g) is)))
 
 -- a list of one number is that number's
 pub one_number : (k j : ℕ) → k ∷ [] ≡ j ∷ [] → k ≡ j

@@ -9,6 +9,9 @@ use Rattle.sk_count.specs.Moments.{Moment}
 use Rattle.sk_report.specs.Texts.{armed_with, reply_of}
 use Rattle.sk_count.specs.Texts.{places_after}
 use Rattle.sk_cli.specs.Beside.{cleared}
+use Rattle.sk_cli.specs.Command.{behaviour_of, armed_at_start}
+use Rattle.sk_cli.specs.declared.command.Command.{Command}
+use Rattle.sk_cli.specs.declared.command.Command.TheVariants.{Count, Hash, Image, Make, Quantile, Replay, Help, Version}
 
 -- a watcher that is there is seen
 pub live_seen : {X Y : Type 0} (f : X → Y) (xs : List (Option X)) → All IsSome xs → All IsSome (map (option_map f) xs)
@@ -49,6 +52,17 @@ none_left k marks places places' moments is none =
 
 pub none_armed : (k : ℕ) (marks : List ℕ) (places places' : List Place) → places' ≡ armed_with k marks places → marks ≡ [] → places' ≡ cleared places
 none_armed k marks places places' is none = is ∙ ap (λ (m : List ℕ). armed_with k m places) none ∙ armed_with_none k places
+
+-- so it is of a command without marks, before it reads
+pub unarmed : (command : Command) (places places' : List Place) → places' ≡ armed_at_start command places → (behaviour_of command).arms ≡ [] → places' ≡ cleared places
+unarmed (Count plan) places places' is none = none_armed plan.k plan.alarms places places' is none
+unarmed (Hash plan) places places' is none = is
+unarmed (Image plan) places places' is none = is
+unarmed (Make plan) places places' is none = is
+unarmed (Quantile plan) places places' is none = is
+unarmed Replay places places' is none = is
+unarmed Help places places' is none = is
+unarmed Version places places' is none = is
 
 -- each place of a board has a watcher
 pub live_at : (places : List Place) (i : ℕ) → All IsSome places → i < length places → IsLive i places

@@ -13,28 +13,28 @@ use Rattle.sk_cli.specs.declared.fault.Fault.{Fault}
 use Rattle.sk_cli.specs.declared.fault.Fault.TheVariants.{OutOfMemory, LongLine, BadEvent}
 
 -- a command that examines line by line, with the text that is due for lines of which none is refused
-pub record ByLines (how : Behaviour) (from : Beside) (Due : List (List ℕ) → List ℕ → Type 0) : Type 0 where
+pub record ByLines (how : Behaviour) (from to : Beside) (Due : List (List ℕ) → List ℕ → Type 0) : Type 0 where
   pub reads_it : how.reads ≡ true
   pub fine : (taken due : List ℕ) → AreWithin line_limit (open_lines_of taken) → Due (complete_lines_of taken) due → how.IsFineSoFar taken
-  pub so_far : (taken due : List ℕ) → Due (complete_lines_of taken) due → how.IsDueSoFar from taken due
-  pub before : (n : ℕ) (text due : List ℕ) → AreWithin line_limit (take n (lines_of text)) → Due (take n (lines_of text)) due → how.IsDueBefore from text due
-  pub long : (n : ℕ) (text due : List ℕ) → IsLongLine n (lines_of text) → Due (take (n - 1) (lines_of text)) due → how.Refuses (LongLine n) text × how.IsDueAt from (LongLine n) text due
+  pub so_far : (taken due : List ℕ) → Due (complete_lines_of taken) due → how.IsDueSoFar from to taken due
+  pub before : (n : ℕ) (text due : List ℕ) → AreWithin line_limit (take n (lines_of text)) → Due (take n (lines_of text)) due → how.IsDueBefore from to text due
+  pub long : (n : ℕ) (text due : List ℕ) → IsLongLine n (lines_of text) → Due (take (n - 1) (lines_of text)) due → how.Refuses (LongLine n) text × how.IsDueAt from to (LongLine n) text due
   pub front : (lines rest : List (List ℕ)) (due : List ℕ) → Due (lines ++ rest) due → (part : List ℕ) × Due lines part × Begins part due
 
 -- the text ends behind these lines, which were answered so, and nothing of it is refused
 abbrev pub EndsFine : Behaviour → Beside → Beside → List (List ℕ) → List ℕ → Type 0
-EndsFine how from to lines due = (text : List ℕ) → lines_of text ≡ lines → AreWithin line_limit lines → how.IsFine text × how.IsDue from text due × how.Leaves from text due to
+EndsFine how from to lines due = (text : List ℕ) → lines_of text ≡ lines → AreWithin line_limit lines → how.IsFine text × how.IsDue from to text due × how.Leaves from text due to
 
 -- behind these lines, which were answered so, comes one that is refused
-abbrev pub EndsBad : Behaviour → Beside → List (List ℕ) → List ℕ → List ℕ → Type 0
-EndsBad how from lines line due = (text : List ℕ) → Begins (lines ++ line ∷ []) (lines_of text) → AreWithin line_limit (lines ++ line ∷ [])
-    → how.Refuses (BadEvent (length lines + 1)) text × how.IsDueAt from (BadEvent (length lines + 1)) text due
+abbrev pub EndsBad : Behaviour → Beside → Beside → List (List ℕ) → List ℕ → List ℕ → Type 0
+EndsBad how from to lines line due = (text : List ℕ) → Begins (lines ++ line ∷ []) (lines_of text) → AreWithin line_limit (lines ++ line ∷ [])
+    → how.Refuses (BadEvent (length lines + 1)) text × how.IsDueAt from to (BadEvent (length lines + 1)) text due
 
 -- a command that goes on from these lines by answers: what is due for lines, and which line is refused behind them
 pub record GoesByAnswers (how : Behaviour) (from to : Beside) (Due : List (List ℕ) → List ℕ → Type 0) (Refused : List (List ℕ) → List ℕ → Type 0) (given : List (List ℕ)) : Type 0 where
-  pub by_lines : ByLines how from Due
+  pub by_lines : ByLines how from to Due
   pub whole : (more : List (List ℕ)) (due : List ℕ) → Due (given ++ more) due → EndsFine how from to (given ++ more) due
-  pub refused : (lines : List (List ℕ)) (line due : List ℕ) → Due lines due → Refused lines line → EndsBad how from lines line due
+  pub refused : (lines : List (List ℕ)) (line due : List ℕ) → Due lines due → Refused lines line → EndsBad how from to lines line due
 
 -- a line was answered behind a text, which leads on from the lines before it
 pub record Answers (Was Is : List (List ℕ) → List ℕ → Type 0) (line old new : List ℕ) : Type 0 where

@@ -22,16 +22,16 @@ pub record Behaviour : Type 1 where
   pub IsFineSoFar : List ℕ → Type 0
   -- a text is refused by this fault
   pub Refuses : Fault → List ℕ → Type 0
-  -- what it writes, with these beside it as it begins: this is due for a text that is fine
-  pub IsDue : Beside → List ℕ → List ℕ → Type 0
+  -- what it writes, with the first beside it as it begins, and the second as it ends: this is due for a text that is fine
+  pub IsDue : Beside → Beside → List ℕ → List ℕ → Type 0
   -- once this was written for a text, those are left beside it
   pub Leaves : Beside → List ℕ → List ℕ → Beside → Type 0
   -- this is due for what has ended in these bytes of a text that may go on
-  pub IsDueSoFar : Beside → List ℕ → List ℕ → Type 0
+  pub IsDueSoFar : Beside → Beside → List ℕ → List ℕ → Type 0
   -- where a text is refused by this fault, this is due for what stands before that place
-  pub IsDueAt : Beside → Fault → List ℕ → List ℕ → Type 0
+  pub IsDueAt : Beside → Beside → Fault → List ℕ → List ℕ → Type 0
   -- nothing is refused of some first part of a text, and this is due for it before more is read
-  pub IsDueBefore : Beside → List ℕ → List ℕ → Type 0
+  pub IsDueBefore : Beside → Beside → List ℕ → List ℕ → Type 0
 
 -- a text is fine, or is refused in one way
 pub record IsDecided (b : Behaviour) : Type 0 where
@@ -40,5 +40,5 @@ pub record IsDecided (b : Behaviour) : Type 0 where
 
 -- what is written is decided by the text that is read: one text is due for it, or before the place where it is refused
 pub record WritesOneText (b : Behaviour) : Type 0 where
-  pub due : (from : Beside) (text due other : List ℕ) → b.IsDue from text due → b.IsDue from text other → due ≡ other
-  pub refused : (from : Beside) (f : Fault) (text due other : List ℕ) → b.IsDueAt from f text due → b.IsDueAt from f text other → due ≡ other
+  pub due : (from to to' : Beside) (text due other : List ℕ) → b.IsDue from to text due → b.IsDue from to' text other → due ≡ other
+  pub refused : (from to to' : Beside) (f : Fault) (text due other : List ℕ) → b.IsDueAt from to f text due → b.IsDueAt from to' f text other → due ≡ other

@@ -8,7 +8,7 @@ use Rattle.sk_cli.specs.declared.command.Command.{Command}
 use Rattle.sk_cli.specs.declared.command.Command.TheVariants.{Count, Hash, Image, Make, Quantile, Replay, Help, Version}
 use Rattle.sk_cli.specs.declared.commands.about.TheConstants.{HELP, VERSION}
 use Rattle.sk_cli.specs.Behaviour.{Behaviour}
-use Rattle.sk_cli.specs.Beside.{MadeHub, NoHub, CountingHub}
+use Rattle.sk_cli.specs.Beside.{MadeHub, NoHub, CountingHub, cleared}
 use Rattle.sk_cli.specs.Options.{Given, spelled_by, file_by}
 use Rattle.sk_cli.specs.Values.{Word}
 use Rattle.sk_cli.specs.commands.About.{about}
@@ -20,8 +20,10 @@ use Rattle.sk_cli.specs.commands.Make as make
 use Rattle.sk_cli.specs.commands.Quantile as quantile
 use Rattle.sk_cli.specs.commands.Replay as replay
 use Rattle.sk_cli.specs.commands.Serve as serve
+use Rattle.sk_count.specs.Texts.{armed_by}
 use Rattle.sk_rank.specs.Plans as ranks
 use Rattle.sk_serve.specs.declared.plan.ServePlan.{ServePlan}
+use Rattle.sk_watch.specs.Places.{Place}
 
 -- what a command does
 abbrev pub behaviour_of : Command → Behaviour
@@ -33,6 +35,11 @@ behaviour_of (Quantile plan) = quantile.ranking plan
 behaviour_of Replay = replay.replaying
 behaviour_of Help = about HELP.now
 behaviour_of Version = about VERSION.now
+
+-- a board as a command arms it before it reads
+abbrev pub armed_at_start : Command → List Place → List Place
+armed_at_start (Count plan) places = armed_by plan places
+armed_at_start other places = cleared places
 
 -- the numbers of a command are within their limits
 abbrev pub IsWithin : Command → Type 0

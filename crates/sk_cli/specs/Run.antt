@@ -13,7 +13,7 @@ use Rattle.sk_cli.specs.Behaviour.{Behaviour}
 use Rattle.sk_cli.specs.Beside.{Beside, MadeHub, cleared, LeavesOnly}
 use Rattle.sk_cli.specs.Values.{Word}
 use Rattle.sk_cli.specs.Outside.{Streams, Outside, over_input, over_file, beside_in, doorways_of}
-use Rattle.sk_cli.specs.Command.{OneText, Asked, OfText, OfImages, OfLinks, behaviour_of, frame_of, IsInOrder}
+use Rattle.sk_cli.specs.Command.{OneText, Asked, OfText, OfImages, OfLinks, behaviour_of, armed_at_start, frame_of, IsInOrder}
 use Rattle.sk_cli.specs.Fault.{status_of, message_of}
 use Rattle.sk_cli.specs.commands.Count.{LeavesHub}
 use Rattle.sk_cli.specs.commands.Join.{ReadsBoth, OpensBoth, WritesBoth, EndsJoin, IsToldImage, AreFineFiles, AreRefused}
@@ -25,6 +25,7 @@ use Rattle.sk_model.specs.Limits.{source_limit}
 use Rattle.sk_rank.specs.declared.plan.Plan.{Plan as RankPlan}
 use Rattle.sk_read.specs.Units.{units_by, units_of}
 use Rattle.sk_serve.specs.declared.plan.ServePlan.{ServePlan}
+use Rattle.sk_cli.specs.declared.command.Command.{Command}
 use Rattle.sk_cli.specs.declared.commands.make.MakePlan.{MakePlan}
 use Rattle.sk_cli.specs.declared.fault.Fault.{Fault}
 use Rattle.sk_cli.specs.declared.fault.Fault.TheVariants.{OutOfMemory, Usage, ReadFault, WriteFault, OpenFault, NetFault, TooMuch}
@@ -40,19 +41,19 @@ pub record Finishes (b : Behaviour) (most : ℕ) (from to : Beside) (old new : S
   pub end : OnTrue b.reads (IsAtEnd new.left)
   pub size : OnTrue b.reads (length text < most)
   pub fine : b.IsFine text
-  pub is_due : b.IsDue from text due
+  pub is_due : b.IsDue from to text due
   pub leaves : b.Leaves from text due to
   pub written : Appends old.written new.written due
 
 -- so many bytes were taken, nothing of them is refused so far, and what is due for what has ended in them was written
-pub record Stops (b : Behaviour) (IsSize : ℕ → Type 0) (from : Beside) (old new : Streams) : Type 0 where
+pub record Stops (b : Behaviour) (IsSize : ℕ → Type 0) (from to : Beside) (old new : Streams) : Type 0 where
   pub taken : List ℕ
   pub due : List ℕ
   pub reads : b.reads ≡ true
   pub consumed : Consumes old.left new.left taken
   pub size : IsSize (length taken)
   pub fine : b.IsFineSoFar taken
-  pub is_due : b.IsDueSoFar from taken due
+  pub is_due : b.IsDueSoFar from to taken due
   pub written : Appends old.written new.written due
 
 -- of the bytes taken, this is so of those before the last read
@@ -65,65 +66,67 @@ pub record IsInTime (P : List ℕ → Type 0) (taken : List ℕ) : Type 0 where
 
 -- each text that begins with the bytes taken is refused by this fault, at most one read after the place, and what is
 -- due for what stands before that place was written
-pub record Refuses (b : Behaviour) (most : ℕ) (fault : Fault) (from : Beside) (old new : Streams) : Type 0 where
+pub record Refuses (b : Behaviour) (most : ℕ) (fault : Fault) (from to : Beside) (old new : Streams) : Type 0 where
   pub taken : List ℕ
   pub due : List ℕ
   pub consumed : Consumes old.left new.left taken
   pub size : length taken ≤ most
   pub in_time : IsInTime b.IsFineSoFar taken
-  pub refused : IsSettled (λ text. b.Refuses fault text × b.IsDueAt from fault text due) new.left taken
+  pub refused : IsSettled (λ text. b.Refuses fault text × b.IsDueAt from to fault text due) new.left taken
   pub written : Appends old.written new.written due
 
 -- this is due for the bytes taken, which are the whole text, and of which nothing is refused
-pub record IsDueWhole (b : Behaviour) (from : Beside) (left : Option (List ℕ)) (taken due : List ℕ) : Type 0 where
+pub record IsDueWhole (b : Behaviour) (from to : Beside) (left : Option (List ℕ)) (taken due : List ℕ) : Type 0 where
   pub end : IsAtEnd left
   pub fine : b.IsFine taken
-  pub is_due : b.IsDue from taken due
+  pub is_due : b.IsDue from to taken due
 
 -- this is due before more is read
-abbrev pub IsDueOnTheWay : Behaviour → Beside → Option (List ℕ) → List ℕ → List ℕ → Type 0
-IsDueOnTheWay b from left taken due = IsSettled (λ text. b.IsDueBefore from text due) left taken
+abbrev pub IsDueOnTheWay : Behaviour → Beside → Beside → Option (List ℕ) → List ℕ → List ℕ → Type 0
+IsDueOnTheWay b from to left taken due = IsSettled (λ text. b.IsDueBefore from to text due) left taken
 
--- of what is due a part was written, and not all; what was due before the last read was written whole
+-- of what is due a part was written, and not all; what was due before the last read was written whole, with this beside
+-- it then
 pub record WritesOn (b : Behaviour) (from : Beside) (taken due : List ℕ) (old new : Option (List ℕ)) : Type 0 where
   pub earlier : List ℕ
-  pub was_due : IsInTime (λ front. b.IsFineSoFar front × b.IsDueSoFar from front earlier) taken
+  pub beside : Beside
+  pub was_due : IsInTime (λ front. b.IsFineSoFar front × b.IsDueSoFar from beside front earlier) taken
   pub written : AppendsPartAfter earlier old new due
 
--- of what is due behind the bytes taken a part was written, and not all; a command that writes by lines had written
--- whole what was due before the last read
-pub record BreaksOff (b : Behaviour) (most : ℕ) (from : Beside) (old new : Streams) : Type 0 where
+-- of what is due behind the bytes taken a part was written, and not all, with what is beside it as if all were; a command
+-- that writes by lines had written whole what was due before the last read
+pub record BreaksOff (b : Behaviour) (most : ℕ) (from to : Beside) (old new : Streams) : Type 0 where
   pub taken : List ℕ
   pub due : List ℕ
   pub consumed : Consumes old.left new.left taken
   pub size : length taken ≤ most
-  pub is_due : IsDueWhole b from new.left taken due ⊎ (OnTrue b.reads (IsInTime b.IsFineSoFar taken) × IsDueOnTheWay b from new.left taken due)
+  pub is_due : IsDueWhole b from to new.left taken due ⊎ (OnTrue b.reads (IsInTime b.IsFineSoFar taken) × IsDueOnTheWay b from to new.left taken due)
   pub written : AppendsPart old.written new.written due
   pub by_lines : OnTrue b.writes_by_lines (WritesOn b from taken due old.written new.written)
 
 -- of what is due for the bytes taken, or for a first part of each text that begins with them, a front was written
-pub record GivesUp (b : Behaviour) (most : ℕ) (from : Beside) (old new : Streams) : Type 0 where
+pub record GivesUp (b : Behaviour) (most : ℕ) (from to : Beside) (old new : Streams) : Type 0 where
   pub taken : List ℕ
   pub due : List ℕ
   pub consumed : Consumes old.left new.left taken
   pub size : length taken ≤ most
-  pub is_due : IsDueWhole b from new.left taken due ⊎ IsDueOnTheWay b from new.left taken due
+  pub is_due : IsDueWhole b from to new.left taken due ⊎ IsDueOnTheWay b from to new.left taken due
   pub written : AppendsFront old.written new.written due
 
--- where a command may end by a fault
-abbrev pub Ends : Behaviour → ℕ → Beside → Streams → Streams → Fault → Type 0
-Ends b most from old new OutOfMemory = GivesUp b most from old new
-Ends b most from old new Usage = ⊥
-Ends b most from old new ReadFault = Stops b (λ size. size < most) from old new
-Ends b most from old new WriteFault = BreaksOff b most from old new
-Ends b most from old new OpenFault = ⊥
-Ends b most from old new NetFault = ⊥
-Ends b most from old new TooMuch = Stops b (λ size. size ≡ most) from old new
-Ends b most from old new refusal = Refuses b most refusal from old new
+-- where a command may end by a fault, from what stood beside it to what is left there
+abbrev pub Ends : Behaviour → ℕ → Beside → Beside → Streams → Streams → Fault → Type 0
+Ends b most from to old new OutOfMemory = GivesUp b most from to old new
+Ends b most from to old new Usage = ⊥
+Ends b most from to old new ReadFault = Stops b (λ size. size < most) from to old new
+Ends b most from to old new WriteFault = BreaksOff b most from to old new
+Ends b most from to old new OpenFault = ⊥
+Ends b most from to old new NetFault = ⊥
+Ends b most from to old new TooMuch = Stops b (λ size. size ≡ most) from to old new
+Ends b most from to old new refusal = Refuses b most refusal from to old new
 
 -- how a command went, from what stood beside it to what is left there
 abbrev pub Executes : Behaviour → ℕ → Beside → Beside → Streams → Streams → Result (Unit {0}) Fault → Type 0
-Executes b most from to old new result = MatchResult result (λ _. Finishes b most from to old new) (λ fault. Ends b most from old new fault)
+Executes b most from to old new result = MatchResult result (λ _. Finishes b most from to old new) (λ fault. Ends b most from to old new fault)
 
 -- only a fault of the source moved its count of faults, and so of the sink
 pub record HasCauses (old new : Streams) (result : Result (Unit {0}) Fault) : Type 0 where
@@ -151,10 +154,10 @@ abbrev pub Over : Option Word → (Streams → Streams → Type 0) → Outside �
 Over None P old new = P (over_input old) (over_input new)
 Over (Some name) P old new = P (over_file (told_file old.files name) old) (over_file new.file_left new)
 
--- the file that was asked for could not be opened, and nothing was written
-abbrev pub CannotOpen : Option Word → Outside → Outside → Type 0
-CannotOpen None old new = ⊥
-CannotOpen (Some name) old new = new.written ≡ old.written
+-- the file that was asked for could not be opened: nothing was written, and the board is armed
+abbrev pub CannotOpen : Command → Option Word → Outside → Outside → Type 0
+CannotOpen command None old new = ⊥
+CannotOpen command (Some name) old new = (new.written ≡ old.written) × (new.board ≡ armed_at_start command old.board)
 
 -- a command over at most one text was done whole
 abbrev pub SucceedsText : OneText → ℕ → Outside → Outside → Type 0
@@ -162,8 +165,8 @@ SucceedsText asked most old new = Over asked.file (λ a b. Finishes (behaviour_o
 
 -- where it may end by a fault
 abbrev pub FailsText : OneText → ℕ → Outside → Outside → Fault → Type 0
-FailsText asked most old new OpenFault = CannotOpen asked.file old new
-FailsText asked most old new fault = Over asked.file (λ a b. Ends (behaviour_of asked.command) most (beside_in old) a b fault) old new
+FailsText asked most old new OpenFault = CannotOpen asked.command asked.file old new
+FailsText asked most old new fault = Over asked.file (λ a b. Ends (behaviour_of asked.command) most (beside_in old) (beside_in new) a b fault) old new
 
 -- ---- a run
 

@@ -24,16 +24,16 @@ telling kind column tell = record {
   IsFine = IsReadable kind column;
   IsFineSoFar = IsReadableSoFar kind column;
   Refuses = IsRefusedBy kind column;
-  IsDue = λ from text due. due ≡ tell (items_of_text kind column text);
+  IsDue = λ from to text due. due ≡ tell (items_of_text kind column text);
   Leaves = λ from text due to. Unit {0};
-  IsDueSoFar = λ from taken due. due ≡ [];
-  IsDueAt = λ from fault text due. due ≡ [];
-  IsDueBefore = λ from text due. due ≡ [];
+  IsDueSoFar = λ from to taken due. due ≡ [];
+  IsDueAt = λ from to fault text due. due ≡ [];
+  IsDueBefore = λ from to text due. due ≡ [];
 }
 
--- the alarms and the hub, what is due on the way, for the units so far, and in all, and what is left once that is
--- written, are given
-abbrev pub telling_on : Kind → ℕ → Bool → List ℕ → MadeHub → (Beside → List (List ℕ) → List ℕ → Type 0) → (Beside → List (List ℕ) → List ℕ → Type 0) → (Beside → List (List ℕ) → List ℕ → Beside → Type 0) → Behaviour
+-- the alarms and the hub, what is due on the way, for the units so far, and in all, with what is beside it by then, and
+-- what is left once all is written, are given
+abbrev pub telling_on : Kind → ℕ → Bool → List ℕ → MadeHub → (Beside → Beside → List (List ℕ) → List ℕ → Type 0) → (Beside → Beside → List (List ℕ) → List ℕ → Type 0) → (Beside → List (List ℕ) → List ℕ → Beside → Type 0) → Behaviour
 telling_on kind column last arms makes Interim Whole Left = record {
   reads = true;
   takes_file = true;
@@ -44,9 +44,9 @@ telling_on kind column last arms makes Interim Whole Left = record {
   IsFine = IsReadable kind column;
   IsFineSoFar = IsReadableSoFar kind column;
   Refuses = IsRefusedBy kind column;
-  IsDue = λ from text due. Whole from (units_of (units_by column) text) due;
+  IsDue = λ from to text due. Whole from to (units_of (units_by column) text) due;
   Leaves = λ from text due to. Left from (units_of (units_by column) text) due to;
-  IsDueSoFar = λ from taken due. Interim from (complete_units_of (units_by column) taken) due;
-  IsDueAt = λ from fault text due. Interim from (lines_before fault (units_of (units_by column) text)) due;
-  IsDueBefore = λ from text due. (n : ℕ) × IsSoundUpTo (units_by column) n text × Interim from (take n (units_of (units_by column) text)) due;
+  IsDueSoFar = λ from to taken due. Interim from to (complete_units_of (units_by column) taken) due;
+  IsDueAt = λ from to fault text due. Interim from to (lines_before fault (units_of (units_by column) text)) due;
+  IsDueBefore = λ from to text due. (n : ℕ) × IsSoundUpTo (units_by column) n text × Interim from to (take n (units_of (units_by column) text)) due;
 }

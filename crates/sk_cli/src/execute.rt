@@ -1,9 +1,9 @@
 // What is asked, over the standard input or over files.
-ghost use Rattle.std.specs.Prelude.{◌≡◌, ◌≢◌, ◌≤◌, [], IfErr, true, false};
+ghost use Rattle.std.specs.Prelude.{◌≡◌, ◌≢◌, ◌≤◌, IfErr, true, false};
 ghost use Rattle.std.specs.Option.{option_copied};
 ghost use Rattle.sk_model.specs.Limits.{source_limit};
-ghost use Rattle.sk_cli.specs.Beside.{IsFullBoard, beside_of, cleared, left_of};
-ghost use Rattle.sk_cli.specs.Command.{asked_of, behaviour_of, frame_of, IsWithin, IsInOrder, OfText};
+ghost use Rattle.sk_cli.specs.Beside.{IsFullBoard, beside_of, left_of};
+ghost use Rattle.sk_cli.specs.Command.{asked_of, behaviour_of, armed_at_start, frame_of, IsWithin, IsInOrder, OfText};
 ghost use Rattle.sk_cli.specs.Outside.{Net, streams_of, outside_of, outside_with};
 ghost use Rattle.sk_cli.specs.Run.{ExecutesSo, Performs, exit_of};
 ghost use Rattle.sk_cli.specs.Touches.{handed, TouchesOnly};
@@ -116,7 +116,7 @@ where
 fn set_alarms<B: Seen>(command: &Command, board: &mut B)
     requires within { IsWithin command.now }
     requires board { IsFullBoard (B.places board.old) }
-    ensures { (behaviour_of command.now).arms ≡ [] → B.places board.new ≡ cleared (B.places board.old) }
+    ensures { B.places board.new ≡ armed_at_start command.now (B.places board.old) }
 {
     match command {
         Command::Count(plan) => arm(board, plan.k, plan.alarms.as_slice()),

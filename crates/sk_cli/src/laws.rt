@@ -59,13 +59,13 @@ pub fn quantile_decides()
     ensures decided { (plan : RankPlan) → IsDecided (ranking plan) }
     ensures one_text { (plan : RankPlan) → plan.updaters ≡ 1 → plan.window ≡ None → WritesOneText (ranking plan) }
     ensures one_line { (plan : RankPlan) → plan.updaters ≡ 1 → plan.window ≡ None
-        → (from : Beside) (text due : List ℕ) → (ranking plan).IsDue from text due → due ≡ rank_line plan (items_by Raw (lines_of text)) }
+        → (from to : Beside) (text due : List ℕ) → (ranking plan).IsDue from to text due → due ≡ rank_line plan (items_by Raw (lines_of text)) }
 {}
 
 /// However many updaters there are, the last line tells the number of all items, and how many of them are below the
 /// plan's, up to the error that it tells.
 pub fn quantile_is_near()
-    ensures { (plan : RankPlan) → 0 < plan.updaters → (from : Beside) (text due : List ℕ) → (ranking plan).IsDue from text due
+    ensures { (plan : RankPlan) → 0 < plan.updaters → (from to : Beside) (text due : List ℕ) → (ranking plan).IsDue from to text due
         → TellsNear plan (items_by Raw (lines_of text)) due }
 {}
 

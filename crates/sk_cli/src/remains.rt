@@ -31,17 +31,6 @@ impl<W: Wait + Drop> Remains<W> {
         }
     }
 
-    // Takes out what is left of a hub that counted.
-    pub(crate) fn take_counted(&mut self) -> Counted
-        ensures taken { result ≡ record { heart = self.old.heart; token = self.old.token } }
-        ensures left { self.new ≡ record self.old { heart = None; token = None } }
-    {
-        Counted {
-            heart: self.heart.take(),
-            token: self.token.take(),
-        }
-    }
-
     // Puts in what is left of a hub that counted.
     pub(crate) fn put_counted(&mut self, counted: Counted)
         ensures { self.new ≡ record self.old { heart = counted.heart; token = counted.token } }

@@ -29,9 +29,9 @@ use Rattle.sk_count.proofs.Endings.{the_estimate, shows_all, shows_moments, same
 
 -- ---- before the end
 
-pub ended_by : (plan : Plan) (most : ℕ) (old new : Setting) (remains : Remains) (r : Result (Unit {0}) Fault) (f : Fault) → IsErrAnd r (λ e. e ≡ f) → EndsBefore plan most old new f ⊎ EndsBehind plan most old new f → Counts plan most old new remains r
-ended_by plan most old new remains (Ok x) f is ends = absurd is
-ended_by plan most old new remains (Err e) f is ends = subst (λ z. EndsBefore plan most old new z ⊎ EndsBehind plan most old new z) (sym is) ends
+pub ended_by : (plan : Plan) (most : ℕ) (old new : Setting) (r : Result Remains Fault) (f : Fault) → IsErrAnd r (λ e. e ≡ f) → EndsBefore plan most old new f ⊎ EndsBehind plan most old new f → Counts plan most old new r
+ended_by plan most old new (Ok x) f is ends = absurd is
+ended_by plan most old new (Err e) f is ends = subst (λ z. EndsBefore plan most old new z ⊎ EndsBehind plan most old new z) (sym is) ends
 
 none : List Moment
 none = []
@@ -106,6 +106,6 @@ module _ (plan : Plan) (a : Hub) (opened : IsOpened plan a) (within : IsWithin p
   }
 
 -- a failed write at the end is the cause of the fault
-pub wrote_in_vain : (before mid now : ℕ) (r : Result (Unit {0}) Fault) (f : Fault) → IsErrAnd r (λ e. e ≡ f) → f ≡ fault.WriteFault → mid ≡ before → Rose mid now → HasCauseIn fault.WriteFault before now r
+pub wrote_in_vain : (before mid now : ℕ) (r : Result Remains Fault) (f : Fault) → IsErrAnd r (λ e. e ≡ f) → f ≡ fault.WriteFault → mid ≡ before → Rose mid now → HasCauseIn fault.WriteFault before now r
 wrote_in_vain before mid now (Ok x) f is write same rose = absurd is
 wrote_in_vain before mid now (Err e) f is write same rose = record { steady = λ no. absurd (no (ap (λ (z : Fault). Err z) (is ∙ write))); failed = λ _. subst (λ b. Rose b now) same rose }

@@ -85,7 +85,7 @@ EndsBehind plan most old new OutOfMemory = (n : ℕ) × ReadsAll (units_by plan.
 EndsBehind plan most old new other = ⊥
 
 -- how a count went
-abbrev pub Counts : Plan → ℕ → Setting → Setting → Remains → Result (Unit {0}) Fault → Type 0
-Counts plan most old new remains result = MatchResult result
-    (λ _. (n : ℕ) × ReadsAll (units_by plan.column) most n (TellsAll plan old new remains) old.left new.left)
+abbrev pub Counts : Plan → ℕ → Setting → Setting → Result Remains Fault → Type 0
+Counts plan most old new result = MatchResult result
+    (λ left. (n : ℕ) × ReadsAll (units_by plan.column) most n (TellsAll plan old new left) old.left new.left)
     (λ fault. EndsBefore plan most old new fault ⊎ EndsBehind plan most old new fault)

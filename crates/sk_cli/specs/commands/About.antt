@@ -15,9 +15,9 @@ about page = record {
   IsFine = λ text. Unit {0};
   IsFineSoFar = λ taken. ⊥;
   Refuses = λ fault text. ⊥;
-  IsDue = λ from text due. due ≡ page;
+  IsDue = λ from to text due. due ≡ page;
   Leaves = λ from text due to. Unit {0};
-  IsDueSoFar = λ from taken due. ⊥;
-  IsDueAt = λ from fault text due. ⊥;
-  IsDueBefore = λ from text due. due ≡ page;
+  IsDueSoFar = λ from to taken due. ⊥;
+  IsDueAt = λ from to fault text due. ⊥;
+  IsDueBefore = λ from to text due. due ≡ page;
 }

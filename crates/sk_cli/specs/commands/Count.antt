@@ -10,7 +10,7 @@ use Rattle.sk_count.specs.declared.plan.Plan.{Plan}
 use Rattle.sk_count.specs.Plans as plans
 use Rattle.sk_count.specs.Counts.{Course}
 use Rattle.sk_count.specs.Headline.{CountsExactly}
-use Rattle.sk_count.specs.Texts.{interim_by, last_lines}
+use Rattle.sk_count.specs.Texts.{interim_by, places_by, last_lines}
 use Rattle.sk_cli.specs.Behaviour.{Behaviour}
 use Rattle.sk_cli.specs.Beside.{Beside, board_places, CountingHub}
 use Rattle.sk_cli.specs.Told.{telling_on}
@@ -84,15 +84,17 @@ counted plan = units_by plan.column
 
 -- ---- what it writes, with a course of it: its units cut into windows, and a moment behind each full one
 
--- the interim text of these units: a line for each moment, with the alarms that its reply sets off
-pub record IsInterim (plan : Plan) (from : Beside) (units : List (List ℕ)) (due : List ℕ) : Type 0 where
+-- the interim text of these units, and the board after it: a line for each moment, with the alarms that its reply sets off
+pub record IsInterim (plan : Plan) (from to : Beside) (units : List (List ℕ)) (due : List ℕ) : Type 0 where
   pub course : Course plan units
   pub is : due ≡ interim_by plan from.board course.moments
+  pub board : to.board ≡ places_by plan from.board course.moments
 
--- the whole text of these units: the interim text, and then one thread's estimate of all items
-pub record IsWhole (plan : Plan) (from : Beside) (units : List (List ℕ)) (due : List ℕ) : Type 0 where
+-- the whole text of these units: the interim text with the board after it, and then one thread's estimate of all items
+pub record IsWhole (plan : Plan) (from to : Beside) (units : List (List ℕ)) (due : List ℕ) : Type 0 where
   pub course : Course plan units
   pub is : due ≡ interim_by plan from.board course.moments ++ last_lines plan units
+  pub board : to.board ≡ places_by plan from.board course.moments
 
 -- once this is written, the headline is so of it: with the board as it is then, and the heart and the token that are left
 abbrev pub LeavesHub : Plan → Beside → List (List ℕ) → List ℕ → Beside → Type 0

@@ -38,9 +38,9 @@ hashing plan = record {
   IsFine = λ text. AreWithin line_limit (lines_of text);
   IsFineSoFar = λ taken. AreWithin line_limit (open_lines_of taken);
   Refuses = λ fault text. IsRefusedBy fault (lines_of text);
-  IsDue = λ from text due. due ≡ hash_text plan.seed (lines_of text);
+  IsDue = λ from to text due. due ≡ hash_text plan.seed (lines_of text);
   Leaves = λ from text due to. Unit {0};
-  IsDueSoFar = λ from taken due. due ≡ hash_text plan.seed (complete_lines_of taken);
-  IsDueAt = λ from fault text due. due ≡ hash_text plan.seed (lines_before fault (lines_of text));
-  IsDueBefore = λ from text due. (n : ℕ) × AreWithin line_limit (take n (lines_of text)) × (due ≡ hash_text plan.seed (take n (lines_of text)));
+  IsDueSoFar = λ from to taken due. due ≡ hash_text plan.seed (complete_lines_of taken);
+  IsDueAt = λ from to fault text due. due ≡ hash_text plan.seed (lines_before fault (lines_of text));
+  IsDueBefore = λ from to text due. (n : ℕ) × AreWithin line_limit (take n (lines_of text)) × (due ≡ hash_text plan.seed (take n (lines_of text)));
 }

@@ -71,9 +71,9 @@ making plan = record {
   IsFine = λ text. Unit {0};
   IsFineSoFar = λ taken. ⊥;
   Refuses = λ fault text. ⊥;
-  IsDue = λ from text due. due ≡ made_report plan;
+  IsDue = λ from to text due. due ≡ made_report plan;
   Leaves = λ from text due to. LeavesHub (counted_by plan) from (lines_of (text_by plan)) due to;
-  IsDueSoFar = λ from taken due. ⊥;
-  IsDueAt = λ from fault text due. ⊥;
-  IsDueBefore = λ from text due. due ≡ made_report plan;
+  IsDueSoFar = λ from to taken due. ⊥;
+  IsDueAt = λ from to fault text due. ⊥;
+  IsDueBefore = λ from to text due. due ≡ made_report plan;
 }

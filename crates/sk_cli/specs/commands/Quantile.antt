@@ -74,13 +74,13 @@ plan_by given = option_and_then (λ what. option_map (λ how. plan_with what how
 -- ---- what it writes, with a course of it: its lines cut into windows, and a moment behind each full one
 
 -- the interim text of these lines: a line for each moment
-pub record IsInterim (plan : Plan) (from : Beside) (units : List (List ℕ)) (due : List ℕ) : Type 0 where
+pub record IsInterim (plan : Plan) (from to : Beside) (units : List (List ℕ)) (due : List ℕ) : Type 0 where
   pub course : Course plan units
   pub is : due ≡ interim_text plan course.moments
 
 -- the whole text of these lines: the interim text, and then the rank in a list that has of each updater the items of its
 -- blocks, and that the list of each moment begins
-pub record IsWhole (plan : Plan) (from : Beside) (units : List (List ℕ)) (due : List ℕ) : Type 0 where
+pub record IsWhole (plan : Plan) (from to : Beside) (units : List (List ℕ)) (due : List ℕ) : Type 0 where
   pub course : Course plan units
   pub list : List Entry
   pub has_all : IsListOf plan (course.windows ++ course.rest ∷ []) list

@@ -123,9 +123,9 @@ replaying = record {
   IsFine = λ text. AreWithin line_limit (lines_of text) × IsSchedule (lines_of text) × (0 < length (lines_of text));
   IsFineSoFar = λ taken. AreWithin line_limit (open_lines_of taken) × IsSchedule (complete_lines_of taken);
   Refuses = λ fault text. IsRefusedBy fault (lines_of text);
-  IsDue = λ from text due. IsAnswered (lines_of text) due;
+  IsDue = λ from to text due. IsAnswered (lines_of text) due;
   Leaves = λ from text due to. Unit {0};
-  IsDueSoFar = λ from taken due. IsAnswered (complete_lines_of taken) due;
-  IsDueAt = λ from fault text due. IsAnswered (lines_before fault (lines_of text)) due;
-  IsDueBefore = λ from text due. (n : ℕ) × AreWithin line_limit (take n (lines_of text)) × IsAnswered (take n (lines_of text)) due;
+  IsDueSoFar = λ from to taken due. IsAnswered (complete_lines_of taken) due;
+  IsDueAt = λ from to fault text due. IsAnswered (lines_before fault (lines_of text)) due;
+  IsDueBefore = λ from to text due. (n : ℕ) × AreWithin line_limit (take n (lines_of text)) × IsAnswered (take n (lines_of text)) due;
 }

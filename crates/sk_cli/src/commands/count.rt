@@ -1,8 +1,7 @@
 // The command that estimates how many distinct items there are.
-ghost use Rattle.std.specs.Prelude.{◌≡◌, ◌≢◌, ◌≤◌, None, Ok, Err, IfErr, IfSome, MatchResult, true};
+ghost use Rattle.std.specs.Prelude.{◌≡◌, ◌≢◌, ◌≤◌, None, IfErr, IfSome, true};
 ghost use Rattle.sk_model.specs.Limits.{source_limit};
 ghost use Rattle.sk_cli.specs.Beside.{beside_of, CountingHub, IsFullBoard};
-ghost use Rattle.sk_cli.specs.Fault.{fault_by};
 ghost use Rattle.sk_cli.specs.Outside.{streams_of};
 ghost use Rattle.sk_cli.specs.Run.{Executes, HasCauses, LeavesBeside};
 ghost use Rattle.sk_cli.specs.commands.Count.{what_by, how_by, plan_by, column_by, IsWithin, IsWhat, IsHow, counting};
@@ -13,7 +12,7 @@ use crate::remains::Remains;
 use sk_count::Plan;
 use sk_io::{Sink, Source};
 use sk_model::limits::{LEAST_K, MOST_K};
-use sk_read::{Fault as ReadingFault, Kind};
+use sk_read::Kind;
 use sk_report::Numbers;
 use sk_watch::Seen;
 use std::alloc::Global;
@@ -121,13 +120,6 @@ fn column_in(options: &Options<'_>) -> Option<u32>
     }
 }
 
-// The answer of a count, with its fault as one of the program.
-fn answer_of(column: u32, counted: Result<(), ReadingFault>) -> Result<(), Fault>
-    ensures { MatchResult counted (λ done. result ≡ Ok done) (λ fault. result ≡ Err (fault_by column fault)) }
-{
-    counted.map_err(|fault| Fault::of_reading(column, fault))
-}
-
 /// Counts the distinct items of a source by many updaters, and writes an estimate after each full window, where that
 /// is asked for, and last one thread's estimate of all.
 pub fn count<R: Threads + Wait + Sync, S: Source, O: Sink, B: Seen, W: Wait + Drop>(
@@ -152,8 +144,11 @@ pub fn count<R: Threads + Wait + Sync, S: Source, O: Sink, B: Seen, W: Wait + Dr
     ensures beside { LeavesBeside plan.now.alarms CountingHub (beside_of (B.places board.old) remains.old) (beside_of (B.places board.new) remains.new) result }
     ensures stays { S.stands_on source.new ≡ S.stands_on source.old }
 {
-    let mut left = remains.take_counted();
-    let counted = sk_count::count(rt, alloc, plan, most, source, out, board, &mut left);
-    remains.put_counted(left);
-    answer_of(plan.column, counted)
+    match sk_count::count(rt, alloc, plan, most, source, out, board) {
+        Ok(left) => {
+            remains.put_counted(left);
+            Ok(())
+        }
+        Err(fault) => Err(Fault::of_reading(plan.column, fault)),
+    }
 }

@@ -2,7 +2,7 @@
 ghost use Rattle.std.specs.Prelude.{◌≡◌};
 
 use super::stage::alarms;
-use sk_count::{Fault, Kind, Numbers, Plan, Remains, count};
+use sk_count::{Fault, Kind, Numbers, Plan, count};
 use sk_io::{MemSink, MemSource};
 use std::alloc::Global;
 use std::process::Abort;
@@ -33,20 +33,8 @@ fn counted_within<R: Threads + Wait + Sync>(
     let mut input = MemSource::new(text.to_vec(alloc)?, 3, Vec::new(alloc));
     let mut out = MemSink::new(alloc, 100, 7, Vec::new(alloc))?;
     let mut board = alarms(alloc)?;
-    let mut remains = Remains {
-        heart: None,
-        token: None,
-    };
-    Ok(count(
-        rt,
-        alloc,
-        &plan,
-        8,
-        &mut input,
-        &mut out,
-        &mut board,
-        &mut remains,
-    ))
+    let counted = count(rt, alloc, &plan, 8, &mut input, &mut out, &mut board);
+    Ok(counted.map(|_left| ()))
 }
 
 fn expect_within<R: Threads + Wait + Abort + Sync>(

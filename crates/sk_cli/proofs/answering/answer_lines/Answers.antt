@@ -62,10 +62,10 @@ returns-in_err-write_text-clause-done g c = λ from to start given taken read co
     let held = due_too (A.due c.read.answerer) (A.due c.args.answerer.now) (A.led c.answer_held-answered.new.answerer) A.refuses r b.left (given ++ came.more) got.taken came.text text c.answer_held-answered.result inv.due
     (c.answer_held-answered.ensures.held b.left (given ++ came.more) got.taken came.text got.reads.read came.led) in
     let part = subst (λ (t : List ℕ). AppendsPart (g.O.Sink.written c.read.out) b.written t) c.deref.ensures.value c.in_err-write_text.ensures.part in
-    let ends : Ends how most from start b fault.WriteFault =
+    let ends : Ends how most from to start b fault.WriteFault =
     answers_cut_short how from to (A.due c.args.answerer.now) A.refuses given by most start b (A.led c.read.answerer) (λ lines text is. inv.due lines text (g.met.A.Answerer.is_due c.read.answerer lines text is)) c.read.reader (g.S.Source.left c.read.source) (g.O.Sink.written c.read.out) came
     (A.led c.answer_held-answered.new.answerer) c.next.new.self r text c.answer_held-answered.result got c.answer_held-answered.ensures.most held part in
-    ends_by how most from to start b _ _ c.from_residual-in_err-write_text.ensures.1 (subst (λ (f : Fault). Ends how most from start b f) (sym c.in_err-write_text.ensures.err) ends)
+    ends_by how most from to start b _ _ c.from_residual-in_err-write_text.ensures.1 (subst (λ (f : Fault). Ends how most from to start b f) (sym c.in_err-write_text.ensures.err) ends)
 
 pub read-preserved : goal.read-preserved
 read-preserved g c =

@@ -12,7 +12,7 @@ pub returns-in_err-reader-clause-done : goal.returns-in_err-reader-clause-done
 returns-in_err-reader-clause-done g c = λ from to.
     let plan = c.args.plan.now in
     let a : Streams = streams_of g.S.Source g.O.Sink c.args.source.now c.args.out.now in
-    ends_by (hashing plan) c.args.most from to a a _ fault.OutOfMemory c.from_residual.ensures.1 (nothing_yet (hashing plan) c.args.most from a (hash_text plan.seed []) (no_hash_yet plan from))
+    ends_by (hashing plan) c.args.most from to a a _ fault.OutOfMemory c.from_residual.ensures.1 (nothing_yet (hashing plan) c.args.most from to a (hash_text plan.seed []) (no_hash_yet plan from to))
 
 pub returns-clause-done : goal.returns-clause-done
 returns-clause-done g c = λ from to.

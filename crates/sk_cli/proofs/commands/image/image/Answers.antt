@@ -20,7 +20,7 @@ use Rattle.sk_cli.proofs.commands.image.image.Goals as goal
 pub returns-in_err-sketch-clause-done : goal.returns-in_err-sketch-clause-done
 returns-in_err-sketch-clause-done g c = λ from to.
     let a : Streams = streams_of g.S.Source g.O.Sink c.args.source.now c.args.out.now in
-    ends_by (imaging c.args.plan.now) c.args.most from to a a _ fault.OutOfMemory c.from_residual.ensures.1 (nothing_yet (imaging c.args.plan.now) c.args.most from a _ (λ text. refl))
+    ends_by (imaging c.args.plan.now) c.args.most from to a a _ fault.OutOfMemory c.from_residual.ensures.1 (nothing_yet (imaging c.args.plan.now) c.args.most from to a _ (λ text. refl))
 
 pub returns-in-Ok-clause-done : goal.returns-in-Ok-clause-done
 returns-in-Ok-clause-done g c = λ from to.

@@ -12,11 +12,11 @@ returns-in-Ok-clause-done g c = λ before after.
     let a : Streams = streams_of g.S.Source g.O.Sink c.args.source.now c.args.out.now in
     let b : Streams = streams_of g.S.Source g.O.Sink c.rank.new.source c.rank.new.out in
     let went = c.in-Ok.ensures.ranks in
-    rank_finished c.args.plan.now c.args.most (beside_of before c.args.remains.now) a b _ _ _ refl refl went.0 went.1
+    rank_finished c.args.plan.now c.args.most (beside_of before c.args.remains.now) _ a b _ _ refl refl went.0 went.1
 
 pub returns-in-Err-clause-done : goal.returns-in-Err-clause-done
 returns-in-Err-clause-done g c = λ before after.
     let a : Streams = streams_of g.S.Source g.O.Sink c.args.source.now c.args.out.now in
     let b : Streams = streams_of g.S.Source g.O.Sink c.rank.new.source c.rank.new.out in
-    subst (λ (fault : Fault). Ends (ranking c.args.plan.now) c.args.most (beside_of before c.args.remains.now) a b fault) (sym c.of_reading.ensures)
-    (rank_ended c.args.plan.now c.args.most (beside_of before c.args.remains.now) a b c.in-Err.fault c.in-Err.ensures.ranks)
+    subst (λ (fault : Fault). Ends (ranking c.args.plan.now) c.args.most (beside_of before c.args.remains.now) (beside_of after c.args.remains.now) a b fault) (sym c.of_reading.ensures)
+    (rank_ended c.args.plan.now c.args.most (beside_of before c.args.remains.now) (beside_of after c.args.remains.now) a b c.in-Err.fault c.in-Err.ensures.ranks)

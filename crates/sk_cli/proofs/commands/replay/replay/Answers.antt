@@ -14,7 +14,7 @@ use Rattle.sk_cli.proofs.commands.replay.replay.Goals as goal
 pub returns-in_err-reader-clause-done : goal.returns-in_err-reader-clause-done
 returns-in_err-reader-clause-done g c = λ from to.
     let a : Streams = streams_of g.S.Source g.O.Sink c.args.source.now c.args.out.now in
-    ends_by replaying c.args.most from to a a _ fault.OutOfMemory c.from_residual.ensures.1 (nothing_yet replaying c.args.most from a [] (no_answer_yet from))
+    ends_by replaying c.args.most from to a a _ fault.OutOfMemory c.from_residual.ensures.1 (nothing_yet replaying c.args.most from to a [] (no_answer_yet from to))
 
 pub returns-in_err-next-clause-done : goal.returns-in_err-next-clause-done
 returns-in_err-next-clause-done g c = λ from to.
@@ -25,7 +25,7 @@ returns-in_err-next-clause-done g c = λ from to.
     let on : Went c.next.new.self a.left (g.S.Source.left c.next.new.source) c.args.most [] (Err s) =
     went c.in_ok-reader.reader c.next.new.self a.left a.left (g.S.Source.left c.next.new.source) c.args.most [] [] c.next.result (Err s) none c.next.ensures.goes c.next.ensures.most c.in_err-next.was in
     ends_by replaying c.args.most from to a b _ (fault_by_line s) c.from_residual-in_err-next.ensures.1
-    (failed replaying from IsAnswered (replay_by_lines from) c.args.most a b c.next.new.self [] [] s on refl (Appends-nil a.written))
+    (failed replaying from to IsAnswered (replay_by_lines from to) c.args.most a b c.next.new.self [] [] s on refl (Appends-nil a.written))
 
 pub returns-then-not-branch-clause-done : goal.returns-then-not-branch-clause-done
 returns-then-not-branch-clause-done g c = λ from to.
@@ -33,7 +33,7 @@ returns-then-not-branch-clause-done g c = λ from to.
     let b : Streams = streams_of g.S.Source g.O.Sink c.next.new.source c.args.out.now in
     let none = reads_none c.in_ok-reader.reader a.left c.args.most c.in_ok-reader.ensures.read c.in_ok-reader.ensures.most in
     let on = went_so c.in_ok-reader.reader c.next.new.self a.left _ _ c.args.most [] [] c.next.result _ false none c.next.ensures.goes c.next.ensures.most c.in_ok-next.was c.if-not-branch.true in
-    refuses_nothing from a b c.args.most c.next.new.self on refl
+    refuses_nothing from to a b c.args.most c.next.new.self on refl
 
 pub returns-in_err-state-clause-done : goal.returns-in_err-state-clause-done
 returns-in_err-state-clause-done g c = λ from to.
@@ -42,7 +42,7 @@ returns-in_err-state-clause-done g c = λ from to.
     let own = c.next.new.self.cutter.line in
     let none = reads_none c.in_ok-reader.reader a.left c.args.most c.in_ok-reader.ensures.read c.in_ok-reader.ensures.most in
     let got = got_line c.in_ok-reader.reader c.next.new.self a.left _ _ c.args.most [] [] c.next.result _ none c.next.ensures.goes c.next.ensures.most c.in_ok-next.was c.if-not-branch.false in
-    ends_by replaying c.args.most from to a b _ fault.OutOfMemory c.from_residual-in_err-state.ensures.1 (nothing_more replaying c.args.most from a b got.taken [] got.reads.consumed (omega (arith, got.reads.read.has.count, got.reads.read.bound, got.reads.most_is)) refl (no_answer_yet from))
+    ends_by replaying c.args.most from to a b _ fault.OutOfMemory c.from_residual-in_err-state.ensures.1 (nothing_more replaying c.args.most from to a b got.taken [] got.reads.consumed (omega (arith, got.reads.read.has.count, got.reads.read.bound, got.reads.most_is)) refl (no_answer_yet from to))
 
 pub returns-in_default-clause-done : goal.returns-in_default-clause-done
 returns-in_default-clause-done g c = λ from to.
@@ -52,7 +52,7 @@ returns-in_default-clause-done g c = λ from to.
     let none = reads_none c.in_ok-reader.reader a.left c.args.most c.in_ok-reader.ensures.read c.in_ok-reader.ensures.most in
     let got = got_line c.in_ok-reader.reader c.next.new.self a.left _ _ c.args.most [] [] c.next.result _ none c.next.ensures.goes c.next.ensures.most c.in_ok-next.was c.if-not-branch.false in
     let unnamed : start_of own ≡ None = ap start_of (sym c.line.ensures) ∙ sym c.in_ok-state.ensures.value ∙ ap (option_map started) c.in_default.is in
-    refuses from a b c.args.most 1 c.next.new.self [] own [] got.taken got.reads got.time (omega arith) refl (Appends-nil a.written) unnamed
+    refuses from to a b c.args.most 1 c.next.new.self [] own [] got.taken got.reads got.time (omega arith) refl (Appends-nil a.written) unnamed
 
 pub returns-clause-done : goal.returns-clause-done
 returns-clause-done g c = λ from to.
