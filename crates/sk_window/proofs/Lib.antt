@@ -1,0 +1,4 @@
+pub mod Standing
+pub mod Fresh
+pub mod Closed
+pub mod Filtered

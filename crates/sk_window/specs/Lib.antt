@@ -1,0 +1,4 @@
+pub mod Frames
+pub mod Intervals
+pub mod Hubs
+pub mod Panes

@@ -1,0 +1,282 @@
+//! The running interval, and the closed ones before it.
+ghost use Rattle.std.specs.Prelude.{◌≡◌, ◌+◌, ◌-◌, ◌/◌, ◌<◌, ◌≤◌, ◌++◌, ◌∷◌, ◌⊎◌, [], List, ℕ, All, length, replicate, IfOk, OnOk, OnErr};
+ghost use Rattle.sk_hub.specs.Updaters.{UpdaterState};
+ghost use Rattle.sk_snap.specs.History.{name_of, entries_in};
+ghost use Rattle.sk_snap.specs.Versions.{items_in};
+ghost use Rattle.sk_learn.specs.Closing.{AreApart};
+ghost use Rattle.sk_learn.specs.Learning.{ReaderGoesOn, LearnsFirst, AreAsked};
+ghost use Rattle.sk_window.specs.Frames.{IsFrame};
+ghost use Rattle.sk_window.specs.Hubs.{IsFresh};
+ghost use Rattle.sk_window.specs.Intervals.{StandForEach, IsReplyOf, all_items, with_skipped};
+ghost use Rattle.sk_window.specs.Panes.{HasTaken, Closes, Moves, StopsBefore};
+
+use crate::answers::{Advance, Finish, Started, Updaters};
+use crate::frame::Frame;
+use crate::hub::{Hub, open_hub};
+use crate::sketches::{empty_sketches, join_each, put_last, reply_of, skip};
+use sk_heap::HeapTheta;
+use sk_hub::{Heart, Updater};
+use sk_learn::{learn_all, read_whole, take_in_all};
+use sk_model::OutOfMemory;
+use sk_snap::{JoinInto, ThetaReader, VersionedTheta};
+use sk_theta::{Reply, Shape};
+use std::alloc::Global;
+use std::marker::Model;
+use std::mem::replace;
+use std::sync::Wait;
+
+/// Distinct counts over the last intervals: a hub for the running one, and a sketch for each closed one.
+#[derive(Drop)]
+pub struct Panes<'r, R: Wait> {
+    rt: &'r R,
+    alloc: Global,
+    shape: Shape,
+    frame: Frame,
+    running: u64,
+    heart: Heart<VersionedTheta<&'r R>>,
+    reader: ThetaReader,
+    // How many items the updaters kept that were taken in.
+    taken: u64,
+    // Oldest first, one fewer than a reply is of.
+    closed: Vec<HeapTheta>,
+    // Its memory is taken before the running one is closed, and kept if that runs out of memory.
+    next: Option<Hub<'r, R>>,
+}
+
+impl<'r, R: Wait> Model for Panes<'r, R> {
+    ghost use Rattle.std.specs.Prelude.{◌≡◌, Some};
+    ghost use Rattle.sk_window.specs.Hubs.{IsFresh};
+    ghost use Rattle.sk_window.specs.Panes.{PanesState, IsPanes};
+
+    ghost Value = { PanesState };
+
+    ghost view = { λ p. record {
+      frame = p.frame;
+      shape = p.shape;
+      running = p.running;
+      heart = p.heart;
+      learnt = p.reader;
+      taken = p.taken;
+      closed = p.closed.items;
+    } };
+
+    ghost invariant = { λ p. IsPanes (record {
+      frame = p.frame;
+      shape = p.shape;
+      running = p.running;
+      heart = p.heart;
+      learnt = p.reader;
+      taken = p.taken;
+      closed = p.closed.items;
+    }) × ((hub : _) → p.next ≡ Some hub → IsFresh p.shape hub.heart hub.updaters.items hub.reader) };
+}
+
+impl<'r, R: Wait> Panes<'r, R> {
+    /// Interval 0 runs, and no item was kept.
+    pub fn new(
+        rt: &'r R,
+        alloc: Global,
+        shape: Shape,
+        frame: Frame,
+    ) -> Result<Started<'r, R>, OutOfMemory>
+        requires frame { IsFrame frame }
+        ensures frame { IfOk result (λ started. started.panes.frame ≡ frame) }
+        ensures shape { IfOk result (λ started. started.panes.shape ≡ shape) }
+        ensures running { IfOk result (λ started. started.panes.running ≡ 0) }
+        ensures fresh { IfOk result (λ started. IsFresh shape started.panes.heart started.updaters.items started.panes.learnt) }
+        ensures taken { IfOk result (λ started. HasTaken started.panes []) }
+        ensures closed { IfOk result (λ started. StandForEach shape.k started.panes.closed (replicate (frame.last - 1) [])) }
+    {
+        let Hub {
+            heart,
+            updaters,
+            reader,
+        } = open_hub(rt, alloc, &shape)?;
+        let closed = empty_sketches(alloc, shape.k(), frame.last - 1)?;
+        let panes = Panes {
+            rt,
+            alloc,
+            shape,
+            frame,
+            running: 0,
+            heart,
+            reader,
+            taken: 0,
+            closed,
+            next: None,
+        };
+        Ok(Started { panes, updaters })
+    }
+
+    /// The interval that runs.
+    pub fn running(&self) -> u64
+        ensures value { result ≡ self.now.running }
+    {
+        self.running
+    }
+
+    /// Learns what each updater was told, in order.
+    pub fn learn(&mut self, updaters: &mut [Updater<VersionedTheta<&'r R>>])
+        requires names { All (λ (u : UpdaterState). u.view.name ≡ name_of self.old.learnt.known.book) updaters.old }
+        ensures learns { LearnsFirst self.old.learnt updaters.old (length updaters.old) self.new.learnt }
+        ensures asked { AreAsked updaters.old (length updaters.old) updaters.new }
+        ensures stays { self.new ≡ record self.old { learnt = self.new.learnt } }
+    {
+        learn_all(&mut self.reader, updaters);
+    }
+
+    /// The count and theta of the closed intervals' items and of a list of the running one that begins with all that was
+    /// learnt and read.
+    pub fn reply(&mut self) -> Result<Reply, OutOfMemory>
+        ensures reply { (lists : List (List ℕ)) → StandForEach self.old.shape.k self.old.closed lists
+            → IfOk result (λ reply. IsReplyOf self.old.shape.k (all_items lists ++ items_in self.new.learnt.known) reply) }
+        ensures goes { ReaderGoesOn self.old.learnt self.new.learnt }
+        ensures stays { self.new ≡ record self.old { learnt = self.new.learnt } }
+    {
+        let mut sketch = HeapTheta::new(self.alloc, self.shape.k())?;
+        join_each(&mut sketch, self.closed.as_slice());
+        let (sketch, _count) = self.reader.read(self.rt, JoinInto { sketch });
+        Ok(reply_of(&sketch))
+    }
+
+    // Takes in the updaters of the running interval, and closes it. If that runs out of memory, those that were not taken
+    // in are left, in order.
+    fn close(&mut self, updaters: &mut Updaters<'r, R>) -> Result<Reply, OutOfMemory>
+        requires tables { All (λ (u : UpdaterState). u.table ≡ self.old.heart.table) updaters.old.items }
+        requires apart { AreApart updaters.old.items }
+        ensures closes { (before : List UpdaterState) (lists : List (List ℕ)) → HasTaken self.old before → AreApart (before ++ updaters.old.items)
+            → StandForEach self.old.shape.k self.old.closed lists → IfOk result (λ reply. Closes self.old (before ++ updaters.old.items) lists reply self.new) }
+        ensures early { (before : List UpdaterState) → HasTaken self.old before → OnErr result (StopsBefore self.old before updaters.old.items updaters.new.items self.new) }
+        ensures none { OnOk result (updaters.new.items ≡ []) }
+        ensures unclosed { OnErr result (self.new.closed ≡ self.old.closed) }
+        ensures stays { self.new ≡ record self.old { heart = self.new.heart; learnt = self.new.learnt; taken = self.new.taken; closed = self.new.closed } }
+    {
+        // All memory that the end takes is taken first.
+        let mut pane = HeapTheta::new(self.alloc, self.shape.k())?;
+        let sketch = HeapTheta::new(self.alloc, self.shape.k())?;
+        take_in_all(
+            self.rt,
+            &mut self.heart,
+            updaters,
+            &mut self.reader,
+            &mut self.taken,
+        )?;
+        let (sketch, _count) = read_whole(
+            self.rt,
+            &mut self.reader,
+            JoinInto { sketch },
+            self.taken,
+        );
+        join_each(&mut pane, self.closed.as_slice());
+        pane.join(&sketch);
+        put_last(&mut self.closed, sketch);
+        Ok(reply_of(&pane))
+    }
+
+    // The next hub: the one that was kept, or else a new one.
+    fn take_next(&mut self) -> Result<Hub<'r, R>, OutOfMemory>
+        ensures fresh { IfOk result (λ hub. IsFresh self.old.shape hub.heart hub.updaters.items hub.reader) }
+        ensures stays { self.new ≡ self.old }
+    {
+        match self.next.take() {
+            Some(hub) => Ok(hub),
+            None => open_hub(self.rt, self.alloc, &self.shape),
+        }
+    }
+
+    // Goes on in a later interval, with the next hub.
+    fn move_to(&mut self, interval: u64, next: Hub<'r, R>) -> Updaters<'r, R>
+        requires later { self.old.running < interval }
+        requires fresh { IsFresh self.old.shape next.heart next.updaters.items next.reader }
+        ensures fresh { IsFresh self.old.shape self.new.heart result.items self.new.learnt }
+        ensures taken { HasTaken self.new [] }
+        ensures closed { (lists : List (List ℕ)) → StandForEach self.old.shape.k self.old.closed lists
+            → StandForEach self.old.shape.k self.new.closed (with_skipped lists (interval - self.old.running - 1)) }
+        ensures running { self.new.running ≡ interval }
+        ensures frame { self.new.frame ≡ self.old.frame }
+        ensures shape { self.new.shape ≡ self.old.shape }
+    {
+        skip(&mut self.closed, interval - self.running - 1);
+        let Hub {
+            heart,
+            updaters,
+            reader,
+        } = next;
+        let _heart = replace(&mut self.heart, heart);
+        let _reader = replace(&mut self.reader, reader);
+        self.taken = 0;
+        self.running = interval;
+        updaters
+    }
+
+    // Closes the running interval, and goes on in a later one. If that runs out of memory, the next hub is kept.
+    fn close_and_move(
+        &mut self,
+        interval: u64,
+        updaters: &mut Updaters<'r, R>,
+    ) -> Result<(Reply, Updaters<'r, R>), OutOfMemory>
+        requires later { self.old.running < interval }
+        requires tables { All (λ (u : UpdaterState). u.table ≡ self.old.heart.table) updaters.old.items }
+        requires apart { AreApart updaters.old.items }
+        ensures moves { (before : List UpdaterState) (lists : List (List ℕ)) → HasTaken self.old before → AreApart (before ++ updaters.old.items)
+            → StandForEach self.old.shape.k self.old.closed lists → IfOk result (λ made. Moves self.old interval (before ++ updaters.old.items) lists made.0 made.1.items self.new) }
+        ensures early { (before : List UpdaterState) → HasTaken self.old before → OnErr result (StopsBefore self.old before updaters.old.items updaters.new.items self.new) }
+        ensures frame { self.new.frame ≡ self.old.frame }
+        ensures shape { self.new.shape ≡ self.old.shape }
+    {
+        let next = self.take_next()?;
+        match self.close(updaters) {
+            Ok(reply) => Ok((reply, self.move_to(interval, next))),
+            Err(OutOfMemory) => {
+                self.next = Some(next);
+                Err(OutOfMemory)
+            }
+        }
+    }
+
+    /// Comes to a moment, with all updaters of the running interval that were not taken in. If it lies in a later one, the
+    /// running one is closed, those that are skipped are closed empty, and a new hub runs.
+    pub fn advance(&mut self, moment: u64, updaters: Updaters<'r, R>) -> Advance<'r, R>
+        requires tables { All (λ (u : UpdaterState). u.table ≡ self.old.heart.table) updaters.items }
+        requires apart { AreApart updaters.items }
+        ensures same { (us : _) → result ≡ Advance.Same us → (moment / self.old.frame.span ≡ self.old.running) × (us ≡ updaters.entry) × (self.new ≡ self.old) }
+        ensures back { (us : _) → result ≡ Advance.Back us → (moment / self.old.frame.span < self.old.running) × (us ≡ updaters.entry) × (self.new ≡ self.old) }
+        ensures moved { (reply : _) (us : _) → result ≡ Advance.Moved reply us → (self.old.running < moment / self.old.frame.span)
+            × ((before : List UpdaterState) (lists : List (List ℕ)) → HasTaken self.old before → AreApart (before ++ updaters.entry.items)
+            → StandForEach self.old.shape.k self.old.closed lists → Moves self.old (moment / self.old.frame.span) (before ++ updaters.entry.items) lists reply us.items self.new) }
+        ensures stopped { (us : _) → result ≡ Advance.OutOfMemory us → (self.old.running < moment / self.old.frame.span)
+            × ((before : List UpdaterState) → HasTaken self.old before → StopsBefore self.old before updaters.entry.items us.items self.new) }
+        ensures frame { self.new.frame ≡ self.old.frame }
+        ensures shape { self.new.shape ≡ self.old.shape }
+    {
+        let interval = self.frame.interval(moment);
+        if interval == self.running {
+            return Advance::Same(updaters);
+        }
+        if interval < self.running {
+            return Advance::Back(updaters);
+        }
+        let mut updaters = updaters;
+        match self.close_and_move(interval, &mut updaters) {
+            Ok((reply, next)) => Advance::Moved(reply, next),
+            Err(OutOfMemory) => Advance::OutOfMemory(updaters),
+        }
+    }
+
+    /// Closes the last interval, with all its updaters that were not taken in. Once it is done, only `running` is asked.
+    pub fn finish(&mut self, updaters: Updaters<'r, R>) -> Finish<'r, R>
+        requires tables { All (λ (u : UpdaterState). u.table ≡ self.old.heart.table) updaters.items }
+        requires apart { AreApart updaters.items }
+        ensures done { (reply : _) → result ≡ Finish.Done reply → (before : List UpdaterState) (lists : List (List ℕ)) → HasTaken self.old before
+            → AreApart (before ++ updaters.entry.items) → StandForEach self.old.shape.k self.old.closed lists → Closes self.old (before ++ updaters.entry.items) lists reply self.new }
+        ensures stopped { (us : _) → result ≡ Finish.OutOfMemory us
+            → (before : List UpdaterState) → HasTaken self.old before → StopsBefore self.old before updaters.entry.items us.items self.new }
+        ensures running { self.new.running ≡ self.old.running }
+    {
+        let mut updaters = updaters;
+        match self.close(&mut updaters) {
+            Ok(reply) => Finish::Done(reply),
+            Err(OutOfMemory) => Finish::OutOfMemory(updaters),
+        }
+    }
+}
