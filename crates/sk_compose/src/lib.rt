@@ -11,6 +11,3 @@ pub use buffer::{Buffer, Parcel};
 pub use composable::Composable;
 pub use sk_model::OutOfMemory;
 pub use theta_kind::{ThetaKind, ThetaWord};
-
-#[cfg(test)]
-mod tests;

@@ -9,6 +9,3 @@ mod walk;
 
 pub use heap_theta::HeapTheta;
 pub use sk_model::OutOfMemory;
-
-#[cfg(test)]
-mod tests;

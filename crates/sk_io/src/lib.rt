@@ -38,6 +38,3 @@ pub use steps::{count_fault, read_some, write_some};
 pub use stream::{Failed, Sink, Source, write_all};
 pub use sure_source::SureSource;
 pub use words::words_of;
-
-#[cfg(test)]
-mod tests;

@@ -8,6 +8,3 @@ mod source;
 
 pub use sk_model::OutOfMemory;
 pub use source::{MOST_MADE, MakeSource};
-
-#[cfg(test)]
-mod tests;

@@ -55,31 +55,3 @@ pub fn estimate(alloc: Global, k: usize, hashes: &[u64]) -> Result<(u128, u64), 
     let theta = kept.get(most).copied().unwrap_or(0);
     Ok((most as u128 * u128::from(ITEM_END), theta))
 }
-
-#[cfg(test)]
-mod tests {
-    use super::*;
-    use std::test::Fail;
-
-    #[test]
-    fn a_repeat_is_kept_once(rt: HostRuntime) -> Result<(), Fail> {
-        let kept = k_smallest(rt.alloc(), 2, &[5, 3, 5])?;
-        assert_eq!(rt; kept.as_slice(), [3, 5].as_slice());
-        Ok(())
-    }
-
-    #[test]
-    fn estimates_are_those_worked_by_hand(rt: HostRuntime) -> Result<(), Fail> {
-        let alloc = rt.alloc();
-        assert_eq!(rt;
-            estimate(alloc, 2, &[1, 2])?,
-            (9_223_372_036_854_775_808, 2)
-        );
-        assert_eq!(rt;
-            estimate(alloc, 2, &[5, 3])?,
-            (9_223_372_036_854_775_808, 5)
-        );
-        assert_eq!(rt; estimate(alloc, 4, &[])?, (0, 1));
-        Ok(())
-    }
-}

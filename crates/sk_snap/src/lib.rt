@@ -20,6 +20,3 @@ pub use sequential::Sequential;
 pub use sk_model::OutOfMemory;
 pub use theta::{JoinInto, ThetaReader, VersionedTheta};
 pub use versioned::Versioned;
-
-#[cfg(test)]
-mod tests;

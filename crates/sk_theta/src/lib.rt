@@ -11,6 +11,3 @@ pub use reply::{Reply, unpack};
 pub use sizes::{BadShape, Shape};
 pub use sk_model::OutOfMemory;
 pub use sk_model::limits::ITEM_END;
-
-#[cfg(test)]
-mod tests;

@@ -10,6 +10,3 @@ pub use alarm::Alarm;
 pub use board::{Board, Seen};
 pub use sk_theta::Reply;
 pub use watcher::Watcher;
-
-#[cfg(test)]
-mod tests;

@@ -12,6 +12,3 @@ pub use answers::{Advance, Finish, Started, Updaters};
 pub use frame::Frame;
 pub use panes::Panes;
 pub use sk_model::OutOfMemory;
-
-#[cfg(test)]
-mod tests;
