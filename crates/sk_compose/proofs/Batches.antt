@@ -1,4 +1,4 @@
--- A list with a batch behind it.
+-- A list with a batch after it.
 use Rattle.std.proofs.Common.{◌≡◌, ℕ, List, ◌++◌, ap, ◌∙◌}
 use Rattle.sk_model.specs.Entries.{Entry, items_of_entries, tagged}
 use Rattle.sk_model.proofs.Entries.{items_append, items_tagged}

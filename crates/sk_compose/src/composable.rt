@@ -43,7 +43,7 @@ pub trait Composable: Drop {
     /// That told values tell a list.
     ghost tells: { Type 0 };
 
-    /// The name of the sketch that a value was told of.
+    /// The name of the sketch that a told value is of.
     ghost told_name: { Self.Told → List ℕ };
 
     /// The relation between a told value and a list that it tells.

@@ -7,7 +7,7 @@ use Rattle.sk_core.specs.Texts.{fields_of, onto_first}
 abbrev pub is_space : ℕ → Bool
 is_space byte = eqb byte 32
 
--- behind the first space
+-- after the first space
 pub cut_some : (text : List ℕ) → position_or_len is_space text < length text → fields_of text ≡ take (position_or_len is_space text) text ∷ fields_of (drop (position_or_len is_space text + 1) text)
 unfolding fields_of
 cut_some [] inside = absurd (omega arith)
@@ -36,7 +36,7 @@ cut_none (x ∷ xs) none = by_byte (eqb x 32) (cut_none xs) none
     by_byte true more none = absurd (omega arith)
     by_byte false more none = ap (onto_first x) (more (omega arith))
 
--- the same of what `position` answers
+-- the same of what `position` returns
 pub cut_at : (text : List ℕ) (at : ℕ) → Some at ≡ position is_space text → (at < length text) × (fields_of text ≡ take at text ∷ fields_of (drop (at + 1) text))
 cut_at text at is = by_test (ltb p (length text)) refl is
   where

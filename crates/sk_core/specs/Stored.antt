@@ -12,7 +12,7 @@ use Rattle.sk_core.specs.declared.token.Token.{Token}
 use Rattle.sk_model.specs.Width.{item_end}
 use Rattle.sk_model.specs.Limits.{least_k, most_k, most_updaters}
 
--- an updater: of what it kept so many items are handed over, and of the published list so many entries are
+-- an updater: of what it kept this many items are handed over, and of the published list this many entries are
 -- its `given` and its `base`
 pub record StoredUpdater : Type 0 where
   pub size : ℕ

@@ -10,7 +10,7 @@ use Rattle.sk_core.specs.declared.event.Event.TheVariants.{Offer, Look, Swap, Ha
 use Rattle.sk_model.specs.Width.{item_end}
 use Rattle.sk_model.specs.Limits.{least_k, most_k, most_size, most_updaters}
 
--- a field more at the front of the first one
+-- a byte more at the start of the first one
 abbrev pub onto_first : ℕ → List (List ℕ) → List (List ℕ)
 onto_first byte [] = (byte ∷ []) ∷ []
 onto_first byte (field ∷ fields) = (byte ∷ field) ∷ fields

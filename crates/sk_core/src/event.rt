@@ -1,4 +1,4 @@
-//! What a schedule tells the machine to do, and what it answers.
+//! What a schedule lets the machine do, and what it returns.
 
 /// An event. Updaters, tokens and seats go by their numbers, from 0; the heart's seat has the number of
 /// the updaters.
@@ -23,11 +23,11 @@ pub enum Event {
     /// The seat tries to take the turn.
     Turn(u64),
     YieldTurn(u64),
-    /// The updater is admitted, with buffers of so many items.
+    /// The updater is admitted, with buffers of this many items.
     Admit(u64, u64),
 }
 
-/// What an event that is enabled answers.
+/// What an event that is enabled returns.
 #[derive(Clone, Copy, Debug, PartialEq, Eq)]
 pub enum Answer {
     Kept,

@@ -50,7 +50,7 @@ pub fn read_vacant(line: &[u8]) -> Option<(u32, u32)>
     Some((number(k, LEAST_K, MOST_K)?, number(n, 1, MOST_UPDATERS)?))
 }
 
-// What stands before the first space of a text, and what stands behind it.
+// What stands before the first space of a text, and what stands after it.
 fn cut(text: &[u8]) -> Option<(&[u8], &[u8])>
     ensures { MatchOption result (fields_of text.now ≡ text.now ∷ []) (λ parts. fields_of text.now ≡ parts.0.now ∷ fields_of parts.1.now) }
 {

@@ -159,7 +159,7 @@ impl Updater {
         self.home = true;
     }
 
-    // Its word becomes the hint of so many published entries.
+    // Its word becomes the hint of this many published entries.
     pub fn give_back(&mut self, word: u64, given: usize)
         ensures { self.new ≡ record self.old { word = word; given = given } }
     {

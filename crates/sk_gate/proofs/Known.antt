@@ -61,7 +61,7 @@ drained_same n m m' owner j known picked i same o = record {
   was_picked = λ e. o.was_picked (ap (λ (y : Mine). y.picked) same.mine ∙ e);
 }
 
--- a step of which only its record tells
+-- a step of which only its record speaks
 pub stepped_knows : (n : ℕ) (numbers name : List ℕ) (m : Coarse) (left : Bool) (owner : ℕ → ℕ) (leader j : ℕ) (v : View) (steps' : List Move) → KnowsOpen m steps' v.post → Knows n numbers name m left owner leader j v
     → Knows n numbers name m left owner leader j (record v { steps = steps' })
 stepped_knows n numbers name m left owner leader j v steps' opened o = record {

@@ -330,7 +330,7 @@ module _ {C T : Type 0} (g : Sketching C) (k : Telling T) {heart : Bool} {n numb
       (by_view m'.0 (record v { steps = steps' }) h.first h.second view (leads_keeps g k v (record v { steps = steps' }) n v.duty h.first h.second (λ _. refl) refl refl refl h.leading))
       (hand ∙ h.hand) h.counted (ap has_parcel its.0 ∙ sym (ne_eqb x 0 ne)) lifted_is
 
-  -- the slot of the stage is the first, with the trunk's and its own behind it
+  -- the slot of the stage is the first, with the trunk's and its own after it
   first_place : (i : ℕ) (x y : Slot C T) → h.first ≡ (i, x) ∷ [] → h.second ≡ (n, y) ∷ [] → (m.1 ≡ (i, x) ∷ (h.second ++ h.third)) × (length (h.second ++ h.third) ≡ 1 + length h.third) × (front ≡ 2)
   first_place i x y is second = (
     h.hand ∙ ap (λ l. l ++ h.second ++ h.third) is,

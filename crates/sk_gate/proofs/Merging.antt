@@ -1,4 +1,4 @@
--- What a merge comes to, from what its calls tell.
+-- What a merge comes to, from what its calls show.
 use Rattle.std.proofs.Common.{◌≡◌, ℕ, false, List, [], ◌∷◌, ◌++◌, length, ap, ◌∙◌, subst, append_assoc, set}
 use Rattle.sk_model.specs.Entries.{Entry, tagged}
 use Rattle.sk_machine.specs.declared.views.Stage.TheVariants.{Idle, Published}

@@ -14,13 +14,13 @@ use Rattle.sk_gate.specs.Rule.{KnowsOpen}
 open_after : (i : ℕ) (steps : List Move) (move : Move) → is_open i (steps ++ move ∷ []) ≡ told_open i (is_open i steps) move
 open_after i steps move = fold-append (told_open i) false steps (move ∷ [])
 
--- a step that tells nothing of an updater's word
+-- a step that shows nothing of an updater's word
 pub open_neutral : (m m' : Coarse) (steps : List Move) (move : Move) (p : Post) → ((i : ℕ) (b : Bool) → told_open i b move ≡ b) → ((i : ℕ) → (m.updaters i).word ≢ 0 → (m'.updaters i).word ≢ 0) → KnowsOpen m steps p → KnowsOpen m' (steps ++ move ∷ []) p
 open_neutral m m' steps move Guest tells word t = tt
 open_neutral m m' steps move (Root made) tells word t = tt
 open_neutral m m' steps move (Updater i mine) tells word t = λ e. word i (t (sym (open_after i steps move ∙ tells i (is_open i steps)) ∙ e))
 
--- a step that tells whether the word of updater k is 0
+-- a step that shows whether the word of updater k is 0
 pub open_told : (m m' : Coarse) (steps : List Move) (move : Move) (k x : ℕ) (p : Post) → ((i : ℕ) (b : Bool) → told_open i b move ≡ (if k == i then not (x == 0) else b)) → (x ≢ 0 → (m'.updaters k).word ≢ 0) → ((i : ℕ) → i ≢ k → (m.updaters i).word ≢ 0 → (m'.updaters i).word ≢ 0)
     → KnowsOpen m steps p → KnowsOpen m' (steps ++ move ∷ []) p
 open_told m m' steps move k x Guest tells here others t = tt

@@ -234,7 +234,7 @@ module _ {C T : Type 0} (g : Sketching C) (k : Telling T) where
         );
       })
 
-  -- that took its slot, which then goes behind the others
+  -- that took its slot, which then goes after the others
   pub looked_takes : (hint : List ℕ → List Entry → ℕ) (n number front r : ℕ) (own : Bool) (m m' : Sat C T) → (h : Holds g k false n number front own m) → LooksAt hint m.0 r m'.0 number → LookHand k m r m' number → r ≢ 0 → own ≡ false → size_of m.0 number ≢ 0
       → Holds g k false n number front true (m'.0, turned m'.1)
   looked_takes hint n number front r own m m' h t hand ne off there =

@@ -41,7 +41,7 @@ module _ {C T : Type 0} (hint packed : List ℕ → List Entry → ℕ) (g : Ske
   abbrev Rule : State (Slot C T) View → Type 0
   Rule = KeepsRule hint packed g k
 
-  -- what a find of updater i tells
+  -- what a find of updater i shows
   abbrev FoundBy : Sat C T → ℕ → Sat C T → ℕ → Type 0
   FoundBy m x m' i = FindsAt m.0 x m'.0 i × (x ≢ 0 → m'.1 ≡ m.1) × (x ≡ 0 → (p : Parcel T) × (m'.1 ≡ (i, full p) ∷ m.1) × (p.buffer ≡ contents (batch_of m'.0) (size_of m'.0 i)))
 
@@ -131,7 +131,7 @@ module _ {C T : Type 0} (hint packed : List ℕ → List Entry → ℕ) (g : Ske
         λ j at-j. subst (FoundBy me x (w, me.1)) (here j at-j) (((λ _. refl), λ zero. absurd (ne zero)), (λ _. refl), λ zero. absurd (ne zero)),
       ))
 
-  -- what a find that leaves updater i tells
+  -- what a find that leaves updater i shows
   abbrev LeftBy : Sat C T → ℕ → Sat C T → ℕ → Type 0
   LeftBy m x m' i = (x ≡ 0) × LeavesAt m.0 m'.0 i × (m'.1 ≡ rest m.1)
 
@@ -196,7 +196,7 @@ module _ {C T : Type 0} (hint packed : List ℕ → List Entry → ℕ) (g : Ske
   place_in (Busy i batch) = i
   place_in (Published i) = i
 
-  -- what a publish at updater i tells
+  -- what a publish at updater i shows
   abbrev PublishedBy : Sat C T → ℕ → Sat C T → ℕ → Type 0
   PublishedBy m x m' i = (m.0.duty ≡ Leads (Busy i (batch_of m.0)) false → PublishesAt m.0 x m'.0 i × (m'.1 ≡ m.1)) × (m.0.duty ≡ Leads (Busy i (batch_of m.0)) true → PublishesAt m.0 x m'.0 i × (m'.1 ≡ (i, None) ∷ m.1))
 

@@ -20,12 +20,12 @@ use Rattle.sk_model.specs.Limits.{most_kept}
 
 -- ---- lists of slots
 
--- the first goes behind the others, so many times
+-- the first goes after the others, this many times
 unfoldable pub rotated : {S : Type 0} → ℕ → List (ℕ × S) → List (ℕ × S)
 rotated zero hand = hand
 rotated (suc times) hand = turned (rotated times hand)
 
--- a slot is in hand, with so many before it and behind it
+-- a slot is in hand, with this many before it and this many after it
 abbrev pub LiesAt : {S : Type 0} → ℕ → ℕ → ℕ → List (ℕ × S) → Type 0
 LiesAt {S} slot before after hand = (front : List (ℕ × S)) × (x : S) × (back : List (ℕ × S)) × (hand ≡ front ++ (slot, x) ∷ back) × (length front ≡ before) × (length back ≡ after)
 
@@ -120,7 +120,7 @@ module _ (v : View) where
   abbrev pub IsTrunk : {C T : Type 0} → Sketching C → Trunk C T → Type 0
   IsTrunk g t = IsTrunkOf g v.numbers v.name v.seen (stage_in v.duty) (size_of v) t
 
-  -- of a parcel that an updater finds in its slot: what was handed over before has a told value, which tells its base
+  -- of a parcel that an updater finds in its slot: what was handed over before has a told value, which shows its base
   abbrev pub TellsBase : {T : Type 0} → Telling T → Parcel T → Type 0
   TellsBase {T} k p = (t : T) → p.told ≡ Some t → ((mine_of v).handed ≢ []) × TellsList k v.name t (mine_of v).base
 

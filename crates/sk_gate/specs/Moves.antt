@@ -1,4 +1,4 @@
--- What each call on a word tells: the view before, the number loaded or stored, and the view after.
+-- What each call on a word shows: the view before, the number loaded or stored, and the view after.
 use Rattle.std.specs.Prelude.{◌≡◌, ◌≢◌, ℕ, ◌+◌, ◌<◌, ◌≤◌, List, [], ◌∷◌, ◌++◌, length, Bool, true, false, All, Contains, slice_set}
 use Rattle.sk_model.specs.Entries.{Entry, entries_by, tagged}
 use Rattle.sk_model.specs.Missing.{Begins, LacksAtMost, longer}
@@ -100,7 +100,7 @@ MayResume v Idle left = left ≡ false
 MayResume v (Busy i batch) left = (left ≡ true) × IsBatch (size_of v i) batch × (length v.seen + length batch ≤ most_entries)
 MayResume v (Published i) left = ⊥
 
--- it tells how large the buffers are of the updater that the batch is of
+-- it says how large the buffers are of the updater that the batch is of
 abbrev pub LearnsSize : View → View → Stage → Type 0
 LearnsSize v w Idle = w.sizes ≡ v.sizes
 LearnsSize v w (Busy i batch) = (i < length v.sizes) × (w.sizes ≡ slice_set v.sizes i (size_of w i)) × (size_of v i ≢ 0 → size_of w i ≡ size_of v i)

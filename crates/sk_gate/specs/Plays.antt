@@ -1,4 +1,4 @@
--- What each step of the table tells: of the view, as in Moves, and of the slots that the seat has.
+-- What each step of the table shows: of the view, as in Moves, and of the slots that the seat has.
 use Rattle.std.specs.Prelude.{◌≡◌, ◌≢◌, ℕ, ◌+◌, List, [], ◌∷◌, ◌++◌, Bool, true, false, not, None, is_some}
 use Rattle.atomic_table.specs.Table.{Me, Step, rest}
 use Rattle.sk_model.specs.Entries.{Entry}

@@ -126,6 +126,6 @@ pub record Shown {C T : Type 0} (hint packed : List ℕ → List Entry → ℕ) 
   pub trunk_is : ShowsTrunk g numbers name machine (get_elem? s.homes machine.n)
   pub seats : ShowsSeats numbers name machine s.views
 
--- whenever a table keeps a rule, of what it was told when it was made
+-- whenever a table keeps a rule, of what was given to it when it was made
 abbrev pub AlwaysShown : {C T A : Type 0} → (List ℕ → List Entry → ℕ) → (List ℕ → List Entry → ℕ) → Sketching C → Telling T → (A → State (Slot C T) View → Type 0) → Type 0
 AlwaysShown {C} {T} {A} hint packed g k holds = (about : A) (s : State (Slot C T) View) → holds about s → Shown hint packed g k s

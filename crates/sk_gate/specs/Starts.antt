@@ -19,7 +19,7 @@ pub record AreFirstWords (packed hint n : ℕ) (words : List ℕ) : Type 0 where
   pub turn : slice_index words (turn_word n) ≡ 0
   pub lower : 1 ≤ hint
 
--- the view of a seat that has seen nothing, and knows of nothing; its steps are so many splits
+-- the view of a seat that has seen nothing, and knows of nothing; its steps are this many splits
 abbrev pub blank_view : List ℕ → List ℕ → List ℕ → Post → ℕ → View
 blank_view sizes numbers name post splits = record (first_view sizes numbers name) { post = post; steps = replicate splits Split }
 

@@ -104,7 +104,7 @@ admitted_sizes (suc admitted) (p ∷ ps) = p.buffer.capacity ∷ admitted_sizes 
 
 -- ---- steps
 
--- whether, by its own last steps, updater i knows that its word is not 0: a look, a find or a give_back there told
+-- whether, by its own last steps, updater i knows that its word is not 0: a look, a find or a give_back there showed
 -- it so, and it has handed nothing over since
 abbrev pub told_open : ℕ → Bool → Move → Bool
 told_open i before (Look k word) = if k == i then not (word == 0) else before

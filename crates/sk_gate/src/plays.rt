@@ -1,4 +1,4 @@
-//! What each step of the table tells whoever takes it.
+//! What each step of the table shows to whoever takes it.
 use crate::rule::Slot;
 use atomic_table::{Join, Play, Split};
 use sk_compose::Composable;

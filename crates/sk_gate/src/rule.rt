@@ -15,7 +15,7 @@ pub struct Gate<C> {
     sketch: PhantomData<C>,
 }
 
-/// What the table is told when it is made: the sketch, the parcels, and how many updaters are admitted.
+/// What is given to the table when it is made: the sketch, the parcels, and how many updaters are admitted.
 #[derive(Drop)]
 pub struct About<C: Composable> {
     pub sketch: Snapshot<C>,

@@ -87,7 +87,7 @@ impl<C: Composable, R: Role> Propagator<C, R> {
     }
 }
 
-// The first slots go behind the others, one at a time.
+// The first slots go after the others, one at a time.
 pub(crate) fn rotate<C: Composable>(seat: &mut Seat<Slot<C>, View>, times: u32)
     ensures table { seat.new.table_id ≡ seat.old.table_id }
     ensures id { seat.new.id ≡ seat.old.id }

@@ -43,7 +43,7 @@ fn first_words<C: Composable>(alloc: Global, n: u32, global: &C) -> Result<Vec<u
     Ok(words)
 }
 
-// The parcels, and the trunk behind them.
+// The parcels, and the trunk after them.
 fn first_slots<C: Composable>(
     alloc: Global,
     parcels: Vec<Parcel<C::Told>>,

@@ -95,7 +95,7 @@ impl<C: Composable> Propagator<C, OfUpdater> {
         ensures tells { TellsBase self.old.view (telling C.tells C.told_name C.told_of) result }
         ensures seat { self.new ≡ record self.old { own = own_with full } }
     {
-        // It tells the proof that they are items.
+        // It shows to the proof that they are items.
         let _count = full.buffer.len();
         self.exchange_own(full)
     }

@@ -1,4 +1,4 @@
--- The heap and the table hold the same hashes, and go on to.
+-- The heap and the table hold the same hashes, and continue to.
 use Rattle.std.proofs.Common.{◌≡◌, ℕ, ◌+◌, ◌*◌, ◌<◌, ◌≤◌, nat_eq, List, ◌∷◌, length, set, get_or, Contains, inl, inr, refl, sym, ◌∙◌, subst, arith, length-set}
 use Rattle.std.specs.BinaryHeap.{IsHeap}
 use Rattle.std.specs.List.Sorted.{IsPermutation}

@@ -1,4 +1,4 @@
--- An empty place that is closed: what stands behind it moves back.
+-- An empty place that is closed: what stands after it moves back.
 use Rattle.std.proofs.Common.{◌≡◌, ◌≢◌, ℕ, ◌+◌, ◌-◌, ◌%◌, ◌<◌, ◌≤◌, List, length, set, get_or, ⊎_elim, refl, sym, ap, subst, ◌∙◌, arith, length-set}
 use Rattle.std.proofs.lemmas.Bool.{cases_eq, cases_order}
 use Rattle.std.proofs.Math.Nat.{mod-eq_of_lt}
@@ -64,7 +64,7 @@ IsOnlyGap len t start gap = (h n e : ℕ) → n < len → going_round len t (hom
 
 module _ (len : ℕ) (t : List ℕ) (start gap step : ℕ) (long : len ≡ length t) (behind : gap < step) (within : step < len) (only : IsOnlyGap len t start gap) where
   module _ (y d : ℕ) (under_d : d < len) (reaches : (home len y + d) % len ≡ (start + step) % len) (entry : going_round len t (start + step) ≡ y + 1) (hole : going_round len t (start + gap) ≡ 0) (far : step - gap ≤ d) where
-    -- the gap is at the place that y's way meets so many steps before the entry
+    -- the gap is at the place that y's way meets this many steps before the entry
     on_the_way : (home len y + (d - (step - gap))) % len ≡ (start + gap) % len
     on_the_way = steps_back len (home len y) (d - (step - gap)) start gap (step - gap) d step (omega arith) reaches (omega arith) (omega arith)
 

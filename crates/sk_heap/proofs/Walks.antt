@@ -1,4 +1,4 @@
--- What a walk along the table meets, where it looks at several places at once.
+-- What a walk along the table meets, if it looks at several places together.
 use Rattle.std.proofs.Common.{◌≡◌, ◌≢◌, ◌⊎◌, ℕ, ◌+◌, ◌-◌, ◌*◌, ◌%◌, ◌^◌, ◌<◌, ◌≤◌, List, length, map, get_or, slice_index, Contains, ⊎_elim, cond, eqb, nat_eq, true, true≢false, eqb-true, eq-eqb, replicate, sym, ap, ◌∙◌, arith, w64}
 use Rattle.std.specs.Simd.Lanes.{mask_l, top, zip2, chunk}
 use Rattle.std.proofs.lemmas.Bool.{cases_lt}
@@ -7,7 +7,7 @@ use Rattle.std.proofs.Math.Nat.{mod-add-mod, add-mul-mod_self_right, mod-eq_of_l
 use Rattle.sk_heap.specs.Table.{going_round, IsGap, IsFirstFrom, HasNone}
 use Rattle.sk_heap.proofs.Round.{one_round}
 
--- ---- several places at once
+-- ---- several places together
 
 pub none_of_block : (t : List ℕ) (at x : ℕ) → at + 8 ≤ length t
     → nat_eq (mask_l (map (top 63) (zip2 (λ a b. cond (eqb a b) (2 ^ 64 - 1) 0) (chunk at 8 t) (replicate 8 x))) % 2 ^ 64) 0 ≡ true → HasNone x t at (at + 8)
@@ -53,7 +53,7 @@ module _ (t : List ℕ) (n : ℕ) where
         front p (omega arith) (omega arith) (sym (ap (λ (q : ℕ). get_or t q 0) (round e p (omega arith) (omega arith))) ∙ is))
         (cases_lt (n % length t + e) (length t))
 
-  -- it goes on from the front
+  -- it continues from the start
   pub found_round : (entry at : ℕ) → Contains t 0 → HasNone 0 t (n % length t) (length t) → HasNone entry t (n % length t) (length t)
       → HasNone 0 t 0 at → HasNone entry t 0 at → (at < length t → (slice_index t at ≡ 0) ⊎ (slice_index t at ≡ entry)) → IsFirstFrom entry t n at
   found_round entry at room behind behind' front front' stops =
@@ -73,7 +73,7 @@ module _ (t : List ℕ) (n : ℕ) where
         other = none_round entry at behind' front' below under;
       }
 
--- ---- the run behind a gap
+-- ---- the run after a gap
 
 module _ (t : List ℕ) (start end d : ℕ) (g : IsGap (length t) t start 0 1) (f : IsFirstFrom 0 t (start + 1) end) (under : d < length t) (reaches : (start + 1 + d) % length t ≡ end) where
   steps_are : d ≡ f.steps

@@ -10,6 +10,6 @@ times x xs = count_by (λ y. y == x) xs
 abbrev pub HasSame : List ℕ → List ℕ → Type 0
 HasSame xs ys = (x : ℕ) → times x xs ≡ times x ys
 
--- no number is above the one that stands halfway to the front
+-- no number is above the one that stands halfway to the start
 abbrev pub IsMaxHeap : List ℕ → Type 0
 IsMaxHeap xs = (j : ℕ) → 1 ≤ j → j < length xs → slice_index xs j ≤ slice_index xs ((j - 1) / 2)

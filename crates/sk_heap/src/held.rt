@@ -14,7 +14,7 @@ use sk_model::OutOfMemory;
 use sk_theta::ITEM_END;
 use std::collections::BinaryHeap;
 
-// Puts a hash in the place of the greatest, which it answers.
+// Puts a hash in the place of the greatest, which it returns.
 fn replace_greatest(heap: &mut BinaryHeap<u64>, hash: u64) -> u64
     requires some { 0 < heap_len heap.old }
     requires order { IsHeap nat_cmp (heap_items heap.old) }
@@ -63,7 +63,7 @@ fn exchange(heap: &mut BinaryHeap<u64>, table: &mut [u64], k: usize, at: usize, 
     greatest
 }
 
-// Puts a hash below theta among the k smallest, and answers whether they changed.
+// Puts a hash below theta among the k smallest, and returns whether they changed.
 pub fn put_in(heap: &mut BinaryHeap<u64>, table: &mut [u64], k: usize, hash: u64) -> bool
     requires held { IsHeld k (heap_items heap.old) table.old }
     requires item { IsItem hash }

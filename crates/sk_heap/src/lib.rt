@@ -1,4 +1,4 @@
-//! The sequential sketch of the k smallest hashes, as a heap beside a probing table.
+//! The sequential sketch of the k smallest hashes, as a heap with a probing table.
 #![tactic(auto)]
 
 mod heap_theta;

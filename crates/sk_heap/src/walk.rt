@@ -1,4 +1,4 @@
-//! The walk along a table to an entry or an empty place, several places at once.
+//! The walk along a table to an entry or an empty place, several places together.
 ghost use Rattle.std.specs.Prelude.{◌≡◌, ◌≢◌, ◌⊎◌, ◌+◌, ◌^◌, ◌<◌, ◌≤◌, ℕ, length, slice_index, Contains, true};
 ghost use Rattle.std.specs.Int.{IsPowerOfTwo};
 ghost use Rattle.sk_heap.specs.Table.{IsFirstFrom, HasNone};
@@ -9,7 +9,7 @@ use std::simd::prelude::*;
 // How many places are looked at together.
 const WIDE: usize = 8;
 
-// Whether none of so many places from one on has a number.
+// Whether none of eight places from one on has a number.
 #[inline(always)]
 fn has_none(table: &[u64], at: usize, number: u64) -> bool
     requires { at + 8 ≤ length table.now }

@@ -10,7 +10,7 @@ use Rattle.sk_machine.specs.declared.views.View.{View}
 use Rattle.sk_gate.specs.Views.{told_open, is_open}
 use Rattle.sk_hub.specs.Rounds.{ServesOne, ServesEach, Serves}
 
--- what these steps tell of the word of updater i, after what was known before
+-- what these steps show of the word of updater i, after what was known before
 abbrev told_by : ℕ → Bool → List Move → Bool
 told_by i before steps = fold (told_open i) before steps
 

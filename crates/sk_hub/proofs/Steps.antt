@@ -230,7 +230,7 @@ asks_knows packed v w word a = record {
 
 -- ---- one updater alone
 
--- items of updater i were published, after those of a batch that was held; so many in all
+-- items of updater i were published, after those of a batch that was held; this many in all
 abbrev pub ServesItems : View → ℕ → ℕ → View → Type 0
 ServesItems v i count w = (held : ℕ) × (found : ℕ) × (0 < found) × (count ≡ held + found) × Serves v i 1 held found w
 

@@ -62,14 +62,14 @@ module _ {T : Type 0} (hint_of packed : List ℕ → List Entry → ℕ) (k : Te
   view_is : ha.view ≡ asked_view (joined_view hs.view us.view number) ha.view.seen word
   view_is = asks.view ∙ λ d. asked_view (joined_is d) ha.view.seen word
 
-  -- the ask tells it of those that were taken in
+  -- the ask shows it of those that were taken in
   name : us.view.name ≡ hs.view.name
   name = asks.named us.view.name (subst (λ z. Contains z.names us.view.name) (sym joined_is) (Contains-push hs.view.names us.view.name)) ∙ ap (λ z. z.name) joined_is
 
   heart_is : record hs { view = asked_view (joined_view hs.view us.view number) ha.view.seen word } ≡ ha
   heart_is = sym (stays ∙ λ d. record (joins d) { view = view_is d })
 
-  -- what is told of updater i after that
+  -- what is known of updater i after that
   told_then : (known : List (List ℕ)) → length known ≡ n → known ≡ set hs.view.known number (mine_of us.view).handed → (i : ℕ) (t : T) → get_or (set told number p.told) i None ≡ Some t → (get_or known i [] ≢ []) × TellsItems k hs.view.name i (get_or known i []) t
   told_then known long is i t there = dite (ℕ_discrete i number)
       (λ same.

@@ -1,4 +1,4 @@
--- What an ask is worth (the r-relaxation of Rinberg and others, PPoPP 2020, told for each updater).
+-- What an ask is worth (the r-relaxation of Rinberg and others, PPoPP 2020, for each updater).
 use Rattle.std.specs.Prelude.{◌≡◌, ◌≢◌, ℕ, ◌+◌, ◌*◌, ◌==◌, if◌then◌else◌, List, [], ◌∷◌, ◌++◌, length, All, Contains}
 use Rattle.sk_model.specs.Entries.{Entry, entries_by}
 use Rattle.sk_model.specs.Missing.{Begins, LacksAtMost}

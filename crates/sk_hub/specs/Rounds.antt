@@ -1,4 +1,4 @@
--- What a call that propagates does, told by the steps that it appends.
+-- What a call that propagates does, by the steps that it appends.
 use Rattle.std.specs.Prelude.{◌≡◌, ◌≢◌, ◌⊎◌, ℕ, zero, suc, ◌+◌, ◌<◌, List, [], ◌∷◌, ◌++◌, length}
 use Rattle.sk_model.specs.Missing.{Begins}
 use Rattle.sk_machine.specs.declared.views.Move.{Move}
@@ -9,7 +9,7 @@ use Rattle.sk_gate.specs.Moves.{IsSeen}
 
 -- ---- steps
 
--- a batch of updater i, with so many items, was published, and its parcel given back with a hint that is not 0
+-- a batch of updater i, with this many items, was published, and its parcel given back with a hint that is not 0
 abbrev pub PublishesBatch : ℕ → ℕ → List Move → Type 0
 PublishesBatch i count steps = (word : ℕ) × (hint : ℕ) × (hint ≢ 0) × (steps ≡ Publish word count ∷ GiveBack i hint ∷ [])
 
@@ -28,7 +28,7 @@ FindsBatch i count steps = (word : ℕ) × (hint : ℕ) × (0 < count) × (hint 
 abbrev pub ServesOne : ℕ → ℕ → List Move → Type 0
 ServesOne i count steps = ((count ≡ 0) × FindsNothing i steps) ⊎ FindsBatch i count steps
 
--- n updaters from this one on were served once each, in number order, with so many items in all
+-- n updaters from this one on were served once each, in number order, with this many items in all
 unfoldable pub ServesEach : ℕ → ℕ → ℕ → List Move → Type 0
 ServesEach from zero count steps = (count ≡ 0) × (steps ≡ [])
 ServesEach from (suc n) count steps = (before : ℕ) × (now : ℕ) × (earlier : List Move) × (later : List Move) × (count ≡ before + now) × (steps ≡ earlier ++ later) × ServesEach from n before earlier × ServesOne (from + n) now later
@@ -71,8 +71,8 @@ TriesTheTurn v w = ((steps : List Move) × TakesTurn v steps w) ⊎ ((other : �
 
 -- ---- calls
 
--- n updaters from this one on were served, after a batch that was held; so many items of that one were published, and
--- so many that were found
+-- n updaters from this one on were served, after a batch that was held: of that one `held` items were published, and
+-- `found` of those that were found
 pub record Serves (v : View) (from n held found : ℕ) (w : View) : Type 0 where
   pub finishing : List Move
   pub finding : List Move
@@ -80,7 +80,7 @@ pub record Serves (v : View) (from n held found : ℕ) (w : View) : Type 0 where
   pub finds : ServesEach from n found finding
   pub turn : TakesTurn v (finishing ++ finding) w
 
--- each of n updaters was served once, and so many items were published
+-- each of n updaters was served once, and this many items were published
 abbrev pub Sweeps : View → ℕ → ℕ → View → Type 0
 Sweeps v n count w = (held : ℕ) × (found : ℕ) × (count ≡ held + found) × Serves v 0 n held found w
 
@@ -106,7 +106,7 @@ Refuses v from n w = TakesTurn v [] w ⊎ RefusesFound v from n w
 abbrev pub TriesToServe : ℕ → View → View → Type 0
 TriesToServe i v w = ((held : ℕ) × (found : ℕ) × Serves v i 1 held found w) ⊎ ((other : ℕ) × IsElsewhere v other w)
 
--- so it was tried, so many times
+-- so it was tried, this many times
 unfoldable pub TriesTimes : ℕ → ℕ → View → View → Type 0
 TriesTimes i zero v w = w ≡ v
 TriesTimes i (suc times) v w = (x : View) × TriesTimes i times v x × TriesToServe i x w

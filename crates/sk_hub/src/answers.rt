@@ -33,7 +33,7 @@ pub enum Settle {
 
 #[derive(Clone, Copy, Debug, PartialEq, Eq)]
 pub enum Help {
-    /// Each updater was served once, with so many items in all.
+    /// Each updater was served once, with this many items in all.
     Served(u32),
     /// The seat with this number propagates.
     Elsewhere(u32),
@@ -42,7 +42,7 @@ pub enum Help {
 
 #[derive(Clone, Copy, Debug, PartialEq, Eq)]
 pub enum Serve {
-    /// So many items were published.
+    /// This many items were published.
     Served(u32),
     /// Nothing waited.
     Nothing,
@@ -53,7 +53,7 @@ pub enum Serve {
 
 #[derive(Clone, Copy, Debug, PartialEq, Eq)]
 pub enum Sweep {
-    /// Each updater was served once, with so many items in all.
+    /// Each updater was served once, with this many items in all.
     Swept(u32),
     /// The seat with this number propagates.
     Elsewhere(u32),

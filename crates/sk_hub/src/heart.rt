@@ -29,7 +29,7 @@ pub struct Heart<C: Composable> {
     pub(crate) seat: HeartSeat<C>,
     // of the updaters that are not admitted, in number order
     pub(crate) vacant: VecDeque<UpdaterSeat<C>>,
-    // for each updater what its last parcel told, once it is drained, until it is given out
+    // for each updater the told value of its last parcel, once it is drained, until it is given out
     pub(crate) told: Vec<Option<C::Told>>,
     pub(crate) updaters: u32,
     pub(crate) admitted: u32,
@@ -205,7 +205,7 @@ impl<C: Composable> Heart<C> {
         unreachable!()
     }
 
-    // Takes in the seat of an updater, and what its last parcel told.
+    // Takes in the seat of an updater, and the told value of its last parcel.
     fn take_in(&mut self, u: Updater<C>)
         requires table { u.table ≡ self.old.table }
         requires settled { IsSettled u }

@@ -96,7 +96,7 @@ fn serve_one<C: Composable, P: Role, R: Wait>(
     publish_batch(rt, seat, trunk, i, parcel)
 }
 
-// Serves so many updaters from this one on. An `Err` has the number of the one whose batch was refused.
+// Serves this many updaters from this one on. An `Err` has the number of the one whose batch was refused.
 fn serve_each<C: Composable, P: Role, R: Wait>(
     rt: &R,
     seat: &mut Propagator<C, P>,
@@ -125,7 +125,7 @@ fn serve_each<C: Composable, P: Role, R: Wait>(
     Ok(count)
 }
 
-// Takes the turn, finishes a batch that was held, serves so many updaters from this one on, and yields.
+// Takes the turn, finishes a batch that was held, serves this many updaters from this one on, and yields.
 #[tactic(auto, using(crate::proofs::Steps::turns_elsewhere, crate::proofs::Steps::turns_taken))]
 pub(crate) fn propagate<C: Composable, P: Role, R: Wait>(
     rt: &R,

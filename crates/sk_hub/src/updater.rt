@@ -213,7 +213,7 @@ impl<C: Composable> Updater<C> {
         self.taken
     }
 
-    /// Whether each item that is kept is handed over at once.
+    /// Whether each item that is kept is handed over immediately.
     pub fn is_eager(&self) -> bool
         ensures { result ≡ (self.now.eager && C.early_of self.now.hint) }
     {

@@ -131,7 +131,7 @@ beginning_has_lines lines b =
 pub without_lf : (lines : List (List ℕ)) → All IsLine lines → All HasNoLf lines
 without_lf lines all = All-weaker IsLine HasNoLf (λ line is. is.no_lf) lines all
 
--- a front of an image's hashes makes an image
+-- a prefix of an image's hashes makes an image
 front_rises : (xs ys : List ℕ) → IsStrictlyIncreasing (xs ++ ys) → IsStrictlyIncreasing xs
 front_rises xs ys rises = λ k below.
     let up : k + 1 < length (xs ++ ys) = omega (arith, below, length-append xs ys) in
@@ -161,7 +161,7 @@ new_image version k seed is least most fits = record {
   within = omega arith;
 }
 
--- how the hashes of an image go on whose lines have these in front, and behind them one more
+-- how the hashes of an image continue whose lines begin with these, and after them one more
 OneMore : ℕ → List ℕ → List ℕ → ℕ → List ℕ → List (List ℕ) → Type 0
 OneMore version hashes hashes' count line rest = ((hashes' ≡ hashes) × (line ≡ last_line count) × (rest ≡ [])) ⊎ ((h : ℕ) × (more : List ℕ) × (hashes' ≡ hashes ++ h ∷ more) × (line ≡ hash_text version h))
 
@@ -189,7 +189,7 @@ pub renamed : (version k seed version' k' seed' : ℕ) (hashes : List ℕ) → v
 renamed version k seed version' k' seed' hashes same_version same_k same_seed whole =
     subst (λ (s : ℕ). IsImage version' k' s hashes) same_seed (subst (λ (n : ℕ). IsImage version' n seed hashes) same_k (subst (λ (v : ℕ). IsImage v k seed hashes) same_version whole))
 
--- an image whose lines have these in front has this version, this k and this seed, and its hashes go on so
+-- an image whose lines begin with these has this version, this k and this seed, and its hashes continue so
 module _ (version k seed : ℕ) (hashes : List ℕ) (line : List ℕ) (whole : IsImage version k seed hashes) where
   after_hashes : (rest : List (List ℕ)) (b : BeginAnImage ((first_line version k seed ∷ map (hash_text version) hashes) ++ line ∷ rest)) →
       (b.version ≡ version) × (b.k ≡ k) × (b.seed ≡ seed) × OneMore version hashes b.hashes (length b.hashes) line (rest ++ b.begins.0)
@@ -225,7 +225,7 @@ module _ (version k seed : ℕ) (hashes : List ℕ) (line : List ℕ) (whole : I
       ]
 
 module _ (version k seed : ℕ) (hashes : List ℕ) (whole : IsImage version k seed hashes) where
-  -- nothing comes behind all lines of an image
+  -- nothing comes after all lines of an image
   pub bad_behind_whole : (line : List ℕ) → ¬ BeginAnImage (lines_of_image version k seed hashes ++ line ∷ [])
   unfolding lines_of_image OneMore
   bad_behind_whole line = λ b.

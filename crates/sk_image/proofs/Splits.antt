@@ -47,7 +47,7 @@ module _ (b : ℕ) where
   pub no_cut : (x more p : List ℕ) → All (λ c. c ≢ b) p → x ++ b ∷ more ≡ p → ⊥
   no_cut x more p none e = has_one x more (All-same (λ c. c ≢ b) (x ++ b ∷ more) p e none)
 
-  -- the first b stands behind each front that has none
+  -- the first b stands after each prefix that has none
   pub cut_late : (x more y more' : List ℕ) → All (λ c. c ≢ b) x → x ++ more ≡ y ++ b ∷ more' → length x ≤ length y
   cut_late [] more y more' nx e = omega arith
   cut_late (c ∷ x) more [] more' nx e = absurd (All-head (λ c. c ≢ b) c x nx (heads c b (x ++ more) more' e))

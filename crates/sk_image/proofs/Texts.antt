@@ -12,7 +12,7 @@ use Rattle.sk_image.proofs.Grammar.{IsLine, beginning_has_lines, without_lf, ope
 no_lf_in_none : HasNoLf []
 no_lf_in_none = All-nil (λ byte. byte ≢ 10)
 
--- lines that a text has in front are among its lines, where it is one of lines and a piece
+-- lines that a text begins with are among its lines, if it is one of lines and a piece
 front_of : (xs ys : List (List ℕ)) (r p : List ℕ) → BeginAnImage xs → BeginAnImage ys → HasNoLf p → joined xs ++ r ≡ joined ys ++ p → (zs : List (List ℕ)) × (ys ≡ xs ++ zs) × (r ≡ joined zs ++ p)
 front_of xs ys r p bx by np e =
     lines_split xs ys r p (without_lf xs (beginning_has_lines xs bx)) (without_lf ys (beginning_has_lines ys by)) np e
@@ -54,7 +54,7 @@ last_line_is lines line b = last_of IsLine lines line [] (beginning_has_lines (l
 Ends : List (List ℕ) → List ℕ → Type 0
 Ends lines rest = (line more : List ℕ) → rest ≡ line ++ 10 ∷ more → ¬ BeginAnImage (lines ++ line ∷ [])
 
--- lines that go on end there or go on by a next line of the rest
+-- lines that continue end there or continue by a next line of the rest
 module _ (lines : List (List ℕ)) (rest : List ℕ) (ends : Ends lines rest) where
   goes_no_further : (zs : List (List ℕ)) (p : List ℕ) → BeginAnImage (lines ++ zs) → rest ≡ joined zs ++ p → (zs ≡ []) × (rest ≡ p)
   unfolding Ends
@@ -133,7 +133,7 @@ bad_more n text more b = record {
   not_good = λ rest. subst (λ (t : List ℕ). ¬ IsGoodSoFar t) (sym (append_assoc text more rest)) (b.not_good (more ++ rest));
 }
 
--- of two lists of lines that one text has in front, one goes on from the other
+-- of two lists of lines that one text begins with, one continues the other
 Nested : List (List ℕ) → List (List ℕ) → List ℕ → List ℕ → Type 0
 Nested xs ys r p = ((zs : List (List ℕ)) × (ys ≡ xs ++ zs) × (r ≡ joined zs ++ p)) ⊎ ((zs : List (List ℕ)) × (xs ≡ ys ++ zs) × (p ≡ joined zs ++ r))
 

@@ -22,7 +22,7 @@ pub record IsImageText (text : List ℕ) : Type 0 where
   pub whole : IsImage version k seed hashes
   pub is : text ≡ text_of version k seed hashes
 
--- some image has these lines in front
+-- some image begins with these lines
 pub record BeginAnImage (lines : List (List ℕ)) : Type 0 where
   pub version : ℕ
   pub k : ℕ
@@ -32,7 +32,7 @@ pub record BeginAnImage (lines : List (List ℕ)) : Type 0 where
   pub begins : Begins lines (lines_of_image version k seed hashes)
 
 -- a text is no image's, and line n, counted from 1, is the first that is not as its place requires: no
--- image has the lines up to it in front, or it is a piece that LF does not end, or it is missing
+-- image begins with the lines up to it, or it is a piece that LF does not end, or it is missing
 pub record IsBadAt (n : ℕ) (text : List ℕ) : Type 0 where
   pub lines : List (List ℕ)
   pub rest : List ℕ
@@ -42,7 +42,7 @@ pub record IsBadAt (n : ℕ) (text : List ℕ) : Type 0 where
   pub next : (line more : List ℕ) → rest ≡ line ++ 10 ∷ more → ¬ BeginAnImage (lines ++ line ∷ [])
   pub none : ¬ IsImageText text
 
--- of a text that may go on, each line that LF ended is as its place requires, and its last piece is not
+-- of a text that may continue, each line that LF ended is as its place requires, and its last piece is not
 -- too long for a line
 pub record IsGoodSoFar (text : List ℕ) : Type 0 where
   pub lines : List (List ℕ)

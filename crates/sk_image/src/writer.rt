@@ -89,7 +89,7 @@ fn push_hash(text: &mut Vec<u8>, version: u32, hash: u64) -> Result<(), OutOfMem
     Ok(())
 }
 
-/// Writes the first line of an image to the front of `into`, without LF, and returns its length.
+/// Writes the first line of an image to the start of `into`, without LF, and returns its length.
 #[tactic(auto, unfolding(crate::specs::Images::first_line))]
 pub fn put_first_line(into: &mut [u8; MOST_LINE], version: u32, k: u32, seed: u32) -> usize
     ensures text { take result into.new ≡ first_line version k seed }

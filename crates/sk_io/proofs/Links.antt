@@ -82,7 +82,7 @@ received (Some x) (Some y) bytes p same =
       written = ap (λ (sides : List ℕ × List ℕ). sides.1) both ∙ sym (append-nil x.written);
     }
 
--- whatever a sending answers, a prefix was written
+-- whatever a sending returns, a prefix was written
 pub sent_front : {T E : Type 0} (a b : Option Traffic) (bytes : List ℕ) (result : Result T E) → OnOk result (Exchanges a b [] bytes) → OnErr result (SendsPart a b bytes) → (n : ℕ) × Exchanges a b [] (take n bytes)
 sent_front a b bytes (Ok t) whole part = (length bytes, subst (λ (l : List ℕ). Exchanges a b [] l) (sym (take_all _ bytes (omega arith))) whole)
 sent_front a b bytes (Err e) whole part = (part.0, part.2)

@@ -60,7 +60,7 @@ pub record SinkState : Type 0 where
 abbrev pub refuses : SinkState → Bool
 refuses s = next_fails s.calls || s.room - length s.written == 0
 
--- how many bytes the next write takes of so many
+-- how many of `len` bytes the next write takes
 abbrev pub next_taken : SinkState → ℕ → ℕ
 next_taken s len = min (min len s.piece) (s.room - length s.written)
 
@@ -136,7 +136,7 @@ pub record IsNew (l : LinkState) : Type 0 where
 abbrev pub next_received : LinkState → ℕ → ℕ
 next_received l len = min (min len l.piece) (length l.traffic.left)
 
--- so many bytes more were read
+-- this many more bytes were read
 abbrev pub having_read : ℕ → Traffic → Traffic
 having_read n t = record t { taken = t.taken ++ take n t.left; left = drop n t.left }
 
@@ -150,7 +150,7 @@ after_link_read l len = if next_fails l.calls
 abbrev pub refuses_on : LinkState → Bool
 refuses_on l = next_fails l.calls || l.room - length l.traffic.written == 0
 
--- how many bytes the next write takes of so many
+-- how many of `len` bytes the next write takes
 abbrev pub next_sent : LinkState → ℕ → ℕ
 next_sent l len = min (min len l.piece) (l.room - length l.traffic.written)
 

@@ -1,4 +1,4 @@
-// Reads of a source of which only so many bytes may be taken.
+// Reads of a source of which a bounded number of bytes may be taken.
 ghost use Rattle.std.specs.Prelude.{◌≡◌, ◌<◌, ◌≤◌, ◌↔◌, length, IfOk, IsErrOf};
 ghost use Rattle.std.specs.Io.{ReadsAtMost};
 ghost use Rattle.std.specs.Io.KnownBytes.{ReadConsumes};
@@ -25,8 +25,8 @@ impl From<Failed> for BoundFault {
     }
 }
 
-/// Reads some bytes into the front of `piece`, at most `room` of them, none only at the end. Where
-/// none may be read it answers `TooMuch`. A read that fails takes none.
+/// Reads some bytes into the start of `piece`, at most `room` of them, none only at the end. Where
+/// none may be read it returns `TooMuch`. A read that fails takes none.
 pub fn read_within<S: Source>(
     source: &mut S,
     piece: &mut [u8],

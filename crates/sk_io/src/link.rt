@@ -37,7 +37,7 @@ pub trait Link {
         ensures bytes { Sends (traffic self.old) (traffic self.new) result bytes.now }
         ensures cause { HasCause (faults self.old) (faults self.new) result };
 
-    /// Sends what waits, and tells the peer that nothing comes after it.
+    /// Sends what waits, and lets the peer know that nothing comes after it.
     fn finish(&mut self) -> Result<(), Failed>
         ensures sent { OnOk result (waiting self.new ≡ 0) }
         ensures bytes { traffic self.new ≡ traffic self.old }

@@ -10,7 +10,7 @@ use sk_model::OutOfMemory;
 use std::alloc::Global;
 use std::marker::Model;
 
-/// A sink in memory of a fixed size, which fails where it is told to and where it is full.
+/// A sink in memory of a fixed size, which fails when it is full and when its plan says so.
 #[derive(Drop)]
 pub struct MemSink {
     bytes: Vec<u8>,

@@ -10,7 +10,7 @@ use crate::rest::Rest;
 use crate::stream::{Failed, Source};
 use std::marker::Model;
 
-/// A source of bytes in memory, which fails where it is told to.
+/// A source of bytes in memory, which fails when its plan says so.
 #[derive(Drop)]
 pub struct MemSource {
     rest: Rest,

@@ -34,7 +34,7 @@ impl Plan {
         }
     }
 
-    /// Counts a call, and tells whether it is one of those that fail.
+    /// Counts a call, and returns whether it is one of those that fail.
     pub fn call(&mut self) -> bool
         ensures answer { result ≡ next_fails self.old }
         ensures calls { self.new ≡ called self.old }

@@ -1,9 +1,9 @@
-// The bytes of which a source in memory has given a front.
+// The bytes of which a source in memory has given a prefix.
 ghost use Rattle.std.specs.Prelude.{◌≡◌, ◌<◌, [], ◌++◌, min, length, take, drop};
 
 use std::marker::Model;
 
-/// Bytes that are given from their front on. Contracts see those that are left.
+/// Bytes that are given from the first on. Contracts see those that are left.
 #[derive(Drop)]
 pub struct Rest {
     bytes: Vec<u8>,
@@ -27,7 +27,7 @@ impl Rest {
         Rest { bytes, at: 0 }
     }
 
-    /// Moves as many bytes to the front of `buf` as there are, fit and are wanted.
+    /// Moves as many bytes to the start of `buf` as there are, fit and are wanted.
     pub fn give(&mut self, buf: &mut [u8], most: usize) -> usize
         ensures count { result ≡ min (min (length buf.old) most) (length self.old) }
         ensures bytes { self.old ≡ take result buf.new ++ self.new }
@@ -41,7 +41,7 @@ impl Rest {
     }
 }
 
-/// Copies bytes from the front of `from` to the front of `buf`: as many as there are, fit and are
+/// Copies bytes from the start of `from` to the start of `buf`: as many as there are, fit and are
 /// wanted.
 pub fn give(from: &[u8], buf: &mut [u8], most: usize) -> usize
     ensures count { result ≡ min (min (length buf.old) most) (length from.now) }

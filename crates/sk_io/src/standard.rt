@@ -43,7 +43,7 @@ impl<R: Read> Source for StdSource<R> {
 
 /// A writer of std as a sink, flushed after each write, which counts the writer's errors. A write
 /// that takes no byte is an error too. What a flush that fails has done to the bytes is unknown,
-/// so the sink tells none.
+/// so the sink reports none.
 #[derive(Drop)]
 pub struct StdSink<W> {
     inner: W,
@@ -82,7 +82,7 @@ impl<W: Write> Sink for StdSink<W> {
     }
 }
 
-// Writes at least one byte from the front of `bytes`, and flushes.
+// Writes at least one byte from the start of `bytes`, and flushes.
 fn write_through<W: Write>(out: &mut W, bytes: &[u8]) -> Result<usize, Failed>
     requires { 0 < length bytes.now }
     ensures bound { WritesAtMost result bytes.now }

@@ -7,7 +7,7 @@ ghost use Rattle.sk_model.specs.Causes.{Rose};
 use crate::stream::Failed;
 use std::io::{ErrorKind, Read, Write};
 
-/// Reads some bytes into the front of `buf`, none only at the end.
+/// Reads some bytes into the start of `buf`, none only at the end.
 pub fn read_some<S: Read>(stream: &mut S, buf: &mut [u8]) -> Result<usize, Failed>
     requires { 0 < length buf.old }
     ensures bound { ReadsAtMost result buf.new }
@@ -23,7 +23,7 @@ pub fn read_some<S: Read>(stream: &mut S, buf: &mut [u8]) -> Result<usize, Faile
     Err(Failed)
 }
 
-/// Writes at least one byte from the front of `bytes`. A writer that takes none has failed.
+/// Writes at least one byte from the start of `bytes`. A writer that takes none has failed.
 pub fn write_some<S: Write>(stream: &mut S, bytes: &[u8]) -> Result<usize, Failed>
     requires { 0 < length bytes.now }
     ensures bound { WritesAtMost result bytes.now }

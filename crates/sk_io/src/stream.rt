@@ -11,7 +11,7 @@ pub struct Failed;
 
 /// Where bytes come from.
 pub trait Source {
-    /// The bytes that reads will give from here on, where the source tells them.
+    /// The bytes that reads will give from here on, if the source reports them.
     ghost left: { Self → Option (List ℕ) };
 
     /// How often a read has failed. The count stops at the largest `u64`, and only a read that fails moves it.
@@ -20,7 +20,7 @@ pub trait Source {
     /// What no read changes.
     ghost stands_on: { Self → Base };
 
-    /// Reads some bytes into the front of `buf`, none only at the end. A read that fails takes none.
+    /// Reads some bytes into the start of `buf`, none only at the end. A read that fails takes none.
     fn read(&mut self, buf: &mut [u8]) -> Result<usize, Failed>
         requires { 0 < length buf.old }
         ensures bound { ReadsAtMost result buf.new }
@@ -31,13 +31,13 @@ pub trait Source {
 
 /// Where bytes go.
 pub trait Sink {
-    /// The bytes that were written, where the sink tells them.
+    /// The bytes that were written, if the sink reports them.
     ghost written: { Self → Option (List ℕ) };
 
     /// How often a write has failed. The count stops at the largest `u64`, and only a write that fails moves it.
     ghost faults: { Self → ℕ };
 
-    /// Writes at least one byte from the front of `bytes`. A write that fails writes none.
+    /// Writes at least one byte from the start of `bytes`. A write that fails writes none.
     fn write(&mut self, bytes: &[u8]) -> Result<usize, Failed>
         requires { 0 < length bytes.now }
         ensures bound { WritesAtMost result bytes.now }
@@ -46,7 +46,7 @@ pub trait Sink {
         ensures cause { HasCause (faults self.old) (faults self.new) result };
 }
 
-/// Writes all of `bytes`. Where it fails, a part from their front was written, and not all.
+/// Writes all of `bytes`. If it fails, a prefix of them was written, and not all.
 pub fn write_all<O: Sink>(out: &mut O, bytes: &[u8]) -> Result<(), Failed>
     ensures ok { OnOk result (Appends (O.written out.old) (O.written out.new) bytes.now) }
     ensures err { OnErr result (AppendsPart (O.written out.old) (O.written out.new) bytes.now) }

@@ -22,7 +22,7 @@ fn word_at(rt: &impl Env, alloc: Global, place: usize) -> Result<Option<String>,
     Err(OutOfMemory)
 }
 
-/// The words of a command line behind the program's name. One that is no text is empty.
+/// The words of a command line after the program's name. One that is no text is empty.
 pub fn words_of(rt: &impl Env, alloc: Global) -> Result<Vec<String>, OutOfMemory> {
     let mut words = Vec::new(alloc);
     'words: for place in 1..usize::MAX {

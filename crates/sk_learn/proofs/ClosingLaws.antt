@@ -50,7 +50,7 @@ module _ (h b h' : HeartState) (u : UpdaterState) (r s : Learnt) (d : IsDrained 
     learnt = learnt;
   }
 
--- nothing was told
+-- there was no told value
 pub nothing_kept : (h b : HeartState) (u : UpdaterState) (s : Learnt) (i : ℕ) (o : Option Beginning) → i ≡ u.number → IsDrained h u b → u.number < length h.news → is_some o ≡ get_or b.news i false → o ≡ None → Begins (kept_of u) (entries_by u.number (entries_in s.known))
 nothing_kept h b u s i o is d within news none =
     let empty : false ≡ not (is_empty (kept_of u)) = ap (λ z. is_some z) (sym none) ∙ news ∙ ap (λ j. get_or b.news j false) is ∙ told_where h b u d within in

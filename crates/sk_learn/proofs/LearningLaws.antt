@@ -1,4 +1,4 @@
--- A reader that learns what updaters were told, one after another.
+-- A reader that learns the told values of updaters, one after another.
 use Rattle.std.proofs.Common.{◌≡◌, ◌≢◌, ⊎_elim, ℕ, zero, suc, ◌+◌, ◌<◌, ◌≤◌, List, [], ◌∷◌, length, get_or, set, get_or-set_same, get_or-set_other, All, refl, sym, ap, subst, ◌∙◌, arith}
 use Rattle.std.specs.Bool.{⊤}
 use Rattle.std.proofs.lemmas.Bool.{cases_lt}
@@ -13,7 +13,7 @@ use Rattle.sk_snap.specs.History.{Beginning, entries_in, name_of}
 use Rattle.sk_snap.specs.Versions.{Learnt}
 use Rattle.sk_learn.specs.Learning.{ReaderGoesOn, Knows, LearnsOf, LearnsFirst, untold, AreAsked}
 
--- ---- a reader that goes on
+-- ---- a reader that continues
 
 pub goes_refl : (r : Learnt) → ReaderGoesOn r r
 goes_refl r = record { grows = begins_refl (entries_in r.known); numbers = refl; book = refl }

@@ -1,4 +1,4 @@
--- How a reader goes on, and what it learns of updaters.
+-- How a reader continues, and what it learns of updaters.
 use Rattle.std.specs.Prelude.{◌≡◌, ℕ, ◌<◌, ◌≤◌, List, length, true, false, slice_index_or}
 use Rattle.sk_model.specs.Entries.{entries_by}
 use Rattle.sk_model.specs.Missing.{Begins}
@@ -18,12 +18,12 @@ pub record Knows (s : Learnt) (u : UpdaterState) : Type 0 where
   pub last : u.last ≤ u.size
   pub fill : length u.fill ≤ u.size
 
--- the reader learnt what this updater was told
+-- the reader learnt the told value of this updater
 pub record LearnsOf (r : Learnt) (u : UpdaterState) (s : Learnt) : Type 0 where
   pub goes : ReaderGoesOn r s
   pub knows : Knows s u
 
--- what each of the first n was told
+-- the told value of each of the first n
 pub record LearnsFirst (r : Learnt) (us : List UpdaterState) (n : ℕ) (s : Learnt) : Type 0 where
   pub goes : ReaderGoesOn r s
   pub knows : (i : ℕ) (d : UpdaterState) → i < n → Knows s (slice_index_or us i d)

@@ -13,7 +13,7 @@ use sk_snap::{Query, Sequential, VersionReader, Versioned};
 use std::sync::Wait;
 
 /// Takes in updaters of a hub, in order, and asks a version of exactly what they kept. It waits for ever
-/// if others have kept items too. On out of memory those that were not taken in are left, in order; whoever goes on with
+/// if others have kept items too. On out of memory those that were not taken in are left, in order; to continue with
 /// them uses `take_in_all`, which counts over several calls.
 pub fn close<S: Sequential, Q: Query<S>, W: Wait + Drop, R: Wait>(
     rt: &R,
@@ -36,7 +36,7 @@ pub fn close<S: Sequential, Q: Query<S>, W: Wait + Drop, R: Wait>(
     Ok(read_whole(rt, reader, query, taken))
 }
 
-/// Takes in updaters of a hub, in order, learns what the last parcel of each told, and counts the items that they kept.
+/// Takes in updaters of a hub, in order, learns the told value of each one's last parcel, and counts what they kept.
 /// On out of memory those that were not taken in are left, in order.
 pub fn take_in_all<S: Sequential, W: Wait + Drop, R: Wait>(
     rt: &R,
@@ -53,7 +53,7 @@ pub fn take_in_all<S: Sequential, W: Wait + Drop, R: Wait>(
     ensures count { OnOk result (taken.new ≡ counted taken.old updaters.old.items) }
     ensures early { OnErr result (StopsEarly heart.old updaters.old.items reader.old taken.old heart.new updaters.new.items reader.new taken.new) }
 {
-    // It tells the proof that the count is a word.
+    // It shows to the proof that the count is a word.
     let _before = *taken;
     'updater: while !updaters.is_empty() {
         let kept = take_in_first(rt, heart, updaters, reader)?;
@@ -89,7 +89,7 @@ fn take_in_first<S: Sequential, W: Wait + Drop, R: Wait>(
     Err(OutOfMemory)
 }
 
-// Takes in an updater, and learns what its last parcel told. On out of memory it comes back.
+// Takes in an updater, and learns the told value of its last parcel. On out of memory it comes back.
 fn take_in<S: Sequential, W: Wait + Drop, R: Wait>(
     rt: &R,
     heart: &mut Heart<Versioned<S, W>>,
@@ -102,7 +102,7 @@ fn take_in<S: Sequential, W: Wait + Drop, R: Wait>(
     ensures back { IfErr result (GivesBack heart.old u heart.new) }
     ensures reader { OnErr result (reader.new ≡ reader.old) }
 {
-    // These tell the proof that the updater is one of the hub's.
+    // These show to the proof that the updater is one of the hub's.
     let number = u.number();
     let _admitted = heart.admitted();
     match heart.drain(rt, u) {

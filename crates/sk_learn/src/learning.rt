@@ -1,4 +1,4 @@
-//! How a reader learns what the updaters of a hub were told.
+//! How a reader learns the told values of the updaters of a hub.
 ghost use Rattle.std.specs.Prelude.{◌≡◌, All, length, false};
 ghost use Rattle.sk_hub.specs.Updaters.{UpdaterState};
 ghost use Rattle.sk_snap.specs.History.{name_of};
@@ -8,7 +8,7 @@ use sk_hub::Updater;
 use sk_snap::{Sequential, VersionReader, Versioned};
 use std::sync::Wait;
 
-/// Learns what each updater was told, in order.
+/// Learns the told value of each updater, in order.
 pub fn learn_all<S: Sequential, W: Wait + Drop>(
     reader: &mut VersionReader<S>,
     updaters: &mut [Updater<Versioned<S, W>>],
@@ -22,7 +22,7 @@ pub fn learn_all<S: Sequential, W: Wait + Drop>(
     }
 }
 
-// Learns what an updater was told.
+// Learns the told value of an updater.
 fn learn<S: Sequential, W: Wait + Drop>(
     reader: &mut VersionReader<S>,
     u: &mut Updater<Versioned<S, W>>,
@@ -31,7 +31,7 @@ fn learn<S: Sequential, W: Wait + Drop>(
     ensures learns { LearnsOf reader.old u.old reader.new }
     ensures asked { u.new ≡ untold u.old }
 {
-    // It tells the proof how much may lie in its buffers.
+    // It shows to the proof how much may lie in its buffers.
     let _number = u.number();
     if let Some(told) = u.told() {
         reader.learn(told);

@@ -1,4 +1,4 @@
-//! How a reader of versions learns what the updaters of a hub were told, and in the end all that they kept.
+//! How a reader of versions learns the told values of the updaters of a hub, and in the end all that they kept.
 #![tactic(auto)]
 
 mod closing;

@@ -78,7 +78,7 @@ fold_rises : (a : ℕ) (bytes : List ℕ) → a ≤ fold (λ value digit. 10 * v
 fold_rises a [] = omega arith
 fold_rises a (x ∷ xs) = omega (arith, fold_rises (10 * a + (x - 48)) xs)
 
--- the value of the front is no more than the whole
+-- the value of a prefix is no more than that of the whole
 pub value_of_front : (k : ℕ) (bytes : List ℕ) → value_of (take k bytes) ≤ value_of bytes
 unfolding value_of
 value_of_front k bytes =
@@ -116,7 +116,7 @@ pub too_large_at : (bytes : List ℕ) (i value end : ℕ) → i < length bytes �
 too_large_at bytes i value end in_bytes is most =
     omega (arith, value_of_more bytes i in_bytes, value_of_front (i + 1) bytes)
 
--- the front and a written part behind it
+-- a prefix and a written part after it
 pub written_behind : (front ys behind : List ℕ) (n m : ℕ) → length front ≡ n → m ≤ length ys → take (n + m) (front ++ (ys ++ behind)) ≡ front ++ take m ys
 written_behind front ys behind n m size fits =
     take-add n m (front ++ (ys ++ behind)) ∙ ap (λ (l : List ℕ). l ++ take m (drop n (front ++ (ys ++ behind)))) (take_at front (ys ++ behind) n size)
@@ -155,14 +155,14 @@ pub ten_power_rises : (k j : ℕ) → 10 ^ k ≤ 10 ^ (k + j)
 ten_power_rises k zero = let same : k + 0 ≡ k = omega arith in omega (arith, ap (λ (n : ℕ). 10 ^ n) same)
 ten_power_rises k (suc j) = let next : k + suc j ≡ suc (k + j) = omega arith in omega (arith, ten_power_rises k j, ap (λ (n : ℕ). 10 ^ n) next, pow-suc 10 (k + j))
 
--- ---- digits read many at once
+-- ---- many digits read together
 
 and_twice : (a b c : Bool) → ((a && b) && (b && c)) ≡ (a && (b && c))
 and_twice true true c = refl
 and_twice true false c = refl
 and_twice false b c = refl
 
--- digits at the front and at the back, which meet, are all
+-- a prefix and a suffix of digits, which meet, are all
 pub digits_of_ends : (bytes : List ℕ) (n : ℕ) → n ≤ length bytes → length bytes ≤ n + n → (list_all is_ascii_digit (take n bytes) && list_all is_ascii_digit (take (length bytes - (length bytes - n)) (drop (length bytes - n) bytes))) ≡ list_all is_ascii_digit bytes
 digits_of_ends bytes n within meet =
     let m = length bytes - n in

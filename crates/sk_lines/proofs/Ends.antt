@@ -68,7 +68,7 @@ put_holds bytes from count scanned marks mark rest more spans span within high p
         (subst (λ es. HoldsEnds bytes from es scanned rest) (sym (ends_put count spans span within))
         (holds_more bytes from scanned marks span.to rest (ends_of count spans) h takes))
 
--- the lowest mark, beside one at the last place
+-- the lowest mark, with one at the last place
 pub lowest_beside : (marks : ℕ) → marks < 2 ^ 64 → (all p : ℕ) → ((i : ℕ) → i ≢ 63 → bit_at all i ≡ bit_at marks i) → p < 64 → bit_at all p ≡ 1 → ((k : ℕ) → k < p → bit_at all k ≡ 0)
     → (marks ≢ 0 → bit_at marks p ≡ 1) × ((k : ℕ) → k < p → bit_at marks k ≡ 0)
 lowest_beside marks fits all p same small is none = (set_there, below)

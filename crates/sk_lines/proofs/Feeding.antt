@@ -1,4 +1,4 @@
--- What a piece behind a text does to a reader.
+-- What a piece after a text does to a reader.
 use Rattle.std.proofs.Common.{◌≡◌, ℕ, ◌+◌, ◌-◌, ◌<◌, ◌≤◌, Bool, true, false, true≢false, List, [], ◌++◌, length, take, drop, Option, Result, Ok, Err, IfOk, nat_eq, refl, sym, ap, ◌∙◌, subst, arith, append-nil, append_assoc, length-take, take-take, take-add}
 use borrow.Rule.Slice.PartMut.{put_mid}
 use Rattle.std.proofs.lemmas.Bool.{eqb-true}
@@ -34,7 +34,7 @@ from_start at n xs none =
     let same : n - 0 ≡ n = omega arith in
     ap (λ (k : ℕ). take (n - k) (drop k xs)) none ∙ ap (λ (k : ℕ). take k xs) same
 
--- a reader behind a piece
+-- a reader after a piece
 abbrev fed : Inside → List ℕ → ℕ → Bool → Inside
 fed a more scanned hungry = record a { buffer = record a.buffer { items = with_more a.buffer.items more }; scanned = scanned; marks = 0; last = Next.More; hungry = hungry }
 

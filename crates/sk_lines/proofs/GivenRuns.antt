@@ -11,7 +11,7 @@ use Rattle.sk_lines.specs.Runs.{GivesRun, IsRun, run_between}
 use Rattle.sk_lines.proofs.WholeLines.{no_lines, run_more, bytes_are_few}
 use Rattle.sk_lines.proofs.Steps.{front_of_rest, rest_behind}
 
--- so many lines behind what was given
+-- this many lines after what was given
 gives_run : (old new : Cutter) (n : ℕ) (run : List ℕ) → IsRun n run → new.front ≡ old.front ++ run → old.rest ≡ run ++ new.rest
     → ((given : List (List ℕ)) (text : List ℕ) → Follows old given text → Follows new (given ++ lines_of run) text)
     → new.number ≡ counted (old.number + n) → new ≡ record old { front = new.front; rest = new.rest; number = new.number } → GivesRun old new n

@@ -1,4 +1,4 @@
--- What many lines given at once do to a reader.
+-- What many lines given together do to a reader.
 use Rattle.std.proofs.Common.{◌≡◌, ℕ, ◌+◌, ◌-◌, ◌^◌, ◌<◌, ◌≤◌, List, [], ◌∷◌, ◌++◌, length, take, drop, slice_index, slice_range, refl, sym, ap, ◌∙◌, subst, arith, append_assoc, append-nil, length-append, length-take, length-drop, take-add, take-take, ⊎_elim, false, true≢false}
 use Rattle.std.specs.List.{concat}
 use Rattle.std.specs.Str.Lines.{strip_carriage_return}
@@ -58,7 +58,7 @@ module _ (c : Cutter) (bytes : List ℕ) (n : ℕ) (whole : n ≡ length bytes) 
         omega (arith, most),
       )
 
-  -- the line lies there in each longer front
+  -- the line lies there in each longer prefix
   line_there : (from end at : ℕ) (span : Span) → IsLine bytes c.limit from end span → end + 64 < n → end < at → at + 64 ≤ n → slice_range (take at bytes) span.from span.to ≡ strip_carriage_return (slice_range bytes from end)
   line_there from end at span line inside behind fits =
       let piece = slice_range bytes from end in

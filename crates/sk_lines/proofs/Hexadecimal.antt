@@ -48,7 +48,7 @@ hex_at (suc width) n i below = elim (cases_lt i width) [
       (n % 16, omega arith, get_or_at (hex width (n / 16)) (hex_digit (n % 16)) [] 0 i (omega (arith, below, back, length_hex width (n / 16))))
 ]
 
--- one digit more behind a number
+-- one digit more after a number
 pub hex_push : (line : List ℕ) (i n digit : ℕ) → i < length line → digit < 16 → take i line ≡ hex i n → get_or line i 0 ≡ hex_digit digit → take (i + 1) line ≡ hex (i + 1) (n * 16 + digit)
 hex_push line i n digit below small front here =
     let high : (n * 16 + digit) / 16 ≡ n = omega (arith, small) in

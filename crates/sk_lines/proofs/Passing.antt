@@ -41,7 +41,7 @@ pass_other bytes from scanned count at p other = record {
       (cases_lt i scanned);
 }
 
--- the bytes up to an LF, behind the last
+-- the bytes up to an LF, after the last
 up_to_lf : (bytes : List ℕ) (from at scanned : ℕ) → from ≤ at → at ≤ scanned → scanned < length bytes → slice_index bytes scanned ≡ 10
     → slice_range bytes from (scanned + 1) ≡ slice_range bytes from at ++ (slice_range bytes at scanned ++ 10 ∷ [])
 up_to_lf bytes from at scanned order behind within lf =
@@ -70,7 +70,7 @@ pass_lf bytes from scanned count at p within lf =
 
 -- ---- the LFs of a block, by the bits that mark them
 
--- so many bytes more were passed over, whose LFs are marked
+-- this many more bytes were passed over, whose LFs are marked
 pub record PassesMarks (bytes : List ℕ) (from scanned count at k marks : ℕ) : Type 0 where
   pub end : ℕ
   pub passed : HasPassed bytes from (scanned + k) (count + ones marks) end

@@ -76,7 +76,7 @@ first_marked bytes at scanned marks k known set below =
           omega (arith, mark.1, below (i + 64 - scanned) (omega arith));
     }
 
--- without the lowest mark, the LFs behind it are known
+-- without the lowest mark, the LFs after it are known
 pub known_behind : (bytes : List ℕ) (at scanned marks rest k : ℕ) → KnowsLfs bytes at scanned marks → bit_at marks k ≡ 1 → ((j : ℕ) → j < k → bit_at marks j ≡ 0)
     → ((j : ℕ) → j < 64 → j ≢ k → bit_at rest j ≡ bit_at marks j) → bit_at rest k ≡ 0 → ((j : ℕ) → bit_at rest j ≡ 1 → bit_at marks j ≡ 1)
     → KnowsLfs bytes (scanned + k - 64 + 1) scanned rest
@@ -112,7 +112,7 @@ known_none bytes at scanned ordered none = record {
   seen = λ i from before lf. absurd (none i from before lf);
 }
 
--- what a search in a slice tells of the buffer
+-- what a search in a slice shows of the buffer
 pub sought : (slice bytes : List ℕ) (at s m t n : ℕ) → slice ≡ bytes → KnowsLfs bytes at s m → ((at : ℕ) → KnowsLfs slice at s m → KnowsLfs slice at t n) → KnowsLfs bytes at t n
 sought slice bytes at s m t n same known search =
     subst (λ (l : List ℕ). KnowsLfs l at t n) same (search at (subst (λ (l : List ℕ). KnowsLfs l at s m) (sym same) known))
@@ -128,7 +128,7 @@ takes_lf bytes at scanned marks rest k end is known set below kept cleared no_mo
 zero_byte : (n i : ℕ) → slice_index (replicate n 0) i ≡ 0
 zero_byte n i = ⊎_elim (λ (below : i < n). get_or-replicate n i 0 0 below) (λ (past : n ≤ i). get_or_past (replicate n 0) i 0 (omega (arith, length-replicate {A = ℕ} n 0))) (cases_lt i n)
 
--- a byte of the block behind a text is no LF
+-- a byte of the block after a text is no LF
 pub padding_byte : (bytes : List ℕ) (n i : ℕ) → bytes ≡ replicate n 0 → slice_index bytes i ≡ 0
 padding_byte bytes n i is = ap (λ (l : List ℕ). slice_index l i) is ∙ zero_byte n i
 
@@ -137,7 +137,7 @@ padding_behind bytes text i is past =
     let size : length bytes ≡ length text + 64 = ap length is ∙ length-append text (replicate 64 0) ∙ ap (λ (n : ℕ). length text + n) (length-replicate 64 zero) in
     ap (λ (l : List ℕ). slice_index l i) is ∙ get_or-append_right text (replicate 64 0) (length text) i 0 refl (omega arith) ∙ zero_byte 64 (i - length text)
 
--- what lay in front is where it was
+-- what lay in the prefix is where it was
 pub kept_in_front : (bytes front more : List ℕ) (i : ℕ) → bytes ≡ (front ++ more) ++ replicate 64 0 → i < length front → slice_index bytes i ≡ slice_index front i
 kept_in_front bytes front more i is below =
     ap (λ (l : List ℕ). slice_index l i) is ∙ get_or_append_left (front ++ more) (replicate 64 0) 0 i (omega (arith, length-append front more)) ∙ get_or_append_left front more 0 i below

@@ -24,7 +24,7 @@ lf_at text place within lf before = record {
       (drop_more text place 0 within ∙ ap (λ (byte : ℕ). byte ∷ drop (place + 1) text) lf);
 }
 
--- a text behind place `at` of a buffer, of which `have` bytes are text
+-- a text after place `at` of a buffer, of which `have` bytes are text
 module _ (bytes : List ℕ) (at have : ℕ) (ordered : at ≤ have) (inside : have ≤ length bytes) where
   abbrev rest : List ℕ
   rest = take (have - at) (drop at bytes)
@@ -59,7 +59,7 @@ module _ (bytes : List ℕ) (at have : ℕ) (ordered : at ≤ have) (inside : ha
       let text : k < have - at = omega (arith, length_rest) in
       none (at + k) (omega arith) (omega arith) (sym (rest_byte k text) ∙ get_or_default rest k 0 d below ∙ is)
 
--- a text followed so far, of which more lines are read: the lines of the rest come behind those given
+-- a text followed so far, of which more lines are read: the lines of the rest come after those given
 pub lines_behind : (c : Cutter) (given : List (List ℕ)) (text more : List ℕ) → Follows c given text → lines_of (text ++ more) ≡ given ++ lines_of (c.rest ++ more)
 lines_behind c given text more f =
     ap (λ (t : List ℕ). lines_of (t ++ more)) f.joined ∙ ap lines_of (append_assoc f.front c.rest more)
@@ -128,7 +128,7 @@ long_in_rest bytes at have ordered inside limit (end, first, over) zeros =
     let piece = front_of_rest bytes at have ordered inside (end - at) (omega (arith, lf.within, length_rest bytes at have ordered inside)) in
     long_before_lf limit (end - at) rest lf (omega (arith, over, ap (λ (l : List ℕ). length (strip_carriage_return l)) piece))
 
--- the piece behind the last LF is too long, whatever follows
+-- the piece after the last LF is too long, whatever follows
 pub long_so_far : (limit : ℕ) (rest : List ℕ) → HasNoLf rest → limit < length (strip_carriage_return rest) → IsFirstLong limit 0 (open_lines_of rest)
 long_so_far limit rest none over = subst (IsFirstLong limit 0) (sym (a_line_alone rest none)) (first_is_long limit (strip_carriage_return rest) [] over)
 
@@ -136,7 +136,7 @@ long_so_far limit rest none over = subst (IsFirstLong limit 0) (sym (a_line_alon
 pub long_at_end : (limit : ℕ) (rest : List ℕ) → HasNoLf rest → limit < length rest → IsFirstLong limit 0 (lines_of rest)
 long_at_end limit rest none over = subst (IsFirstLong limit 0) (sym (a_last_piece rest none (omega arith))) (first_is_long limit rest [] over)
 
--- what is too long at the front is so behind the lines given
+-- what is too long at the start is so after the lines given
 long_behind : (limit : ℕ) (given lines : List (List ℕ)) → AreWithin limit given → IsFirstLong limit 0 lines → IsFirstLong limit (length given) (given ++ lines)
 long_behind limit given [] fits long = absurd (omega (arith, long.0))
 long_behind limit given (line ∷ later) fits long = long_after_front limit given line later fits long.2
@@ -201,7 +201,7 @@ stripped_by piece false is = record {
 pub stripped : (piece : List ℕ) → Stripped piece (strip_carriage_return piece)
 stripped piece = stripped_by piece (slice_index piece (length piece - 1) == 13) refl
 
--- how many bytes a line keeps tells how it ended
+-- how many bytes a line keeps shows how it ended
 pub data EndsBy (len place : ℕ) (ending : Ending) : Type 0 where
   by_cr_lf : len < place → ending ≡ Ending.CrLf → EndsBy len place ending
   by_lf : place ≤ len → ending ≡ Ending.Lf → EndsBy len place ending
@@ -293,7 +293,7 @@ goes_on c sound going some = elim c.ended as (λ b. c.ended ≡ b → b ≡ fals
   | false ↦ λ _. refl
 ] refl
 
--- what was told as too long is so, whether the text ends or goes on
+-- what was reported as too long is so, whether the text ends or continues
 long_now_by : (c : Cutter) (n : ℕ) (ended : Bool) → c.ended ≡ ended → IsSound c → c.last ≡ Next.Long n → IsFirstLong c.limit 0 (lines_of c.rest)
 long_now_by c n true is sound long = sound.ended_long n long is
 long_now_by c n false is sound long = long_stays c.limit c.rest (sound.open_long n long is)
@@ -370,19 +370,19 @@ sound_over c none last =
       ended = λ _ _. none;
     }
 
--- the text up to a place behind another
+-- the text up to a place after another
 pub front_more : (bytes : List ℕ) (at have end : ℕ) → at ≤ end → end < have → take (end + 1) bytes ≡ take at bytes ++ take (end - at + 1) (take (have - at) (drop at bytes))
 front_more bytes at have end from text =
     let place : end + 1 ≡ at + (end - at + 1) = omega arith in
     ap (λ (n : ℕ). take n bytes) place ∙ take-add at (end - at + 1) bytes
     ∙ ap (λ (l : List ℕ). take at bytes ++ l) (sym (take-take (end - at + 1) (have - at) (drop at bytes) (omega arith)))
 
--- an LF lies in the text and not in the block behind it
+-- an LF lies in the text and not in the block after it
 pub lf_in_text : (bytes : List ℕ) (end n : ℕ) → slice_index bytes end ≡ 10 → ((i : ℕ) → n ≤ i + 64 → slice_index bytes i ≡ 0) → end + 64 < n
 lf_in_text bytes end n lf zeros =
     ⊎_elim (λ (text : end + 64 < n). text) (λ (past : n ≤ end + 64). absurd (omega (arith, lf, zeros end past))) (cases_lt (end + 64) n)
 
--- what the first LF tells of the text that lies in a buffer of n bytes from a place on
+-- what the first LF shows of the text that lies in a buffer of n bytes from a place on
 pub record FoundLine (bytes : List ℕ) (at n end scanned marks : ℕ) : Type 0 where
   pub from : at ≤ end
   pub text : end + 64 < n

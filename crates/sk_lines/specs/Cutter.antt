@@ -27,7 +27,7 @@ pub record Cutter : Type 0 where
   -- whether `end` was called
   pub ended : Bool
 
--- a count as a `u64` tells it: it stands still at the type's end
+-- a count as a `u64` shows it: it stands still at the type's end
 abbrev pub counted : ℕ → ℕ
 counted n = min n (2 ^ 64 - 1)
 
@@ -116,7 +116,7 @@ pub record IsSound (c : Cutter) : Type 0 where
   -- a reader that may be fed holds one piece without LF, which is not too long so far
   pub piece : c.hungry ≡ true → HasNoLf c.rest
   pub fits : c.hungry ≡ true → length (strip_carriage_return c.rest) ≤ c.limit
-  -- what is told as too long is so
+  -- what is reported as too long is so
   pub number : (n : ℕ) → c.last ≡ Next.Long n → n ≡ counted (c.number + 1)
   pub open_long : (n : ℕ) → c.last ≡ Next.Long n → c.ended ≡ false → IsFirstLong c.limit 0 (open_lines_of c.rest)
   pub ended_long : (n : ℕ) → c.last ≡ Next.Long n → c.ended ≡ true → IsFirstLong c.limit 0 (lines_of c.rest)

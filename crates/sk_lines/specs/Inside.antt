@@ -28,9 +28,9 @@ cutter_of a = record {
 pub record IsKept (a : Inside) : Type 0 where
   pub low : 1 ≤ a.limit
   pub high : a.limit ≤ most_limit
-  -- there is room for a piece and a block behind the longest rest
+  -- there is room for a piece and a block after the longest rest
   pub room : a.limit + 1 + most_piece + 64 ≤ a.buffer.room
-  -- a block of zeros lies behind the text
+  -- a block of zeros lies after the text
   pub at : a.at + 64 ≤ length a.buffer.items
   pub zeros : (i : ℕ) → length a.buffer.items ≤ i + 64 → slice_index a.buffer.items i ≡ 0
   pub line_start : a.line_start ≤ a.line_end

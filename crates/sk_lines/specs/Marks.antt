@@ -14,7 +14,7 @@ pub record IsFirstLf (bytes : List ℕ) (at end : ℕ) : Type 0 where
   pub lf : slice_index bytes end ≡ 10
   pub before : (i : ℕ) → at ≤ i → i < end → slice_index bytes i ≢ 10
 
--- the first known LF, and what is known behind it
+-- the first known LF, and what is known after it
 pub record TakesLf (bytes : List ℕ) (at scanned end marks : ℕ) : Type 0 where
   pub first : IsFirstLf bytes at end
   pub known : KnowsLfs bytes (end + 1) scanned marks

@@ -1,8 +1,8 @@
--- What contracts see of a text with room behind it.
+-- What contracts see of a text with room after it.
 use Rattle.std.specs.Prelude.{ℕ, ◌-◌, List, ◌++◌, length, take, replicate}
 
 pub record PaddedState : Type 0 where
-  -- the text, and a block of zeros behind it
+  -- the text, and a block of zeros after it
   pub items : List ℕ
   -- how many bytes there is room for, with the zeros
   pub room : ℕ

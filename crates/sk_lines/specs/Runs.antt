@@ -3,7 +3,7 @@ use Rattle.std.specs.Prelude.{◌≡◌, ◌⊎◌, ℕ, ◌+◌, ◌<◌, List,
 use Rattle.sk_model.specs.Lines.{lines_of}
 use Rattle.sk_lines.specs.Cutter.{Cutter, Follows, IsOfWholeLines, HasNoLf, counted}
 
--- so many lines, each with what ended it
+-- this many lines, each with what ended it
 pub record IsRun (n : ℕ) (run : List ℕ) : Type 0 where
   pub whole : IsOfWholeLines run
   pub count : length (lines_of run) ≡ n
@@ -12,7 +12,7 @@ pub record IsRun (n : ℕ) (run : List ℕ) : Type 0 where
 abbrev pub run_between : Cutter → Cutter → List ℕ
 run_between old new = drop (length old.front) new.front
 
--- the next lines were given, so many
+-- the next lines were given, this many
 pub record GivesRun (old new : Cutter) (n : ℕ) : Type 0 where
   pub is : IsRun n (run_between old new)
   pub front : new.front ≡ old.front ++ run_between old new
@@ -22,6 +22,6 @@ pub record GivesRun (old new : Cutter) (n : ℕ) : Type 0 where
   -- nothing else has changed
   pub stays : new ≡ record old { front = new.front; rest = new.rest; number = new.number }
 
--- why no line was given many at once: none is complete, or more bytes are held than a line may have
+-- why no lines were given together: none is complete, or more bytes are held than a line may have
 abbrev pub GivesNone : Cutter → Type 0
 GivesNone old = HasNoLf old.rest ⊎ (old.limit < length old.rest)

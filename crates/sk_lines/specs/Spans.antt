@@ -1,4 +1,4 @@
--- Many lines at once, by the places where they lie.
+-- Many lines together, by the places where they lie.
 use Rattle.std.specs.Prelude.{◌≡◌, ◌⊎◌, ℕ, ◌+◌, ◌<◌, ◌≤◌, List, [], ◌∷◌, ◌++◌, length, take, map, slice_range, All}
 use Rattle.std.specs.List.{concat}
 use Rattle.std.specs.Str.Lines.{strip_carriage_return}
@@ -11,11 +11,11 @@ use Rattle.sk_lines.specs.declared.spans.Span.{Span}
 abbrev pub lines_at : List Span → List ℕ → List (List ℕ)
 lines_at spans text = map (λ span. slice_range text span.from span.to) spans
 
--- each lies in a text, behind so many bytes
+-- each lies in a text, after its first `start` bytes
 abbrev pub AreBehind : ℕ → List Span → List ℕ → Type 0
 AreBehind start spans text = All (λ span. (start ≤ span.from) × (span.from ≤ span.to) × (span.to ≤ length text)) spans
 
--- the next lines were given, and these lie there in the front
+-- the next lines were given, and these lie there in the prefix
 pub record GivesLines (old new : Cutter) (spans : List Span) : Type 0 where
   pub follows : (given : List (List ℕ)) (text : List ℕ) → Follows old given text → Follows new (given ++ lines_at spans new.front) text
   pub number : new.number ≡ counted (old.number + length spans)
@@ -33,11 +33,11 @@ HasNoShortLine old = HasNoLf old.rest ⊎ IsFirstLong old.limit 0 (open_lines_of
 
 -- ---- how they are found
 
--- the ends of the first of these spans, so many
+-- the ends of the first `count` of these spans
 abbrev pub ends_of : ℕ → List Span → List ℕ
 ends_of count spans = map (λ span. span.to) (take count spans)
 
--- LFs from a place on, one after another, and the place behind the last
+-- LFs from a place on, one after another, and the place after the last
 unfoldable pub FollowLfs : List ℕ → ℕ → List ℕ → ℕ → Type 0
 FollowLfs bytes from [] at = from ≡ at
 FollowLfs bytes from (end ∷ ends) at = IsFirstLf bytes from end × FollowLfs bytes (end + 1) ends at
@@ -46,7 +46,7 @@ FollowLfs bytes from (end ∷ ends) at = IsFirstLf bytes from end × FollowLfs b
 abbrev pub AreEnds : List ℕ → ℕ → List ℕ → Type 0
 AreEnds bytes from ends = (at : ℕ) × FollowLfs bytes from ends at
 
--- and those behind them are known up to another
+-- and those after them are known up to another
 abbrev pub HoldsEnds : List ℕ → ℕ → List ℕ → ℕ → ℕ → Type 0
 HoldsEnds bytes from ends scanned marks = (at : ℕ) × FollowLfs bytes from ends at × KnowsLfs bytes at scanned marks
 
@@ -57,7 +57,7 @@ pub record IsLine (bytes : List ℕ) (limit from end : ℕ) (span : Span) : Type
   pub size : span.to ≡ from + length (strip_carriage_return (slice_range bytes from end))
   pub short : span.to ≤ from + limit
 
--- lines from a place on, one after another, and the place behind the last
+-- lines from a place on, one after another, and the place after the last
 unfoldable pub AreLines : List ℕ → ℕ → ℕ → List Span → ℕ → Type 0
 AreLines bytes limit from [] at = from ≡ at
 AreLines bytes limit from (span ∷ spans) at = (end : ℕ) × IsLine bytes limit from end span × AreLines bytes limit (end + 1) spans at

@@ -12,7 +12,7 @@ const ZERO: u64 = 48;
 /// The most bytes that the line of an estimate has: a numerator of 39 digits and a denominator of 20.
 pub const ESTIMATE_LINE_LEN: usize = 70;
 
-// How many digits are read at once.
+// How many digits are read together.
 const WIDE: usize = 8;
 
 /// The number below `below` that the bytes spell: digits only, at least one and at most as many as
@@ -35,7 +35,7 @@ pub fn read_number(bytes: &[u8], below: u64) -> Option<u64>
     if value < below { Some(value) } else { None }
 }
 
-// The number that the digits before a place spell: eight at once, as a loop of eight is unrolled.
+// The number that the digits before a place spell: eight together, as a loop of eight is unrolled.
 #[inline(always)]
 fn value_before(bytes: &[u8], place: usize) -> u64
     requires within { place ≤ length bytes.now }

@@ -1,4 +1,4 @@
-// Many lines at once, by the places where they lie.
+// Many lines together, by the places where they lie.
 ghost use Rattle.std.specs.Prelude.{◌≡◌, ◌≢◌, ◌+◌, ◌<◌, ◌≤◌, ℕ, List, length, take, slice_index};
 ghost use Rattle.sk_lines.specs.Marks.{KnowsLfs};
 ghost use Rattle.sk_lines.specs.Spans.{HoldsEnds, AreEnds, AreLines, IsLongLine, ends_of};
@@ -6,7 +6,7 @@ ghost use Rattle.sk_lines.specs.Spans.{HoldsEnds, AreEnds, AreLines, IsLongLine,
 use crate::cutter::line_len;
 use crate::marks::{BLOCK, lfs_of_block, lowest_mark, without_mark};
 
-/// How many lines are given at once at most.
+/// How many lines are given together at most.
 pub const GROUP: usize = 128;
 
 /// Where a line lies in a text: from one byte, counted from 0, up to, not including, another.

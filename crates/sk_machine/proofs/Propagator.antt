@@ -42,7 +42,7 @@ module _ (hint packed : List Entry → ℕ) (f : Fine) where
   abbrev stage : Stage
   stage = stage_of f.updaters f.in_hand f.progress
 
-  -- the propagator goes on, and an updater changes of which all that was handed over stays
+  -- the propagator continues, and an updater changes of which all that was handed over stays
   moves : (i : ℕ) (u : FineUpdater) (p : Progress) (in_hand : List ℕ) → IsSound hint packed f → i < f.n → MayRest p ⊎ (f.turn ≢ 0)
       → Meets hint f.n (coarse_of (record (with_updater i u f) { progress = p; in_hand = in_hand })) → ((j : ℕ) → j ≢ i → (¬ IsOut f.progress j) × (¬ IsOut p j) × (p ≡ Put j → ⊥))
       → FitsUpdater hint p f.offers i u → Begins (f.updaters i).handed u.handed → IsSound hint packed (record (with_updater i u f) { progress = p; in_hand = in_hand })

@@ -1,4 +1,4 @@
--- The whole machine behind one that a shared table shows.
+-- The whole machine of one that a shared table shows.
 use Rattle.std.proofs.Common.{◌≡◌, ◌≢◌, ℕ, zero, suc, ◌<◌, ◌≤◌, get_or, map, List, [], ◌∷◌, ◌++◌, length, Bool, true, false, cond, arith, append-nil, refl, sym, ap, ◌∙◌, subst, eq-eqb, ne_eqb, eqb}
 use mathlib.Core.Option.{some-injective, some-ne-none}
 use Rattle.sk_model.specs.Entries.{Entry}
@@ -20,7 +20,7 @@ use Rattle.sk_machine.proofs.Numbered.{sum_below_one}
 use Rattle.sk_machine.proofs.Sound.{unswapped}
 use Rattle.sk_machine.proofs.Parts.{eight_parts}
 
--- ---- the state that is taken of those that a table does not tell apart
+-- ---- the state that is taken of those that a table does not distinguish
 
 abbrev mark_of : Bool → Mark
 mark_of true = Ready

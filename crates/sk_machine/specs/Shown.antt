@@ -1,5 +1,5 @@
--- The whole machine behind one that a shared table shows, with the seats' views as its tokens. Where the table
--- does not tell two states apart the whole machine is in one of them. Its fill lists are empty.
+-- The whole machine of one that a shared table shows, with the seats' views as its tokens. Where the table
+-- does not distinguish two states the whole machine is in one of them. Its fill lists are empty.
 use Rattle.std.specs.Prelude.{◌≡◌, ◌≢◌, ℕ, ◌<◌, List, [], length, true, slice_index_or}
 use mathlib.Core.Option.{some}
 use lib.ListN.{get_elem?}

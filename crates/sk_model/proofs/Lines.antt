@@ -133,13 +133,13 @@ pub torn : (text : List ℕ) → Torn text
 torn [] = record { front = []; last = []; joined = refl; whole = inl refl; open_piece = All-nil (λ b. b ≢ 10) }
 torn (x ∷ xs) = torn_cons x xs (torn xs) (cases_eq x 10)
 
--- the lines of a text that may go on, by its parts
+-- the lines of a text that may continue, by its parts
 pub open_lines_torn : (text : List ℕ) (t : Torn text) → open_lines_of text ≡ lines_of t.front ++ strip_carriage_return t.last ∷ []
 open_lines_torn text t =
     ap (λ (x : List ℕ). lines_of (x ++ 10 ∷ [])) t.joined ∙ ap lines_of (append_assoc t.front t.last (10 ∷ []))
     ∙ after_whole_lines t.front (t.last ++ 10 ∷ []) t.whole ∙ ap (λ (ls : List (List ℕ)). lines_of t.front ++ ls) (a_line_alone t.last t.open_piece)
 
--- the lines of a text that goes on
+-- the lines of a text that continues
 pub more_lines_torn : (text more : List ℕ) (t : Torn text) → lines_of (text ++ more) ≡ lines_of t.front ++ lines_of (t.last ++ more)
 more_lines_torn text more t =
     ap (λ (x : List ℕ). lines_of (x ++ more)) t.joined ∙ ap lines_of (append_assoc t.front t.last more) ∙ after_whole_lines t.front (t.last ++ more) t.whole

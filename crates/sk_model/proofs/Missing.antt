@@ -1,4 +1,4 @@
--- How far one list is behind another.
+-- How many of the last members of one list another lacks.
 use Rattle.std.proofs.Common.{◌≡◌, ℕ, zero, suc, ◌+◌, ◌-◌, ◌≤◌, List, [], ◌∷◌, ◌++◌, length, take, drop, take-append-drop, refl, sym, ap, ◌∙◌, subst, arith, append_assoc, append-nil, length-append}
 use Rattle.std.proofs.lemmas.List.{take-append-le}
 use Rattle.sk_model.specs.Missing.{Begins, LacksAtMost}
@@ -73,7 +73,7 @@ begins_less xs ys s b =
     let e = ap length b.1 in
     subst (λ w. Begins (take (length xs - s) xs) (take (length ys - s) w)) (sym b.1) (begins_take (length xs - s) (length ys - s) xs b.0 (omega (arith, length-append xs b.0)))
 
--- a front of a front
+-- a prefix of a prefix
 front_of_front : {A : Type 0} (n m : ℕ) (xs : List A) → n ≤ m → take n (take m xs) ≡ take n xs
 front_of_front zero m xs le = refl
 front_of_front (suc n) zero xs le = absurd (omega arith)

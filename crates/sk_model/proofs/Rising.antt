@@ -213,7 +213,7 @@ take-placed (suc k) h (x ∷ xs) =
     behind zero = refl
     behind (suc k) = ap (λ (l : List ℕ). x ∷ l) (take-take k (suc k) xs (omega arith))
 
--- a number that no member is above leaves the front as it was
+-- a number that no member is above leaves the prefix as it was
 pub placed-idle : (h : ℕ) (xs : List ℕ) → All (λ y. y ≤ h) xs → take (length xs) (placed h xs) ≡ xs
 placed-idle h [] all = refl
 placed-idle h (x ∷ xs) all =
@@ -263,7 +263,7 @@ take-all_placed k kept (h ∷ hashes) =
 
 -- ---- the place of a number among those that rise
 
--- behind those below it, in front of a greater one or at the end
+-- after those below it, before a greater one or at the end
 pub placed-insert : (h : ℕ) (xs : List ℕ) (i : ℕ) → i ≤ length xs → All (λ y. y < h) (take i xs) → (i < length xs → h < get_or xs i 0) → placed h xs ≡ insert xs i h
 placed-insert h [] zero le below above = placed-nil h
 placed-insert h [] (suc i) le below above = absurd (omega arith)
@@ -274,7 +274,7 @@ placed-insert h (x ∷ xs) (suc i) le below above =
     let less : x < h = All-head (λ y. y < h) x (take i xs) below in
     placed_by (λ l. l ≡ x ∷ insert xs i h) h x xs (λ lt. absurd (omega arith)) (λ eq. absurd (omega arith)) (λ gt. ap (λ (l : List ℕ). x ∷ l) (placed-insert h xs i (omega arith) (All-tail (λ y. y < h) x (take i xs) below) (λ inside. above (omega arith))))
 
--- a number that is there already, behind those below it
+-- a number that is there already, after those below it
 pub placed-there : (h : ℕ) (xs : List ℕ) (i : ℕ) → i < length xs → All (λ y. y < h) (take i xs) → get_or xs i 0 ≡ h → placed h xs ≡ xs
 placed-there h [] i inside below is = absurd (omega arith)
 placed-there h (x ∷ xs) zero inside below is =

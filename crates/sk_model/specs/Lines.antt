@@ -8,7 +8,7 @@ use Rattle.sk_model.specs.Sketch.{estimate_of}
 unfoldable pub lines_of : List ℕ → List (List ℕ)
 lines_of bytes = lines bytes
 
--- the lines of a text that may go on, its last piece ended here: whatever follows, no line before that
+-- the lines of a text that may continue, its last piece ended here: whatever follows, no line before that
 -- piece changes, and that one gets no shorter
 abbrev pub open_lines_of : List ℕ → List (List ℕ)
 open_lines_of bytes = lines_of (bytes ++ 10 ∷ [])

@@ -1,4 +1,4 @@
--- How far one list is behind another.
+-- How many of the last members of one list another lacks.
 use Rattle.std.specs.Prelude.{◌≡◌, ℕ, ◌-◌, nat_lt, if◌then◌else◌, List, ◌++◌, length, take}
 
 -- ys begins with xs

@@ -70,7 +70,7 @@ murmur128_of seed bytes =
     let blocks = length bytes / 16 in
     finished (with_tail (after_blocks seed bytes blocks) (drop (16 * blocks) bytes)) (length bytes)
 
--- the hash by which items are told apart: the upper bits of the first half, or 1 if they are 0
+-- the hash by which items are distinguished: the upper bits of the first half, or 1 if they are 0
 unfoldable pub hash_of : ℕ → List ℕ → ℕ
 hash_of seed bytes = max 1 ((murmur128_of seed bytes).0 / hash_cut)
 

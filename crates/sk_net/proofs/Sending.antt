@@ -4,7 +4,7 @@ use Rattle.std.proofs.lemmas.List.{take_all, drop-drop}
 use Rattle.std.specs.Io.KnownBytes.{Appends, Keeps, append_known}
 use Rattle.std.proofs.KnownBytes.{Keeps-trans, append_known-moved}
 
--- n bytes more of those behind a place were sent
+-- n bytes more of those after a place were sent
 pub sent_more : (a b c : Option (List ℕ)) (waiting bytes : List ℕ) (at n : ℕ) → Keeps (append_known a waiting) (append_known b (drop at bytes)) → Appends b c (take n (take (length bytes - at) (drop at bytes))) → Keeps (append_known a waiting) (append_known c (drop (at + n) bytes))
 sent_more a b c waiting bytes at n before here =
     let rest : take (length bytes - at) (drop at bytes) ≡ drop at bytes = take_all _ _ (omega (arith, length-drop at bytes)) in

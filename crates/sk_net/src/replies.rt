@@ -57,7 +57,7 @@ impl Replies {
         self.most = 0;
     }
 
-    /// Writes at least one byte from the front of `bytes`, behind those that wait: they wait too where
+    /// Writes at least one byte from the start of `bytes`, after those that wait: they wait too where
     /// there is room.
     pub fn write<W: Write>(&mut self, out: &mut W, bytes: &[u8]) -> Result<usize, Failed>
         requires { 0 < length bytes.now }
@@ -101,7 +101,7 @@ impl Replies {
         self.bytes.len() >= self.most
     }
 
-    // Keeps as many of these bytes as there is room for, and answers how many.
+    // Keeps as many of these bytes as there is room for, and returns how many.
     fn keep(&mut self, bytes: &[u8]) -> usize
         ensures count { result ≡ min (length bytes.now) self.old.room }
         ensures bytes { self.new.bytes ≡ self.old.bytes ++ take result bytes.now }

@@ -33,7 +33,7 @@ struct Listening<L> {
 }
 
 /// A door over TCP at a port of 127.0.0.1, at port 0 one that the system chooses. When it listens it takes
-/// the memory of so many links, and links beyond them hold nothing back. It knows of no link before it comes.
+/// the memory of this many links, and links beyond them hold nothing back. It knows of no link before it comes.
 #[derive(Drop)]
 pub struct TcpDoor<R: Net> {
     rt: R,
@@ -148,7 +148,7 @@ impl<R: Net> Door for TcpDoor<R> {
     }
 }
 
-// Replies for so many links.
+// Replies for this many links.
 fn spare_replies(alloc: Global, links: u32) -> Result<Vec<Replies>, AllocError>
     ensures { IfOk result (λ spare. All IsUnused spare.items) }
 {

@@ -16,8 +16,8 @@ use std::time::Duration;
 const CLOSE_WAIT: u64 = 2;
 
 /// A connection over a stream. What is written waits until the next read, or until much waits, and is
-/// sent then: a fault of sending is one of that call. Behind the end of what comes it is sent at once, and
-/// behind `finish` nothing can be sent.
+/// sent then: a fault of sending is one of that call. After the end of what comes it is sent immediately, and
+/// after `finish` nothing can be sent.
 #[derive(Drop)]
 pub struct TcpLink<S = TcpStream> {
     stream: S,

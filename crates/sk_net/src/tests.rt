@@ -44,7 +44,7 @@ fn client_of(rt: &HostRuntime, port: Option<u16>) -> io::Result<TcpStream> {
     )
 }
 
-// Sends back what comes over a link, and answers the link.
+// Sends back what comes over a link, and returns the link.
 fn echoed(mut link: TcpLink) -> TcpLink {
     let mut piece = [0; 64];
     'read: for _ in 0..1000 {
@@ -58,7 +58,7 @@ fn echoed(mut link: TcpLink) -> TcpLink {
     link
 }
 
-// Sends a text in pieces of `step` bytes, and answers what comes back of as many bytes.
+// Sends a text in pieces of `step` bytes, and returns what comes back of as many bytes.
 fn answer_to(client: &mut TcpStream, text: &[u8; 8], step: usize) -> io::Result<[u8; 8]>
     requires { 0 < step }
 {

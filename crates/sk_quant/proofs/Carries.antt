@@ -10,7 +10,7 @@ use Rattle.sk_quant.specs.Stored.{lists_of}
 abbrev pub joined : (ℕ → ℕ) → ℕ → List ℕ → List ℕ → List ℕ
 joined coins place items level = in_order (level ++ halved (coins place) items)
 
--- some levels are put in front of others
+-- some levels are put before others
 abbrev behind : List (List ℕ) → List (List ℕ) × ℕ → List (List ℕ) × ℕ
 behind front up = (front ++ up.0, up.1)
 
@@ -31,7 +31,7 @@ carried_through coins place items (x ∷ level) levels some = refl
 
 -- ---- the loop
 
--- the first so many levels are done: what is to come is what these items leave of the others
+-- the first `done` levels are done: what is to come is what these items leave of the others
 pub record IsCarrying (coins : ℕ → ℕ) (first place : ℕ) (start items : List ℕ) (levels now : List (List ℕ)) (done : ℕ) : Type 0 where
   pub rest : drop done now ≡ drop done levels
   pub same : carried coins first start levels ≡ behind (take done now) (carried coins place items (drop done levels))

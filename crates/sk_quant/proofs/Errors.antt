@@ -17,7 +17,7 @@ error_terms-is n k (suc l) =
     ap (λ (e : ℕ). e + 2 ^ l * (n / (2 * k * 2 ^ l))) (error_terms-is n k l)
     ∙ ap (λ (q : ℕ). terms (n / (2 * k)) l + 2 ^ l * q) (sym (div-div-eq-div-mul n (2 * k) (2 ^ l)))
 
--- how many compactions, of so many of the base
+-- how many compactions, of this many of the base
 unfoldable pub counts : ℕ → ℕ → ℕ
 counts m zero = 0
 counts m (suc l) = counts m l + m / 2 ^ l

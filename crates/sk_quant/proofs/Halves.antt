@@ -51,7 +51,7 @@ one_below-most t x = ⊎_elim (λ less. omega (arith, one_below-lt t x less)) (�
 taken_between : (coin x y : ℕ) → x ≤ y → (x ≤ cond (eqb coin 0) x y) × (cond (eqb coin 0) x y ≤ y)
 taken_between coin x y le = elim (eqb coin 0) as (λ b. (x ≤ cond b x y) × (cond b x y ≤ y)) [ true ↦ (omega arith, le) | false ↦ (le, omega arith) ]
 
--- one pair more in front of what rises from its second
+-- one more pair before what rises from its second
 near_pair : (t x y taken : ℕ) (half items : List ℕ) → x ≤ taken → taken ≤ y → AscendsFrom y items → AscendsFrom y half → IsOneOff (2 * rank_of t half) (rank_of t items) → IsOneOff (2 * rank_of t (taken ∷ half)) (rank_of t (x ∷ y ∷ items))
 near_pair t x y taken half items low high up up' near =
     let of_half : rank_of t (taken ∷ half) ≡ one_below t taken + rank_of t half = rank-cons t taken half in
@@ -78,7 +78,7 @@ halves_are_near t coin items up =
 
 -- ---- the loop
 
--- after i pairs the front has what the coin takes of them, and the rest is as it was
+-- after i pairs the prefix has what the coin takes of them, and the rest is as it was
 pub record IsHalving (coin : ℕ) (items now : List ℕ) (i : ℕ) : Type 0 where
   pub len : length now ≡ length items
   pub front : take i now ≡ take i (halved coin items)

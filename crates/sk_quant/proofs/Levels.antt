@@ -17,7 +17,7 @@ level_read levels i level inside is =
 abbrev counted : (ℕ → Bool) → ℕ → ℕ
 counted p x = cond (p x) 1 0
 
--- how many pass a test, where those that pass stand in front
+-- how many pass a test, where those that pass stand first
 pub count_to_point : (p : ℕ → Bool) (xs : List ℕ) (i : ℕ) → i ≤ length xs → AllWithin (λ y. p y ≡ true) xs 0 i → AllWithin (λ y. p y ≡ false) xs i (length xs) → count_by p xs ≡ i
 count_to_point p [] i within before behind = omega arith
 count_to_point p (x ∷ xs) zero within before behind =

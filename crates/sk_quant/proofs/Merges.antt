@@ -7,7 +7,7 @@ use Rattle.std.proofs.lemmas.List.Sorted.{IsNonDecreasingBy-take}
 use Rattle.sk_quant.specs.Order.{in_order}
 use Rattle.sk_quant.proofs.Orders.{in_order_last, in_order_of_rising}
 
--- of the items the first `left` wait, of the others the first `right`; what was taken of both stands behind, in order
+-- of the items the first `left` wait, of the others the first `right`; what both gave stands after them, in order
 pub record IsMerging (others items now : List ℕ) (left right : ℕ) : Type 0 where
   pub items_wait : left ≤ length items
   pub others_wait : right ≤ length others
@@ -30,7 +30,7 @@ merging_begins others items now is = record {
     none : drop (length items + length others) now ≡ []
     none = drop_all (length items + length others) now (omega (arith, ap (λ (l : List ℕ). length l) is, length-append items others))
 
--- of rising items none in front of a place is above what stands there
+-- of rising items none before a place is above what stands there
 at_most : (xs : List ℕ) (i z : ℕ) → IsNonDecreasing xs → i < length xs → get_or xs i 0 ≤ z → All (λ y. y ≤ z) (take (i + 1) xs)
 at_most xs i z up inside le =
     All-from_get_or (λ y. y ≤ z) (take (i + 1) xs) 0
@@ -47,11 +47,11 @@ first_at_most xs (suc n) z up within le =
     let back : suc n - 1 ≡ n = omega arith in
     rw same (at_most xs n z up (omega arith) (rw back at (le (omega arith))))
 
--- what stands at the end of the wait goes behind, whichever list it is of
+-- what stands at the end of the wait goes after it, whichever list it is of
 behind : (at z : ℕ) (now : List ℕ) → at < length now → drop at (set now at z) ≡ z ∷ drop (at + 1) now
 behind at z now inside = drop-set now at z inside
 
--- what waits of the items is still in front
+-- what waits of the items still comes first
 pub waits_in_front : (others items now : List ℕ) (left right i : ℕ) → i < left → IsMerging others items now left right → get_or now i 0 ≡ get_or items i 0
 waits_in_front others items now left right i less so_far =
     sym (get_or-take left now i 0 less) ∙ ap (λ (l : List ℕ). get_or l i 0) so_far.front ∙ get_or-take left items i 0 less

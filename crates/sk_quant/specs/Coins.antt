@@ -7,7 +7,7 @@ use Rattle.rand_chacha.specs.ChaCha.{ChaCha, word_at, of_seed}
 abbrev pub seed_of_key : ℕ → List ℕ
 seed_of_key key = to_le_bytes w64 key ++ replicate 24 0
 
--- ChaCha with 8 rounds from that seed, with so many words taken
+-- ChaCha with 8 rounds from that seed, with this many words taken
 abbrev pub words_of_key : ℕ → ℕ → ChaCha
 words_of_key key taken = record (of_seed (seed_of_key key)) { word_pos = taken }
 

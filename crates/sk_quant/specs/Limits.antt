@@ -12,11 +12,11 @@ most_quantile_k = 4096
 abbrev pub key_end : ℕ
 key_end = 2 ^ 48
 
--- a sketch takes at most so many items
+-- a sketch takes at most this many items
 abbrev pub most_items : ℕ
 most_items = 2 ^ 46
 
--- so many levels stand above the base
+-- this many levels stand above the base
 abbrev pub level_count : ℕ
 level_count = 48
 

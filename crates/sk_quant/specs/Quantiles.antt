@@ -25,13 +25,13 @@ pub record IsSketchOf (sketch : Quantiles) (items : List ℕ) : Type 0 where
   pub count : sketch.count ≡ length items
   pub held : sketch.held ≡ held_after (coin_of sketch.key) sketch.k items
 
--- after the base went up so many times, a level has k rising items where its bit of that number is 1, else none
+-- after the base went up this many times, a level has k rising items where its bit of that number is 1, else none
 abbrev pub AreFilled : ℕ → ℕ → List (List ℕ) → Type 0
 AreFilled k times [] = times ≡ 0
 AreFilled k times (level ∷ levels) =
     (length level ≡ k * (times % 2)) × IsNonDecreasing level × AreFilled k (times / 2) levels
 
--- how much of so many items lies where, and how many coins that took
+-- how much of `count` items lies where, and how many coins that took
 pub record IsFilled (k count : ℕ) (held : Held) : Type 0 where
   pub base : length held.base ≡ count % (2 * k)
   pub levels : AreFilled k (count / (2 * k)) held.levels

@@ -16,7 +16,7 @@ unfoldable pub weight_of : List (List ℕ) → ℕ
 weight_of [] = 0
 weight_of (layer ∷ layers) = length layer + 2 * weight_of layers
 
--- how often n items make for a compaction: n / (2k * 2 ^ l) times of weight 2 ^ l, over the first so many l
+-- how often n items make for a compaction: n / (2k * 2 ^ l) times of weight 2 ^ l, over each l below a bound
 unfoldable pub compactions : ℕ → ℕ → ℕ → ℕ
 compactions n k zero = 0
 compactions n k (suc l) = compactions n k l + n / (2 * k * 2 ^ l)

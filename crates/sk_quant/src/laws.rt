@@ -36,7 +36,7 @@ pub fn one_more()
         → held_after coins k (items ++ x ∷ []) ≡ held_with coins k (held_after coins k items) x }
 {}
 
-/// The length of a list tells how much of it lies in the base and in each level, and how many coins
+/// The length of a list says how much of it lies in the base and in each level, and how many coins
 /// were taken.
 pub fn held_is_filled()
     ensures { (coins : ℕ → ℕ) (k : ℕ) (items : List ℕ) → 1 ≤ k → length items ≤ most_items

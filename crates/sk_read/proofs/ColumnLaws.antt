@@ -71,7 +71,7 @@ pub field_or_empty : (o : Option (Bor (List ℕ))) (d : Bor (List ℕ)) (fields 
 field_or_empty None d fields i is empty = empty ∙ ap (λ (f : Option (List ℕ)). unwrap_or f []) is ∙ field_at_is fields i
 field_or_empty (Some s) d fields i is empty = ap (λ (f : Option (List ℕ)). unwrap_or f []) is ∙ field_at_is fields i
 
--- how many bytes there are, where they are told
+-- how many bytes there are, if they are reported
 abbrev pub length_told : Option (List ℕ) → ℕ
 length_told None = 0
 length_told (Some bytes) = length bytes

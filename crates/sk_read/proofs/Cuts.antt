@@ -16,7 +16,7 @@ place_settled scan.InField = refl
 place_settled scan.InQuotes = refl
 place_settled scan.AfterQuote = refl
 
--- what is settled goes on alike
+-- what is settled continues alike
 after_settled : (s : State) (xs : List ℕ) → state_after (settled s) xs ≡ state_after s xs
 unfolding state_after
 after_settled s [] = settled_twice s
@@ -63,7 +63,7 @@ cut_none p = record {
   ends = sym (after_none (state_of p) ∙ place_settled p);
 }
 
--- one byte more, behind which it stands inside a record
+-- one byte more, after which it stands inside a record
 pub cut_before : (s : State) (xs : List ℕ) (state next : State) (cut c : ℕ) → IsCut s xs state cut → next ≡ settled (step default_config state c).0 → is_inside next ≡ true →
     IsCut s (xs ++ c ∷ []) next cut
 unfolding StaysInside

@@ -121,7 +121,7 @@ first_marked text at ahead k known set below =
       here = λ _. here.2;
     }
 
--- without the lowest mark, the delimiters behind it are known
+-- without the lowest mark, the delimiters after it are known
 pub knows_behind : (text : List ℕ) (at : ℕ) (ahead : Ahead) (rest k : ℕ) → Knows text at ahead → bit_at ahead.marks k ≡ 1 → ((j : ℕ) → j < k → bit_at ahead.marks j ≡ 0) →
     ((j : ℕ) → j < 64 → j ≢ k → bit_at rest j ≡ bit_at ahead.marks j) → bit_at rest k ≡ 0 → ((j : ℕ) → bit_at rest j ≡ 1 → bit_at ahead.marks j ≡ 1) →
     Knows text (ahead.scanned + k - 64 + 1) (record { scanned = ahead.scanned; marks = rest })
@@ -149,7 +149,7 @@ knows_behind text at ahead rest k known set below kept cleared no_more =
           (low, bit ∙ mark.1);
     }
 
--- where no mark is left, the search goes on behind what was scanned
+-- if no mark is left, the search continues after what was scanned
 pub next_behind : (text : List ℕ) (at scanned place : ℕ) → Knows text at (record { scanned = scanned; marks = 0 }) → IsNextDelimiter text scanned place → IsNextDelimiter text at place
 next_behind text at scanned place known next = record {
   from = omega (arith, known.ordered, next.from);

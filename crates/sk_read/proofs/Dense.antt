@@ -119,7 +119,7 @@ module _ (text : List ℕ) (at lfs : ℕ) (marks : (k : ℕ) → (bit_at lfs k �
       let place : at + some.0 + k ≡ at + (some.0 + k) = omega arith in
       omega (arith, some.2 k below, (marks (some.0 + k)).1 (omega (arith, some.1), ap (slice_index text) (sym place) ∙ lf)))
 
--- ---- few bytes, with LFs behind them
+-- ---- few bytes, with LFs after them
 
 module _ (text block : List ℕ) (n : ℕ) (is : block ≡ text ++ replicate n 10) (size : length text + n ≡ 64) where
   front_byte : (i : ℕ) → i < length text → slice_index block i ≡ slice_index text i
@@ -195,7 +195,7 @@ digit_is_no x y other digit same = true≢false (sym digit ∙ ap is_ascii_digit
 no_strip : (line : List ℕ) → slice_index line (length line - 1) ≢ 13 → strip_carriage_return line ≡ line
 no_strip line other = ap (λ (b : Bool). cond b (take (length line - 1) line) line) (ne_eqb _ 13 other)
 
--- what stands behind an LF in a text of whole lines
+-- what stands after an LF in a text of whole lines
 whole_behind : (piece rest front : List ℕ) → piece ++ 10 ∷ rest ≡ front ++ 10 ∷ [] → IsOfWholeLines rest
 whole_behind [] rest [] is = inl (ap (drop 1) is)
 whole_behind [] rest (y ∷ front) is = inr (front, ap (drop 1) is)
@@ -288,7 +288,7 @@ no_cr_unstripped line no_cr = no_strip line (⊎_elim
     (λ (none : length line ≤ 0) is. omega (arith, is, get_or_past line (length line - 1) 0 (omega arith)))
     (cases_lt 0 (length line)))
 
--- a text of whole lines: it is empty, or whole lines come behind its first LF
+-- a text of whole lines: it is empty, or whole lines come after its first LF
 module _ (P : List ℕ → Type 0) (nothing : P []) (first : (piece rest : List ℕ) → HasNoLf piece → IsOfWholeLines rest → P rest → P (piece ++ 10 ∷ rest)) where
   by_cut : (text : List ℕ) (c : Cut text) → IsOfWholeLines text → ((rest : List ℕ) → length rest < length text → IsOfWholeLines rest → P rest) → P text
   by_cut text c whole less = ⊎_elim

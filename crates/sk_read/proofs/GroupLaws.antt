@@ -1,4 +1,4 @@
--- Lines that are given many at once.
+-- Lines that are given many together.
 use Rattle.std.proofs.Common.{◌≡◌, ◌⊎◌, refl, ℕ, ◌+◌, ◌<◌, ◌≤◌, List, [], ◌∷◌, ◌++◌, length, take, drop, map, slice_range, slice_index_or, take-append-drop, Option, Result, Ok, Err, IfErr, IsErrAnd, sym, ap, ◌∙◌, subst, arith, length-append, append_assoc}
 use Rattle.std.proofs.lemmas.List.{length-map, length-take-le, map-append, map_more, get_or-map}
 use Rattle.std.proofs.lemmas.List.Elements.{All-drop}
@@ -57,7 +57,7 @@ stops_at Stopped why given text spans i number inside place stopped of = record 
   fault = subst (λ (n : ℕ). IsOfTaker n why) (omega (arith, place, length-map (take i spans) (line_at text), length-take-le i spans (omega arith))) of;
 }
 
--- it stopped behind more lines of which none stopped it
+-- it stopped after more lines of which none stopped it
 pub stops_behind : (Stopped : Fault → List (List ℕ) → List ℕ → Type 0) (why : Fault) (given more units : List (List ℕ)) → StopsAmong Stopped why (given ++ more) units → StopsAmong Stopped why given (more ++ units)
 stops_behind Stopped why given more units stops = record {
   front = more ++ stops.front;
@@ -76,7 +76,7 @@ pub with_fault : {A : Type 0} (P : Fault → Type 0) (f : Fault) (r : Result A F
 with_fault P f (Ok a) is holds = absurd is
 with_fault P f (Err e) is holds = subst P (sym is) holds
 
--- as many lines were given as the reader tells, since few bytes make few lines
+-- as many lines were given as the reader says, since few bytes make few lines
 pub as_many : (r : Reading) (left : Option (List ℕ)) (given : List (List ℕ)) (taken : List ℕ) (n : ℕ) → HasRead r left given taken → n ≡ r.cutter.number → length given ≡ n
 as_many r left given taken n read number = omega (arith, number, read.has.number, has_few r given taken read.has, read.has.count, read.bound, read.few)
 

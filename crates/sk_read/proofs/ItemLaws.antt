@@ -39,7 +39,7 @@ items_of_empty kind lines [] none =
     items_append by lines ([] ∷ []) ∙ ap (λ (l : List ℕ). items_of by lines ++ l) (item_of_empty by) ∙ append-nil (items_of by lines)
 items_of_empty kind lines (byte ∷ line) none = absurd (omega arith)
 
--- the front of lines that begin with these
+-- the prefix of lines that begin with these
 pub front_is : {A : Type 0} (given lines : List A) → Begins given lines → take (length given) lines ≡ given
 front_is {A} given lines begins = ap (take (length given)) begins.1 ∙ front given begins.0
   where

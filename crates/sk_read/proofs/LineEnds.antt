@@ -24,14 +24,14 @@ pub settled_so : (P Q : List ℕ → Type 0) (left : Option (List ℕ)) (taken :
 settled_so P Q left taken so (inl always) = inl (λ later. so (taken ++ later) (always later))
 settled_so P Q left taken so (inr here) = inr (here.0, so taken here.1)
 
--- a fact of every text that goes on from the bytes taken is one of the text read, where the source tells it
+-- a fact of every text that continues the bytes taken is one of the text read, if the source reports it
 pub settled_told : (P : List ℕ → Type 0) (old left : Option (List ℕ)) (taken : List ℕ) → Consumes old left taken → IsSettled P left taken → IfSome old P
 settled_told P None left taken consumed settled = tt
 settled_told P (Some text) None taken consumed settled = absurd consumed
 settled_told P (Some text) (Some rest) taken consumed (inl always) = subst P (sym consumed) (always rest)
 settled_told P (Some text) (Some rest) taken consumed (inr here) = subst P (sym (consumed ∙ ap (λ (l : List ℕ). taken ++ l) here.0 ∙ append-nil taken)) here.1
 
--- a taker stopped at a line, and lines behind it may have been given too
+-- a taker stopped at a line, and lines after it may have been given too
 line_stops : (Stopped : List (List ℕ) → List ℕ → Type 0) (most : ℕ) (r : Reading) (old left : Option (List ℕ)) (given : List (List ℕ)) (line : List ℕ) (all : List (List ℕ)) (taken : List ℕ) → r.most ≡ most →
     Consumes old left taken → Stopped given line → Begins (given ++ line ∷ []) all → HasRead r left all taken → IsInTime Lines given taken → StopsAt Lines most Stopped old left
 line_stops Stopped most r old left given line all taken is consumed stopped among read in_time = (
@@ -64,7 +64,7 @@ line_stops Stopped most r old left given line all taken is consumed stopped amon
         ap (λ (m : ℕ). take m (lines_of text)) (omega (arith, length-append given (line ∷ []))) ∙ front_is (given ++ line ∷ []) (lines_of text) begins in
         subst (AreWithin line_limit) (sym front) short
 
--- behind other lines they come so too
+-- after other lines they come so too
 begins_behind : (given front more : List (List ℕ)) (unit : List ℕ) → Begins (front ++ unit ∷ []) more → Begins ((given ++ front) ++ unit ∷ []) (given ++ more)
 begins_behind given front more unit begins = (
   begins.0,
@@ -97,7 +97,7 @@ module _ (Gave : List (List ℕ) → Type 0) (Stopped : Fault → List (List ℕ
     comes = inl (λ later. ((lines_of later, refl), All-nil (λ (l : List ℕ). length l ≤ line_limit)));
   })
 
-  -- no memory behind the lines given
+  -- out of memory after the lines given
   pub no_memory : (r : Reading) (old left : Option (List ℕ)) (given : List (List ℕ)) (taken : List ℕ) → r.most ≡ most → Consumes old left taken → Gave given → HasRead r left given taken →
       Ends Lines most Gave Stopped old left fault.OutOfMemory
   no_memory r old left given taken is consumed gave read = inl (record {
@@ -147,7 +147,7 @@ module _ (Gave : List (List ℕ) → Type 0) (Stopped : Fault → List (List ℕ
       taker_ends Lines old left given line n f place of stopped (λ (Known : List (List ℕ) → List ℕ → Type 0) known.
       line_stops Known most r old left given line (given ++ line ∷ []) taken is consumed known (begins_refl (given ++ line ∷ [])) read in_time)
 
-  -- a taker of lines that come behind those given stopped at one of them, for this fault
+  -- a taker of lines that come after those given stopped at one of them, for this fault
   pub line_missed_among : (r : Reading) (old left : Option (List ℕ)) (given more : List (List ℕ)) (taken : List ℕ) (f : Fault) → r.most ≡ most → Consumes old left taken → StopsAmong Stopped f given more →
       HasRead r left (given ++ more) taken → IsInTime Lines given taken → Ends Lines most Gave Stopped old left f
   line_missed_among r old left given more taken f is consumed stops read in_time =

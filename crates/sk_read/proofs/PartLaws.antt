@@ -52,7 +52,7 @@ drop_front : (xs ys : List ℕ) → drop (length xs) (xs ++ ys) ≡ ys
 drop_front [] ys = refl
 drop_front (x ∷ xs) ys = drop_front xs ys
 
--- behind a byte that ends a record it stands as at the start
+-- after a byte that ends a record it stands as at the start
 led_goes_on : (c : ℕ) → IsEnd c → state_after st.StartRecord (c ∷ []) ≡ st.StartRecord
 led_goes_on c end = after_byte st.StartRecord c ∙ ap (λ (p : State × _). settled p.0) (end_is_skipped c end)
 
@@ -165,7 +165,7 @@ complete_is p rows taken has one going =
         no_rows (r ∷ l) none = absurd (omega arith)
     no_record (c ∷ d ∷ rest) size between = absurd (omega (arith, size))
 
--- what was put behind some bytes
+-- what was put after some bytes
 pub behind_is : (n : ℕ) (all old more : List ℕ) → n ≡ length old → all ≡ old ++ more → take (length all - n) (drop n all) ≡ more
 behind_is n all old more place joined =
     let rest : drop n all ≡ more = ap (λ (m : ℕ). drop m all) place ∙ ap (drop (length old)) joined ∙ drop_front old more in
@@ -262,7 +262,7 @@ started p new taken held found has which bytes cut place count most ended = reco
     go zero cut = cut_stays st.StartRecord (10 ∷ []) held st.StartRecord (state_of new.place) 1 base cut
     go (suc n) cut = cut_later st.StartRecord (10 ∷ []) held st.StartRecord (state_of new.place) 1 (suc n) base cut (omega arith)
 
--- one piece more behind records of which all that ended were given
+-- one piece more after records of which all that ended were given
 pub rows_in_time : (rows : List Row) (taken more : List ℕ) → complete_records_of taken ≡ rows → length more ≤ piece_limit → AreInTime rows (taken ++ more)
 rows_in_time rows taken more complete size = record {
   front = taken;
@@ -281,7 +281,7 @@ held_more p mid new left now rows taken more found held one going holds size end
   in_time = rows_in_time rows taken more (complete_is p rows taken held.has one going) size;
 }
 
--- no byte came behind records of which all that ended were given
+-- no byte came after records of which all that ended were given
 pub lacks_row : (p : Parts) (left : Option (List ℕ)) (rows : List Row) (taken more : List ℕ) (most : ℕ) (f : Fault) → HasHeld p left rows taken → p.cut ≡ 1 → p.ended ≡ false → most ≡ p.most →
     length more ≤ piece_limit → LacksBytes p more f → Lacks most rows (taken ++ more) f
 lacks_row p left rows taken more most fault.ReadFault held one going is size lacks =
@@ -300,7 +300,7 @@ lacks_row p left rows taken more most fault.OutOfMemory held one going is size l
 )
 lacks_row p left rows taken more most _ held one going is size lacks = absurd lacks
 
--- no byte came behind the first of a byte order mark
+-- no byte came after the first of a byte order mark
 pub lacks_mark : (p : Parts) (taken more : List ℕ) (most : ℕ) (f : Fault) → is_mark_front taken ≡ true → length taken ≤ 3 → length taken ≡ p.taken → most ≡ p.most → length more ≤ 1 → LacksBytes p more f →
     Lacks most [] (taken ++ more) f
 lacks_mark p taken more most fault.ReadFault front small count is size lacks =

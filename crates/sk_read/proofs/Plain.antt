@@ -72,7 +72,7 @@ plain_after s [] plain none = unquoted_settled s ∙ plain
 plain_after s (c ∷ rest) plain none =
     plain_after (step default_config s c).0 rest (step_plain s c plain (ne_eqb c 34 (All-head IsNoQuote c rest none))).1 (All-tail IsNoQuote c rest none)
 
--- the last byte tells the state
+-- the last byte shows the state
 plain_last : (s : State) (xs : List ℕ) (c : ℕ) → is_unquoted s ≡ true → All IsNoQuote xs → c ≢ 34 → state_after s (xs ++ c ∷ []) ≡ settled (step default_config st.InField c).0
 plain_last s xs c plain none other =
     after_append s xs (c ∷ []) ∙ after_byte (state_after s xs) c ∙ (step_plain (state_after s xs) c (plain_after s xs plain none) (ne_eqb c 34 other)).0
@@ -134,7 +134,7 @@ last_of : (ys : List ℕ) (c : ℕ) → All IsNoQuote (ys ++ c ∷ []) → c ≢
 last_of [] c all = All-head IsNoQuote c [] all
 last_of (y ∷ ys) c all = last_of ys c (All-tail IsNoQuote y (ys ++ c ∷ []) all)
 
--- outside quotes the cut lies behind the last LF or CR
+-- outside quotes the cut lies after the last LF or CR
 cut_plain : (s : State) (xs init : List ℕ) (last n : ℕ) → is_unquoted s ≡ true → All IsNoQuote xs → xs ≡ init ++ last ∷ [] → n ≤ length xs → (0 < n → IsEnd (get_or xs (n - 1) 0)) →
     All (λ (c : ℕ). ¬ IsEnd c) (drop n xs) → IsCut s xs (settled (step default_config st.InField last).0) n
 cut_plain s xs init last n plain none whole fits end after =
@@ -161,7 +161,7 @@ place_unquoted scan.InField other = refl
 place_unquoted scan.InQuotes other = absurd (other refl)
 place_unquoted scan.AfterQuote other = refl
 
--- behind a quote it stands inside a record
+-- after a quote it stands inside a record
 pub quote_inside : (p : ScanState) → is_inside (settled (step default_config (state_of p) 34).0) ≡ true
 quote_inside scan.Between = refl
 quote_inside scan.FieldStart = refl

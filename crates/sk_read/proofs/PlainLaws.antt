@@ -24,7 +24,7 @@ use Rattle.sk_read.proofs.ColumnLaws.{one_more_row}
 abbrev pub read_on : Row → List ℕ → List ℕ → Option Read
 read_on fields field text = next_record default_config st.InField fields field text
 
--- a record ends there, and behind it it stands between two
+-- a record ends there, and after it the state is between two
 abbrev pub Completes : Option Read → Row → List ℕ → Type 0
 Completes read row rest = (state : State) × (settled state ≡ st.StartRecord) × (read ≡ Some (row, state, rest))
 
@@ -41,7 +41,7 @@ joins (c ∷ rest) (suc n) fields field fits inside =
     let again = joins rest n fields (field ++ c ∷ []) (omega (arith, fits)) (λ i below. inside (suc i) (omega (arith, below))) in
     rw (inside_step c (inside 0 (omega arith))) (again ∙ ap (λ (l : List ℕ). read_on fields l (drop n rest)) (append_assoc field (c ∷ []) (take n rest)))
 
--- what no quote begins goes on at the start of a field as inside it
+-- what no quote begins continues at the start of a field as inside it
 begins : (xs : List ℕ) (fields : Row) → (0 < length xs → get_or xs 0 0 ≢ 34) → next_record default_config st.StartField fields [] xs ≡ read_on fields [] xs
 unfolding next_record
 begins [] fields plain = refl
@@ -88,7 +88,7 @@ module _ (text : List ℕ) (plain : All IsNoQuote text) where
       subst (λ (c : ℕ). ¬ IsDelimiter c) (sym (get_or-drop at text i 0)) (next.none (at + i) (omega arith) (omega (arith, below))))
       ∙ ap (λ (l : List ℕ). read_on fields (slice_range text at place) l) (drop-drop (place - at) at text ∙ ap (λ (n : ℕ). drop n text) whole)
 
-  -- behind a comma comes a field more
+  -- after a comma comes a field more
   pub joined_comma : (at place : ℕ) (fields : Row) → IsNextDelimiter text at place → place < length text → get_or text place 0 ≡ 44 →
       read_on fields [] (drop at text) ≡ read_on (fields ++ slice_range text at place ∷ []) [] (drop (place + 1) text)
   joined_comma at place fields next inside is =
@@ -139,7 +139,7 @@ module _ (text : List ℕ) (plain : All IsNoQuote text) where
       let end : IsEnd (get_or text start 0) = subst (λ (n : ℕ). IsEnd (get_or text n 0)) here (is.here (omega (arith, here, inside))) in
       ap (records default_config) (drop_more text start 0 inside) ∙ records_led (get_or text start 0) (drop (start + 1) text) end ∙ ap (λ (n : ℕ). records default_config (drop (n + 1) text)) (sym here)
 
-  -- the same of the records given so far and those behind them
+  -- the same of the records given so far and those after them
   pub one_more_line : (column start : ℕ) (line : Line) (given : List Row) (is : IsLine column text start line) → start < line.end → records default_config text ≡ given ++ records default_config (drop start text) →
       records default_config text ≡ (given ++ is.row ∷ []) ++ records default_config (drop (line.end + 1) text)
   one_more_line column start line given is some split =
@@ -150,7 +150,7 @@ pub room_more : (most : ℕ) (rows all given more : List Row) (row : Row) → le
 room_more most rows all given more row few split =
     omega (arith, few, ap length split, length-append (given ++ row ∷ []) more, length-append given (row ∷ []), length-append rows given)
 
--- behind the end of a text there is no record
+-- after the end of a text there is no record
 pub none_behind : (text : List ℕ) (at : ℕ) → length text ≤ at → records default_config (drop at text) ≡ []
 unfolding next_record
 none_behind text at past = ap (records default_config) (drop_all at text past) ∙ records_are [] ∙ none_is st.StartRecord [] [] [] refl

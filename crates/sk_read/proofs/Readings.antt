@@ -61,7 +61,7 @@ pub long_end : (r : Reading) (n : ℕ) → r.ended ≡ false → r.taken ≤ sou
     ((given : List (List ℕ)) (text : List ℕ) → Follows r.cutter given text → IsLongAfter r.cutter.limit n given (lines_of text)) → IsLongLast r n
 long_end r n not_ended few long given taken has = long_last r.cutter.limit n (source_limit) r.cutter given taken (omega (arith, has.count)) (omega arith) (has.follows not_ended) (long given taken (has.follows not_ended))
 
--- what comes first in every text that goes on from here
+-- what comes first in every text that continues from here
 pub given_settled : (r : Reading) (left : Option (List ℕ)) (given : List (List ℕ)) (taken : List ℕ) → HasRead r left given taken → IsSettled (λ (text : List ℕ). Begins given (lines_of text)) left taken
 given_settled r left given taken read = go r.ended refl
   where
@@ -92,7 +92,7 @@ in_time_more units given more taken is = record {
   earlier = begins_more (complete_units_of units is.front) given more is.earlier;
 }
 
--- lines that were held are given: behind the end there is none
+-- lines that were held are given: after the end there is none
 given_lines : (old new : Reading) (lines : List (List ℕ)) (given : List (List ℕ)) (taken : List ℕ) → ((given : List (List ℕ)) (text : List ℕ) → Follows old.cutter given text → Follows new.cutter (given ++ lines) text)
     → new.cutter.number ≡ counted (old.cutter.number + length lines) → new.cutter.limit ≡ old.cutter.limit → new.cutter.last ≡ old.cutter.last → new ≡ record old { cutter = new.cutter } → (old.ended ≡ true → lines ≡ [])
     → HasGiven old given taken → HasGiven new (given ++ lines) taken
@@ -147,7 +147,7 @@ have_ended r given taken limit stands = (
     less_one : (xs : List (List ℕ)) (y : List ℕ) → take (length (xs ++ y ∷ []) - 1) (xs ++ y ∷ []) ≡ xs
     less_one xs y = ap (λ (m : ℕ). take m (xs ++ y ∷ [])) (omega (arith, length-append xs (y ∷ []))) ∙ front_is xs (xs ++ y ∷ []) (y ∷ [], refl)
 
--- a piece more behind lines of which all that ended were given
+-- a piece more after lines of which all that ended were given
 pub fed_in_time : (given : List (List ℕ)) (taken more : List ℕ) → HaveEnded given taken → length more ≤ piece_limit → IsInTime Lines given (taken ++ more)
 fed_in_time given taken more ended size = record {
   front = taken;

@@ -40,7 +40,7 @@ width_begun : (given : List Row) (row : Row) (more : List Row) → width_of (beg
 width_begun [] row more = refl
 width_begun (first ∷ given) row more = refl
 
--- the whole records held, in front of those that follow
+-- the whole records held, before those that follow
 pub whole_rows : (p : Parts) (rows : List Row) (taken later : List ℕ) → HasTaken p rows taken → (p.ended ≡ true → later ≡ []) →
     (more : List Row) × (records_of (taken ++ later) ≡ (rows ++ records default_config (take p.cut p.bytes.items)) ++ more)
 whole_rows p rows taken later has over =
@@ -85,7 +85,7 @@ room_rest p rows taken has =
     has.follows [] (λ _. refl) ∙ ap (λ (l : List ℕ). rows ++ records default_config l) (append-nil p.bytes.items) in
     omega (arith, few_records (taken ++ []), ap length all, length-append rows (records default_config p.bytes.items), ap length (append-nil taken), has.count, has.bound, has.few)
 
--- ---- what comes first in every text that goes on from here
+-- ---- what comes first in every text that continues from here
 
 pub whole_settled : (p : Parts) (left : Option (List ℕ)) (rows : List Row) (taken : List ℕ) → HasHeld p left rows taken →
     IsSettled (λ (text : List ℕ). Begins (rows ++ records default_config (take p.cut p.bytes.items)) (records_of text)) left taken
@@ -145,11 +145,11 @@ fields_in_time column rows given taken begins sound is = record {
   earlier = fields_begin column (complete_records_of is.front) given (begins_trans (complete_records_of is.front) rows given is.earlier begins);
 }
 
--- so many of all records are these
+-- the first of all records, this many, are these
 front_rows : (column n : ℕ) (given all : List Row) → n ≡ length given → Begins given all → take n all ≡ given
 front_rows column n given all is begins = ap (λ (m : ℕ). take m all) is ∙ front_is given all begins
 
--- behind these records comes one whose field is too long
+-- after these records comes one whose field is too long
 long_behind : (column : ℕ) (given all : List Row) (next : Row) → Begins (given ++ next ∷ []) all → AreSoundRows column given → AreEven column (given ++ next ∷ []) → line_limit < length (field_of column next) →
     AreEven column (take (length (fields_in column given) + 1) all) × IsFirstLong line_limit (length (fields_in column given)) (fields_in column all)
 long_behind column given all next begins sound even long =
@@ -159,7 +159,7 @@ long_behind column given all next begins sound even long =
       subst (IsFirstLong line_limit (length (fields_in column given))) (sym fields) (long_after_front line_limit (fields_in column given) (field_of column next) (fields_in column begins.0) sound.within long),
     )
 
--- behind these records comes one that has not as many fields or no such column
+-- after these records comes one that has not as many fields or no such column
 uneven_behind : (column : ℕ) (given all : List Row) (next : Row) → Begins (given ++ next ∷ []) all → AreSoundRows column given →
     (length next ≢ width_of (given ++ next ∷ [])) ⊎ (length next ≤ column) → IsUneven column (length (fields_in column given)) all
 uneven_behind column given all next begins sound why = record {
@@ -185,7 +185,7 @@ module _ (Gave : List (List ℕ) → Type 0) (Stopped : Fault → List (List ℕ
   abbrev E : Fault → Type 0
   E f = Ends (Column column) most Gave Stopped old left f
 
-  -- the reading broke off behind these records
+  -- the reading broke off after these records
   off : (Known : List (List ℕ) → Type 0) (Comes : List (List ℕ) → List ℕ → Type 0) (rows given : List Row) → length taken ≤ most → AreInTime rows taken → AreSoundRows column rows → Begins rows given →
       Known (fields_in column given) → IsSettled (λ (text : List ℕ). Begins (fields_in column given) (fields_in column (records_of text)) × Comes (fields_in column given) text) left taken →
       BreaksOff (Column column) most Known Comes old left
@@ -199,7 +199,7 @@ module _ (Gave : List (List ℕ) → Type 0) (Stopped : Fault → List (List ℕ
     comes = comes;
   }
 
-  -- no record came behind these
+  -- no record came after these
   pub no_row : (rows : List Row) (f : Fault) → AreSoundRows column rows → Gave (fields_in column rows) → Lacks most rows taken f → E f
   no_row rows fault.ReadFault sound gave lacks = record {
     taken = taken;
@@ -222,7 +222,7 @@ module _ (Gave : List (List ℕ) → Type 0) (Stopped : Fault → List (List ℕ
       ))))
   no_row rows _ sound gave lacks = absurd lacks
 
-  -- the reading broke off behind some of some more records, at the next one
+  -- the reading broke off after some of some more records, at the next one
   off_at : (rows more : List Row) (f : Fault) (Known : List (List ℕ) → Type 0) (Comes : List (List ℕ) → List ℕ → Type 0) → length taken ≤ most → AreInTime rows taken → AreSoundRows column rows →
       IsSettled (λ (text : List ℕ). Begins (rows ++ more) (records_of text)) left taken → (at : EndsAt column Gave Stopped rows more f) → Known (fields_in column (rows ++ at.some)) →
       ((all : List ℕ) → Begins ((rows ++ at.some) ++ at.next ∷ []) (records_of all) → Comes (fields_in column (rows ++ at.some)) all) → BreaksOff (Column column) most Known Comes old left
@@ -247,7 +247,7 @@ module _ (Gave : List (List ℕ) → Type 0) (Stopped : Fault → List (List ℕ
         )),
       )
 
-  -- one of some more records was refused, or memory was wanting behind some of them
+  -- one of some more records was refused, or memory ran out after some of them
   pub broke : (rows more : List Row) (f : Fault) → length taken ≤ most → AreInTime rows taken → AreSoundRows column rows → IsSettled (λ (text : List ℕ). Begins (rows ++ more) (records_of text)) left taken →
       Breaks column Gave Stopped rows more f → E f
   broke rows more fault.OutOfMemory size in_time sound settled (inl breaks) =

@@ -1,11 +1,11 @@
--- Lemmas on bits in a row: a mask that is cut with itself, shifted, tells of more and more of them.
+-- Lemmas on bits in a row: a mask that is cut with itself, shifted, speaks of more and more of them.
 use Rattle.std.proofs.Common.{◌≡◌, ℕ, ◌+◌, ◌-◌, ◌^◌, ◌/◌, ◌%◌, ◌<◌, ◌≤◌, ⊎_elim, true, false, not, nat_eq, bit_and, w64, sym, ap, ◌∙◌, arith, eq-eqb, true≢false}
 use Rattle.std.specs.Int.{bit_at, bit_not, trailing_zeros}
 use Rattle.std.proofs.lemmas.Bool.{cases_lt, ne_eqb}
 use Rattle.std.proofs.lemmas.Nat.{shr-shr, and_le_l}
 use Rattle.std.proofs.lemmas.Nat.Bits.{bit_at_and, bit_at-lt, bit_at-zero, bit_at_above, bit_at_not, bit_at-trailing_zeros}
 
--- each bit of the rows says whether so many bits of the mask, from the same place on, are set
+-- each bit of the rows says whether this many bits of the mask, from the same place on, are set
 pub record AreRows (mask rows count : ℕ) : Type 0 where
   pub fits : rows ≤ mask
   pub set : (i : ℕ) → bit_at rows i ≡ 1 → (k : ℕ) → k < count → bit_at mask (i + k) ≡ 1

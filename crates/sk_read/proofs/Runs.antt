@@ -21,7 +21,7 @@ run s fields field (c ∷ rest) =
 some_is : {A : Type 0} (x y : A) → Some x ≡ Some y → x ≡ y
 some_is x y same = ap (λ (o : Option _). unwrap_or o x) same
 
--- how a record is read: the end of the text ends it, or a byte, or it goes on behind a byte
+-- how a record is read: the end of the text ends it, or a byte, or it continues after a byte
 read_by : (P : State → Row → List ℕ → List ℕ → Read → Type 0) →
     ((s : State) (fields : Row) (field : List ℕ) → ends_at_end s ≡ true → P s fields field [] (fields ++ (field ∷ []), st.StartRecord, [])) →
     ((s : State) (fields : Row) (field : List ℕ) (c : ℕ) (rest : List ℕ) → is_end (step default_config s c).1 ≡ true →
@@ -73,7 +73,7 @@ none_is s fields field (c ∷ rest) e =
 shorter : (s : State) (fields : Row) (field xs : List ℕ) (p : Read) → next_record default_config s fields field xs ≡ Some p → length p.2 ≤ length xs - 1
 shorter = read_by (λ s fields field xs p. length p.2 ≤ length xs - 1) (λ s fields field t. omega arith) (λ s fields field c rest t. omega arith) (λ s fields field c rest p t again. omega (arith, again))
 
--- behind a record it stands between two
+-- after a record it stands between two
 pub read_between : (s : State) (fields : Row) (field xs : List ℕ) (p : Read) → next_record default_config s fields field xs ≡ Some p → settled p.1 ≡ st.StartRecord
 read_between = read_by (λ s fields field xs p. settled p.1 ≡ st.StartRecord) (λ s fields field t. refl) (λ s fields field c rest t. ends_between s c t) (λ s fields field c rest p t again. again)
 
@@ -83,13 +83,13 @@ unfolding next_record
 takes_some s [] p between e = cc (rw (between_ends_none s between) at e)
 takes_some s (c ∷ rest) p between e = omega (arith, shorter s [] [] (c ∷ rest) p e)
 
--- behind the end of a text there is nothing
+-- after the end of a text there is nothing
 nothing_left : (n : ℕ) → records_from default_config n st.StartRecord [] ≡ []
 unfolding records_from next_record
 nothing_left zero = refl
 nothing_left (suc n) = refl
 
--- behind a record that the end of a text ended it stands between two
+-- after a record that the end of a text ended it stands between two
 at_end_is : (s : State) (fields : Row) (field : List ℕ) (p : Read) → next_record default_config s fields field [] ≡ Some p → (p.1 ≡ st.StartRecord) × (p.2 ≡ [])
 unfolding next_record
 at_end_is s fields field p e = by (ends_at_end s) refl
@@ -137,7 +137,7 @@ tidy_step s c fields field (inr between) going = elim (between_goes_on s c betwe
   | inr skips ↦ inr (rw skips.1 (refl, between.1, between.2))
 ]
 
--- between two records all states go on alike
+-- between two records all states continue alike
 pub between_alike : (s : State) (xs : List ℕ) → settled s ≡ st.StartRecord → run s [] [] xs ≡ run st.StartRecord [] [] xs
 unfolding run
 between_alike st.StartRecord xs between = refl

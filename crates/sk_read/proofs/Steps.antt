@@ -9,7 +9,7 @@ use Rattle.csv.specs.declared.parser.Action.{Action}
 use Rattle.csv.specs.declared.parser.Action.TheVariants as act
 use Rattle.sk_read.specs.Scan.{settled, is_inside, IsEnd}
 
--- the state behind a CR that ended a record goes on as that between two records
+-- the state after a CR that ended a record continues as that between two records
 pub after_cr : (c : ℕ) → step default_config st.AfterCr c ≡ step default_config st.StartRecord c
 after_cr c = elim (cases_Bool (c == 10)) [
   | inl lf ↦ elim (cases_Bool (c == 13)) [
@@ -39,7 +39,7 @@ not_both s inside between = false≢true (sym (ap is_inside between) ∙ inside_
 abbrev pub Ends : State → ℕ → Type 0
 Ends s c = (is_end (step default_config s c).1 ≡ true) × (settled (step default_config s c).0 ≡ st.StartRecord)
 
--- behind a byte the state is inside a record that has not ended
+-- after a byte the state is inside a record that has not ended
 abbrev pub Stays : State → ℕ → Type 0
 Stays s c = (is_end (step default_config s c).1 ≡ false) × (is_inside (step default_config s c).0 ≡ true)
 
@@ -108,7 +108,7 @@ skipped_between s c between end = elim (between_goes_on s c between) [
   | inr skips ↦ ap (λ (p : State × Action). settled p.0) skips.1
 ]
 
--- behind the byte that ends a record it stands between two
+-- after the byte that ends a record it stands between two
 pub ends_between : (s : State) (c : ℕ) → is_end (step default_config s c).1 ≡ true → settled (step default_config s c).0 ≡ st.StartRecord
 ends_between st.StartRecord c end = skipped_between st.StartRecord c refl end
 ends_between st.AfterCr c end = skipped_between st.AfterCr c refl end
@@ -132,7 +132,7 @@ skipped_is_end s c starts between = elim (between_goes_on s c starts) [
   | inr skips ↦ skips.0
 ]
 
--- a byte behind which it stands between two records ends one or is skipped
+-- a byte after which it stands between two records ends one or is skipped
 pub between_is_end : (s : State) (c : ℕ) → settled (step default_config s c).0 ≡ st.StartRecord → IsEnd c
 between_is_end st.StartRecord c between = skipped_is_end st.StartRecord c refl between
 between_is_end st.AfterCr c between = skipped_is_end st.AfterCr c refl between

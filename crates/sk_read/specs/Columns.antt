@@ -23,11 +23,11 @@ pub record HasRows (t : ColumnReader) (Gave : List (List ℕ) → Type 0) (rows 
 abbrev pub IsFieldOf : ℕ → Row → ℕ → List ℕ → Type 0
 IsFieldOf column row width field = (width ≡ length row) × (column < length row → field ≡ field_of column row)
 
--- the next record behind these is sound, and a taker stopped at its field, for this fault
+-- the next record after these is sound, and a taker stopped at its field, for this fault
 abbrev pub StopsBehind : ℕ → (Fault → List (List ℕ) → List ℕ → Type 0) → List Row → Row → Fault → Type 0
 StopsBehind column Stopped rows row fault = AreSoundRows column (rows ++ row ∷ []) × Stopped fault (fields_in column rows) (field_of column row)
 
--- why the next record behind these is refused
+-- why the next record after these is refused
 abbrev pub Refuses : ℕ → (List (List ℕ) → Type 0) → (Fault → List (List ℕ) → List ℕ → Type 0) → List Row → Row → Fault → Type 0
 Refuses column Gave Stopped rows row (fault.BadCsv n) =
     (n ≡ length rows + 1) × ((length row ≢ width_of (rows ++ row ∷ [])) ⊎ (length row ≤ column)) × Gave (fields_in column rows)
@@ -38,7 +38,7 @@ Refuses column Gave Stopped rows row fault.OutOfMemory = StopsBehind column Stop
 Refuses column Gave Stopped rows row fault.WriteFault = StopsBehind column Stopped rows row fault.WriteFault
 Refuses column Gave Stopped rows row _ = ⊥
 
--- behind these records, the first of some more that is refused, by this fault
+-- after these records, the first of some more that is refused, by this fault
 pub record EndsAt (column : ℕ) (Gave : List (List ℕ) → Type 0) (Stopped : Fault → List (List ℕ) → List ℕ → Type 0) (rows more : List Row) (fault : Fault) : Type 0 where
   pub some : List Row
   pub next : Row
@@ -46,14 +46,14 @@ pub record EndsAt (column : ℕ) (Gave : List (List ℕ) → Type 0) (Stopped : 
   pub sound : AreSoundRows column (rows ++ some)
   pub refused : Refuses column Gave Stopped (rows ++ some) next fault
 
--- behind these records some of these were given
+-- after these records some of these were given
 pub record GivesSome (column : ℕ) (Gave : List (List ℕ) → Type 0) (rows more : List Row) : Type 0 where
   pub some : List Row
   pub begins : Begins some more
   pub sound : AreSoundRows column (rows ++ some)
   pub gave : Gave (fields_in column (rows ++ some))
 
--- how the taking of some more records ended: at one that is refused, or for want of memory behind some
+-- how the taking of some more records ended: at one that is refused, or when memory ran out after some
 abbrev pub Breaks : ℕ → (List (List ℕ) → Type 0) → (Fault → List (List ℕ) → List ℕ → Type 0) → List Row → List Row → Fault → Type 0
 Breaks column Gave Stopped rows more fault.OutOfMemory = GivesSome column Gave rows more ⊎ EndsAt column Gave Stopped rows more fault.OutOfMemory
 Breaks column Gave Stopped rows more other = EndsAt column Gave Stopped rows more other

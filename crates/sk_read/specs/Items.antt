@@ -26,11 +26,11 @@ IsGood kind line = 0 < length line → IsSome (item_of kind line)
 abbrev pub Gave : Kind → (List ℕ → Type 0) → List (List ℕ) → Type 0
 Gave kind Stands units = All (IsGood kind) units × Stands (items_by kind units)
 
--- behind such units comes one that is neither, and is refused by its number, counted from 1
+-- after such units comes one that is neither, and is refused by its number, counted from 1
 abbrev pub Missed : Kind → (List ℕ → Type 0) → Fault → List (List ℕ) → List ℕ → Type 0
 Missed kind Stands fault given unit =
     (fault ≡ BadItem (length given + 1)) × Gave kind Stands given × (0 < length unit) × IsNone (item_of kind unit)
 
--- the lines of a text that may go on which LF has ended
+-- the lines of a text that may continue which LF has ended
 abbrev pub complete_lines_of : List ℕ → List (List ℕ)
 complete_lines_of text = take (length (open_lines_of text) - 1) (open_lines_of text)

@@ -16,7 +16,7 @@ use Rattle.sk_model.specs.Limits.{source_limit}
 abbrev pub IsLed : List ℕ → Type 0
 IsLed text = (1 ≤ length text) × ((slice_index text 0 ≡ 10) ⊎ (slice_index text 0 ≡ 13))
 
--- of the bytes taken of a source these records were given, and the bytes held go on from there
+-- of the bytes taken of a source these records were given, and the bytes held continue from there
 pub record HasTaken (p : Parts) (rows : List Row) (taken : List ℕ) : Type 0 where
   pub follows : (later : List ℕ) → (p.ended ≡ true → later ≡ []) →
       records_of (taken ++ later) ≡ rows ++ records default_config (p.bytes.items ++ later)
@@ -57,7 +57,7 @@ mark = 0xEF ∷ 0xBB ∷ 0xBF ∷ []
 abbrev pub IsWithoutMark : List ℕ → List ℕ → Type 0
 IsWithoutMark taken held = ((taken ≡ mark) × (held ≡ [])) ⊎ ((taken ≢ mark) × (held ≡ taken))
 
--- the first bytes of a source were taken, enough to tell whether they are a byte order mark
+-- the first bytes of a source were taken, enough to know whether they are a byte order mark
 pub record HasStarted (p : Parts) (taken : List ℕ) : Type 0 where
   pub bytes : p.bytes.items ≡ 10 ∷ taken
   pub small : length taken ≤ 3
@@ -81,21 +81,21 @@ pub record HasHeld (p : Parts) (left : Option (List ℕ)) (rows : List Row) (tak
   pub end : p.ended ≡ true → IsAtEnd left × (p.taken < p.most)
   pub in_time : AreInTime rows taken
 
--- why no byte came behind those held, where these bytes were taken more
+-- why no byte came after those held, if these more bytes were taken
 abbrev pub LacksBytes : Parts → List ℕ → Fault → Type 0
 LacksBytes old more fault.ReadFault = (more ≡ []) × (old.taken < old.most)
 LacksBytes old more fault.TooMuch = (more ≡ []) × (old.taken ≡ old.most)
 LacksBytes old more fault.OutOfMemory = old.taken + length more ≤ old.most
 LacksBytes old more _ = ⊥
 
--- why no record came behind these, where these bytes were taken
+-- why no record came after these, if these bytes were taken
 abbrev pub Lacks : ℕ → List Row → List ℕ → Fault → Type 0
 Lacks most rows taken fault.ReadFault = (complete_records_of taken ≡ rows) × (length taken < most)
 Lacks most rows taken fault.TooMuch = (complete_records_of taken ≡ rows) × (length taken ≡ most)
 Lacks most rows taken fault.OutOfMemory = (length taken ≤ most) × AreInTime rows taken × ((later : List ℕ) → Begins rows (records_of (taken ++ later)))
 Lacks most rows taken _ = ⊥
 
--- how a call of `refill` went behind these records: a whole record is held, or the source has ended
+-- how a call of `refill` went after these records: a whole record is held, or the source has ended
 abbrev pub Refills : Parts → Option (List ℕ) → List Row → List ℕ → Result Bool Fault → Type 0
 Refills p left rows taken (Ok true) = HasHeld p left rows taken × (1 < p.cut)
 Refills p left rows taken (Ok false) = HasHeld p left rows taken × (p.ended ≡ true)

@@ -9,7 +9,7 @@ use Rattle.sk_read.specs.Scan.{IsEnd, settled}
 use Rattle.sk_read.specs.declared.records.plain.Fields.{Fields}
 use Rattle.sk_read.specs.declared.records.plain.Line.{Line}
 
--- these are the fields of a record: so many, and the one in a column lies there in a text
+-- these are the fields of a record: this many, and the one in a column lies there in a text
 pub record AreFields (column : ℕ) (text : List ℕ) (row : Row) (fields : Fields) : Type 0 where
   pub width : fields.width ≡ length row
   pub order : fields.field.from ≤ fields.field.to
@@ -17,7 +17,7 @@ pub record AreFields (column : ℕ) (text : List ℕ) (row : Row) (fields : Fiel
   pub field : column < length row → slice_range text fields.field.from fields.field.to ≡ field_of column row
 
 -- the line at a place: what csv's machine reads there inside a field is one record, up to the next LF
--- or CR, behind which it stands between two records
+-- or CR, after which it stands between two records
 pub record IsLine (column : ℕ) (text : List ℕ) (start : ℕ) (line : Line) : Type 0 where
   pub row : Row
   pub state : State

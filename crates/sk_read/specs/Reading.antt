@@ -54,7 +54,7 @@ pub record Stands (r : Reading) (given : List (List ℕ)) (taken : List ℕ) : T
   pub lines : open_lines_of taken ≡ given ++ strip_carriage_return r.cutter.rest ∷ []
   pub within : AreWithin r.cutter.limit (open_lines_of taken)
 
--- behind these lines the first comes that is too long
+-- after these lines the first comes that is too long
 pub record ComesLong (limit : ℕ) (given lines : List (List ℕ)) : Type 0 where
   pub begins : Begins given lines
   pub first : IsFirstLong limit (length given) lines

@@ -8,7 +8,7 @@ use Rattle.sk_read.specs.declared.fault.Fault.TheVariants.{OutOfMemory, ReadFaul
 use Rattle.sk_read.specs.Faults.{IsOfTaker}
 use Rattle.sk_read.specs.Units.{units_of, complete_units_of, IsSound, IsSoundUpTo, IsSoundSoFar, IsLongBehind, IsUnevenBehind}
 
--- one read takes at most so many bytes
+-- one read takes at most this many bytes
 abbrev pub piece_limit : ℕ
 piece_limit = 65536
 
@@ -26,7 +26,7 @@ pub record IsInTime (units : Units) (given : List (List ℕ)) (taken : List ℕ)
   pub sound : IsSoundSoFar units front
   pub earlier : Begins (complete_units_of units front) given
 
--- the source was read to its end, and all its units were given, so many
+-- the source was read to its end, and all its units were given, this many
 pub record ReadsAll (units : Units) (most n : ℕ) (Gave : List (List ℕ) → Type 0) (old new : Option (List ℕ)) : Type 0 where
   pub taken : List ℕ
   pub consumed : Consumes old new taken
@@ -36,7 +36,7 @@ pub record ReadsAll (units : Units) (most n : ℕ) (Gave : List (List ℕ) → T
   pub number : n ≡ length (units_of units taken)
   pub gave : Gave (units_of units taken)
 
--- so many bytes were taken, no unit in them is refused, and those that have ended were given
+-- this many bytes were taken, no unit in them is refused, and those that have ended were given
 pub record ReadsSome (units : Units) (IsSize : ℕ → Type 0) (Gave : List (List ℕ) → Type 0) (old new : Option (List ℕ)) : Type 0 where
   pub taken : List ℕ
   pub consumed : Consumes old new taken
@@ -44,7 +44,7 @@ pub record ReadsSome (units : Units) (IsSize : ℕ → Type 0) (Gave : List (Lis
   pub sound : IsSoundSoFar units taken
   pub gave : Gave (complete_units_of units taken)
 
--- the reading broke off behind these units, at most one read after them
+-- the reading broke off after these units, at most one read after them
 pub record BreaksOff (units : Units) (most : ℕ) (Known : List (List ℕ) → Type 0) (Comes : List (List ℕ) → List ℕ → Type 0) (old new : Option (List ℕ)) : Type 0 where
   pub given : List (List ℕ)
   pub taken : List ℕ
@@ -54,12 +54,12 @@ pub record BreaksOff (units : Units) (most : ℕ) (Known : List (List ℕ) → T
   pub known : Known given
   pub comes : IsSettled (λ text. Begins given (units_of units text) × Comes given text) new taken
 
--- the reading broke off at the unit behind those given, at which the taker stopped: up to it all are sound
+-- the reading broke off at the unit after those given, at which the taker stopped: up to it all are sound
 abbrev pub StopsAt : Units → ℕ → (List (List ℕ) → List ℕ → Type 0) → Option (List ℕ) → Option (List ℕ) → Type 0
 StopsAt units most Stopped old new = (unit : List ℕ) × BreaksOff units most (λ given. Stopped given unit)
     (λ given text. Begins (given ++ unit ∷ []) (units_of units text) × IsSoundUpTo units (length given + 1) text) old new
 
--- a taker of units that come behind those given stopped at one of them
+-- a taker of units that come after those given stopped at one of them
 pub record StopsAmong (Stopped : Fault → List (List ℕ) → List ℕ → Type 0) (why : Fault) (given units : List (List ℕ)) : Type 0 where
   pub front : List (List ℕ)
   pub unit : List ℕ
@@ -78,6 +78,6 @@ Ends units most Gave Stopped old new (BadCsv n) = BreaksOff units most Gave (λ 
 Ends units most Gave Stopped old new (BadItem n) = StopsAt units most (λ given unit. (n ≡ length given + 1) × Stopped (BadItem n) given unit) old new
 Ends units most Gave Stopped old new WriteFault = StopsAt units most (Stopped WriteFault) old new
 
--- how the reading went, where a taker was given these units, or stopped for a fault at one behind them
+-- how the reading went, where a taker was given these units, or stopped for a fault at one after them
 abbrev pub Reads : Units → ℕ → (List (List ℕ) → Type 0) → (Fault → List (List ℕ) → List ℕ → Type 0) → Option (List ℕ) → Option (List ℕ) → Result ℕ Fault → Type 0
 Reads units most Gave Stopped old new result = MatchResult result (λ n. ReadsAll units most n Gave old new) (λ fault. Ends units most Gave Stopped old new fault)

@@ -12,12 +12,12 @@ Row = List (List ℕ)
 unfoldable pub records_of : List ℕ → List Row
 records_of text = records default_config (strip_bom text)
 
--- the records of a text that may go on, one byte put behind it: whatever follows, no record before
+-- the records of a text that may continue, one byte put after it: whatever follows, no record before
 -- the last one changes, and that one has not ended
 abbrev pub open_records_of : List ℕ → List Row
 open_records_of text = records_of (text ++ codes "x")
 
--- the records of a text that may go on which have ended in it
+-- the records of a text that may continue which have ended in it
 abbrev pub complete_records_of : List ℕ → List Row
 complete_records_of text = take (length (open_records_of text) - 1) (open_records_of text)
 
@@ -41,7 +41,7 @@ pub record AreSoundRows (column : ℕ) (rows : List Row) : Type 0 where
   pub even : AreEven column rows
   pub within : AreWithin line_limit (fields_in column rows)
 
--- behind so many records that are sound comes one that has not as many fields as the first or no such column
+-- after this many records that are sound comes one that has not as many fields as the first or no such column
 pub record IsUneven (column n : ℕ) (rows : List Row) : Type 0 where
   pub to : n < length rows
   pub before : AreSoundRows column (take n rows)

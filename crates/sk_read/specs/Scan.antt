@@ -15,7 +15,7 @@ state_of scan.InField = st.InField
 state_of scan.InQuotes = st.InQuoted
 state_of scan.AfterQuote = st.AfterQuote
 
--- a state, where the one behind a CR that ended a record is that between two records: both go on alike
+-- a state, where the one after a CR that ended a record is that between two records: both continue alike
 abbrev pub settled : State → State
 settled st.AfterCr = st.StartRecord
 settled state = state
@@ -32,18 +32,18 @@ is_inside st.InQuoted = true
 is_inside st.AfterQuote = true
 is_inside _ = false
 
--- the state behind a text, from a state
+-- the state after a text, from a state
 unfoldable pub state_after : State → List ℕ → State
 state_after state [] = settled state
 state_after state (byte ∷ rest) = state_after (step default_config state byte).0 rest
 
--- behind each byte of a text, from a state, it stands inside a record
+-- after each byte of a text, from a state, it stands inside a record
 unfoldable pub StaysInside : State → List ℕ → Type 0
 StaysInside state [] = ⊤
 StaysInside state (byte ∷ rest) = (is_inside (step default_config state byte).0 ≡ true) × StaysInside (step default_config state byte).0 rest
 
--- a text, from a state, in two: its front up to the last place between two records that it has
--- behind its start, and the rest
+-- a text, from a state, in two: its prefix up to the last place between two records that it has
+-- after its start, and the rest
 pub record IsCut (start : State) (text : List ℕ) (state : State) (cut : ℕ) : Type 0 where
   pub front : List ℕ
   pub back : List ℕ

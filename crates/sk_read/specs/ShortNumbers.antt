@@ -1,4 +1,4 @@
--- Lines that are short numbers, and what tells them in a text: it is of digits and LFs, and never has more than
+-- Lines that are short numbers, and what shows them in a text: it is of digits and LFs, and never has more than
 -- 14 digits in a row.
 use Rattle.std.specs.Prelude.{◌≡◌, ◌≢◌, ◌⊎◌, ℕ, ◌+◌, ◌<◌, ◌≤◌, true, List, length, slice_index, All}
 use Rattle.std.specs.Char.{is_ascii_digit}
@@ -14,7 +14,7 @@ IsShortNumber line = All IsDigit line × (length line ≤ 14)
 abbrev pub HasNoCr : List ℕ → Type 0
 HasNoCr text = All (λ byte. byte ≢ 13) text
 
--- ---- how they are told
+-- ---- how they are known
 
 abbrev pub IsDigitOrLf : ℕ → Type 0
 IsDigitOrLf byte = IsDigit byte ⊎ (byte ≡ 10)

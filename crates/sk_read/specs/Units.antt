@@ -16,7 +16,7 @@ abbrev pub units_of : Units → List ℕ → List (List ℕ)
 units_of Lines text = lines_of text
 units_of (Column c) text = fields_in c (records_of text)
 
--- the units of a text that may go on which have ended in it
+-- the units of a text that may continue which have ended in it
 abbrev pub complete_units_of : Units → List ℕ → List (List ℕ)
 complete_units_of Lines text = complete_lines_of text
 complete_units_of (Column c) text = fields_in c (complete_records_of text)
@@ -26,22 +26,22 @@ abbrev pub IsSound : Units → List ℕ → Type 0
 IsSound Lines text = AreWithin line_limit (lines_of text)
 IsSound (Column c) text = AreSoundRows c (records_of text)
 
--- so it is with the first units of a text, so many
+-- so it is with the first units of a text, this many
 abbrev pub IsSoundUpTo : Units → ℕ → List ℕ → Type 0
 IsSoundUpTo Lines n text = AreWithin line_limit (take n (lines_of text))
 IsSoundUpTo (Column c) n text = AreSoundRows c (take n (records_of text))
 
--- so it is with a text that may go on
+-- so it is with a text that may continue
 abbrev pub IsSoundSoFar : Units → List ℕ → Type 0
 IsSoundSoFar Lines text = AreWithin line_limit (open_lines_of text)
 IsSoundSoFar (Column c) text = AreSoundRows c (complete_records_of text)
 
--- behind so many units that are sound comes one that is too long
+-- after this many units that are sound comes one that is too long
 abbrev pub IsLongBehind : Units → ℕ → List ℕ → Type 0
 IsLongBehind Lines n text = IsFirstLong line_limit n (lines_of text)
 IsLongBehind (Column c) n text = AreEven c (take (n + 1) (records_of text)) × IsFirstLong line_limit n (fields_in c (records_of text))
 
--- behind so many units that are sound comes a record that has not as many fields as the first, or has no
+-- after this many units that are sound comes a record that has not as many fields as the first, or has no
 -- such column
 abbrev pub IsUnevenBehind : Units → ℕ → List ℕ → Type 0
 IsUnevenBehind Lines n text = ⊥

@@ -25,7 +25,7 @@ pub struct Intake {
     pub window: u32,
     /// Whether each full window is reported.
     pub interim: bool,
-    /// Whether the heart propagates beside the updaters, in place of their help, if these are fed in rounds. One
+    /// Whether the heart propagates next to the updaters, in place of their help, if these are fed in rounds. One
     /// that has a thread for the whole source propagates itself when it is busy.
     pub propagator: bool,
     /// As many bytes as this are too much.

@@ -37,7 +37,7 @@ pub(crate) fn read_lines<S: Source, T: UnitTaker>(
     Ok(reader.number())
 }
 
-// Gives the complete lines that the reader holds to the taker, many at once, up to one that is too long. `spans`
+// Gives the complete lines that the reader holds to the taker, many together, up to one that is too long. `spans`
 // is room for them.
 fn give_held<T: UnitTaker>(
     reader: &mut LineReader,

@@ -7,7 +7,7 @@ ghost use Rattle.sk_read.specs.Wide.{EndIn, pairs, joined, spelled};
 use sk_lines::{decimal_len, read_number};
 use std::simd::prelude::*;
 
-// How many bytes are read at once.
+// How many bytes are read together.
 const WIDE: usize = 16;
 
 // From place n on it has 16 masks, of which the last n keep a byte and the others clear it.

@@ -1,4 +1,4 @@
--- What a batch makes of a version, and what names tell.
+-- What a batch makes of a version, and what names show.
 use Rattle.std.proofs.Common.{◌≡◌, ℕ, ◌+◌, ◌≤◌, false, Option, Some, None, IfSome, List, [], ◌∷◌, ◌++◌, length, drop, slice_index, refl, sym, ap, subst, ◌∙◌, ◌^◌, append_assoc, length-append}
 use Rattle.std.proofs.lemmas.List.{append-nil, length-map}
 use Rattle.logbook.specs.Pages.{Book}

@@ -131,7 +131,7 @@ impl Known {
         }
     }
 
-    /// Takes the other in its place where it begins that, and answers whether it does. Both are of
+    /// Takes the other in its place where it begins that, and returns whether it does. Both are of
     /// one history.
     pub fn advance(&mut self, to: &Known) -> bool
         requires history { to.now.book ≡ self.old.book }

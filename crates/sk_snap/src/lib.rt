@@ -1,4 +1,4 @@
-//! Sketches by versions, for readers beside a writer.
+//! Sketches by versions, for readers in parallel with a writer.
 #![tactic(auto)]
 
 mod history;

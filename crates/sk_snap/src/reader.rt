@@ -67,7 +67,7 @@ impl<S: Sequential> VersionReader<S> {
         }
     }
 
-    /// Each later read is over a list that begins with the told list too.
+    /// Each later read is over a list that begins with that of the told value too.
     pub fn learn(&mut self, told: Known)
         requires sketch { name_of told.book ≡ name_of self.old.known.book }
         ensures mine { Begins (entries_in self.old.known) (entries_in self.new.known) }

@@ -57,7 +57,7 @@ impl Sequential for HeapTheta {
     }
 
     fn take(&mut self, items: &[u64]) {
-        // It tells the proof that the sketch is whole.
+        // It shows to the proof that the sketch is whole.
         let _k = self.k();
         self.merge(items);
     }

@@ -28,7 +28,7 @@ search_tells hash kept r up found = by_result r (searched kept hash r found (λ 
 pub placed_at : (hash : ℕ) (kept : List ℕ) (at : ℕ) → IsPlace hash kept at → placed hash kept ≡ insert kept at hash
 placed_at hash kept at place = placed-insert hash kept at (place.within) (place.below) (place.above)
 
--- a hash with k others in front of it is not among the k smallest
+-- a hash with k others before it is not among the k smallest
 pub past_all : (hash : ℕ) (kept : List ℕ) (at k : ℕ) → IsPlace hash kept at → length kept ≤ k → k ≤ at → take k (placed hash kept) ≡ kept
 past_all hash kept at k place within past =
     let inside : at ≤ length kept = place.within in

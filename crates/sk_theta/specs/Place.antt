@@ -1,7 +1,7 @@
 -- Where a hash stands among kept ones that rise.
 use Rattle.std.specs.Prelude.{ℕ, ◌<◌, ◌≤◌, List, length, take, slice_index, All}
 
--- behind those below it and in front of the others, which are above it
+-- after those below it and before the others, which are above it
 pub record IsPlace (hash : ℕ) (kept : List ℕ) (at : ℕ) : Type 0 where
   pub within : at ≤ length kept
   pub below : All (λ y. y < hash) (take at kept)

@@ -1,7 +1,7 @@
 -- The numbers that shape a run.
 use Rattle.std.specs.Prelude.{ℕ, Bool}
 
--- k of the sketch, the items of a buffer, the updaters, the seed of the hash, and whether few items are handed over at once
+-- the sketch's k, a buffer's items, the updaters, the hash's seed, and whether few items are handed over immediately
 pub record Sizes : Type 0 where
   pub k : ℕ
   pub b : ℕ

@@ -14,7 +14,7 @@ fn find(kept: &[u64], hash: u64) -> Result<usize, usize>
     kept.binary_search(&hash)
 }
 
-// Puts a hash in its place among the k smallest, and answers whether they changed.
+// Puts a hash in its place among the k smallest, and returns whether they changed.
 pub fn put_among(kept: &mut Vec<u64>, k: usize, hash: u64) -> bool
     requires rises { IsStrictlyIncreasing kept.old.items }
     requires within { vec_len kept.old ≤ k }

@@ -18,7 +18,7 @@ has_fraction k reply = nat_le least_k k && nat_le k most_k && nat_le reply.count
 abbrev pub comes_up_to : ℕ → ℕ × ℕ → Bool
 comes_up_to mark fraction = nat_le (mark * fraction.1) fraction.0
 
--- what an alarm that shows this list answers to a reply
+-- what an alarm that shows this list returns for a reply
 abbrev pub alarm_answer : List ℕ → Reply → Bool
 alarm_answer (k ∷ mark ∷ []) reply = has_fraction k reply && comes_up_to mark (fraction_of k reply.count reply.theta)
 alarm_answer shown reply = false

@@ -1,7 +1,7 @@
 -- Places as the bits of a number.
 use Rattle.std.specs.Prelude.{ℕ, ◌+◌, ◌*◌, if◌then◌else◌, Bool, List, [], ◌∷◌}
 
--- a mask has so many places
+-- a mask has this many places
 abbrev pub most_places : ℕ
 most_places = 64
 

@@ -15,12 +15,12 @@ IsLive i places = IsSome (slice_index_or places i None)
 abbrev pub armed_at : ℕ → ℕ → ℕ → List Place → List Place
 armed_at i k mark places = slice_set places i (option_map (armed k mark) (slice_index_or places i None))
 
--- whether a watcher stands there that answers true
+-- whether a watcher stands there that returns true
 abbrev pub answers_at : Reply → Place → Bool
 answers_at reply None = false
 answers_at reply (Some w) = answers reply w
 
--- the place after it was told a reply: a watcher that answers true is gone
+-- the place after it has seen a reply: a watcher that returns true is gone
 abbrev pub told : Reply → Place → Place
 told reply None = None
 told reply (Some w) = if answers reply w then None else Some (having_seen reply w)

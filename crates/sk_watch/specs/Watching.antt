@@ -14,7 +14,7 @@ pub record Watching : Type 0 where
 abbrev pub armed : ℕ → ℕ → Watching → Watching
 armed k mark w = record w { shown = w.when_armed w.shown k mark }
 
--- what it answers to a reply
+-- what it returns for a reply
 abbrev pub answers : Reply → Watching → Bool
 answers reply w = w.answer w.shown reply
 

@@ -123,7 +123,7 @@ fn arm_at(place: &mut Option<Box<dyn Watcher>>, k: u32, mark: u64)
     }
 }
 
-// Shows a reply to the watcher at a place, if there is one, and answers what it answers.
+// Shows a reply to the watcher at a place, if there is one, and returns what it returns.
 fn tell_at(place: &mut Option<Box<dyn Watcher>>, reply: Reply) -> bool
     ensures answer { result ≡ answers_at reply (option_map watching place.old) }
     ensures told { option_map watching place.new ≡ told reply (option_map watching place.old) }

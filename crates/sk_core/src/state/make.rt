@@ -60,7 +60,7 @@ impl State {
     }
 }
 
-// So many updaters that have done nothing.
+// This many updaters that have done nothing.
 fn new_updaters(alloc: Global, n: usize, size: usize) -> Result<Vec<Updater>, OutOfMemory>
     requires { size ≤ most_size }
     ensures { IfOk result (λ updaters. updaters.items ≡ replicate n (blank_updater size)) }

@@ -43,7 +43,7 @@ pub fn first_long_is_one()
         → AreWithin limit lines → ¬ IsFirstLong limit n lines }
 {}
 
-/// Lines within a limit behind others within it are within it together.
+/// Lines within a limit, after others within it, are all within it.
 pub fn within_append()
     ensures { (limit : ℕ) (xs ys : List (List ℕ))
         → AreWithin limit xs → AreWithin limit ys → AreWithin limit (xs ++ ys) }

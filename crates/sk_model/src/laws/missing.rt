@@ -1,4 +1,4 @@
-//! How far one list is behind another.
+//! How many of the last members of one list another lacks.
 
 ghost use Rattle.std.specs.Prelude.{ℕ, List, ◌+◌, ◌++◌, ◌≤◌, length};
 ghost use Rattle.sk_model.specs.Missing.{Begins, LacksAtMost};

@@ -31,7 +31,7 @@ pub fn worked_word()
     ensures empty { unpacked 2 (packed_of 2 []) ≡ (0, 9223372036854775808) }
 {}
 
-/// A list that is behind another by its last member, and by no fewer.
+/// A list that lacks the last member of another, and no fewer.
 pub fn worked_missing()
     ensures one { LacksAtMost {A = ℕ} (1 ∷ 2 ∷ 3 ∷ []) (1 ∷ 2 ∷ 9 ∷ []) 1 }
     ensures none { LacksAtMost {A = ℕ} (1 ∷ 2 ∷ 3 ∷ []) (1 ∷ 2 ∷ 9 ∷ []) 0 → ⊥ }

@@ -1,4 +1,4 @@
-// Links over a stream that interrupts, moves small pieces and fails where it is told to.
+// Links over a stream that interrupts, moves small pieces and fails where its plan says so.
 use super::TcpLink;
 use crate::replies::Replies;
 use crate::tests::expect;
@@ -25,7 +25,7 @@ struct Wire<'a> {
 }
 
 impl<'a> Wire<'a> {
-    // A stream that moves everything at once, and never fails.
+    // A stream that moves everything in one call, and never fails.
     fn new(alloc: Global, left: &'a [u8]) -> Self {
         Wire {
             left,

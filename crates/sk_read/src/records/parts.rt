@@ -160,7 +160,7 @@ fn cut_behind(before: usize, len: usize, found: usize) -> usize
     if found == 0 { before } else { len + found }
 }
 
-// Drops so many bytes from the front.
+// Drops the first bytes, this many.
 fn drop_front(bytes: &mut Vec<u8>, n: usize)
     requires { n ≤ length bytes.old.items }
     ensures { bytes.new.items ≡ drop n bytes.old.items }

@@ -7,7 +7,7 @@ use Rattle.sk_lines.proofs.Ends.{no_lines, lf_within, next_end, later_ends, firs
 use Rattle.sk_lines.proofs.spans.cut_lines.Goals.{In-line}
 use Rattle.sk_lines.proofs.spans.cut_lines.Goals as goal
 
--- the next end is the first LF, and so on behind it
+-- the next end is the first LF, and so on after it
 next : (c : In-line) → IsFirstLf c.args.bytes.now c.line.at (get_or c.line.spans c.line.i (record { from = 0; to = 0 })).to
     × AreEnds c.args.bytes.now ((get_or c.line.spans c.line.i (record { from = 0; to = 0 })).to + 1) (map (λ (s : Span). s.to) (drop (c.line.i + 1) (take c.args.count c.line.spans)))
 next c = first_end c.args.bytes.now c.line.at _ _ _ (next_end c.line.spans c.line.i c.args.count (record { from = 0; to = 0 }) c.line-test.true (omega (arith, c.line.invariant.size, c.requires.few))) c.line.invariant.ends

@@ -7,7 +7,7 @@ use Rattle.sk_read.specs.Reads.{StopsAmong}
 use Rattle.sk_read.proofs.GroupLaws.{with_fault, stops_behind, as_many, room_for, short_group, none_moved}
 use Rattle.sk_read.proofs.lines.give_held.Goals as goal
 
--- the reader behind a group, by the bytes in which this lies
+-- the reader after a group, by the bytes in which this lies
 read_at : (r : Reading) (left : Option (List ℕ)) (given : List (List ℕ)) (taken text : List ℕ) (spans : List Span) → text ≡ r.cutter.front → HasRead r left (given ++ lines_at spans r.cutter.front) taken →
     HasRead r left (given ++ lines_at spans text) taken
 read_at r left given taken text spans is read = subst (λ (l : List ℕ). HasRead r left (given ++ lines_at spans l) taken) (sym is) read

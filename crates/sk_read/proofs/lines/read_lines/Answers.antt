@@ -15,7 +15,7 @@ use Rattle.sk_read.proofs.lines.read_lines.Given.{Over}
 use Rattle.sk_read.proofs.lines.read_lines.Goals.{In_ok-next}
 use Rattle.sk_read.proofs.lines.read_lines.Goals as goal
 
--- the reader behind a line
+-- the reader after a line
 next_line : (g : Over) (c : In_ok-next g) → c.in_ok-next.field-0 ≡ true → (more : List ℕ) × Consumes (g.S.Source.left c.line.source) (g.S.Source.left c.next.new.source) more
     × (HasRead c.next.new.self (g.S.Source.left c.next.new.source) (c.line.invariant.given ++ c.next.new.self.cutter.line ∷ []) (c.line.invariant.taken ++ more) × IsInTime Lines c.line.invariant.given (c.line.invariant.taken ++ more))
 next_line g c is =
@@ -42,7 +42,7 @@ short g c is =
     let read = (next_line g c is).2.0 in
     subst (λ (m : ℕ). length c.next.new.self.cutter.line ≤ m) read.limit (last_within c.next.new.self.cutter.limit c.line.invariant.given c.next.new.self.cutter.line read.has.within)
 
--- the taker behind it
+-- the taker after it
 taken_next : (g : Over) (c : In_ok-next g) → c.in_ok-next.field-0 ≡ true → (n : ℕ) (line : List ℕ) (new : g.row.T.Denot) → n ≡ c.next.new.self.cutter.number → line ≡ c.next.new.self.cutter.line →
     ((start : g.row.T.Denot) (units : List (List ℕ)) → length units + 1 ≡ n → g.T.UnitTaker.went start c.line.taker units → g.T.UnitTaker.went start new (units ++ line ∷ [])) →
     g.T.UnitTaker.went c.args.taker.now new (c.line.invariant.given ++ c.next.new.self.cutter.line ∷ [])

@@ -49,7 +49,7 @@ part-init g c =
 pub refill-requires : goal.refill-requires
 refill-requires g c = (c.part.invariant.rows, c.part.invariant.taken, c.part.invariant.held)
 
--- the records and the bytes behind a refill
+-- the records and the bytes after a refill
 filled : (g : Over) (c : In_ok-refill g) → (more : List ℕ) × Consumes (g.S.Source.left c.part.source) (g.S.Source.left c.refill.new.source) more
     × Refills c.refill.new.self (g.S.Source.left c.refill.new.source) c.part.invariant.rows (c.part.invariant.taken ++ more) (Ok c.in_ok-refill.field-0)
 filled g c =

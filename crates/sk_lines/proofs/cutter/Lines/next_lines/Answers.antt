@@ -10,7 +10,7 @@ use Rattle.sk_lines.proofs.Groups.{lines_given, reader_at, sound_going}
 use Rattle.sk_lines.proofs.cutter.Lines.next_lines.Goals.{After-cut_lines-count, in-Long, in_default}
 use Rattle.sk_lines.proofs.cutter.Lines.next_lines.Goals as goal
 
--- the reader behind the lines
+-- the reader after the lines
 given : (c : After-cut_lines-count) → (c.cut_lines-count.result.1 + 64 ≤ length c.self.inside.buffer.items) × (c.self.inside.at ≤ c.cut_lines-count.result.1)
     × GivesLines (cutter_of c.self.inside) (reader_at (cutter_of c.self.inside) c.self.inside.buffer.items (length c.self.inside.buffer.items) c.cut_lines-count.result.1 (counted (c.self.inside.number + length (take c.cut_lines-count.result.0 c.cut_lines-count.new.spans)))) (take c.cut_lines-count.result.0 c.cut_lines-count.new.spans)
 given c =

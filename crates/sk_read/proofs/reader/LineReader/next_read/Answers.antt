@@ -66,7 +66,7 @@ returns-in_err-refill-clause-goes g c = λ given taken read.
           (λ n is. c.refill.ensures.no_long n (c.in_err-refill.was ∙ ap (λ (e : LineFault). Err e) is)),
     )
 
--- the reader behind a read
+-- the reader after a read
 fed : (g : Over) (c : In_ok-refill g) (given : List (List ℕ)) (taken : List ℕ) → HasRead c.args.self.now (g.S.Source.left c.args.source.now) given taken →
     (more : List ℕ) × Consumes (g.S.Source.left c.args.source.now) (g.S.Source.left c.refill.new.source) more × HasRead c.refill.new.self (g.S.Source.left c.refill.new.source) given (taken ++ more)
 fed g c given taken read =

@@ -31,7 +31,7 @@ row-init g c = record {
 sound_given : (g : Over) (c : In_ok-next_row g) (Gave : List (List ℕ) → Type 0) (rows : List Row) → HasRows c.row.self Gave (rows ++ c.row.invariant.given) → AreSoundRows c.args.self.now.column (rows ++ c.row.invariant.given)
 sound_given g c Gave rows has = subst (λ (n : ℕ). AreSoundRows n (rows ++ c.row.invariant.given)) c.row.invariant.column has.sound
 
--- the next record, and those behind it
+-- the next record, and those after it
 next_row : (g : Over) (c : In_ok-next_row g) → c.in_ok-next_row.field-0 ≡ true → (more : List Row) × (records default_config c.args.text.now ≡ (c.row.invariant.given ++ fields_of c.next_row.new.row ∷ []) ++ more)
 next_row g c is =
     let inv = c.row.invariant in
