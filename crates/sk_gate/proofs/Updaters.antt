@@ -73,7 +73,7 @@ parcel_or p ((i, Some (load.Trunk t)) ∷ more) = p
 pub same_first : {C T : Type 0} (i j : ℕ) (p q : Parcel T) (xs ys : List (ℕ × Slot C T)) → (i, full p) ∷ xs ≡ (j, full q) ∷ ys → (p ≡ q) × (xs ≡ ys)
 same_first i j p q xs ys e = (ap (parcel_or p) e, ap rest e)
 
--- what is told of a parcel that was not picked
+-- what is known of the told value of a parcel that was not picked
 told_rested : {T : Type 0} (k : Telling T) (name : List ℕ) (p : Parcel T) (handed : List ℕ) (given : List Entry) → is_picked handed (is_some p.told) ≡ false → ((t : T) → p.told ≡ Some t → (handed ≢ []) × TellsList k name t given) → TellsGiven k name p handed given
 told_rested k name p [] given unpicked told = ((λ _. refl), told)
 told_rested k name p (x ∷ xs) given unpicked told = ((λ e. absurd (true≢false (sym (ap (λ t. not (is_some t)) e) ∙ unpicked))), told)

@@ -98,7 +98,7 @@ pub(crate) fn rotate<C: Composable>(seat: &mut Seat<Slot<C>, View>, times: u32)
     }
 }
 
-// Puts `new` into a slot that the seat has, with `before` slots before it and `after` behind it.
+// Puts `new` into a slot that the seat has, with `before` slots before it and `after` slots after it.
 pub(crate) fn exchange<C: Composable>(
     hub: &Hub<C>,
     seat: &mut Seat<Slot<C>, View>,
