@@ -85,8 +85,9 @@ fn feed_item<C: Composable, R: Wait>(
     }
 }
 
-// Offers an item until it is taken, and propagates in between. An eager updater propagates after it, too.
-pub(crate) fn insist<C: Composable, R: Wait>(
+/// Offers an item until it is taken, and propagates between the offers. An eager updater propagates after it, too.
+/// On out of memory the item is taken or not, as the clauses say.
+pub fn insist<C: Composable, R: Wait>(
     rt: &R,
     u: &mut Updater<C>,
     item: u64,

@@ -19,7 +19,7 @@ mod turns;
 pub use crew::Crew;
 pub use delivery::{Delivery, InOrder, Inlet, Outlet};
 pub use drain::drain_all;
-pub use feed::{feed_block, offer};
+pub use feed::{feed_block, insist, offer};
 pub use feeders::Feeders;
 pub use lane::{Lane, MOST_GIVEN};
 pub use propagation::{Propagation, propagate};
