@@ -6,7 +6,8 @@ use Rattle.sk_hub.specs.declared.answers.Update.TheVariants as update
 use Rattle.sk_hub.specs.Updaters.{UpdaterState, LooksInVain, Keeps, HandsWith}
 use Rattle.sk_fill.specs.Windows.{item_in, items_in}
 use Rattle.sk_feed.specs.Calls.{Filter, Accepts, Filters, IsFed, IsFedEach, IsStopped, IsOffered, IsBusyWith, InsistsAfter, ServesAfter, ServesAll, FindsElsewhere, HelpsIfEager}
-use Rattle.sk_fill.proofs.Items.{range_none, no_items, next_item, next_empty}
+use Rattle.sk_model.proofs.Lists.{slice_none}
+use Rattle.sk_fill.proofs.Items.{no_items, next_item, next_empty}
 
 -- ---- an offer
 
@@ -68,7 +69,7 @@ fed_first f help u v u' item items first rest = (v, first, rest)
 
 module _ (f : Filter) (help : Bool) (u : UpdaterState) (kind : Kind) (lines : List (List ℕ)) (from : ℕ) where
   pub no_line_fed : (u' : UpdaterState) (items : List ℕ) → IsFedEach f help u items u' → IsFedEach f help u (items_in kind (slice_range lines from from) ++ items) u'
-  no_line_fed u' items fed = subst (λ l. IsFedEach f help u (l ++ items) u') (sym (ap (items_in kind) (range_none lines from) ∙ no_items kind)) fed
+  no_line_fed u' items fed = subst (λ l. IsFedEach f help u (l ++ items) u') (sym (ap (items_in kind) (slice_none lines from) ∙ no_items kind)) fed
 
   pub line_fed : (v w : UpdaterState) (at item : ℕ) → from ≤ at → at < length lines → item_in kind (get_or lines at []) ≡ Some item
       → ((u' : UpdaterState) (items : List ℕ) → IsFedEach f help v items u' → IsFedEach f help u (items_in kind (slice_range lines from at) ++ items) u') → IsFed f help v item w

@@ -1,10 +1,11 @@
 -- A heart that takes in updaters one after another.
-use Rattle.std.proofs.Common.{◌≡◌, ◌⊎◌, inl, inr, ℕ, zero, suc, ◌+◌, ◌<◌, ◌≤◌, List, [], ◌∷◌, ◌++◌, length, get_or, refl, sym, ap, subst, ◌∙◌, arith, append-nil, append_assoc, length-append}
+use Rattle.std.proofs.Common.{◌≡◌, ℕ, ◌+◌, ◌<◌, List, [], ◌∷◌, ◌++◌, length, get_or, refl, sym, ap, subst, ◌∙◌, arith, append-nil, append_assoc, length-append}
 use Rattle.std.specs.List.{range_with_len}
-use Rattle.std.proofs.lemmas.Bool.{cases_lt}
+use Rattle.std.proofs.Math.Seq.{get_or-append_seam}
 use Rattle.std.proofs.lemmas.List.Elements.{All-nil, All-push}
 use Rattle.sk_model.specs.Entries.{Entry, entries_by}
 use Rattle.sk_model.proofs.Missing.{begins_trans, begins_refl}
+use Rattle.sk_model.proofs.Lists.{range_split, with_last}
 use Rattle.sk_gate.specs.Views.{known_of}
 use Rattle.sk_hub.specs.Updaters.{UpdaterState, base_of, kept_of}
 use Rattle.sk_hub.specs.Hearts.{HeartState}
@@ -13,33 +14,6 @@ use Rattle.sk_hub.specs.Replies.{IsRelaxedReply, HasDrained}
 use Rattle.sk_hub.proofs.Taking.{taken_when_drained, taken_after_drain, taken_after_ask, exactly_taken}
 use Rattle.sk_feed.specs.Drained.{DrainsAll}
 use Rattle.sk_feed.specs.Shares.{HasAllOf}
-
-range_more : (from n : ℕ) → range_with_len from (suc n) ≡ range_with_len from n ++ (from + n) ∷ []
-range_more from zero = ap (λ m. m ∷ []) (omega arith)
-range_more from (suc n) =
-    let next : from + 1 + n ≡ from + suc n = omega arith in
-    ap (λ l. from ∷ l) (range_more (from + 1) n ∙ ap (λ m. range_with_len (from + 1) n ++ m ∷ []) next)
-
--- ---- the list that grows
-
-of_front : (us : List UpdaterState) (u d : UpdaterState) (i : ℕ) → i < length us → get_or (us ++ u ∷ []) i d ≡ get_or us i d
-of_front [] u d i within = let none : ⊥ = omega arith in absurd none
-of_front (v ∷ us) u d zero within = refl
-of_front (v ∷ us) u d (suc i) within = of_front us u d i (omega arith)
-
-of_last : (us : List UpdaterState) (u d : UpdaterState) → get_or (us ++ u ∷ []) (length us) d ≡ u
-of_last [] u d = refl
-of_last (v ∷ us) u d = of_last us u d
-
--- what holds of the first ones and of the last holds of all
-with_last : (P : ℕ → UpdaterState → Type 0) (us : List UpdaterState) (u : UpdaterState) → ((i : ℕ) (d : UpdaterState) → i < length us → P i (get_or us i d)) → P (length us) u → (i : ℕ) (d : UpdaterState) → i < length (us ++ u ∷ []) → P i (get_or (us ++ u ∷ []) i d)
-with_last P us u first last i d within = by_place (cases_lt i (length us))
-  where
-    by_place : (i < length us) ⊎ (length us ≤ i) → P i (get_or (us ++ u ∷ []) i d)
-    by_place (inl front) = subst (P i) (sym (of_front us u d i front)) (first i d front)
-    by_place (inr later) =
-        let same : length us ≡ i = omega (arith, length-append us (u ∷ [])) in
-        subst (λ j. P j (get_or (us ++ u ∷ []) j d)) same (subst (P (length us)) (sym (of_last us u d)) last)
 
 -- ---- what the heart took in
 
@@ -63,8 +37,8 @@ one_more h h1 h2 us u t place d = record {
     ranged : range_with_len 0 (length us) ++ u.number ∷ [] ≡ range_with_len 0 (length (us ++ u ∷ []))
     ranged =
         let same : length us ≡ 0 + length us = omega arith in
-        let count : suc (length us) ≡ length (us ++ u ∷ []) = omega (arith, length-append us (u ∷ [])) in
-        ap (λ i. range_with_len 0 (length us) ++ i ∷ []) (place ∙ same) ∙ sym (range_more 0 (length us)) ∙ ap (range_with_len 0) count
+        let count : length us + 1 ≡ length (us ++ u ∷ []) = omega (arith, length-append us (u ∷ [])) in
+        ap (λ i. range_with_len 0 (length us) ++ i ∷ []) (place ∙ same) ∙ sym (range_split 0 (length us) 1) ∙ ap (range_with_len 0) count
 
 -- and then asked
 pub asked : (packed_of : List ℕ → List Entry → ℕ) (h h1 h2 : HeartState) (us : List UpdaterState) (word : ℕ) → DrainsAll h us h1 → IsRelaxedReply packed_of h1.view word h2.view → h2 ≡ record h1 { view = h2.view } → DrainsAll h us h2
@@ -92,12 +66,8 @@ has_all packed_of h h1 h2 us word t all sized r drained = record {
 
 -- ---- the next to be taken
 
-at_middle : (before rest : List UpdaterState) (u d : UpdaterState) → get_or (before ++ u ∷ rest) (length before) d ≡ u
-at_middle [] rest u d = refl
-at_middle (v ∷ before) rest u d = at_middle before rest u d
-
 -- what holds of all holds of the next
 pub next_has : (P : ℕ → UpdaterState → Type 0) (us before rest : List UpdaterState) (u : UpdaterState) → before ++ u ∷ rest ≡ us → ((i : ℕ) (d : UpdaterState) → i < length us → P i (get_or us i d)) → P (length before) u
 next_has P us before rest u all each =
     let inside : length before < length us = omega (arith, ap length all, length-append before (u ∷ rest)) in
-    subst (P (length before)) (ap (λ l. get_or l (length before) u) (sym all) ∙ at_middle before rest u u) (each (length before) u inside)
+    subst (P (length before)) (ap (λ l. get_or l (length before) u) (sym all) ∙ get_or-append_seam before u rest u) (each (length before) u inside)

@@ -5,17 +5,18 @@ use Rattle.sk_read.specs.declared.kind.Kind.{Kind}
 use Rattle.sk_hub.specs.Updaters.{UpdaterState, kept_of}
 use Rattle.sk_fill.specs.Windows.{item_in, items_in}
 use Rattle.sk_hub.specs.Calls.{KeepsNone, Takes}
-use Rattle.sk_fill.proofs.Items.{range_none, range_split, no_items, next_item, next_empty, items_append}
+use Rattle.sk_model.proofs.Lists.{slice_none, slice_split}
+use Rattle.sk_fill.proofs.Items.{no_items, next_item, next_empty, items_append}
 use Rattle.sk_hub.proofs.Calls.{none_refl, takes_none, takes_trans, takes_then_none, takes_few}
 
 pub no_line : (keeps : ℕ → ℕ → Bool) (hint_of : List ℕ → List Entry → ℕ) (u : UpdaterState) (kind : Kind) (lines : List (List ℕ)) (from : ℕ) → Takes keeps hint_of u (items_in kind (slice_range lines from from)) u
-no_line keeps hint_of u kind lines from = subst (λ l. Takes keeps hint_of u l u) (sym (ap (items_in kind) (range_none lines from) ∙ no_items kind)) (takes_none keeps hint_of u u (none_refl u))
+no_line keeps hint_of u kind lines from = subst (λ l. Takes keeps hint_of u l u) (sym (ap (items_in kind) (slice_none lines from) ∙ no_items kind)) (takes_none keeps hint_of u u (none_refl u))
 
 -- a block in two parts
 pub parts_add_up : (keeps : ℕ → ℕ → Bool) (hint_of : List ℕ → List Entry → ℕ) (kind : Kind) (lines : List (List ℕ)) (from place to : ℕ) (u v w : UpdaterState) → from ≤ place → place ≤ to
     → Takes keeps hint_of u (items_in kind (slice_range lines from place)) v → Takes keeps hint_of v (items_in kind (slice_range lines place to)) w → Takes keeps hint_of u (items_in kind (slice_range lines from to)) w
 parts_add_up keeps hint_of kind lines from place to u v w low high a b =
-    subst (λ l. Takes keeps hint_of u l w) (sym (ap (items_in kind) (range_split lines from place to low high) ∙ items_append kind (slice_range lines from place) (slice_range lines place to)))
+    subst (λ l. Takes keeps hint_of u l w) (sym (ap (items_in kind) (slice_split lines from place to low high) ∙ items_append kind (slice_range lines from place) (slice_range lines place to)))
     (takes_trans keeps hint_of u v w (items_in kind (slice_range lines from place)) (items_in kind (slice_range lines place to)) a b)
 
 -- a line more, which has an item

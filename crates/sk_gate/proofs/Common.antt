@@ -1,6 +1,6 @@
 -- What the lemmas on single steps share: views that stay, and a rule that is kept where little changes.
 use Rattle.std.proofs.Common.{◌≡◌, ◌≢◌, ◌⊎◌, ℕ, zero, suc, ◌+◌, ◌<◌, Bool, true, List, [], ◌∷◌, length, get_or, set, Option, sym, refl, ap, ◌∙◌, subst, ⊎_elim, inl, inr, arith, length-set, get_or-set_other, get_or-set_same}
-use mathlib.Core.Option.{some, none, some-injective, some-ne-none}
+use mathlib.Core.Option.{some, some-injective}
 use mathlib.Core.Option as maybe
 use mathlib.Core.Logic.{dite}
 use native.Mathlib.Decide.{ℕ_discrete}
@@ -10,6 +10,7 @@ use Rattle.atomic_table.specs.Table.{State}
 use Rattle.atomic_table.proofs.Lists.{at_set, set_here, set_else}
 use Rattle.sk_model.specs.Entries.{Entry}
 use Rattle.sk_model.specs.Missing.{Begins}
+use Rattle.sk_model.proofs.Lists.{at_within}
 use Rattle.sk_model.proofs.Missing.{begins_refl}
 use Rattle.sk_machine.specs.Numbered.{put}
 use Rattle.sk_machine.specs.Coarse.{CoarseUpdater, Coarse, At, Meets}
@@ -36,12 +37,6 @@ seats_stay K vs me w mine others j v e live = ⊎_elim
     (λ (t : (j ≡ me) × (w ≡ v)). subst (λ (x : ℕ × View). K x.0 x.1) (λ i. (sym t.0 i, t.1 i)) (mine (subst (λ (x : View). x.live ≡ true) (sym t.1) live)))
     (λ (t : (j ≢ me) × (get_elem? vs j ≡ some v)). others j v t.0 t.1 live)
     (at_set vs me j w v e)
-
--- a place that has a value
-pub at_within : {A : Type 0} (l : List A) (i : ℕ) (a : A) → get_elem? l i ≡ some a → i < length l
-at_within [] i a e = absurd (some-ne-none a (sym e))
-at_within (x ∷ xs) zero a e = omega arith
-at_within (x ∷ xs) (suc i) a e = let more = at_within xs i a e in omega arith
 
 -- some view shows something, where one has a new view
 pub has_stays : (P Q : View → Type 0) (vs : List View) (id place : ℕ) (v w : View) → get_elem? vs id ≡ some v → (P v → Q w) → ((u : View) → P u → Q u) → Has vs place P → Has (set vs id w) place Q

@@ -6,7 +6,6 @@ pub mod Opened
 pub mod Own
 pub mod Published
 pub mod Rotated
-pub mod Elements
 pub mod Merged
 pub mod Rounds
 pub mod Seats

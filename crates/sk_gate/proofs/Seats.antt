@@ -30,7 +30,8 @@ use Rattle.sk_gate.specs.Plays.{Sat}
 use Rattle.sk_gate.specs.Hands.{Holds}
 use Rattle.sk_gate.proofs.Own.{same_holds}
 use Rattle.sk_gate.proofs.Opened.{open_neutral}
-use Rattle.sk_gate.proofs.Common.{seats_stay, at_within, has_stays}
+use Rattle.sk_model.proofs.Lists.{at_within}
+use Rattle.sk_gate.proofs.Common.{seats_stay, has_stays}
 use Rattle.sk_gate.proofs.Copies.{only_here, copied_length, copied_size}
 use Rattle.sk_gate.proofs.Merged.{blank_at, blanks_length, set_begins, longer_either, longer_left, whole_first, whole_second, merged_length, merged_either, merged_first, merged_second, sizes_length, sizes_either, size_first, size_second}
 

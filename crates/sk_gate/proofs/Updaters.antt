@@ -32,7 +32,8 @@ use Rattle.sk_gate.specs.Moves.{LacksOwn, looked_mine, RenewsAt, LooksAt, Admits
 use Rattle.sk_gate.specs.Plays.{Sat, asked, LookHand, looked, is_picked, rested_mine, rested, admitted, handed, published}
 use Rattle.sk_gate.proofs.Published.{published_seen, begun_seen, seen_between}
 use Rattle.sk_gate.proofs.Opened.{open_neutral, open_told, open_shut}
-use Rattle.sk_gate.proofs.Common.{Stays, viewed, updater_step, at_within, index_within}
+use Rattle.sk_model.proofs.Lists.{at_within}
+use Rattle.sk_gate.proofs.Common.{Stays, viewed, updater_step, index_within}
 use Rattle.sk_gate.proofs.Known.{room_some, stepped_knows, stepped_stays}
 use Rattle.sk_gate.proofs.Merged.{longer_either, longer_left, longer_right, longer_same}
 use Rattle.sk_gate.proofs.Beginnings.{lists_put, lists_see, sizes_put}

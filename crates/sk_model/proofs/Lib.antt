@@ -1,5 +1,6 @@
 pub mod Entries
 pub mod Lines
+pub mod Lists
 pub mod Missing
 pub mod Murmur
 pub mod Numbers

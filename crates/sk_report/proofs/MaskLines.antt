@@ -1,23 +1,17 @@
 -- Lines of the places of a mask, one after another.
-use Rattle.std.proofs.Common.{◌≡◌, ℕ, zero, suc, ◌+◌, ◌-◌, ◌/◌, ◌^◌, ◌<◌, if◌then◌else◌, eq-eqb, List, [], ◌∷◌, ◌++◌, flat_map, refl, sym, ap, ◌∙◌, arith, append-nil, append_assoc}
+use Rattle.std.proofs.Common.{◌≡◌, ℕ, ◌+◌, ◌-◌, ◌/◌, ◌^◌, ◌<◌, if◌then◌else◌, eq-eqb, List, [], ◌++◌, flat_map, refl, sym, ap, ◌∙◌, arith, append-nil, append_assoc}
 use Rattle.std.specs.List.{range_with_len}
 use Rattle.std.specs.Int.{bit_at}
 use Rattle.std.specs.Prelude.{bit_and}
 use Rattle.std.proofs.lemmas.Nat.Bits.{shr_and_one}
 use Rattle.std.proofs.lemmas.Grind.{flat_map-append}
+use Rattle.sk_model.proofs.Lists.{range_split}
 use Rattle.sk_watch.specs.Masks.{most_places}
 use Rattle.sk_report.specs.Texts.{alarm_line, alarm_at, alarm_lines}
 
 -- the lines of the first so many places
 abbrev pub lines_before : ℕ → ℕ → List ℕ
 lines_before mask place = flat_map (alarm_at mask) (range_with_len 0 place)
-
-pub range_split : (from m n : ℕ) → range_with_len from (m + n) ≡ range_with_len from m ++ range_with_len (from + m) n
-range_split from zero n =
-    let none : zero + n ≡ n = omega arith in let here : from ≡ from + zero = omega arith in ap (λ k. range_with_len from k) none ∙ ap (λ k. range_with_len k n) here
-range_split from (suc m) n =
-    let count : suc m + n ≡ suc (m + n) = omega arith in let next : from + 1 + m ≡ from + suc m = omega arith in
-    ap (λ k. range_with_len from k) count ∙ ap (λ l. from ∷ l) (range_split (from + 1) m n ∙ ap (λ k. range_with_len (from + 1) m ++ range_with_len k n) next)
 
 pub before_more : (mask place : ℕ) → lines_before mask (place + 1) ≡ lines_before mask place ++ alarm_at mask place
 before_more mask place =

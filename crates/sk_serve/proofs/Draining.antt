@@ -7,7 +7,7 @@ use Rattle.sk_hub.specs.Updaters.{UpdaterState}
 use Rattle.sk_hub.specs.Hearts.{HeartState}
 use Rattle.sk_hub.specs.Drains.{IsDrained, HasTakenIn}
 use Rattle.sk_hub.proofs.Taking.{taken_when_drained, taken_after_drain}
-use Rattle.sk_report.proofs.MaskLines.{range_split}
+use Rattle.sk_model.proofs.Lists.{range_split}
 use Rattle.sk_serve.specs.Waves.{DrainsFrom}
 use Rattle.sk_serve.proofs.Each.{each_last}
 

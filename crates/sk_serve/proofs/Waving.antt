@@ -12,7 +12,7 @@ use Rattle.sk_hub.specs.Drains.{HasTakenIn}
 use Rattle.sk_hub.specs.Updaters.{UpdaterState}
 use Rattle.sk_hub.proofs.Taking.{taken_with_view}
 use Rattle.sk_line.specs.declared.sessions.End.{End}
-use Rattle.sk_report.proofs.MaskLines.{range_split}
+use Rattle.sk_model.proofs.Lists.{range_split}
 use Rattle.sk_serve.specs.declared.fault.ServeFault.{ServeFault}
 use Rattle.sk_serve.specs.declared.fault.ServeFault.TheVariants.{NetFault}
 use Rattle.sk_serve.specs.declared.plan.ServePlan.{ServePlan}

@@ -8,7 +8,7 @@ use Rattle.sk_gate.specs.Rule.{KeepsRule}
 use Rattle.sk_gate.specs.Views.{first_view, admitted_sizes}
 use Rattle.sk_gate.specs.Starts.{AreFirstWords}
 use Rattle.sk_gate.proofs.Seats.{starts}
-use Rattle.sk_gate.proofs.Elements.{all_at, dropped_at}
+use Rattle.sk_model.proofs.Lists.{all_at, dropped_at}
 use Rattle.sk_gate.proofs.start.new_table.Goals as goal
 
 pub new-requires : goal.new-requires
