@@ -1,7 +1,15 @@
 mod hashes;
+mod kinds;
 mod lines;
+mod links;
+mod makes;
 mod numbers;
 mod quantiles;
+mod shelves;
+mod sketches;
+mod streams;
+mod watchers;
+mod words;
 
 use std::fmt::Debug;
 use std::process::Abort;

@@ -6,7 +6,9 @@ mod ranks;
 mod read;
 mod schedules;
 mod sessions;
+mod versions;
 mod waking;
+mod windows;
 
 use std::fmt::Debug;
 use std::process::Abort;

@@ -1,0 +1,140 @@
+// Sources and sinks: in memory, and over std.
+ghost use Rattle.std.specs.Prelude.{◌≡◌, ◌<◌, length};
+ghost use Rattle.std.specs.Io.{ReadsAtMost};
+ghost use Rattle.std.specs.Io.KnownBytes.{ReadConsumes};
+ghost use Rattle.sk_model.specs.Causes.{HasCause};
+
+use sk_io::{
+    BoundFault, Failed, MemSink, MemSource, Sink, Source, StdSink, StdSource, SureSource,
+    read_within, write_all,
+};
+use std::alloc::Global;
+use std::fs;
+use std::fs::File;
+use std::test::Fail;
+
+// All that a source gives, by pieces of up to four bytes. A read that fails is tried again.
+pub fn drained<S: Source>(alloc: Global, source: &mut S) -> Result<Vec<u8>, Fail> {
+    let mut all = Vec::new(alloc);
+    let mut buf = [0; 4];
+    'read: for _ in 0..100 {
+        match source.read(&mut buf) {
+            Ok(0) => break,
+            Ok(n) => all.extend_from_slice(&buf[..n])?,
+            Err(Failed) => {}
+        }
+    }
+    Ok(all)
+}
+
+#[test]
+fn reads_in_pieces_and_fails_at_its_numbers(rt: HostRuntime) -> Result<(), Fail> {
+    let alloc = rt.alloc();
+    let mut source = MemSource::new(b"hello".to_vec(alloc)?, 3, [1, 3].to_vec(alloc)?);
+    let mut buf = [0; 4];
+    for answer in [Ok(3), Err(Failed), Ok(2), Err(Failed), Ok(0)] {
+        assert_eq!(rt; source.read(&mut buf), answer);
+    }
+    assert_eq!(rt; buf, [b'l', b'o', b'l', 0]);
+    let mut source = MemSource::new(b"hello".to_vec(alloc)?, 3, [0, 2].to_vec(alloc)?);
+    assert_eq!(rt;
+        drained(alloc, &mut source)?.as_slice(),
+        b"hello".as_slice()
+    );
+    Ok(())
+}
+
+#[test]
+fn a_sure_source_gives_all(rt: HostRuntime) -> Result<(), Fail> {
+    let alloc = rt.alloc();
+    let mut source = SureSource::new(b"estimate".to_vec(alloc)?);
+    let mut buf = [0; 5];
+    for answer in [Ok(5), Ok(3), Ok(0)] {
+        assert_eq!(rt; source.read(&mut buf), answer);
+    }
+    let mut source = SureSource::new(b"estimate".to_vec(alloc)?);
+    assert_eq!(rt;
+        drained(alloc, &mut source)?.as_slice(),
+        b"estimate".as_slice()
+    );
+    Ok(())
+}
+
+#[test]
+fn reads_within_a_bound(rt: HostRuntime) -> Result<(), Fail> {
+    let alloc = rt.alloc();
+    let mut source = MemSource::new(b"estimate".to_vec(alloc)?, 8, [1].to_vec(alloc)?);
+    let mut piece = [0; 4];
+    let rows = [
+        (3, Ok(3)),
+        (9, Err(BoundFault::ReadFault)),
+        (0, Err(BoundFault::TooMuch)),
+        (9, Ok(4)),
+        (9, Ok(1)),
+        (9, Ok(0)),
+    ];
+    for (room, answer) in rows {
+        assert_eq!(rt; read_within(&mut source, &mut piece, room), answer);
+    }
+    assert_eq!(rt; piece, *b"emat");
+    Ok(())
+}
+
+#[test]
+fn writes_until_the_room_is_full(rt: HostRuntime) -> Result<(), Fail> {
+    let alloc = rt.alloc();
+    let mut sink = MemSink::new(alloc, 5, 2, Vec::new(alloc))?;
+    assert_eq!(rt; write_all(&mut sink, b"estimate"), Err(Failed));
+    assert_eq!(rt; sink.written(), b"estim".as_slice());
+    Ok(())
+}
+
+#[test]
+fn writes_fail_at_their_numbers(rt: HostRuntime) -> Result<(), Fail> {
+    let alloc = rt.alloc();
+    let mut sink = MemSink::new(alloc, 8, 3, [1].to_vec(alloc)?)?;
+    assert_eq!(rt; sink.write(b"estimate"), Ok(3));
+    assert_eq!(rt; sink.write(b"imate"), Err(Failed));
+    assert_eq!(rt; write_all(&mut sink, b"imate"), Ok(()));
+    assert_eq!(rt; sink.written(), b"estimate".as_slice());
+    Ok(())
+}
+
+// Reads once, as a function does that knows its source by the trait alone.
+pub fn piece_of<S: Source>(source: &mut S, piece: &mut [u8]) -> Result<usize, Failed>
+    requires { 0 < length piece.old }
+    ensures bound { ReadsAtMost result piece.new }
+    ensures bytes { ReadConsumes (S.left source.old) (S.left source.new) result piece.new }
+    ensures cause { HasCause (S.faults source.old) (S.faults source.new) result }
+    ensures stays { S.stands_on source.new ≡ S.stands_on source.old }
+{
+    source.read(piece)
+}
+
+#[test]
+fn a_file_is_written_and_read_back(rt: HostRuntime) -> Result<(), Fail> {
+    let alloc = rt.alloc();
+    let mut sink = StdSink::new(File::create(&rt, "streams.txt")?);
+    assert_eq!(rt; write_all(&mut sink, b"one fish two fish\n"), Ok(()));
+    let mut source = StdSource::new(File::open(&rt, "streams.txt")?);
+    let text = drained(alloc, &mut source)?;
+    assert_eq!(rt; text.as_slice(), b"one fish two fish\n".as_slice());
+    assert_eq!(rt; sink.write(b"\n"), Ok(1));
+    fs::remove_file(&rt, "streams.txt")?;
+    Ok(())
+}
+
+#[test]
+fn errors_of_std_are_faults(rt: HostRuntime) -> Result<(), Fail> {
+    fs::write(&rt, "closed.txt", "x")?;
+    let mut sink = StdSink::new(File::open(&rt, "closed.txt")?);
+    assert_eq!(rt; sink.write(b"y"), Err(Failed));
+    let mut byte = [0; 1];
+    let mut sink = StdSink::new(byte.as_mut_slice());
+    assert_eq!(rt; sink.write(b"yz"), Ok(1));
+    assert_eq!(rt; sink.write(b"z"), Err(Failed));
+    let mut source = StdSource::new(File::create(&rt, "closed.txt")?);
+    assert_eq!(rt; source.read(&mut [0; 1]), Err(Failed));
+    fs::remove_file(&rt, "closed.txt")?;
+    Ok(())
+}

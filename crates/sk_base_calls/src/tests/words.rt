@@ -1,0 +1,44 @@
+// Words of a command line.
+use sk_io::words_of;
+use std::env::FillError;
+use std::rt::Env;
+use std::test::Fail;
+
+// A command line of the program's name and one word of that many bytes.
+#[derive(Drop)]
+struct OneWord {
+    len: usize,
+}
+
+impl Env for OneWord {
+    fn arg(&self, i: usize, buf: &mut [u8]) -> Result<usize, FillError> {
+        if i != 1 {
+            return Err(FillError::NotPresent);
+        }
+        if buf.len() < self.len {
+            return Err(FillError::TooLong);
+        }
+        buf[..self.len].fill(b'x');
+        Ok(self.len)
+    }
+
+    fn var(&self, _name: &str, _buf: &mut [u8]) -> Result<usize, FillError> {
+        Err(FillError::NotPresent)
+    }
+
+    fn var_at(&self, _i: usize, _buf: &mut [u8]) -> Result<usize, FillError> {
+        Err(FillError::NotPresent)
+    }
+}
+
+// A word is whole, however long it is.
+#[test]
+fn words_of_any_length(rt: HostRuntime) -> Result<(), Fail> {
+    let alloc = rt.alloc();
+    for len in [0usize, 1, 256, 257, 512, 5_000] {
+        let words = words_of(&OneWord { len }, alloc)?;
+        assert_eq!(rt; words.len(), 1);
+        assert!(rt; words.first().is_some_and(|word| word.len() == len));
+    }
+    Ok(())
+}
