@@ -110,7 +110,7 @@ fn a_worked_sketch_shows_its_heap_and_table(rt: HostRuntime) -> Result<(), Fail>
     assert!(rt; sketch.update(4));
     assert!(rt; !sketch.update(3));
     assert_eq!(rt; sketch.heap(), [4, 3].as_slice());
-    assert_eq!(rt; sketch.table(), [4, 0, 5, 0].as_slice());
+    assert_eq!(rt; sketch.table(), [0, 4, 5, 0].as_slice());
     assert!(rt; !sketch.update(8));
     assert_eq!(rt; sketch.fraction(), (9_223_372_036_854_775_808, 4));
     assert_eq!(rt; sketch.list()?.as_slice(), [3, 4].as_slice());
@@ -119,28 +119,28 @@ fn a_worked_sketch_shows_its_heap_and_table(rt: HostRuntime) -> Result<(), Fail>
     Ok(())
 }
 
-// In a table of 4, hashes 1, 4 and 11 have the home 2, and 3 has the home 0.
+// In a table of 4, hashes 1, 3 and 8 have the home 1, and 2 has the home 3.
 #[test]
 fn entries_move_back_after_one_that_goes(rt: HostRuntime) -> Result<(), Fail> {
     let mut sketch = HeapTheta::new(rt.alloc(), 2)?;
-    sketch.merge(&[11, 4]);
-    assert_eq!(rt; sketch.table(), [0, 0, 12, 5].as_slice());
+    sketch.merge(&[8, 3]);
+    assert_eq!(rt; sketch.table(), [0, 9, 4, 0].as_slice());
     assert!(rt; sketch.update(1));
-    assert_eq!(rt; sketch.table(), [0, 0, 2, 5].as_slice());
-    assert!(rt; sketch.update(3));
-    assert_eq!(rt; sketch.table(), [4, 0, 2, 0].as_slice());
+    assert_eq!(rt; sketch.table(), [0, 2, 4, 0].as_slice());
+    assert!(rt; sketch.update(2));
+    assert_eq!(rt; sketch.table(), [0, 2, 0, 3].as_slice());
     assert!(rt; !sketch.update(1));
     Ok(())
 }
 
-// In a table of 8, hashes 4 and 17 have the home 5, and 13 and 3 stand at theirs, 7 and 0.
+// In a table of 8, hashes 5 and 19 have the home 2, and 10 and 3 stand at theirs, 4 and 5.
 #[test]
 fn entries_move_back_before_one_that_stays(rt: HostRuntime) -> Result<(), Fail> {
     let mut sketch = HeapTheta::new(rt.alloc(), 3)?;
-    sketch.merge(&[17, 4, 13]);
-    assert_eq!(rt; sketch.table(), [0, 0, 0, 0, 0, 18, 5, 14].as_slice());
+    sketch.merge(&[19, 5, 10]);
+    assert_eq!(rt; sketch.table(), [0, 0, 20, 6, 11, 0, 0, 0].as_slice());
     assert!(rt; sketch.update(3));
-    assert_eq!(rt; sketch.table(), [4, 0, 0, 0, 0, 5, 0, 14].as_slice());
+    assert_eq!(rt; sketch.table(), [0, 0, 6, 0, 11, 4, 0, 0].as_slice());
     Ok(())
 }
 
