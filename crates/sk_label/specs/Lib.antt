@@ -1,0 +1,5 @@
+pub mod Labels
+pub mod Rules
+pub mod Goes
+pub mod Stops
+pub mod Carrying

@@ -1,0 +1,13 @@
+//! Lines of two parts, a label and the text of an item: read one after another, each refused or
+//! taken by the rules of a command.
+#![tactic(auto)]
+
+mod carrier;
+mod fault;
+mod parts;
+mod taker;
+
+pub use carrier::read_labelled;
+pub use fault::{LabelFault, LineStop};
+pub use parts::{Parts, split};
+pub use taker::LineTaker;
