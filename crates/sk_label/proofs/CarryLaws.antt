@@ -30,13 +30,13 @@ pub steady_ok : {A E : Type 0} (fault : E) (before now : ℕ) (r : Result A E) (
 steady_ok fault before now r v cause ok = cause.steady (λ failed. not_failed v fault (sym ok ∙ failed))
 
 -- one line more was taken
-pub carried_more : (Holds Holds' : List (List ℕ) → Type 0) (a b c : Shown) (lines : List (List ℕ)) (line : List ℕ) → Carried Holds a b lines → Takes b.rules Holds' b.written c.written lines line → c.rules ≡ b.rules → c.faults ≡ b.faults →
-    Carried Holds' a c (lines ++ line ∷ [])
-carried_more Holds Holds' a b c lines line carried takes rules steady =
-    let takes' : Takes a.rules Holds' b.written c.written lines line = subst (λ (r : Rules). Takes r Holds' b.written c.written lines line) carried.rules takes in
+pub carried_more : (Went Went' : List (List ℕ) → Type 0) (a b c : Shown) (lines : List (List ℕ)) (line : List ℕ) → Carried Went a b lines → Takes b.rules Went' b.written c.written lines line → c.rules ≡ b.rules → c.faults ≡ b.faults →
+    Carried Went' a c (lines ++ line ∷ [])
+carried_more Went Went' a b c lines line carried takes rules steady =
+    let takes' : Takes a.rules Went' b.written c.written lines line = subst (λ (r : Rules). Takes r Went' b.written c.written lines line) carried.rules takes in
     record {
-      wrote = wrote_more a.rules Holds' a.written b.written c.written lines line carried.wrote takes';
-      holds = takes.holds;
+      wrote = wrote_more a.rules Went' a.written b.written c.written lines line carried.wrote takes';
+      went = takes.went;
       rules = rules ∙ carried.rules;
       steady = steady ∙ carried.steady;
     }
@@ -52,9 +52,9 @@ breaks_at rules a b c lines line stop.BadLine wrote stops = (wrote_still rules a
 breaks_at rules a b c lines line stop.Refused wrote stops = (wrote_still rules a b c lines stops.1 wrote, stops.0)
 
 -- it stopped at a line
-pub broke_at : (Holds : List (List ℕ) → Type 0) (a b c : Shown) (lines : List (List ℕ)) (line : List ℕ) (why : LineStop) → Carried Holds a b lines → StopsBy b.rules b.written c.written lines line why →
+pub broke_at : (Went : List (List ℕ) → Type 0) (a b c : Shown) (lines : List (List ℕ)) (line : List ℕ) (why : LineStop) → Carried Went a b lines → StopsBy b.rules b.written c.written lines line why →
     HasCauseIn {T = Unit {0}} stop.WriteFault b.faults c.faults (Err why) → Broke a c lines line why
-broke_at Holds a b c lines line why carried stops cause = record {
+broke_at Went a b c lines line why carried stops cause = record {
   breaks = breaks_at a.rules a.written b.written c.written lines line why carried.wrote (subst (λ (r : Rules). StopsBy r b.written c.written lines line why) carried.rules stops);
   cause = subst (λ (n : ℕ). HasCauseIn {T = Unit {0}} stop.WriteFault n c.faults (Err why)) carried.steady cause;
 }
@@ -101,8 +101,8 @@ no_record Known n most old new off = go off.comes
     go (inl always) = (always []).1.1
     go (inr here) = here.1.1.1
 
-module _ (Holds : List (List ℕ) → Type 0) (a b : Shown) (most : ℕ) (old new : Option (List ℕ)) where
-  known : (lines : List (List ℕ)) → Carried Holds a b lines → WroteSoFar a.rules a.written b.written lines
+module _ (Went : List (List ℕ) → Type 0) (a b : Shown) (most : ℕ) (old new : Option (List ℕ)) where
+  known : (lines : List (List ℕ)) → Carried Went a b lines → WroteSoFar a.rules a.written b.written lines
   known lines carried = carried.wrote
 
   same : (Comes : List (List ℕ) → List ℕ → Type 0) (lines : List (List ℕ)) (text : List ℕ) → Comes lines text → Comes lines text
@@ -124,10 +124,10 @@ module _ (Holds : List (List ℕ) → Type 0) (a b : Shown) (most : ℕ) (old ne
       stops_so (λ lines line. (n ≡ length lines + 1) × Broke a b lines line stop.Refused) (λ lines line. (n ≡ length lines + 1) × WroteSoFar a.rules a.written b.written lines × IsRefused a.rules lines line) most old new
       (λ lines line at. (at.0, at.1.breaks.0, at.1.breaks.1)) stops
 
-  pub ends_before : (carried : Option LineStop) (f : Fault) → Ends Lines most (Carried Holds a b) (Dropped a b carried) old new f →
+  pub ends_before : (carried : Option LineStop) (f : Fault) → Ends Lines most (Carried Went a b) (Dropped a b carried) old new f →
       EndsBefore a.rules most (setting old a.written) (setting new b.written) (fault_by f carried)
   ends_before carried fault.OutOfMemory (inl off) =
-      breaks_so (Carried Holds a b) (WroteSoFar a.rules a.written b.written) (λ lines text. IsSoundUpTo Lines (length lines) text) (λ lines text. IsSoundUpTo Lines (length lines) text) most old new known
+      breaks_so (Carried Went a b) (WroteSoFar a.rules a.written b.written) (λ lines text. IsSoundUpTo Lines (length lines) text) (λ lines text. IsSoundUpTo Lines (length lines) text) most old new known
       (same (λ lines text. IsSoundUpTo Lines (length lines) text)) off
   ends_before carried fault.OutOfMemory (inr stops) = absurd stops.1.known
   ends_before carried fault.ReadFault some = record { taken = some.taken; consumed = some.consumed; size = some.size; sound = some.sound; gave = some.gave.wrote }
@@ -141,7 +141,7 @@ module _ (Holds : List (List ℕ) → Type 0) (a b : Shown) (most : ℕ) (old ne
     known = off.known.wrote;
     comes = off.comes;
   }
-  ends_before carried (fault.BadCsv n) off = absurd (no_record (Carried Holds a b) n most old new off)
+  ends_before carried (fault.BadCsv n) off = absurd (no_record (Carried Went a b) n most old new off)
   ends_before carried fault.WriteFault stops = absurd stops.1.known
   ends_before None (fault.BadItem n) stops = absurd stops.1.known.1
   ends_before (Some why) (fault.BadItem n) stops = stop_ends n why stops

@@ -65,9 +65,9 @@ pub wrote_nothing : (rules : Rules) (w : Option (List ℕ)) → WroteSoFar rules
 wrote_nothing rules w = record { fine = nothing_is_fine rules; written = Appends-nil w }
 
 -- one line more
-pub wrote_more : (rules : Rules) (Holds : List (List ℕ) → Type 0) (a b c : Option (List ℕ)) (lines : List (List ℕ)) (line : List ℕ) → WroteSoFar rules a b lines → Takes rules Holds b c lines line →
+pub wrote_more : (rules : Rules) (Went : List (List ℕ) → Type 0) (a b c : Option (List ℕ)) (lines : List (List ℕ)) (line : List ℕ) → WroteSoFar rules a b lines → Takes rules Went b c lines line →
     WroteSoFar rules a c (lines ++ line ∷ [])
-wrote_more rules Holds a b c lines line wrote takes = record {
+wrote_more rules Went a b c lines line wrote takes = record {
   fine = fine_more rules lines line wrote.fine takes.fine;
   written = subst (Appends a c) (sym (due_so_far-more rules lines line)) (Appends-trans a b c (due_so_far rules lines) (rules.due_at lines line) wrote.written takes.written);
 }

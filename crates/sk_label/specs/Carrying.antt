@@ -20,9 +20,9 @@ abbrev pub shown : Rules → Option (List ℕ) → ℕ → Shown
 shown rules written faults = record { rules = rules; written = written; faults = faults }
 
 -- it was given these lines, and wrote what is due at them
-pub record Carried (Holds : List (List ℕ) → Type 0) (a b : Shown) (lines : List (List ℕ)) : Type 0 where
+pub record Carried (Went : List (List ℕ) → Type 0) (a b : Shown) (lines : List (List ℕ)) : Type 0 where
   pub wrote : WroteSoFar a.rules a.written b.written lines
-  pub holds : Holds lines
+  pub went : Went lines
   pub rules : b.rules ≡ a.rules
   pub steady : b.faults ≡ a.faults
 

@@ -75,8 +75,8 @@ Goes rules most old new result = MatchResult result
 
 -- ---- its reading
 
--- how the lines were read, where a taker holds those that it was given
+-- how the lines were read, where this is so of a taker that was given them
 abbrev pub ReadsTaken : {T : Type 0} → Rules → ℕ → (List (List ℕ) → Type 0) → Setting → Setting → Result T LabelFault → Type 0
-ReadsTaken rules most Holds old new result = MatchResult result
-    (λ _. ReadsLines most (λ lines. WroteSoFar rules old.written new.written lines × Holds lines) old.left new.left)
+ReadsTaken rules most Went old new result = MatchResult result
+    (λ _. ReadsLines most (λ lines. WroteSoFar rules old.written new.written lines × Went lines) old.left new.left)
     (λ fault. EndsBefore rules most old new fault)

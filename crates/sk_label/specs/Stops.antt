@@ -7,9 +7,9 @@ use Rattle.sk_label.specs.declared.fault.LineStop.{LineStop}
 use Rattle.sk_label.specs.declared.fault.LineStop.TheVariants.{OutOfMemory, WriteFault, BadLine, Refused}
 
 -- after these lines it took one that is fine, and wrote what is due at it
-pub record Takes (rules : Rules) (Holds : List (List ℕ) → Type 0) (old new : Option (List ℕ)) (before : List (List ℕ)) (line : List ℕ) : Type 0 where
+pub record Takes (rules : Rules) (Went : List (List ℕ) → Type 0) (old new : Option (List ℕ)) (before : List (List ℕ)) (line : List ℕ) : Type 0 where
   pub fine : IsFine rules before line
-  pub holds : Holds (before ++ line ∷ [])
+  pub went : Went (before ++ line ∷ [])
   pub written : Appends old new (rules.due_at before line)
 
 -- after these lines it stopped at one: it is bad or refused, memory ran out, or of what is due at it a part was written

@@ -23,7 +23,7 @@ impl<T: LineTaker> UnitTaker for Carrier<'_, T> {
     ghost use Rattle.sk_read.specs.Standing.{Standing};
     ghost use Rattle.sk_label.specs.Carrying.{shown, Carried, Dropped};
 
-    ghost went = { λ a b lines. Carried (T.holds b.taker.now)
+    ghost went = { λ a b lines. Carried (T.went a.taker.now b.taker.now)
         (shown (T.rules a.taker.now) (T.written a.taker.now) (T.faults a.taker.now)) (shown (T.rules b.taker.now) (T.written b.taker.now) (T.faults b.taker.now)) lines };
 
     ghost stopped = { λ a b why lines line. Dropped
@@ -52,8 +52,8 @@ pub fn read_labelled<S: Source, T: LineTaker>(
     taker: &mut T,
 ) -> Result<u64, LabelFault>
     requires bound { most ≤ source_limit }
-    requires start { T.holds taker.old [] }
-    ensures read { ReadsTaken (T.rules taker.old) most (T.holds taker.new) (setting (S.left source.old) (T.written taker.old)) (setting (S.left source.new) (T.written taker.new)) result }
+    requires start { T.went taker.old taker.old [] }
+    ensures read { ReadsTaken (T.rules taker.old) most (T.went taker.old taker.new) (setting (S.left source.old) (T.written taker.old)) (setting (S.left source.new) (T.written taker.new)) result }
     ensures reads { HasCauseIn LabelFault.ReadFault (S.faults source.old) (S.faults source.new) result }
     ensures writes { HasCauseIn LabelFault.WriteFault (T.faults taker.old) (T.faults taker.new) result }
     ensures stays { S.stands_on source.new ≡ S.stands_on source.old }
@@ -71,8 +71,8 @@ fn read_carried<S: Source, T: LineTaker>(
     carrier: &mut Carrier<'_, T>,
 ) -> Result<u64, LabelFault>
     requires bound { most ≤ source_limit }
-    requires start { T.holds carrier.old.taker.now [] }
-    ensures read { ReadsTaken (T.rules carrier.old.taker.now) most (T.holds carrier.new.taker.now)
+    requires start { T.went carrier.old.taker.now carrier.old.taker.now [] }
+    ensures read { ReadsTaken (T.rules carrier.old.taker.now) most (T.went carrier.old.taker.now carrier.new.taker.now)
         (setting (S.left source.old) (T.written carrier.old.taker.now)) (setting (S.left source.new) (T.written carrier.new.taker.now)) result }
     ensures reads { HasCauseIn LabelFault.ReadFault (S.faults source.old) (S.faults source.new) result }
     ensures writes { HasCauseIn LabelFault.WriteFault (T.faults carrier.old.taker.now) (T.faults carrier.new.taker.now) result }

@@ -14,8 +14,8 @@ pub trait LineTaker {
     /// Which lines it refuses, and what it writes at which. No `take` changes them.
     ghost rules: { Self → Rules };
 
-    /// It was given these lines, in order.
-    ghost holds: { Self → List (List ℕ) → Type 0 };
+    /// From one state to another it was given these lines, in order.
+    ghost went: { Self → Self → List (List ℕ) → Type 0 };
 
     /// What its sink was written, if that is known.
     ghost written: { Self → Option (List ℕ) };
@@ -29,10 +29,10 @@ pub trait LineTaker {
     /// Takes the next line, and writes what is due at it. After an error it is not used again.
     fn take(&mut self, line: &[u8]) -> Result<(), LineStop>
         requires short { length line.now ≤ line_limit }
-        requires behind { (lines : List (List ℕ)) × (length lines < most_kept) × holds self.old lines }
-        ensures takes { OnOk result ((lines : List (List ℕ)) → holds self.old lines
-            → Takes (rules self.old) (holds self.new) (written self.old) (written self.new) lines line.now) }
-        ensures stopped { IfErr result (λ why. (lines : List (List ℕ)) → holds self.old lines
+        requires behind { (start : _) × (lines : List (List ℕ)) × (length lines < most_kept) × went start self.old lines }
+        ensures takes { OnOk result ((start : _) (lines : List (List ℕ)) → went start self.old lines
+            → Takes (rules self.old) (went start self.new) (written self.old) (written self.new) lines line.now) }
+        ensures stopped { IfErr result (λ why. (start : _) (lines : List (List ℕ)) → went start self.old lines
             → StopsBy (rules self.old) (written self.old) (written self.new) lines line.now why) }
         ensures cause { HasCauseIn stop.WriteFault (faults self.old) (faults self.new) result }
         ensures rules { rules self.new ≡ rules self.old }

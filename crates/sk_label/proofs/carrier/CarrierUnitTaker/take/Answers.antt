@@ -8,8 +8,8 @@ returns-in-Ok-clause-went g c = λ start lines count carried.
     let old = c.args.self.now.taker.now in
     let b = shown (g.T.LineTaker.rules old) (g.T.LineTaker.written old) (g.T.LineTaker.faults old) in
     let new = c.take.new.self in
-    carried_more (g.T.LineTaker.holds old) (g.T.LineTaker.holds new) a b (shown (g.T.LineTaker.rules new) (g.T.LineTaker.written new) (g.T.LineTaker.faults new)) lines c.args.line.now
-    carried (c.in-Ok.ensures.takes lines carried.holds) c.in-Ok.ensures.rules (steady_ok _ _ _ _ _ c.take.ensures.cause c.in-Ok.is)
+    carried_more (g.T.LineTaker.went start.taker.now old) (g.T.LineTaker.went start.taker.now new) a b (shown (g.T.LineTaker.rules new) (g.T.LineTaker.written new) (g.T.LineTaker.faults new)) lines c.args.line.now
+    carried (c.in-Ok.ensures.takes start.taker.now lines carried.went) c.in-Ok.ensures.rules (steady_ok _ _ _ _ _ c.take.ensures.cause c.in-Ok.is)
 
 pub returns-in-Err-clause-stopped : goal.returns-in-Err-clause-stopped
 returns-in-Err-clause-stopped g c = λ start lines count carried.
@@ -17,5 +17,5 @@ returns-in-Err-clause-stopped g c = λ start lines count carried.
     let old = c.args.self.now.taker.now in
     let b = shown (g.T.LineTaker.rules old) (g.T.LineTaker.written old) (g.T.LineTaker.faults old) in
     let new = c.take.new.self in
-    broke_at (g.T.LineTaker.holds old) a b (shown (g.T.LineTaker.rules new) (g.T.LineTaker.written new) (g.T.LineTaker.faults new)) lines c.args.line.now c.in-Err.why
-    carried (c.in-Err.ensures.stopped lines carried.holds) c.in-Err.ensures.cause
+    broke_at (g.T.LineTaker.went start.taker.now old) a b (shown (g.T.LineTaker.rules new) (g.T.LineTaker.written new) (g.T.LineTaker.faults new)) lines c.args.line.now c.in-Err.why
+    carried (c.in-Err.ensures.stopped start.taker.now lines carried.went) c.in-Err.ensures.cause
