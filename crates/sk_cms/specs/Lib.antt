@@ -1,0 +1,6 @@
+pub mod Cells
+pub mod Counting
+pub mod Counts
+pub mod Estimate
+pub mod Limits
+pub mod Tallies
