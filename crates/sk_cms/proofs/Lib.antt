@@ -1,2 +1,3 @@
 pub mod Estimates
+pub mod Parts
 pub mod Updates

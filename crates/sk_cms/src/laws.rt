@@ -1,7 +1,10 @@
 //! Laws of the definitions. Each function is empty: its contract is the law.
 
-ghost use Rattle.std.specs.Prelude.{◌≡◌, ◌<◌, ◌≤◌, ℕ, List, ◌++◌, length, All, IsPermutation};
+ghost use Rattle.std.specs.Prelude.{◌≡◌, ◌<◌, ◌≤◌, ℕ, List, ◌++◌, length, All, IsPermutation, flat_map};
+ghost use Rattle.std.specs.List.{range_with_len};
 ghost use Rattle.sk_cms.specs.Estimate.{cell_of, cell_count, least_of, times};
+ghost use Rattle.sk_cms.specs.Tallies.{IsTally};
+ghost use Rattle.sk_model.specs.Entries.{Entry, items_of_entries, entries_by};
 
 /// The estimate is at most the count of the item's cell in each row and the length of the list, and it is one of these
 /// counts if there is a row.
@@ -39,4 +42,12 @@ pub fn any_order()
         → times x items ≡ times x others }
     ensures least { (rows width x : ℕ) (items others : List ℕ) → IsPermutation items others
         → least_of rows width x items ≡ least_of rows width x others }
+{}
+
+/// If a list of updates has exactly these items of each updater, it answers as all their items do.
+pub fn a_tally_is_of_all_items()
+    ensures { (x rows width n least updaters : ℕ) (list : List Entry) (items : ℕ → List ℕ)
+        → All (λ entry. entry.0 < updaters) list → ((i : ℕ) → i < updaters → entries_by i list ≡ items i)
+        → IsTally x rows width (items_of_entries list) n least
+        → IsTally x rows width (flat_map items (range_with_len 0 updaters)) n least }
 {}

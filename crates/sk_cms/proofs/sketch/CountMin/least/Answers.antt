@@ -36,7 +36,7 @@ row-preserved c =
     read ∙ ap (λ (i : ℕ). get_or inside.cells.items i 0) at_is ∙ ap (λ (s : Counts). get_or s.cells (place s.width r c.args.x) 0) c.self.view_is in
     let some : 1 ≤ c.args.self.now.width = omega (arith, whole.shape.some_width, ap (λ (s : Counts). s.width) c.self.view_is) in
     let below : r < c.args.self.now.rows = omega (arith, c.row-test.true, ap (λ (s : Counts). s.rows) c.self.view_is) in
-    λ items is. c.min-least.ensures ∙ rw add-one (one_row_read c.args.self.now r c.args.x c.row.least c.index.result.now items is some below (c.row.invariant items is) cell)
+    λ items is. omega (arith, rw (← add-one) at (one_row_read c.args.self.now r c.args.x c.row.least c.index.result.now items is some below (c.row.invariant items is) cell))
 
 -- all rows were read
 whole_read : (c : goal.After-row) (items : List ℕ) → IsCountOf c.args.self.now items → c.row.least ≡ least_of c.args.self.now.rows c.args.self.now.width c.args.x items
