@@ -1,10 +1,14 @@
 -- Sketches that stand for lists, one for each.
-use Rattle.std.proofs.Common.{◌≡◌, ℕ, zero, suc, ◌+◌, ◌-◌, ◌<◌, ◌≤◌, min, ⊎_elim, List, [], ◌∷◌, ◌++◌, length, take, drop, replicate, get_or, All, refl, sym, ap, ◌∙◌, arith, append-nil, append_assoc, length-append}
+use Rattle.std.proofs.Common.{◌≡◌, ℕ, zero, suc, ◌+◌, ◌-◌, ◌<◌, ◌≤◌, min, ⊎_elim, List, [], ◌∷◌, ◌++◌, length, take, drop, replicate, get_or, All, Bool, false, if◌then◌else◌, nat_lt, Some, None, refl, subst, sym, ap, ◌∙◌, arith, append-nil, append_assoc, length-append}
 use Rattle.std.proofs.Math.Seq.{take-suc, drop-append-add}
+use Rattle.std.specs.List.{slice_get}
 use Rattle.std.proofs.lemmas.Bool.{cases_lt}
+use Rattle.std.proofs.lemmas.Bool.Decides.{nat_tests}
+use Rattle.std.proofs.lemmas.Option.{slice_get-get_or}
 use Rattle.std.proofs.lemmas.List.{drop-drop, drop-append-le, drop-replicate, length-replicate, replicate-append-replicate}
 use Rattle.std.proofs.lemmas.List.Elements.{All-tail}
 use Rattle.std.proofs.lemmas.Grind.{flat_map-append}
+use Rattle.circular_buffer.specs.Buffer.{keep_last}
 use Rattle.sk_theta.specs.Kept.{Sketch, StandsFor}
 use Rattle.sk_window.specs.Intervals.{StandForEach, all_items, with_skipped}
 
@@ -44,6 +48,31 @@ all_k k ss ls each = λ i d within. stand_k k ss ls i d within each
 pub all_rest : (k : ℕ) (ss : List Sketch) → All (λ s. s.k ≡ k) ss → All (λ s. s.k ≡ k) (drop 1 ss)
 all_rest k [] all = all
 all_rest k (s ∷ ss) all = All-tail (λ (t : Sketch). t.k ≡ k) s ss all
+
+-- the item at a place, in place of which it may stand for itself
+pub item_at : (ss : List Sketch) (i : ℕ) (s : Sketch) → i < length ss → Some s ≡ slice_get ss i → s ≡ get_or ss i s
+item_at ss i s within is = let there : slice_get ss i ≡ Some (get_or ss i s) = slice_get-get_or ss i s within in cc
+
+-- a full buffer gives up its first item
+pub first_given : (n : ℕ) (ss : List Sketch) (s o : Sketch) → length ss ≡ n → 0 < length ss → Some o ≡ (if nat_lt (length ss) n then None else slice_get (ss ++ s ∷ []) 0) → o ≡ get_or ss 0 o
+first_given n [] s o full some is = absurd (omega arith)
+first_given n (t ∷ ss) s o full some is =
+    let past : nat_lt (length (t ∷ ss)) n ≡ false = grind (arith, nat_tests) in
+    let it : Some o ≡ (if false then None else slice_get ((t ∷ ss) ++ s ∷ []) 0) = subst (λ (b : Bool). Some o ≡ (if b then None else slice_get ((t ∷ ss) ++ s ∷ []) 0)) past is in
+    let one : Some o ≡ Some t = it in
+    cc
+
+-- one more sketch in a full buffer takes the place of the oldest
+pub pushed_full : (n : ℕ) (ss : List Sketch) (s : Sketch) → length ss ≡ n → 0 < length ss → keep_last n (ss ++ s ∷ []) ≡ drop 1 ss ++ s ∷ []
+pushed_full n ss s full some =
+    let one : length (ss ++ s ∷ []) - n ≡ 1 = omega (arith, length-append ss (s ∷ [])) in
+    ap (λ m. drop m (ss ++ s ∷ [])) one ∙ drop-append-le 1 ss (s ∷ []) some
+
+-- one more sketch in a buffer that has room
+pub pushed_room : (n : ℕ) (ss : List Sketch) (s : Sketch) → length ss < n → keep_last n (ss ++ s ∷ []) ≡ ss ++ s ∷ []
+pushed_room n ss s few =
+    let none : length (ss ++ s ∷ []) - n ≡ 0 = omega (arith, length-append ss (s ∷ [])) in
+    ap (λ m. drop m (ss ++ s ∷ [])) none
 
 -- one list more
 pub items_more : (ls : List (List ℕ)) (i : ℕ) (e items : List ℕ) → i < length ls → (items ++ all_items (take i ls)) ++ get_or ls i e ≡ items ++ all_items (take (suc i) ls)

@@ -16,6 +16,10 @@ with_closed lists items = drop 1 lists ++ items ∷ []
 abbrev pub with_skipped : List (List ℕ) → ℕ → List (List ℕ)
 with_skipped lists n = drop n (lists ++ replicate n [])
 
+-- a sketch of this k, of no items
+abbrev pub IsEmptySketch : ℕ → Sketch → Type 0
+IsEmptySketch k s = (s.k ≡ k) × StandsFor s []
+
 -- the sketches, all of this k, stand for these lists, each for one
 abbrev pub StandForEach : ℕ → List Sketch → List (List ℕ) → Type 0
 StandForEach k [] [] = Unit {0}

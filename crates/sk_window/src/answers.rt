@@ -24,7 +24,7 @@ pub enum Advance<'r, R: Wait> {
     Back(Updaters<'r, R>),
     /// The running interval was closed, with this reply; these updaters are of the moment's interval.
     Moved(Reply, Updaters<'r, R>),
-    /// These updaters were not drained. A later call with them goes on.
+    /// These updaters were not taken in. A later call with them continues.
     OutOfMemory(Updaters<'r, R>),
 }
 
@@ -33,6 +33,6 @@ pub enum Advance<'r, R: Wait> {
 pub enum Finish<'r, R: Wait> {
     /// It was, with this reply.
     Done(Reply),
-    /// These updaters were not drained. A later call with them goes on.
+    /// These updaters were not taken in. A later call with them continues.
     OutOfMemory(Updaters<'r, R>),
 }

@@ -6,6 +6,7 @@ mod frame;
 mod hub;
 pub mod laws;
 mod panes;
+mod room;
 mod sketches;
 
 pub use answers::{Advance, Finish, Started, Updaters};

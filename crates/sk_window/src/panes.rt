@@ -7,13 +7,15 @@ ghost use Rattle.sk_learn.specs.Closing.{AreApart};
 ghost use Rattle.sk_learn.specs.Learning.{ReaderGoesOn, LearnsFirst, AreAsked};
 ghost use Rattle.sk_window.specs.Frames.{IsFrame};
 ghost use Rattle.sk_window.specs.Hubs.{IsFresh};
-ghost use Rattle.sk_window.specs.Intervals.{StandForEach, IsReplyOf, all_items, with_skipped};
-ghost use Rattle.sk_window.specs.Panes.{HasTaken, Closes, Moves, StopsBefore};
+ghost use Rattle.sk_window.specs.Intervals.{StandForEach, IsReplyOf, IsEmptySketch, all_items, with_skipped};
+ghost use Rattle.sk_window.specs.Panes.{HasTaken, Closes, Moves, StopsAtDrain, StopsBefore};
 
 use crate::answers::{Advance, Finish, Started, Updaters};
 use crate::frame::Frame;
 use crate::hub::{Hub, open_hub};
-use crate::sketches::{empty_sketches, join_each, put_last, reply_of, skip};
+use crate::room::{Room, cleared, new_room};
+use crate::sketches::{empty_sketches, join_each, replace_oldest, reply_of, skip};
+use circular_buffer::HeapCircularBuffer;
 use sk_heap::HeapTheta;
 use sk_hub::{Heart, Updater};
 use sk_learn::{learn_all, read_whole, take_in_all};
@@ -38,13 +40,14 @@ pub struct Panes<'r, R: Wait> {
     // How many items the updaters kept that were taken in.
     taken: u64,
     // Oldest first, one fewer than a reply is of.
-    closed: Vec<HeapTheta>,
-    // Its memory is taken before the running one is closed, and kept if that runs out of memory.
+    closed: HeapCircularBuffer<HeapTheta>,
+    // Their memory is taken before the running one is closed, and kept if that runs out of memory.
     next: Option<Hub<'r, R>>,
+    room: Option<Room>,
 }
 
 impl<'r, R: Wait> Model for Panes<'r, R> {
-    ghost use Rattle.std.specs.Prelude.{◌≡◌, Some};
+    ghost use Rattle.std.specs.Prelude.{◌≡◌, Some, length};
     ghost use Rattle.sk_window.specs.Hubs.{IsFresh};
     ghost use Rattle.sk_window.specs.Panes.{PanesState, IsPanes};
 
@@ -68,7 +71,9 @@ impl<'r, R: Wait> Model for Panes<'r, R> {
       learnt = p.reader;
       taken = p.taken;
       closed = p.closed.items;
-    }) × ((hub : _) → p.next ≡ Some hub → IsFresh p.shape hub.heart hub.updaters.items hub.reader) };
+    }) × (p.closed.capacity ≡ length p.closed.items)
+        × ((hub : _) → p.next ≡ Some hub → IsFresh p.shape hub.heart hub.updaters.items hub.reader)
+        × ((room : _) → p.room ≡ Some room → (room.pane.k ≡ p.shape.k) × (room.closed.k ≡ p.shape.k)) };
 }
 
 impl<'r, R: Wait> Panes<'r, R> {
@@ -104,6 +109,7 @@ impl<'r, R: Wait> Panes<'r, R> {
             taken: 0,
             closed,
             next: None,
+            room: None,
         };
         Ok(Started { panes, updaters })
     }
@@ -115,7 +121,8 @@ impl<'r, R: Wait> Panes<'r, R> {
         self.running
     }
 
-    /// Learns what each updater was told, in order.
+    /// Learns the told value of each updater that holds one, in order. A later reply lacks at most two buffers of what such
+    /// an updater had kept by then (`laws::replies_lack_two_buffers`).
     pub fn learn(&mut self, updaters: &mut [Updater<VersionedTheta<&'r R>>])
         requires names { All (λ (u : UpdaterState). u.view.name ≡ name_of self.old.learnt.known.book) updaters.old }
         ensures learns { LearnsFirst self.old.learnt updaters.old (length updaters.old) self.new.learnt }
@@ -133,14 +140,67 @@ impl<'r, R: Wait> Panes<'r, R> {
         ensures goes { ReaderGoesOn self.old.learnt self.new.learnt }
         ensures stays { self.new ≡ record self.old { learnt = self.new.learnt } }
     {
-        let mut sketch = HeapTheta::new(self.alloc, self.shape.k())?;
-        join_each(&mut sketch, self.closed.as_slice());
-        let (sketch, _count) = self.reader.read(self.rt, JoinInto { sketch });
-        Ok(reply_of(&sketch))
+        let Room { mut pane, closed } = self.take_room()?;
+        join_each(&mut pane, &self.closed);
+        let (pane, _count) = self.reader.read(self.rt, JoinInto { sketch: pane });
+        let reply = reply_of(&pane);
+        self.room = Some(Room { pane, closed });
+        Ok(reply)
+    }
+
+    // The memory that was kept, or else new memory.
+    fn take_room(&mut self) -> Result<Room, OutOfMemory>
+        ensures pane { IfOk result (λ room. IsEmptySketch self.old.shape.k room.pane) }
+        ensures closed { IfOk result (λ room. IsEmptySketch self.old.shape.k room.closed) }
+        ensures stays { self.new ≡ self.old }
+    {
+        match self.room.take() {
+            Some(room) => Ok(cleared(room)),
+            None => new_room(self.alloc, self.shape.k()),
+        }
+    }
+
+    // Takes in the updaters of the running interval. If that runs out of memory, those that were not taken in are left, in
+    // order.
+    fn take_in(&mut self, updaters: &mut Updaters<'r, R>) -> Result<(), OutOfMemory>
+        requires tables { All (λ (u : UpdaterState). u.table ≡ self.old.heart.table) updaters.old.items }
+        requires apart { AreApart updaters.old.items }
+        ensures takes { (before : List UpdaterState) → HasTaken self.old before → OnOk result (HasTaken self.new (before ++ updaters.old.items)) }
+        ensures early { (before : List UpdaterState) → HasTaken self.old before → OnErr result (StopsAtDrain self.old before updaters.old.items updaters.new.items self.new) }
+        ensures none { OnOk result (updaters.new.items ≡ []) }
+        ensures stays { self.new ≡ record self.old { heart = self.new.heart; learnt = self.new.learnt; taken = self.new.taken } }
+    {
+        take_in_all(
+            self.rt,
+            &mut self.heart,
+            updaters,
+            &mut self.reader,
+            &mut self.taken,
+        )
+    }
+
+    // Closes the running interval, of which all updaters were taken in, with memory for it.
+    fn close_over(&mut self, room: Room) -> Reply
+        requires pane { IsEmptySketch self.old.shape.k room.pane }
+        requires closed { IsEmptySketch self.old.shape.k room.closed }
+        ensures closes { (us : List UpdaterState) (lists : List (List ℕ)) → HasTaken self.old us → AreApart us
+            → StandForEach self.old.shape.k self.old.closed lists → Closes self.old us lists result self.new }
+        ensures stays { self.new ≡ record self.old { learnt = self.new.learnt; closed = self.new.closed } }
+    {
+        let Room { mut pane, closed } = room;
+        let query = JoinInto { sketch: closed };
+        let (sketch, _count) = read_whole(self.rt, &mut self.reader, query, self.taken);
+        join_each(&mut pane, &self.closed);
+        pane.join(&sketch);
+        let reply = reply_of(&pane);
+        // The memory of the oldest interval, which is gone, is for the next end.
+        let closed = replace_oldest(&mut self.closed, sketch);
+        self.room = Some(Room { pane, closed });
+        reply
     }
 
     // Takes in the updaters of the running interval, and closes it. If that runs out of memory, those that were not taken
-    // in are left, in order.
+    // in are left, in order, and memory for the end is kept.
     fn close(&mut self, updaters: &mut Updaters<'r, R>) -> Result<Reply, OutOfMemory>
         requires tables { All (λ (u : UpdaterState). u.table ≡ self.old.heart.table) updaters.old.items }
         requires apart { AreApart updaters.old.items }
@@ -152,25 +212,14 @@ impl<'r, R: Wait> Panes<'r, R> {
         ensures stays { self.new ≡ record self.old { heart = self.new.heart; learnt = self.new.learnt; taken = self.new.taken; closed = self.new.closed } }
     {
         // All memory that the end takes is taken first.
-        let mut pane = HeapTheta::new(self.alloc, self.shape.k())?;
-        let sketch = HeapTheta::new(self.alloc, self.shape.k())?;
-        take_in_all(
-            self.rt,
-            &mut self.heart,
-            updaters,
-            &mut self.reader,
-            &mut self.taken,
-        )?;
-        let (sketch, _count) = read_whole(
-            self.rt,
-            &mut self.reader,
-            JoinInto { sketch },
-            self.taken,
-        );
-        join_each(&mut pane, self.closed.as_slice());
-        pane.join(&sketch);
-        put_last(&mut self.closed, sketch);
-        Ok(reply_of(&pane))
+        let room = self.take_room()?;
+        match self.take_in(updaters) {
+            Ok(()) => Ok(self.close_over(room)),
+            Err(OutOfMemory) => {
+                self.room = Some(room);
+                Err(OutOfMemory)
+            }
+        }
     }
 
     // The next hub: the one that was kept, or else a new one.
@@ -184,7 +233,7 @@ impl<'r, R: Wait> Panes<'r, R> {
         }
     }
 
-    // Goes on in a later interval, with the next hub.
+    // Continues in a later interval, with the next hub.
     fn move_to(&mut self, interval: u64, next: Hub<'r, R>) -> Updaters<'r, R>
         requires later { self.old.running < interval }
         requires fresh { IsFresh self.old.shape next.heart next.updaters.items next.reader }
@@ -209,7 +258,7 @@ impl<'r, R: Wait> Panes<'r, R> {
         updaters
     }
 
-    // Closes the running interval, and goes on in a later one. If that runs out of memory, the next hub is kept.
+    // Closes the running interval, and continues in a later one. If that runs out of memory, the next hub is kept.
     fn close_and_move(
         &mut self,
         interval: u64,

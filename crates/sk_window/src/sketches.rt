@@ -4,71 +4,84 @@ ghost use Rattle.sk_model.specs.Limits.{least_k, most_k, IsFrom};
 ghost use Rattle.sk_theta.specs.Kept.{StandsFor};
 ghost use Rattle.sk_window.specs.Intervals.{StandForEach, IsReplyOf, all_items, with_skipped};
 
+use circular_buffer::HeapCircularBuffer;
 use sk_heap::HeapTheta;
 use sk_model::OutOfMemory;
 use sk_theta::Reply;
 use std::alloc::Global;
 
-// As many sketches as this, of no items.
+// As many sketches as this, of no items. They fill the buffer.
 pub(crate) fn empty_sketches(
     alloc: Global,
     k: u32,
     count: u32,
-) -> Result<Vec<HeapTheta>, OutOfMemory>
+) -> Result<HeapCircularBuffer<HeapTheta>, OutOfMemory>
     requires k { IsFrom least_k most_k k }
     ensures stand { IfOk result (λ sketches. StandForEach k sketches.items (replicate count [])) }
+    ensures capacity { IfOk result (λ sketches. sketches.capacity ≡ count) }
 {
-    let mut sketches = Vec::with_capacity(alloc, count as usize)?;
+    let mut sketches = HeapCircularBuffer::with_capacity(alloc, count as usize)?;
     'sketch: for _ in 0..count {
-        sketches.push(HeapTheta::new(alloc, k)?)?;
+        let _none = sketches.push_back(HeapTheta::new(alloc, k)?);
     }
     Ok(sketches)
 }
 
 // Joins each of them into a sketch.
-pub(crate) fn join_each(into: &mut HeapTheta, sketches: &[HeapTheta])
-    requires k { All (λ s. s.k ≡ into.old.k) sketches.now }
+pub(crate) fn join_each(into: &mut HeapTheta, sketches: &HeapCircularBuffer<HeapTheta>)
+    requires k { All (λ s. s.k ≡ into.old.k) sketches.now.items }
     ensures k { into.new.k ≡ into.old.k }
-    ensures stands { (lists : List (List ℕ)) (items : List ℕ) → StandForEach into.old.k sketches.now lists → StandsFor into.old items
+    ensures stands { (lists : List (List ℕ)) (items : List ℕ) → StandForEach into.old.k sketches.now.items lists → StandsFor into.old items
         → StandsFor into.new (items ++ all_items lists) }
 {
-    'sketch: for sketch in sketches {
+    'sketch: for place in 0..sketches.len() {
+        let Some(sketch) = sketches.get(place) else {
+            unreachable!()
+        };
         into.join(sketch);
     }
 }
 
-// Puts a sketch to the end, in place of the oldest.
-pub(crate) fn put_last(sketches: &mut Vec<HeapTheta>, sketch: HeapTheta)
+// Puts a sketch to the end of a full buffer, and returns the oldest one.
+pub(crate) fn replace_oldest(
+    sketches: &mut HeapCircularBuffer<HeapTheta>,
+    sketch: HeapTheta,
+) -> HeapTheta
     requires some { 0 < length sketches.old.items }
+    requires full { length sketches.old.items ≡ sketches.old.capacity }
     ensures items { sketches.new.items ≡ drop 1 sketches.old.items ++ sketch ∷ [] }
+    ensures capacity { sketches.new.capacity ≡ sketches.old.capacity }
+    ensures same_k { (k : ℕ) → All (λ s. s.k ≡ k) sketches.old.items → result.k ≡ k }
 {
-    let _oldest = sketches.remove(0);
-    // Its place is free.
-    let Ok(()) = sketches.push(sketch) else {
+    let Some(oldest) = sketches.push_back(sketch) else {
         unreachable!()
     };
+    oldest
 }
 
-// Skips an interval.
-fn skip_one(sketches: &mut Vec<HeapTheta>)
+// Skips an interval: the memory of the oldest one is that of the newest.
+fn skip_one(sketches: &mut HeapCircularBuffer<HeapTheta>)
     requires some { 0 < length sketches.old.items }
+    requires full { length sketches.old.items ≡ sketches.old.capacity }
     ensures count { length sketches.new.items ≡ length sketches.old.items }
+    ensures capacity { sketches.new.capacity ≡ sketches.old.capacity }
     ensures same_k { (k : ℕ) → All (λ s. s.k ≡ k) sketches.old.items → All (λ s. s.k ≡ k) sketches.new.items }
     ensures stand { (k : ℕ) (lists : List (List ℕ)) → StandForEach k sketches.old.items lists
         → StandForEach k sketches.new.items (drop 1 lists ++ [] ∷ []) }
 {
-    let mut oldest = sketches.remove(0);
-    oldest.clear();
-    // Its place is free.
-    let Ok(()) = sketches.push(oldest) else {
+    let Some(mut oldest) = sketches.pop_front() else {
         unreachable!()
     };
+    oldest.clear();
+    let _none = sketches.push_back(oldest);
 }
 
 // Skips this many intervals. It takes no more steps than there are sketches.
-pub(crate) fn skip(sketches: &mut Vec<HeapTheta>, count: u64)
+pub(crate) fn skip(sketches: &mut HeapCircularBuffer<HeapTheta>, count: u64)
     requires some { 0 < length sketches.old.items }
+    requires full { length sketches.old.items ≡ sketches.old.capacity }
     ensures count { length sketches.new.items ≡ length sketches.old.items }
+    ensures capacity { sketches.new.capacity ≡ sketches.old.capacity }
     ensures same_k { (k : ℕ) → All (λ s. s.k ≡ k) sketches.old.items → All (λ s. s.k ≡ k) sketches.new.items }
     ensures stand { (k : ℕ) (lists : List (List ℕ)) → StandForEach k sketches.old.items lists
         → StandForEach k sketches.new.items (with_skipped lists count) }

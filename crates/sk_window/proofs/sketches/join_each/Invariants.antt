@@ -5,4 +5,4 @@ use Rattle.sk_window.proofs.sketches.join_each.Given as goal
 
 abbrev pub invariant-sketch : goal.invariant-sketch
 invariant-sketch l = (l.into.k ≡ l.initial.into.k)
-    × ((lists : List (List ℕ)) (items : List ℕ) → StandForEach l.initial.into.k l.sketches lists → StandsFor l.initial.into items → StandsFor l.into (items ++ all_items (take l.sketch-index lists)))
+    × ((lists : List (List ℕ)) (items : List ℕ) → StandForEach l.initial.into.k l.sketches.items lists → StandsFor l.initial.into items → StandsFor l.into (items ++ all_items (take l.place lists)))

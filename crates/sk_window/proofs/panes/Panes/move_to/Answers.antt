@@ -18,5 +18,7 @@ invariant_of-self g c =
         count = ap (λ (n : ℕ). n + 1) c.skip.ensures.count ∙ inv.count;
         same_k = c.skip.ensures.same_k c.self.inside.shape.k inv.same_k;
       },
-      c.self.invariant.1,
+      c.skip.ensures.capacity ∙ c.self.invariant.1 ∙ sym c.skip.ensures.count,
+      c.self.invariant.2,
+      c.self.invariant.3,
     )

@@ -17,5 +17,7 @@ invariant_of-panes g c =
         count = omega (arith, stand_count c.args.shape.k closed lists each, length-replicate {A = List ℕ} (c.args.frame.last - 1) [], c.requires.frame.least);
         same_k = all_k c.args.shape.k closed lists each;
       },
+      omega (arith, c.in_ok-closed.ensures.capacity, stand_count c.args.shape.k closed lists each, length-replicate {A = List ℕ} (c.args.frame.last - 1) []),
       λ hub wrong. absurd (cc wrong),
+      λ room wrong. absurd (cc wrong),
     )
