@@ -9,7 +9,7 @@ use Rattle.sk_hub.specs.Hearts.{HeartState}
 use Rattle.sk_hub.specs.Starts.{AreNew}
 use Rattle.sk_hub.specs.Updaters.{UpdaterState, base_of, kept_of}
 use Rattle.sk_feed.specs.Shares.{HasAllOf}
-use Rattle.uses.specs.Fed.{Takes}
+use Rattle.sk_hub.specs.Calls.{Takes}
 use Rattle.uses.specs.Greatest.{greatest_of, greatest_in}
 use Rattle.uses.proofs.Maximum.{above, hint_in, greatest_of_all}
 use Rattle.uses.proofs.Parts.{new_at, kept_at}

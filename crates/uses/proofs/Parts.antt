@@ -12,7 +12,8 @@ use Rattle.sk_hub.specs.Hearts.{HeartState}
 use Rattle.sk_hub.specs.Starts.{AreNew}
 use Rattle.sk_hub.specs.Updaters.{UpdaterState, base_of, kept_of}
 use Rattle.sk_feed.specs.Shares.{HasAllOf}
-use Rattle.uses.specs.Fed.{Takes, TakeEach}
+use Rattle.sk_hub.specs.Calls.{Takes}
+use Rattle.uses.specs.Fed.{TakeEach}
 
 -- a list with a place has some member
 pub at_some : {A R : Type 0} (xs : List A) (i : ℕ) → i < length xs → (A → R) → R

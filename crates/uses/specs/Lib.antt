@@ -1,5 +1,6 @@
 pub mod Fed
 pub mod Greatest
 pub mod Lengths
+pub mod Tallied
 pub mod Told
 pub mod Words

@@ -1,14 +1,13 @@
 //! Items that are fed to an updater, which propagates itself where it is busy.
-ghost use Rattle.std.specs.Prelude.{◌≡◌, ◌+◌, ◌<◌, ◌≤◌, length};
+ghost use Rattle.std.specs.Prelude.{◌≡◌, ◌+◌, ◌<◌, ◌≤◌, ◌∷◌, [], length};
 ghost use Rattle.std.specs.Bool.{OnTrue, OnFalse};
+ghost use Rattle.sk_hub.specs.Calls.{KeepsNone, Takes};
 ghost use Rattle.sk_hub.specs.Updaters.{kept_of};
 ghost use Rattle.sk_model.specs.Limits.{most_kept};
 ghost use Rattle.sk_model.specs.Width.{IsItem, AreItems};
-ghost use Rattle.uses.specs.Fed.{KeepsNone, TakesOne, Takes};
 
 use crossbeam_utils::Backoff;
 use sk_compose::Composable;
-use sk_compose::laws::kept::{drops_one_more, keeps_one_more, kept_stays};
 use sk_hub::{Update, Updater};
 use std::sync::Wait;
 
@@ -18,10 +17,6 @@ pub fn feed_all<C: Composable, R: Wait>(rt: &R, updater: &mut Updater<C>, items:
     requires room { length (kept_of updater.old) + length items.now ≤ most_kept }
     ensures { Takes C.keeps_of C.hint_of updater.old items.now updater.new }
 {
-    // These tell the proof how items that were kept add up.
-    kept_stays();
-    keeps_one_more();
-    drops_one_more();
     'item: for item in items {
         feed_item(rt, updater, *item);
     }
@@ -31,7 +26,7 @@ pub fn feed_all<C: Composable, R: Wait>(rt: &R, updater: &mut Updater<C>, items:
 pub fn feed_item<C: Composable, R: Wait>(rt: &R, updater: &mut Updater<C>, item: u64)
     requires item { IsItem item }
     requires room { length (kept_of updater.old) < most_kept }
-    ensures { TakesOne C.keeps_of C.hint_of updater.old item updater.new }
+    ensures { Takes C.keeps_of C.hint_of updater.old (item ∷ []) updater.new }
 {
     let backoff = Backoff::new();
     'again: for _ in rt.forever() {
@@ -48,9 +43,11 @@ pub fn feed_item<C: Composable, R: Wait>(rt: &R, updater: &mut Updater<C>, item:
 fn offer<C: Composable>(updater: &mut Updater<C>, item: u64) -> bool
     requires item { IsItem item }
     requires room { length (kept_of updater.old) < most_kept }
-    ensures taken { OnTrue result (TakesOne C.keeps_of C.hint_of updater.old item updater.new) }
+    ensures taken { OnTrue result (Takes C.keeps_of C.hint_of updater.old (item ∷ []) updater.new) }
     ensures busy { OnFalse result (KeepsNone updater.old updater.new) }
 {
+    // It shows the proof which list the hint is of.
+    let _hint = updater.hint();
     match updater.update(item) {
         Update::Busy => false,
         Update::Filtered | Update::Kept | Update::Handed => true,

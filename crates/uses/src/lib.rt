@@ -1,6 +1,7 @@
 //! One short proved caller for each handle of the library.
 #![tactic(auto)]
 
+mod count_min;
 mod draining;
 mod feeding;
 mod greatest;
@@ -10,6 +11,7 @@ mod ranks;
 mod schedule;
 mod streams;
 
+pub use count_min::{HowOften, how_often};
 pub use draining::drain_last_first;
 pub use feeding::{feed_all, feed_item};
 pub use greatest::{Greatest, greatest_item};

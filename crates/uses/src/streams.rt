@@ -1,12 +1,13 @@
 //! Streams of items that one hub counts, each fed in a thread of its own.
 ghost use Rattle.std.specs.Prelude.{◌≡◌, ◌<◌, ◌≤◌, List, [], length, map, flat_map, slice_index_or, All, IfOk};
 ghost use Rattle.sk_compose.specs.Numbers.{k_of};
+ghost use Rattle.sk_hub.specs.Calls.{Takes};
 ghost use Rattle.sk_hub.specs.Updaters.{kept_of};
 ghost use Rattle.sk_model.specs.Entries.{Entry};
 ghost use Rattle.sk_model.specs.Limits.{most_kept};
 ghost use Rattle.sk_model.specs.Sketch.{packed_of};
 ghost use Rattle.sk_model.specs.Width.{AreItems};
-ghost use Rattle.uses.specs.Fed.{Takes, TakeEach, AreFed};
+ghost use Rattle.uses.specs.Fed.{TakeEach, AreFed};
 ghost use Rattle.uses.specs.Words.{AreWords};
 
 use crate::feeding::feed_all;
@@ -94,7 +95,7 @@ fn ask_often<C: Composable>(
 }
 
 // Feeds each stream to its updater, in a thread of its own.
-fn feed_streams<C: Composable + Send, R: Threads + Wait + Sync>(
+pub(crate) fn feed_streams<C: Composable + Send, R: Threads + Wait + Sync>(
     rt: &R,
     updaters: Vec<Updater<C>>,
     streams: &[Vec<u64>],

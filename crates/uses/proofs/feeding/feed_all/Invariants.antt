@@ -1,7 +1,7 @@
 use Rattle.std.proofs.Common.{◌+◌, ◌-◌, ◌≤◌, length, take}
 use Rattle.sk_model.specs.Limits.{most_kept}
 use Rattle.sk_hub.specs.Updaters.{kept_of}
-use Rattle.uses.specs.Fed.{Takes}
+use Rattle.sk_hub.specs.Calls.{Takes}
 use Rattle.uses.proofs.feeding.feed_all.Given as goal
 
 abbrev pub invariant-item : goal.invariant-item

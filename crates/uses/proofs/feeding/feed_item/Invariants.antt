@@ -1,4 +1,4 @@
-use Rattle.uses.specs.Fed.{KeepsNone}
+use Rattle.sk_hub.specs.Calls.{KeepsNone}
 use Rattle.uses.proofs.feeding.feed_item.Given as goal
 
 abbrev pub invariant-again : goal.invariant-again

@@ -1,4 +1,4 @@
-use Rattle.uses.proofs.Fed.{helped}
+use Rattle.sk_hub.proofs.Calls.{helped}
 use Rattle.uses.proofs.feeding.help.Goals as goal
 
 pub returns : goal.returns

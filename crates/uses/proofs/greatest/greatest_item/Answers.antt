@@ -1,6 +1,6 @@
 use Rattle.std.proofs.Common.{◌≡◌, [], length, get_or, sym, ap, subst, ◌∙◌, arith}
 use Rattle.sk_hub.specs.Updaters.{kept_of}
-use Rattle.uses.specs.Fed.{Takes}
+use Rattle.sk_hub.specs.Calls.{Takes}
 use Rattle.uses.proofs.Maximum.{above, hint_in, none_greatest}
 use Rattle.uses.proofs.One.{hint_of_all, first_new, one_at, greatest_found}
 use Rattle.uses.proofs.greatest.greatest_item.Goals as goal
