@@ -1,0 +1,122 @@
+-- Calls on a desk, for one tenant and for the others.
+use Rattle.std.proofs.Common.{◌≡◌, ◌≢◌, ℕ, ◌==◌, ◌<◌, ◌≤◌, Bool, true, false, if◌then◌else◌, List, [], ◌∷◌, ◌++◌, length, get_or, set, slice_get, Some, ◌↔◌, map, refl, sym, ap, subst, ◌∙◌, arith, length-set, get_or-set_same, get_or-set_other}
+use Rattle.std.specs.List.{filter}
+use Rattle.std.proofs.lemmas.Bool.{eqb-true, eq-eqb}
+use Rattle.std.proofs.lemmas.List.Elements.{All-set}
+use Rattle.std.proofs.lemmas.Option.{get_or_from_slice_get, slice_get-get_or}
+use Rattle.sk_hub.specs.Updaters.{UpdaterState, kept_of}
+use Rattle.sk_tenant.specs.declared.answers.Add.{Add}
+use Rattle.sk_tenant.specs.declared.answers.Add.TheVariants.{Over}
+use Rattle.sk_tenant.specs.Calls.{Call, Owes, OwesAdd, Lone}
+use Rattle.sk_tenant.specs.Desks.{DeskState, IsDesk, IsDone, AreDone, calls_for}
+use Rattle.sk_tenant.specs.Hosts.{TenantsState, IsDeskOf}
+use Rattle.sk_tenant.proofs.Owed.{over_exactly, owed_takes, owed_few, lone_none, lone_first, lone_takes}
+
+-- ---- one call
+
+module _ (d d' : DeskState) (t : ℕ) (call : Call) (done : IsDone d t call d') where
+  updaters_then : d'.updaters ≡ set d.updaters t done.after
+  updaters_then = ap (λ s. s.updaters) done.stays
+
+  pub same_count : length d'.updaters ≡ length d.updaters
+  same_count = ap length updaters_then ∙ length-set d.updaters t done.after
+
+  pub same_quota : d'.quota ≡ d.quota
+  same_quota = ap (λ s. s.quota) done.stays
+
+  pub same_number : d'.number ≡ d.number
+  same_number = ap (λ s. s.number) done.stays
+
+  pub others_stay : (s : ℕ) (u : UpdaterState) → t ≢ s → get_or d'.updaters s u ≡ get_or d.updaters s u
+  others_stay s u other = ap (λ l. get_or l s u) updaters_then ∙ get_or-set_other d.updaters t s done.after u (λ same. other (sym same))
+
+  pub it_owes : (u : UpdaterState) → t < length d.updaters → Owes d.quota (get_or d.updaters t u) call (get_or d'.updaters t u)
+  it_owes u within =
+      let before : get_or d.updaters t u ≡ done.before = get_or_from_slice_get d.updaters t done.before u done.is_at in
+      let after : get_or d'.updaters t u ≡ done.after = ap (λ l. get_or l t u) updaters_then ∙ get_or-set_same d.updaters t done.after u within in
+      subst (λ v. Owes d.quota v call (get_or d'.updaters t u)) (sym before) (subst (λ v. Owes d.quota done.before call v) (sym after) done.owes)
+
+-- ---- calls, one after another
+
+pub none_done : (d : DeskState) → AreDone d [] d
+unfolding AreDone
+none_done d = refl
+
+pub one_more_done : (d e d' : DeskState) (calls : List (ℕ × Call)) (t : ℕ) (call : Call) → AreDone d calls e → IsDone e t call d' → AreDone d (calls ++ (t, call) ∷ []) d'
+unfolding AreDone
+one_more_done d e d' [] t call same last = (d', subst (λ s. IsDone s t call d') same last, refl)
+one_more_done d e d' (first ∷ calls) t call (v, one, rest) last = (v, one, one_more_done v e d' calls t call rest last)
+
+pub all_done : (d e d' : DeskState) (calls more : List (ℕ × Call)) → AreDone d calls e → AreDone e more d' → AreDone d (calls ++ more) d'
+unfolding AreDone
+all_done d e d' [] more same later = subst (λ s. AreDone s more d') same later
+all_done d e d' (first ∷ calls) more (v, one, rest) later = (v, one, all_done v e d' calls more rest later)
+
+pub count_stays : (d d' : DeskState) (calls : List (ℕ × Call)) → AreDone d calls d' → length d'.updaters ≡ length d.updaters
+unfolding AreDone
+count_stays d d' [] same = ap (λ s. length s.updaters) same
+count_stays d d' (call ∷ calls) (e, one, rest) = count_stays e d' calls rest ∙ same_count d e call.0 call.1 one
+
+pub number_stays : (d d' : DeskState) (calls : List (ℕ × Call)) → AreDone d calls d' → d'.number ≡ d.number
+unfolding AreDone
+number_stays d d' [] same = ap (λ s. s.number) same
+number_stays d d' (call ∷ calls) (e, one, rest) = number_stays e d' calls rest ∙ same_number d e call.0 call.1 one
+
+-- one call, and then those that are for this tenant
+one_and_rest : (t : ℕ) (u : UpdaterState) (d e d' : DeskState) (call : ℕ × Call) (calls : List (ℕ × Call)) (b : Bool) → (call.0 == t) ≡ b → IsDone d call.0 call.1 e → t < length d.updaters
+    → Lone e.quota (get_or e.updaters t u) (calls_for t calls) (get_or d'.updaters t u)
+    → Lone d.quota (get_or d.updaters t u) (map (λ c. c.1) (if b then call ∷ filter (λ c. c.0 == t) calls else filter (λ c. c.0 == t) calls)) (get_or d'.updaters t u)
+one_and_rest t u d e d' call calls true its done within rest =
+    let same : call.0 ≡ t = eqb-true call.0 t its in
+    let owed : Owes d.quota (get_or d.updaters t u) call.1 (get_or e.updaters t u) = subst (λ s. Owes d.quota (get_or d.updaters s u) call.1 (get_or e.updaters s u)) same (it_owes d e call.0 call.1 done u (omega (arith, same, within))) in
+    lone_first d.quota (get_or d.updaters t u) (get_or e.updaters t u) (get_or d'.updaters t u) call.1 (calls_for t calls) owed
+    (subst (λ q. Lone q (get_or e.updaters t u) (calls_for t calls) (get_or d'.updaters t u)) (same_quota d e call.0 call.1 done) rest)
+one_and_rest t u d e d' call calls false other done within rest =
+    let apart : call.0 ≢ t = λ same. let none : true ≡ false = sym (eq-eqb call.0 t same) ∙ other in cc in
+    subst (λ v. Lone d.quota v (calls_for t calls) (get_or d'.updaters t u)) (others_stay d e call.0 call.1 done t u apart)
+    (subst (λ q. Lone q (get_or e.updaters t u) (calls_for t calls) (get_or d'.updaters t u)) (same_quota d e call.0 call.1 done) rest)
+
+pub lone_on_desk : (d d' : DeskState) (calls : List (ℕ × Call)) (t : ℕ) (u : UpdaterState) → AreDone d calls d' → t < length d.updaters → Lone d.quota (get_or d.updaters t u) (calls_for t calls) (get_or d'.updaters t u)
+unfolding AreDone
+lone_on_desk d d' [] t u same within = lone_none d.quota (get_or d.updaters t u) (get_or d'.updaters t u) (ap (λ s. get_or s.updaters t u) same)
+lone_on_desk d d' (call ∷ calls) t u (e, one, rest) within =
+    one_and_rest t u d e d' call calls (call.0 == t) refl one within
+    (lone_on_desk e d' calls t u rest (omega (arith, within, same_count d e call.0 call.1 one)))
+
+pub stays_of_tenants : (hosts : TenantsState) (d d' : DeskState) (calls : List (ℕ × Call)) → AreDone d calls d' → IsDeskOf hosts d → IsDeskOf hosts d'
+stays_of_tenants hosts d d' calls done its = record {
+  tenants = count_stays d d' calls done ∙ its.tenants;
+  tables = λ t h u within.
+      let before : t < length d.updaters = omega (arith, within, count_stays d d' calls done) in
+      (lone_takes d.quota (get_or d.updaters t u) (get_or d'.updaters t u) (calls_for t calls) (lone_on_desk d d' calls t u done before)).goes.table ∙ its.tables t h u before;
+}
+
+-- ---- what is true of every desk
+
+pub desk_after : (d : DeskState) (t : ℕ) (u after : UpdaterState) (call : Call) → IsDesk d → t < length d.updaters → u ≡ get_or d.updaters t u → Owes d.quota u call after → IsDesk (record d { updaters = set d.updaters t after })
+desk_after d t u after call its place at owed = record {
+  few = its.few;
+  different = its.different;
+  tenants = length-set d.updaters t after ∙ its.tenants;
+  quota_is = its.quota_is;
+  numbers = All-set (λ v. v.number ≡ d.number) d.updaters t after ((owed_takes d.quota u after call owed).goes.number ∙ ap (λ v. v.number) at ∙ its.numbers t u place) its.numbers;
+  within = All-set (λ v. length (kept_of v) ≤ d.quota) d.updaters t after
+      (owed_few d.quota u after call owed (subst (λ v. length (kept_of v) ≤ d.quota) (sym at) (its.within t u place))) its.within;
+}
+
+pub done_now : (old d : DeskState) (t : ℕ) (u after : UpdaterState) (call : Call) → d ≡ old → t < length old.updaters → u ≡ get_or d.updaters t u → Owes d.quota u call after → IsDone old t call (record d { updaters = set d.updaters t after })
+done_now old d t u after call same place at owed =
+    subst (λ s. IsDone s t call (record d { updaters = set d.updaters t after })) same (record {
+      before = u;
+      after = after;
+      is_at = slice_get-get_or d.updaters t u (subst (λ s. t < length s.updaters) (sym same) place) ∙ ap Some (sym at);
+      owes = owed;
+      stays = refl;
+    })
+
+pub over_now : (old d : DeskState) (t : ℕ) (v after : UpdaterState) (item : ℕ) (answer : Add) → d ≡ old → v ≡ get_or d.updaters t v → OwesAdd d.quota v item answer after
+    → (u : UpdaterState) → slice_get old.updaters t ≡ Some u → (answer ≡ Over) ↔ (length (kept_of u) ≡ old.quota)
+over_now old d t v after item answer same at owed u is =
+    let here : v ≡ u = at ∙ ap (λ s. get_or s.updaters t v) same ∙ get_or_from_slice_get old.updaters t u v is in
+    subst (λ w. (answer ≡ Over) ↔ (length (kept_of w) ≡ old.quota)) here
+    (subst (λ s. (answer ≡ Over) ↔ (length (kept_of v) ≡ s.quota)) same (over_exactly d.quota v after item answer owed))

@@ -1,0 +1,7 @@
+pub mod Owed
+pub mod Done
+pub mod Standing
+pub mod LastWord
+pub mod Places
+pub mod FromEnd
+pub mod Dealt

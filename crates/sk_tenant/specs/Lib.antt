@@ -1,0 +1,5 @@
+pub mod Names
+pub mod Calls
+pub mod Desks
+pub mod Hosts
+pub mod Openings

@@ -1,0 +1,118 @@
+//! A desk: an updater of each tenant's hub, and how many items it keeps for a tenant at most.
+ghost use Rattle.std.specs.Prelude.{◌≡◌, ◌↔◌, ℕ, ◌<◌, ◌≤◌, length, slice_get, IfSome, IfNone, Contains};
+ghost use Rattle.sk_model.specs.Limits.{most_kept};
+ghost use Rattle.sk_model.specs.Width.{IsItem};
+ghost use Rattle.sk_hub.specs.Updaters.{kept_of};
+ghost use Rattle.sk_tenant.specs.Names.{place_of};
+ghost use Rattle.sk_tenant.specs.Calls.{Adds, Asks, Helps, OwesAdd, OwesAsk, OwesHelp};
+ghost use Rattle.sk_tenant.specs.Desks.{IsDone, IsDesk};
+
+use crate::answers::Add;
+use crate::names::Names;
+use sk_heap::HeapTheta;
+use sk_hub::{Help, Update, Updater};
+use std::marker::Model;
+use std::sync::Wait;
+
+/// One updater of each tenant's hub. Tenants are named by their places, from 0.
+#[derive(Drop)]
+pub struct Desk {
+    pub(crate) names: Names,
+    // which of the desks it is
+    pub(crate) number: u32,
+    pub(crate) quota: u64,
+    // each at the place of its tenant
+    pub(crate) updaters: Vec<Updater<HeapTheta>>,
+}
+
+impl Model for Desk {
+    ghost use Rattle.sk_tenant.specs.Desks.{DeskState, IsDesk};
+
+    ghost Value = { DeskState };
+
+    ghost view = { λ d. record { names = d.names; number = d.number; quota = d.quota; updaters = d.updaters.items } };
+
+    ghost invariant = { λ d. IsDesk (record { names = d.names; number = d.number; quota = d.quota; updaters = d.updaters.items }) };
+}
+
+impl Desk {
+    /// The place of the tenant with this name.
+    pub fn place(&self, name: &[u8]) -> Option<u32>
+        ensures value { result ≡ place_of self.now.names name.now }
+        ensures found { IfSome result (λ t. slice_get self.now.names t ≡ Some name.now) }
+        ensures none { IfNone result (¬ Contains self.now.names name.now) }
+        ensures tenants { IfSome result (λ t. t < length self.now.updaters) }
+    {
+        self.names.place(name)
+    }
+
+    /// Offers an item, from 1 to 2^63 - 1, for the tenant at place t. Another tenant's items and hub change no answer.
+    pub fn add(&mut self, t: u32, item: u64) -> Add
+        requires place { t < length self.old.updaters }
+        requires item { IsItem item }
+        ensures done { IsDone self.old t (Adds item result) self.new }
+        ensures over { (u : _) → slice_get self.old.updaters t ≡ Some u → (result ≡ Add.Over) ↔ (length (kept_of u) ≡ self.old.quota) }
+    {
+        let quota = self.quota;
+        add_to(&mut self.updaters[t as usize], quota, item)
+    }
+
+    /// One load of the published word of the tenant at place t.
+    pub fn ask(&mut self, t: u32) -> u64
+        requires place { t < length self.old.updaters }
+        ensures done { IsDone self.old t (Asks result) self.new }
+    {
+        ask_of(&mut self.updaters[t as usize])
+    }
+
+    /// Serves each updater of the hub of the tenant at place t once, unless another seat of it propagates. It waits in a
+    /// merge only, and never runs out of memory.
+    pub fn help<R: Wait>(&mut self, rt: &R, t: u32) -> Help
+        requires place { t < length self.old.updaters }
+        ensures done { IsDone self.old t (Helps result) self.new }
+    {
+        help_with(rt, &mut self.updaters[t as usize])
+    }
+
+    /// How many items it has kept for the tenant at place t.
+    pub fn kept(&self, t: u32) -> u64
+        requires place { t < length self.now.updaters }
+        ensures value { (u : _) → slice_get self.now.updaters t ≡ Some u → result ≡ length (kept_of u) }
+        ensures whole { IsDesk self.now }
+    {
+        self.updaters[t as usize].taken()
+    }
+}
+
+// Offers an item to an updater, below the quota.
+fn add_to(updater: &mut Updater<HeapTheta>, quota: u64, item: u64) -> Add
+    requires within { length (kept_of updater.old) ≤ quota }
+    requires most { quota ≤ most_kept }
+    requires item { IsItem item }
+    ensures { OwesAdd quota updater.old item result updater.new }
+{
+    if updater.taken() == quota {
+        return Add::Over;
+    }
+    // It shows the proof which list the hint is of.
+    let _hint = updater.hint();
+    match updater.update(item) {
+        Update::Filtered => Add::Filtered,
+        Update::Kept | Update::Handed => Add::Kept,
+        Update::Busy => Add::Busy,
+    }
+}
+
+// Asks an updater.
+fn ask_of(updater: &mut Updater<HeapTheta>) -> u64
+    ensures { OwesAsk updater.old result updater.new }
+{
+    updater.ask()
+}
+
+// Lets an updater propagate once.
+fn help_with<R: Wait>(rt: &R, updater: &mut Updater<HeapTheta>) -> Help
+    ensures { OwesHelp updater.old result updater.new }
+{
+    updater.help(rt)
+}

@@ -1,0 +1,107 @@
+//! The hearts of the tenants' hubs.
+ghost use Rattle.std.specs.Prelude.{◌≡◌, ◌≢◌, ℕ, ◌<◌, length, slice_index_or};
+ghost use Rattle.sk_hub.specs.Drains.{IsDrained};
+ghost use Rattle.sk_hub.specs.Hearts.{HeartState};
+ghost use Rattle.sk_hub.specs.Updaters.{UpdaterState};
+ghost use Rattle.sk_tenant.specs.Desks.{DeskState};
+ghost use Rattle.sk_tenant.specs.Hosts.{AreTenants, IsDeskOf, DrainsDesk, HasTakenInDesk, AreAskedFor};
+
+use crate::desk::Desk;
+use crate::names::Names;
+use sk_heap::HeapTheta;
+use sk_hub::{Drain, Heart, Updater};
+use std::marker::Model;
+use std::sync::Wait;
+
+/// A hub for each tenant. Tenants are named by their places, from 0.
+#[derive(Drop)]
+pub struct Tenants {
+    pub(crate) names: Names,
+    pub(crate) k: u32,
+    pub(crate) n: u32,
+    // each at the place of its tenant
+    pub(crate) hearts: Vec<Heart<HeapTheta>>,
+}
+
+impl Model for Tenants {
+    ghost use Rattle.sk_tenant.specs.Hosts.{TenantsState, AreTenants};
+
+    ghost Value = { TenantsState };
+
+    ghost view = { λ h. record { names = h.names; k = h.k; n = h.n; hearts = h.hearts.items } };
+
+    ghost invariant = { λ h. AreTenants (record { names = h.names; k = h.k; n = h.n; hearts = h.hearts.items }) };
+}
+
+impl Tenants {
+    /// Their names, which a reader may share that has no desk.
+    pub fn names(&self) -> &Names
+        ensures value { result.now ≡ self.now.names }
+        ensures whole { AreTenants self.now }
+    {
+        &self.names
+    }
+
+    /// Takes in each updater of a desk, once all that it has kept is published. If another seat of its hub propagates, it
+    /// waits and tries again.
+    pub fn drain<R: Wait>(&mut self, rt: &R, desk: Desk)
+        requires desk { IsDeskOf self.old desk }
+        ensures drains { DrainsDesk self.old desk self.new }
+        ensures taken_in { HasTakenInDesk self.new desk }
+
+        // Desks may be drained in any order.
+        ensures others { (d : DeskState) → d.number ≢ desk.number → HasTakenInDesk self.old d → HasTakenInDesk self.new d }
+        ensures desks { (d : DeskState) → IsDeskOf self.old d → IsDeskOf self.new d }
+    {
+        let Desk {
+            names: _,
+            number: _,
+            quota: _,
+            updaters,
+        } = desk;
+        drain_each(rt, &mut self.hearts, updaters);
+    }
+
+    /// One load of the published word of the tenant at place t.
+    pub fn ask(&mut self, t: u32) -> u64
+        requires place { t < length self.old.hearts }
+        ensures asked { AreAskedFor self.old t result self.new }
+        ensures taken_in { (d : DeskState) → HasTakenInDesk self.old d → HasTakenInDesk self.new d }
+        ensures desks { (d : DeskState) → IsDeskOf self.old d → IsDeskOf self.new d }
+    {
+        let heart = &mut self.hearts[t as usize];
+        // It shows how many updaters the hub has.
+        let _admitted = heart.admitted();
+        heart.ask()
+    }
+}
+
+// Each heart takes in the updater at its place.
+fn drain_each<R: Wait>(
+    rt: &R,
+    hearts: &mut Vec<Heart<HeapTheta>>,
+    updaters: Vec<Updater<HeapTheta>>,
+)
+    requires tenants { length updaters.items ≡ length hearts.old.items }
+    requires tables { (t : ℕ) (h : HeartState) (u : UpdaterState) → t < length hearts.old.items
+        → (slice_index_or updaters.items t u).table ≡ (slice_index_or hearts.old.items t h).table }
+    ensures tenants { length hearts.new.items ≡ length hearts.old.items }
+    ensures drains { (t : ℕ) (h : HeartState) (u : UpdaterState) → t < length hearts.old.items
+        → IsDrained (slice_index_or hearts.old.items t h) (slice_index_or updaters.items t u) (slice_index_or hearts.new.items t h) }
+{
+    let mut updaters = updaters;
+    'last: while let Some(updater) = updaters.pop() {
+        drain_one(rt, &mut hearts[updaters.len()], updater);
+    }
+}
+
+// A heart takes in an updater. The merges of its sketch take no memory.
+fn drain_one<R: Wait>(rt: &R, heart: &mut Heart<HeapTheta>, updater: Updater<HeapTheta>)
+    requires table { updater.table ≡ heart.old.table }
+    ensures { IsDrained heart.old updater heart.new }
+{
+    match heart.drain(rt, updater) {
+        Drain::Drained => {}
+        Drain::OutOfMemory(_) => unreachable!(),
+    }
+}
