@@ -8,6 +8,7 @@ mod quantiles;
 mod shelves;
 mod sketches;
 mod streams;
+mod tallies;
 mod watchers;
 mod words;
 
