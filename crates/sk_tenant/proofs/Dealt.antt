@@ -32,7 +32,7 @@ no_hubs shape lists are = record {
     as_many : length lists ≡ shape.n
     as_many = ap length are ∙ length-replicate shape.n []
 
-pub one_hub_more : (shape : Sizes) (n : ℕ) (hearts : List HeartState) (h : HeartState) (lists lists' : List (List UpdaterState)) → AreNewHubs shape n hearts lists → DealsHub shape h lists lists' → AreNewHubs shape (n + 1) (hearts ++ h ∷ []) lists'
+one_hub_more : (shape : Sizes) (n : ℕ) (hearts : List HeartState) (h : HeartState) (lists lists' : List (List UpdaterState)) → AreNewHubs shape n hearts lists → DealsHub shape h lists lists' → AreNewHubs shape (n + 1) (hearts ++ h ∷ []) lists'
 one_hub_more shape n hearts h lists lists' hubs deals = record {
   tenants = omega (arith, length-append hearts (h ∷ []), hubs.tenants);
   hubs = All-push (IsNewHeart shape.n (shape.k ∷ []) [] shape.eager) hearts h hubs.hubs deals.hub;
@@ -58,6 +58,9 @@ one_hub_more shape n hearts h lists lists' hubs deals = record {
         (subst (λ y. IsNewUpdater shape i h (get_or y t u)) (sym (deals.dealt.each i l u within))
         (subst (IsNewUpdater shape i h) (sym (ap (λ m. get_or (get_or lists i l ++ get_or deals.dealt_updaters i u ∷ []) m u) (sym there) ∙ get_or-append_seam (get_or lists i l) (get_or deals.dealt_updaters i u) [] u))
         (deals.new_ones i u within)))
+
+pub hubs_then : (shape : Sizes) (n : ℕ) (hearts hearts' : List HeartState) (h : HeartState) (lists lists' : List (List UpdaterState)) → hearts' ≡ hearts ++ h ∷ [] → AreNewHubs shape n hearts lists → DealsHub shape h lists lists' → AreNewHubs shape (n + 1) hearts' lists'
+hubs_then shape n hearts hearts' h lists lists' is hubs deals = subst (λ l. AreNewHubs shape (n + 1) l lists') (sym is) (one_hub_more shape n hearts h lists lists' hubs deals)
 
 -- an updater of a new hub
 pub new_updater : (shape : Sizes) (numbers : List ℕ) (h : HeartState) (us : List UpdaterState) → numbers ≡ shape.k ∷ [] → IsNewHeart shape.n numbers [] shape.eager h → length us ≡ shape.n → AreNew theta_hint (replicate shape.n shape.b) h us

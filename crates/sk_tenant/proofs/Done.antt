@@ -5,12 +5,10 @@ use Rattle.std.proofs.lemmas.Bool.{eqb-true, eq-eqb}
 use Rattle.std.proofs.lemmas.List.Elements.{All-set}
 use Rattle.std.proofs.lemmas.Option.{get_or_from_slice_get, slice_get-get_or}
 use Rattle.sk_hub.specs.Updaters.{UpdaterState, kept_of}
-use Rattle.sk_tenant.specs.declared.answers.Add.{Add}
-use Rattle.sk_tenant.specs.declared.answers.Add.TheVariants.{Over}
-use Rattle.sk_tenant.specs.Calls.{Call, Owes, OwesAdd, Lone}
-use Rattle.sk_tenant.specs.Desks.{DeskState, IsDesk, IsDone, AreDone, calls_for}
+use Rattle.sk_tenant.specs.Calls.{Call, Owes, Lone}
+use Rattle.sk_tenant.specs.Desks.{DeskState, IsDesk, IsDone, AreDone, IsSameDesk, calls_for}
 use Rattle.sk_tenant.specs.Hosts.{TenantsState, IsDeskOf}
-use Rattle.sk_tenant.proofs.Owed.{over_exactly, owed_takes, owed_few, lone_none, lone_first, lone_takes}
+use Rattle.sk_tenant.proofs.Owed.{owed_takes, owed_few, lone_none, lone_first, lone_takes}
 
 -- ---- one call
 
@@ -23,9 +21,6 @@ module _ (d d' : DeskState) (t : ℕ) (call : Call) (done : IsDone d t call d') 
 
   pub same_quota : d'.quota ≡ d.quota
   same_quota = ap (λ s. s.quota) done.stays
-
-  pub same_number : d'.number ≡ d.number
-  same_number = ap (λ s. s.number) done.stays
 
   pub others_stay : (s : ℕ) (u : UpdaterState) → t ≢ s → get_or d'.updaters s u ≡ get_or d.updaters s u
   others_stay s u other = ap (λ l. get_or l s u) updaters_then ∙ get_or-set_other d.updaters t s done.after u (λ same. other (sym same))
@@ -52,15 +47,24 @@ unfolding AreDone
 all_done d e d' [] more same later = subst (λ s. AreDone s more d') same later
 all_done d e d' (first ∷ calls) more (v, one, rest) later = (v, one, all_done v e d' calls more rest later)
 
-pub count_stays : (d d' : DeskState) (calls : List (ℕ × Call)) → AreDone d calls d' → length d'.updaters ≡ length d.updaters
-unfolding AreDone
-count_stays d d' [] same = ap (λ s. length s.updaters) same
-count_stays d d' (call ∷ calls) (e, one, rest) = count_stays e d' calls rest ∙ same_count d e call.0 call.1 one
+same_refl : (d d' : DeskState) → d' ≡ d → IsSameDesk d d'
+same_refl d d' is = record { names = ap (λ s. s.names) is; number = ap (λ s. s.number) is; quota = ap (λ s. s.quota) is; tenants = ap (λ s. length s.updaters) is }
 
-pub number_stays : (d d' : DeskState) (calls : List (ℕ × Call)) → AreDone d calls d' → d'.number ≡ d.number
+same_trans : (d e d' : DeskState) → IsSameDesk d e → IsSameDesk e d' → IsSameDesk d d'
+same_trans d e d' a b = record { names = b.names ∙ a.names; number = b.number ∙ a.number; quota = b.quota ∙ a.quota; tenants = b.tenants ∙ a.tenants }
+
+one_same : (d d' : DeskState) (t : ℕ) (call : Call) → IsDone d t call d' → IsSameDesk d d'
+one_same d d' t call done = record {
+  names = ap (λ s. s.names) done.stays;
+  number = ap (λ s. s.number) done.stays;
+  quota = same_quota d d' t call done;
+  tenants = same_count d d' t call done;
+}
+
+pub desk_stays : (d d' : DeskState) (calls : List (ℕ × Call)) → AreDone d calls d' → IsSameDesk d d'
 unfolding AreDone
-number_stays d d' [] same = ap (λ s. s.number) same
-number_stays d d' (call ∷ calls) (e, one, rest) = number_stays e d' calls rest ∙ same_number d e call.0 call.1 one
+desk_stays d d' [] same = same_refl d d' same
+desk_stays d d' (call ∷ calls) (e, one, rest) = same_trans d e d' (one_same d e call.0 call.1 one) (desk_stays e d' calls rest)
 
 -- one call, and then those that are for this tenant
 one_and_rest : (t : ℕ) (u : UpdaterState) (d e d' : DeskState) (call : ℕ × Call) (calls : List (ℕ × Call)) (b : Bool) → (call.0 == t) ≡ b → IsDone d call.0 call.1 e → t < length d.updaters
@@ -85,9 +89,9 @@ lone_on_desk d d' (call ∷ calls) t u (e, one, rest) within =
 
 pub stays_of_tenants : (hosts : TenantsState) (d d' : DeskState) (calls : List (ℕ × Call)) → AreDone d calls d' → IsDeskOf hosts d → IsDeskOf hosts d'
 stays_of_tenants hosts d d' calls done its = record {
-  tenants = count_stays d d' calls done ∙ its.tenants;
+  tenants = (desk_stays d d' calls done).tenants ∙ its.tenants;
   tables = λ t h u within.
-      let before : t < length d.updaters = omega (arith, within, count_stays d d' calls done) in
+      let before : t < length d.updaters = omega (arith, within, (desk_stays d d' calls done).tenants) in
       (lone_takes d.quota (get_or d.updaters t u) (get_or d'.updaters t u) (calls_for t calls) (lone_on_desk d d' calls t u done before)).goes.table ∙ its.tables t h u before;
 }
 
@@ -114,9 +118,12 @@ done_now old d t u after call same place at owed =
       stays = refl;
     })
 
-pub over_now : (old d : DeskState) (t : ℕ) (v after : UpdaterState) (item : ℕ) (answer : Add) → d ≡ old → v ≡ get_or d.updaters t v → OwesAdd d.quota v item answer after
-    → (u : UpdaterState) → slice_get old.updaters t ≡ Some u → (answer ≡ Over) ↔ (length (kept_of u) ≡ old.quota)
-over_now old d t v after item answer same at owed u is =
-    let here : v ≡ u = at ∙ ap (λ s. get_or s.updaters t v) same ∙ get_or_from_slice_get old.updaters t u v is in
-    subst (λ w. (answer ≡ Over) ↔ (length (kept_of w) ≡ old.quota)) here
-    (subst (λ s. (answer ≡ Over) ↔ (length (kept_of v) ≡ s.quota)) same (over_exactly d.quota v after item answer owed))
+-- the updater at the place, before a call
+at_place : (old d : DeskState) (t : ℕ) (v u : UpdaterState) → d ≡ old → v ≡ get_or d.updaters t v → slice_get old.updaters t ≡ Some u → v ≡ u
+at_place old d t v u same at is = at ∙ ap (λ s. get_or s.updaters t v) same ∙ get_or_from_slice_get old.updaters t u v is
+
+pub over_now : (P : Type 0) (old d : DeskState) (t : ℕ) (v : UpdaterState) → d ≡ old → v ≡ get_or d.updaters t v → P ↔ (length (kept_of v) ≡ d.quota)
+    → (u : UpdaterState) → slice_get old.updaters t ≡ Some u → P ↔ (length (kept_of u) ≡ old.quota)
+over_now P old d t v same at over u is =
+    subst (λ w. P ↔ (length (kept_of w) ≡ old.quota)) (at_place old d t v u same at is)
+    (subst (λ s. P ↔ (length (kept_of v) ≡ s.quota)) same over)

@@ -21,7 +21,7 @@ use Rattle.sk_tenant.specs.Desks.{calls_for}
 use Rattle.sk_tenant.specs.Hosts.{TenantsState, AreAskedFor, HasFinished, WasFed, WasUsed}
 use Rattle.sk_tenant.proofs.Owed.{lone_takes, lone_items}
 use Rattle.sk_tenant.proofs.Standing.{with_member}
-use Rattle.sk_tenant.proofs.Done.{count_stays, number_stays, lone_on_desk}
+use Rattle.sk_tenant.proofs.Done.{desk_stays, lone_on_desk}
 
 -- all are kept
 all_kept : (keeps : ℕ → ℕ → Bool) (hint : List Entry → ℕ) (list : List Entry) (items : List ℕ) → AreKept keeps hint list items items
@@ -91,7 +91,7 @@ pub used_is_fed : (opened hosts : TenantsState) (shape : Sizes) (quota t i : ℕ
 used_is_fed opened hosts shape quota t i calls same within used = with_member used.first.updaters t at_first fed
   where
     count : length used.last.updaters ≡ length used.first.updaters
-    count = count_stays used.first used.last calls used.done
+    count = (desk_stays used.first used.last calls used.done).tenants
 
     at_last : t < length used.last.updaters
     at_last = omega (arith, within, used.taken_in.tenants)
@@ -111,7 +111,7 @@ used_is_fed opened hosts shape quota t i calls same within used = with_member us
           takes = lone_takes used.first.quota (get_or used.first.updaters t u) (get_or used.last.updaters t u) (calls_for t calls) lone;
           are_items = lone_items used.first.quota (get_or used.first.updaters t u) (get_or used.last.updaters t u) (calls_for t calls) lone;
           finished = record {
-            number = used.taken_in.numbers t u at_last ∙ number_stays used.first used.last calls used.done ∙ used.new.number_is;
+            number = used.taken_in.numbers t u at_last ∙ (desk_stays used.first used.last calls used.done).number ∙ used.new.number_is;
             taken_in = λ h. used.taken_in.taken_in t h u at_last;
           };
         }

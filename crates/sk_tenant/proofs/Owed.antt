@@ -1,5 +1,5 @@
 -- What calls for one tenant take of its updater.
-use Rattle.std.proofs.Common.{◌≡◌, ◌↔◌, ℕ, ◌<◌, ◌≤◌, true, false, List, [], ◌∷◌, length, refl, sym, ap, subst, arith}
+use Rattle.std.proofs.Common.{◌≡◌, ◌↔◌, ℕ, ◌<◌, ◌≤◌, Bool, true, false, List, [], ◌∷◌, length, refl, sym, ap, subst, arith}
 use Rattle.std.proofs.lemmas.List.Elements.{All-nil, All-cons, All-append}
 use Rattle.sk_model.specs.Width.{IsItem, AreItems}
 use Rattle.sk_hub.specs.Updaters.{UpdaterState, kept_of}
@@ -7,7 +7,7 @@ use Rattle.sk_hub.specs.Calls.{KeepsNone}
 use Rattle.sk_hub.proofs.Calls.{none_refl, takes_none, takes_trans, takes_few}
 use Rattle.sk_tenant.specs.declared.answers.Add.{Add}
 use Rattle.sk_tenant.specs.declared.answers.Add.TheVariants.{Kept, Filtered, Busy, Over}
-use Rattle.sk_tenant.specs.Calls.{Call, Adds, Insists, Asks, Helps, theta_keeps, theta_hint, TakesItems, OwesAdd, Owes, Lone, taken_of, items_taken}
+use Rattle.sk_tenant.specs.Calls.{Call, Adds, Insists, Asks, Helps, theta_keeps, theta_hint, TakesItems, OwesAdd, OwesInsist, Owes, Lone, taken_of, items_taken}
 
 -- ---- one call
 
@@ -92,3 +92,7 @@ over_exactly quota u u' item Kept owed = (λ over. cc, λ full. absurd (omega (a
 over_exactly quota u u' item Filtered owed = (λ over. cc, λ full. absurd (omega (arith, full, owed.0.below)))
 over_exactly quota u u' item Busy owed = (λ over. cc, λ full. absurd (omega (arith, full, owed.0.below)))
 over_exactly quota u u' item Over owed = (λ over. owed.full, λ full. refl)
+
+pub insist_exactly : (quota : ℕ) (u u' : UpdaterState) (item : ℕ) (taken : Bool) → OwesInsist quota u item taken u' → (taken ≡ false) ↔ (length (kept_of u) ≡ quota)
+insist_exactly quota u u' item true owed = (λ over. cc, λ full. absurd (omega (arith, full, owed.0.below)))
+insist_exactly quota u u' item false owed = (λ over. owed.full, λ full. refl)

@@ -36,6 +36,13 @@ unfoldable pub AreDone : DeskState → List (ℕ × Call) → DeskState → Type
 AreDone d [] d' = d' ≡ d
 AreDone d (call ∷ calls) d' = (e : DeskState) × IsDone d call.0 call.1 e × AreDone e calls d'
 
+-- the same desk, whatever its updaters have done
+pub record IsSameDesk (d d' : DeskState) : Type 0 where
+  pub names : d'.names ≡ d.names
+  pub number : d'.number ≡ d.number
+  pub quota : d'.quota ≡ d.quota
+  pub tenants : length d'.updaters ≡ length d.updaters
+
 -- those for one tenant, taken out of the list
 abbrev pub calls_for : ℕ → List (ℕ × Call) → List Call
 calls_for t calls = map (λ call. call.1) (filter (λ call. call.0 == t) calls)

@@ -1,16 +1,18 @@
 //! A desk: an updater of each tenant's hub, and how many items it keeps for a tenant at most.
-ghost use Rattle.std.specs.Prelude.{◌≡◌, ◌↔◌, ℕ, ◌<◌, ◌≤◌, length, slice_get, IfSome, IfNone, Contains};
+ghost use Rattle.std.specs.Prelude.{◌≡◌, ◌↔◌, ℕ, ◌<◌, ◌≤◌, false, length, slice_get, IfSome, IfNone, Contains};
 ghost use Rattle.sk_model.specs.Limits.{most_kept};
 ghost use Rattle.sk_model.specs.Width.{IsItem};
 ghost use Rattle.sk_hub.specs.Updaters.{kept_of};
 ghost use Rattle.sk_tenant.specs.Names.{place_of};
-ghost use Rattle.sk_tenant.specs.Calls.{Adds, Asks, Helps, OwesAdd, OwesAsk, OwesHelp};
+ghost use Rattle.sk_tenant.specs.Calls.{Adds, Insists, Asks, Helps, OwesAdd, OwesInsist, OwesAsk, OwesHelp};
 ghost use Rattle.sk_tenant.specs.Desks.{IsDone, IsDesk};
 
 use crate::answers::Add;
 use crate::names::Names;
+use sk_feed::insist;
 use sk_heap::HeapTheta;
 use sk_hub::{Help, Update, Updater};
+use sk_model::OutOfMemory;
 use std::marker::Model;
 use std::sync::Wait;
 
@@ -57,6 +59,18 @@ impl Desk {
         add_to(&mut self.updaters[t as usize], quota, item)
     }
 
+    /// Offers an item as `add` does, until it is taken, and helps whenever the updater is busy, and once more if it is
+    /// eager. It returns false at the quota, and waits while another seat of the hub propagates.
+    pub fn insist<R: Wait>(&mut self, rt: &R, t: u32, item: u64) -> bool
+        requires place { t < length self.old.updaters }
+        requires item { IsItem item }
+        ensures done { IsDone self.old t (Insists item result) self.new }
+        ensures over { (u : _) → slice_get self.old.updaters t ≡ Some u → (result ≡ false) ↔ (length (kept_of u) ≡ self.old.quota) }
+    {
+        let quota = self.quota;
+        insist_with(rt, &mut self.updaters[t as usize], quota, item)
+    }
+
     /// One load of the published word of the tenant at place t.
     pub fn ask(&mut self, t: u32) -> u64
         requires place { t < length self.old.updaters }
@@ -100,6 +114,22 @@ fn add_to(updater: &mut Updater<HeapTheta>, quota: u64, item: u64) -> Add
         Update::Filtered => Add::Filtered,
         Update::Kept | Update::Handed => Add::Kept,
         Update::Busy => Add::Busy,
+    }
+}
+
+// Offers an item to an updater until it is taken, below the quota. The merges of its sketch take no memory.
+fn insist_with<R: Wait>(rt: &R, updater: &mut Updater<HeapTheta>, quota: u64, item: u64) -> bool
+    requires within { length (kept_of updater.old) ≤ quota }
+    requires most { quota ≤ most_kept }
+    requires item { IsItem item }
+    ensures { OwesInsist quota updater.old item result updater.new }
+{
+    if updater.taken() == quota {
+        return false;
+    }
+    match insist(rt, updater, item) {
+        Ok(()) => true,
+        Err(OutOfMemory) => unreachable!(),
     }
 }
 

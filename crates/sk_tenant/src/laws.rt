@@ -6,7 +6,7 @@ ghost use Rattle.sk_model.specs.Width.{AreItems};
 ghost use Rattle.sk_theta.specs.Sizes.{Sizes};
 ghost use Rattle.sk_hub.specs.Updaters.{UpdaterState, kept_of};
 ghost use Rattle.sk_tenant.specs.Calls.{Call, Lone, TakesItems, items_taken};
-ghost use Rattle.sk_tenant.specs.Desks.{DeskState, IsDone, AreDone, calls_for};
+ghost use Rattle.sk_tenant.specs.Desks.{DeskState, IsDone, AreDone, IsSameDesk, calls_for};
 ghost use Rattle.sk_tenant.specs.Hosts.{TenantsState, IsDeskOf, HasTakenInDesk, AreAskedFor, WasUsed, WasFed, HasFinished};
 
 /// Calls on a desk, one after another.
@@ -26,9 +26,10 @@ pub fn tenants_are_apart()
         → slice_index_or d'.updaters t u ≡ slice_index_or d.updaters t u }
 {}
 
-/// After calls a desk is that of the same tenants.
+/// After calls a desk is the same, and of the same tenants.
 pub fn a_desk_stays_of_its_tenants()
-    ensures { (hosts : TenantsState) (d d' : DeskState) (calls : List (ℕ × Call)) → AreDone d calls d' → IsDeskOf hosts d → IsDeskOf hosts d' }
+    ensures same { (d d' : DeskState) (calls : List (ℕ × Call)) → AreDone d calls d' → IsSameDesk d d' }
+    ensures tenants { (hosts : TenantsState) (d d' : DeskState) (calls : List (ℕ × Call)) → AreDone d calls d' → IsDeskOf hosts d → IsDeskOf hosts d' }
 {}
 
 /// What an updater took by calls, and that it never keeps more than its quota.

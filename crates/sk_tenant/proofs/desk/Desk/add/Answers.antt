@@ -1,5 +1,7 @@
-use Rattle.std.proofs.Common.{◌<◌, length, sym, subst}
+use Rattle.std.proofs.Common.{◌≡◌, ◌<◌, length, sym, subst}
+use Rattle.sk_tenant.specs.declared.answers.Add.TheVariants.{Over}
 use Rattle.sk_tenant.specs.Calls.{Adds}
+use Rattle.sk_tenant.proofs.Owed.{over_exactly}
 use Rattle.sk_tenant.proofs.Done.{desk_after, done_now, over_now}
 use Rattle.sk_tenant.proofs.desk.Desk.add.Goals as goal
 
@@ -15,4 +17,5 @@ returns-clause-done c =
 
 pub returns-clause-over : goal.returns-clause-over
 returns-clause-over c =
-    over_now c.args.self.now _ c.args.t c.index_mut.result.now c.add_to.new.updater c.args.item c.add_to.result c.self.view_is c.index_mut.ensures.value c.add_to.ensures
+    over_now (c.add_to.result ≡ Over) c.args.self.now _ c.args.t c.index_mut.result.now c.self.view_is c.index_mut.ensures.value
+    (over_exactly c.self.inside.quota c.index_mut.result.now c.add_to.new.updater c.args.item c.add_to.result c.add_to.ensures)
