@@ -1,13 +1,15 @@
 //! Takes so many steps of a table with one updater, or updates of a sketch and of a hub, for `bench/steps` to
-//! time. The words are a kind (`asks`, `turns` or `exchanges`, `sketch` or `hub`) and a number; without words
-//! nothing is done. `lines 0` and `numbers 0` count the lines of the standard input by the sketch alone, and `reads`
-//! reads so many ranks while four updaters run, and prints how many items these took. `scale THREADS DISTINCT N` takes
-//! N updates of a hub by so many threads, and prints what is published in the end.
+//! time. The words are a kind (`asks`, `turns` or `exchanges`, `sketch` or `hub`, and of Count-Min `tallies` or
+//! `tallyhub`) and a number; without words nothing is done. `lines 0` and `numbers 0` count the lines of the standard
+//! input by the sketch alone, and `reads` reads so many ranks while four updaters run, and prints how many items these
+//! took. `scale THREADS DISTINCT N` takes N updates of a hub by so many threads, and prints what is published in the
+//! end.
 #![tactic(auto)]
 
 mod direct;
 mod ranks;
 mod scale;
+mod tallies;
 mod updates;
 
 ghost use Rattle.std.specs.Prelude.{◌≡◌, true, false, IfOk};
@@ -159,6 +161,8 @@ fn main(rt: HostRuntime) -> ExitCode {
         "exchanges" => exchange(&mut made.heart, count),
         "sketch" => return outcome(updates::sketch(alloc, distinct, count)),
         "hub" => return outcome(updates::hub(&rt, alloc, distinct, count)),
+        "tallies" => return outcome(tallies::sketch(alloc, distinct, count)),
+        "tallyhub" => return outcome(tallies::hub(&rt, alloc, distinct, count)),
         "reads" => return print_taken(&rt, ranks::reads(&rt, alloc, count)),
         _ => return ExitCode::FAILURE,
     }

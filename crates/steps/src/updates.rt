@@ -4,7 +4,7 @@ ghost use Rattle.sk_hub.specs.Updaters.{kept_of};
 ghost use Rattle.sk_model.specs.Limits.{most_kept};
 ghost use Rattle.sk_model.specs.Width.{IsItem};
 
-use sk_compose::OutOfMemory;
+use sk_compose::{Composable, OutOfMemory};
 use sk_heap::HeapTheta;
 use sk_hub::{Help, Update, Updater, open};
 use sk_model::limits::MOST_KEPT;
@@ -55,8 +55,13 @@ pub fn hub<R: Wait>(rt: &R, alloc: Global, distinct: u64, count: u64) -> Result<
     Ok(())
 }
 
-// So many updates.
-fn update_each<R: Wait>(rt: &R, updater: &mut Updater<HeapTheta>, distinct: u64, count: u64)
+/// So many updates of an updater.
+pub fn update_each<C: Composable, R: Wait>(
+    rt: &R,
+    updater: &mut Updater<C>,
+    distinct: u64,
+    count: u64,
+)
     requires room { length (kept_of updater.old) + count ≤ most_kept }
 {
     'update: for place in 0..count {
@@ -66,7 +71,7 @@ fn update_each<R: Wait>(rt: &R, updater: &mut Updater<HeapTheta>, distinct: u64,
 
 // Updates with an item, and helps where there is no room or each item is handed over.
 #[inline(always)]
-fn update<R: Wait>(rt: &R, updater: &mut Updater<HeapTheta>, item: u64)
+fn update<C: Composable, R: Wait>(rt: &R, updater: &mut Updater<C>, item: u64)
     requires item { IsItem item }
     requires room { length (kept_of updater.old) < most_kept }
     ensures { length (kept_of updater.new) ≤ length (kept_of updater.old) + 1 }
@@ -87,7 +92,7 @@ fn update<R: Wait>(rt: &R, updater: &mut Updater<HeapTheta>, item: u64)
 }
 
 // Propagates, and answers whether no other seat did.
-fn help<R: Wait>(rt: &R, updater: &mut Updater<HeapTheta>) -> bool
+fn help<C: Composable, R: Wait>(rt: &R, updater: &mut Updater<C>) -> bool
     ensures none { kept_of updater.new ≡ kept_of updater.old }
 {
     match updater.help(rt) {
