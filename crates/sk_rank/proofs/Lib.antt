@@ -1,9 +1,1 @@
-pub mod MomentLaws
-pub mod HeadlineLaws
-pub mod Orders
-pub mod Course
-pub mod FeedingLaws
-pub mod Finishing
-pub mod OneUpdater
-pub mod OpeningLaws
-pub mod ReportLaws
+pub mod Nearness

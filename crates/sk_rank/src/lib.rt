@@ -1,11 +1,10 @@
 //! The ranking command: how many numbers of a source lie below one, counted by many updaters of one hub.
 #![tactic(auto)]
 
-mod interim;
 pub mod laws;
+mod line;
 mod plan;
 mod ranking;
-mod text;
 
 pub use plan::Plan;
 pub use ranking::{Ranked, rank};

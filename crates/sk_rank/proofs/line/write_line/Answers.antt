@@ -1,0 +1,31 @@
+use Rattle.std.proofs.Common.{◌++◌, codes}
+use Rattle.sk_model.specs.Causes.{AppendsPart}
+use Rattle.sk_tell.specs.Texts.{labelled}
+use Rattle.sk_rank.specs.Texts.{told_line}
+use Rattle.sk_report.proofs.Fronts.{part_longer, part_behind, on_err, on_err_then}
+use Rattle.sk_rank.proofs.line.write_line.Goals as goal
+
+pub returns-in_err-write_labelled-clause-part : goal.returns-in_err-write_labelled-clause-part
+returns-in_err-write_labelled-clause-part g c =
+    on_err _ _ (part_longer _ _ (labelled (codes "n ") c.args.rank.n) (labelled (codes " below ") c.args.rank.below ++ (labelled (codes " within ") c.args.rank.within ++ codes "\n")) c.in_err-write_labelled.ensures.part)
+
+pub returns-in_err-write_labelled-2-clause-part : goal.returns-in_err-write_labelled-2-clause-part
+returns-in_err-write_labelled-2-clause-part g c =
+    on_err _ _ (part_behind _ _ _ (labelled (codes "n ") c.args.rank.n) (labelled (codes " below ") c.args.rank.below ++ (labelled (codes " within ") c.args.rank.within ++ codes "\n")) c.in_ok-write_labelled.ensures.ok
+    (part_longer _ _ (labelled (codes " below ") c.args.rank.below) (labelled (codes " within ") c.args.rank.within ++ codes "\n") c.in_err-write_labelled-2.ensures.part))
+
+pub returns-in_err-write_labelled-3-clause-part : goal.returns-in_err-write_labelled-3-clause-part
+returns-in_err-write_labelled-3-clause-part g c =
+    on_err _ _ (part_behind _ _ _ (labelled (codes "n ") c.args.rank.n) (labelled (codes " below ") c.args.rank.below ++ (labelled (codes " within ") c.args.rank.within ++ codes "\n")) c.in_ok-write_labelled.ensures.ok
+    (part_behind _ _ _ (labelled (codes " below ") c.args.rank.below) (labelled (codes " within ") c.args.rank.within ++ codes "\n") c.in_ok-write_labelled-2.ensures.ok
+    (part_longer _ _ (labelled (codes " within ") c.args.rank.within) (codes "\n") c.in_err-write_labelled-3.ensures.part)))
+
+pub returns-clause-part : goal.returns-clause-part
+returns-clause-part g c =
+    on_err_then c.write_all.result
+    (AppendsPart (g.O.Sink.written c.write_labelled-3.new.out) (g.O.Sink.written c.write_all.new.out) (codes "\n"))
+    (AppendsPart (g.O.Sink.written c.args.out.now) (g.O.Sink.written c.write_all.new.out) (told_line c.args.rank.n c.args.rank.below c.args.rank.within))
+    (λ part. part_behind _ _ _ (labelled (codes "n ") c.args.rank.n) (labelled (codes " below ") c.args.rank.below ++ (labelled (codes " within ") c.args.rank.within ++ codes "\n")) c.in_ok-write_labelled.ensures.ok
+    (part_behind _ _ _ (labelled (codes " below ") c.args.rank.below) (labelled (codes " within ") c.args.rank.within ++ codes "\n") c.in_ok-write_labelled-2.ensures.ok
+    (part_behind _ _ _ (labelled (codes " within ") c.args.rank.within) (codes "\n") c.in_ok-write_labelled-3.ensures.ok part)))
+    c.write_all.ensures.err

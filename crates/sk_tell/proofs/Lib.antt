@@ -1,0 +1,9 @@
+pub mod MomentLaws
+pub mod HeadlineLaws
+pub mod Orders
+pub mod Course
+pub mod FeedingLaws
+pub mod Finishing
+pub mod OneUpdater
+pub mod OpeningLaws
+pub mod ReportLaws

@@ -1,0 +1,9 @@
+pub mod Manners
+pub mod Texts
+pub mod Reports
+pub mod Moments
+pub mod Steps
+pub mod Feeding
+pub mod Finishing
+pub mod Headline
+pub mod Endings

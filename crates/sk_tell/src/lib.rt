@@ -1,0 +1,16 @@
+//! What is told of a source: a line of all its items, counted by many updaters of one hub of versioned sketches, and
+//! interim lines after full windows.
+#![tactic(auto)]
+
+mod ending;
+mod interim;
+pub mod laws;
+mod line;
+mod opening;
+mod telling;
+mod text;
+
+pub use line::Line;
+pub use sk_read::Fault;
+pub use telling::{Handles, Telling, tell};
+pub use text::write_labelled;
