@@ -1,5 +1,5 @@
 //! The names of tenants, which all desks share.
-ghost use Rattle.std.specs.Prelude.{◌≡◌, ℕ, ◌≤◌, length, map, slice_get, IfOk, IfSome, IfNone, Contains};
+ghost use Rattle.std.specs.Prelude.{◌≡◌, ℕ, ◌<◌, ◌≤◌, Some, length, map, slice_get, IfOk, IfSome, IfNone, Contains};
 ghost use Rattle.sk_tenant.specs.Names.{place_of, bytes_of, most_tenants, AreDifferent, IsFirstTwice};
 
 use crate::answers::TenantStop;
@@ -62,6 +62,17 @@ impl Names {
     {
         let place = self.table.get_index_of(name)?;
         Some(place as u32)
+    }
+
+    /// The name of the tenant at place t.
+    pub fn name(&self, t: u32) -> &[u8]
+        requires place { t < length self.now }
+        ensures { slice_get self.now t ≡ Some result.now }
+    {
+        match self.table.get_index(t as usize) {
+            Some(name) => name.as_slice(),
+            None => unreachable!(),
+        }
     }
 
     /// How many tenants there are. Its clauses also say what is true of all names.
