@@ -1,8 +1,7 @@
 -- A taker of labelled lines as one of units: one line more, and what its end says.
-use Rattle.std.proofs.Common.{◌≡◌, ℕ, zero, suc, ◌+◌, ◌≤◌, List, [], ◌∷◌, ◌++◌, length, take, Option, None, Some, Result, Ok, Err, IsErrOf, inl, inr, refl, sym, ap, ◌∙◌, subst, arith}
+use Rattle.std.proofs.Common.{◌≡◌, ℕ, zero, suc, ◌+◌, ◌≤◌, List, [], ◌∷◌, ◌++◌, length, take, Option, None, Some, Result, Ok, Err, inl, inr, refl, sym, ap, ◌∙◌, subst, arith}
 use Rattle.std.proofs.lemmas.List.Elements.{All-take}
-use Rattle.std.specs.Io.KnownBytes.{Appends}
-use Rattle.sk_model.specs.Causes.{HasCauseIn, Rose}
+use Rattle.sk_model.specs.Causes.{HasCauseIn}
 use Rattle.sk_model.specs.Limits.{line_limit}
 use Rattle.sk_model.specs.Lines.{lines_of, AreWithin}
 use Rattle.sk_model.specs.Missing.{Begins}
@@ -12,11 +11,9 @@ use Rattle.sk_read.specs.declared.fault.Fault.{Fault}
 use Rattle.sk_read.specs.declared.fault.Fault.TheVariants as fault
 use Rattle.sk_read.specs.declared.units.Units.TheVariants.{Lines}
 use Rattle.sk_read.proofs.LineEnds.{settled_so}
-use Rattle.sk_label.specs.declared.fault.LabelFault.{LabelFault}
-use Rattle.sk_label.specs.declared.fault.LabelFault.TheVariants as label
 use Rattle.sk_label.specs.declared.fault.LineStop.{LineStop}
 use Rattle.sk_label.specs.declared.fault.LineStop.TheVariants as stop
-use Rattle.sk_label.specs.Rules.{Rules, IsFine, IsBad, IsRefused}
+use Rattle.sk_label.specs.Rules.{Rules, IsBad, IsRefused}
 use Rattle.sk_label.specs.Goes.{setting, EndsBefore, WroteSoFar, WrotePartAt}
 use Rattle.sk_label.specs.Stops.{Takes, StopsBy}
 use Rattle.sk_label.specs.Carrying.{Shown, Carried, BreaksAt, Broke, Dropped, fault_at, fault_by}
@@ -61,14 +58,14 @@ broke_at Went a b c lines line why carried stops cause = record {
 
 -- ---- its end
 
-stops_so : (Known Known' : List (List ℕ) → List ℕ → Type 0) (most : ℕ) (old new : Option (List ℕ)) → ((lines : List (List ℕ)) (line : List ℕ) → Known lines line → Known' lines line) → StopsAt Lines most Known old new →
+pub stops_so : (Known Known' : List (List ℕ) → List ℕ → Type 0) (most : ℕ) (old new : Option (List ℕ)) → ((lines : List (List ℕ)) (line : List ℕ) → Known lines line → Known' lines line) → StopsAt Lines most Known old new →
     StopsAt Lines most Known' old new
 stops_so Known Known' most old new so (line, off) = (
   line,
   record { given = off.given; taken = off.taken; consumed = off.consumed; size = off.size; in_time = off.in_time; known = so off.given line off.known; comes = off.comes },
 )
 
-breaks_so : (Known Known' : List (List ℕ) → Type 0) (Comes Comes' : List (List ℕ) → List ℕ → Type 0) (most : ℕ) (old new : Option (List ℕ)) → ((lines : List (List ℕ)) → Known lines → Known' lines) →
+pub breaks_so : (Known Known' : List (List ℕ) → Type 0) (Comes Comes' : List (List ℕ) → List ℕ → Type 0) (most : ℕ) (old new : Option (List ℕ)) → ((lines : List (List ℕ)) → Known lines → Known' lines) →
     ((lines : List (List ℕ)) (text : List ℕ) → Comes lines text → Comes' lines text) → BreaksOff Lines most Known Comes old new → BreaksOff Lines most Known' Comes' old new
 breaks_so Known Known' Comes Comes' most old new so on off = record {
   given = off.given;

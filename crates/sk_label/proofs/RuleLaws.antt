@@ -1,5 +1,5 @@
 -- Labelled lines, one more at the end: what is due for them, and whether they are fine.
-use Rattle.std.proofs.Common.{◌≡◌, ℕ, ◌+◌, ◌<◌, ◌≤◌, List, [], ◌∷◌, ◌++◌, length, take, get_or, Option, refl, sym, ap, ◌∙◌, subst, arith, append-nil, append_assoc, length-append, below_more}
+use Rattle.std.proofs.Common.{◌≡◌, ℕ, ◌+◌, ◌<◌, List, [], ◌∷◌, ◌++◌, length, take, get_or, Option, sym, ap, ◌∙◌, subst, arith, append-nil, append_assoc, length-append, below_more}
 use Rattle.std.specs.Io.KnownBytes.{Appends}
 use Rattle.std.proofs.KnownBytes.{Appends-nil, Appends-trans}
 use Rattle.std.proofs.Math.Seq.{take-append_seam, take-append-add, get_or-append_seam}
@@ -9,7 +9,7 @@ use Rattle.sk_model.specs.Causes.{AppendsPart}
 use Rattle.sk_model.specs.Missing.{Begins}
 use Rattle.sk_model.proofs.Missing.{begins_append}
 use Rattle.sk_report.specs.Parts.{AppendsPartAfter}
-use Rattle.sk_label.specs.Rules.{Rules, IsFine, AreFine, due_from, due_so_far, whole_text}
+use Rattle.sk_label.specs.Rules.{Rules, IsFine, AreFine, due_from, due_so_far}
 use Rattle.sk_label.specs.Goes.{WroteSoFar, WroteAll, WrotePartAt, WrotePartLast}
 use Rattle.sk_label.specs.Stops.{Takes}
 

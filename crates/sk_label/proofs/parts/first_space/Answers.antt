@@ -1,4 +1,4 @@
-use Rattle.std.proofs.Common.{◌≡◌, ◌<◌, length, get_or, eq-eqb, arith, sym}
+use Rattle.std.proofs.Common.{length, eq-eqb, arith, sym}
 use Rattle.std.proofs.lemmas.List.Sums.{position_or_len_is}
 use Rattle.sk_label.specs.Labels.{is_space}
 use Rattle.sk_label.proofs.parts.first_space.Goals as goal

@@ -1,0 +1,139 @@
+-- Blocks of windows that desks took.
+use Rattle.std.proofs.Common.{◌≡◌, ⊎_elim, ℕ, zero, suc, ◌+◌, ◌-◌, ◌<◌, ◌≤◌, List, [], ◌∷◌, ◌++◌, length, get_or, take, drop, slice_range, flat_map, length-drop, IsPermutation, refl, sym, ap, subst, ◌∙◌, arith, append-nil, append_assoc}
+use Rattle.std.specs.List.{range_with_len}
+use Rattle.std.proofs.lemmas.Grind.{flat_map-append}
+use Rattle.std.proofs.lemmas.List.{get_or-drop, drop-drop, take_more}
+use Rattle.std.proofs.lemmas.List.Sorted.{IsPermutation-refl, IsPermutation-trans, IsPermutation-append_left, IsPermutation-append_right, IsPermutation-append_comm}
+use Rattle.sk_model.specs.Limits.{most_kept}
+use Rattle.sk_hub.specs.Updaters.{UpdaterState, kept_of}
+use Rattle.sk_fill.specs.Blocks.{block_of, blocks_of}
+use Rattle.sk_fill.specs.Windows.{all_lines}
+use Rattle.sk_fill.proofs.Joined.{blocks_joined}
+use Rattle.sk_feed.proofs.Rooms.{few_blocks}
+use Rattle.sk_tenant.specs.Desks.{DeskState}
+use Rattle.sk_desks.specs.Desks.{items_for}
+use Rattle.sk_desks.specs.Feeds.{TakesLines, HasRoom, HaveRoom, TakeBlocks}
+use Rattle.sk_desks.specs.Clerks.{AreUnused}
+use Rattle.sk_desks.proofs.ItemLaws.{items_for-append, none_for}
+use Rattle.sk_desks.proofs.Taking.{takes_no_line, takes_more, has_still, room_after}
+
+-- ---- lines of a window, one more
+
+pub no_lines : (seed : ℕ) (d : DeskState) (lines : List (List ℕ)) (from : ℕ) → TakesLines seed d (slice_range lines from from) d
+no_lines seed d lines from =
+    let zero : from - from ≡ 0 = omega arith in
+    let none : slice_range lines from from ≡ [] = ap (λ (n : ℕ). take n (drop from lines)) zero in
+    subst (λ (l : List (List ℕ)). TakesLines seed d l d) (sym none) (takes_no_line seed d)
+
+range_more : (lines : List (List ℕ)) (from at : ℕ) → from ≤ at → at < length lines → slice_range lines from (at + 1) ≡ slice_range lines from at ++ get_or lines at [] ∷ []
+range_more lines from at low inside =
+    let size : (at + 1) - from ≡ (at - from) + 1 = omega arith in
+    let here : from + (at - from) ≡ at = omega arith in
+    ap (λ (n : ℕ). take n (drop from lines)) size
+    ∙ take_more (drop from lines) (at - from) [] (omega (arith, length-drop from lines))
+    ∙ ap (λ (l : List ℕ). take (at - from) (drop from lines) ++ l ∷ []) (get_or-drop from lines (at - from) [] ∙ ap (λ (n : ℕ). get_or lines n []) here)
+
+pub line_more : (seed : ℕ) (d e d' : DeskState) (lines : List (List ℕ)) (from at : ℕ) (line : List ℕ) → from ≤ at → at < length lines → line ≡ get_or lines at [] → TakesLines seed d (slice_range lines from at) e → TakesLines seed e (line ∷ []) d' →
+    TakesLines seed d (slice_range lines from (at + 1)) d'
+line_more seed d e d' lines from at line low inside its before after =
+    subst (λ (l : List (List ℕ)). TakesLines seed d l d') (ap (λ (l : List ℕ). slice_range lines from at ++ l ∷ []) its ∙ sym (range_more lines from at low inside))
+    (takes_more seed d e d' (slice_range lines from at) (line ∷ []) before after)
+
+-- the first of the lines to come is that at its place in the window
+pub first_is : (lines rest : List (List ℕ)) (at : ℕ) (line : List ℕ) → rest ≡ drop at lines → line ≡ get_or rest 0 [] → line ≡ get_or lines at []
+first_is lines rest at line is first =
+    let here : at + 0 ≡ at = omega arith in
+    first ∙ ap (λ (l : List (List ℕ)). get_or l 0 []) is ∙ get_or-drop at lines 0 [] ∙ ap (λ (n : ℕ). get_or lines n []) here
+
+-- after it come those from the next place on
+pub rest_is : (lines rest rest' : List (List ℕ)) (at : ℕ) → rest ≡ drop at lines → rest' ≡ drop 1 rest → rest' ≡ drop (at + 1) lines
+rest_is lines rest rest' at is moved = moved ∙ ap (drop 1) is ∙ drop-drop 1 at lines
+
+-- ---- windows, one more
+
+one_block : (lines : List (List ℕ)) (i n : ℕ) → blocks_of (lines ∷ []) i n ≡ block_of lines i n
+one_block lines i n = append-nil (block_of lines i n)
+
+blocks_more : (windows : List (List (List ℕ))) (lines : List (List ℕ)) (i n : ℕ) → blocks_of (windows ++ lines ∷ []) i n ≡ blocks_of windows i n ++ block_of lines i n
+blocks_more windows lines i n = flat_map-append (λ (w : List (List ℕ)). block_of w i n) windows (lines ∷ []) ∙ ap (λ (l : List (List ℕ)). blocks_of windows i n ++ l) (append-nil (block_of lines i n))
+
+pub take_none : (seed : ℕ) (desks : List DeskState) → TakeBlocks seed desks [] desks
+take_none seed desks = record { count = refl; each = λ i d within. takes_no_line seed (get_or desks i d) }
+
+-- each took its block of one window
+pub take_each : (seed : ℕ) (desks desks' : List DeskState) (lines : List (List ℕ)) → length desks' ≡ length desks
+    → ((i : ℕ) (d : DeskState) → i < length desks → TakesLines seed (get_or desks i d) (block_of lines i (length desks)) (get_or desks' i d)) → TakeBlocks seed desks (lines ∷ []) desks'
+take_each seed desks desks' lines count each = record {
+  count = count;
+  each = λ i d within. subst (λ (l : List (List ℕ)). TakesLines seed (get_or desks i d) l (get_or desks' i d)) (sym (one_block lines i (length desks))) (each i d within);
+}
+
+pub take_window : (seed : ℕ) (a b c : List DeskState) (windows : List (List (List ℕ))) (lines : List (List ℕ)) → TakeBlocks seed a windows b → TakeBlocks seed b (lines ∷ []) c → TakeBlocks seed a (windows ++ lines ∷ []) c
+take_window seed a b c windows lines before after = record {
+  count = after.count ∙ before.count;
+  each = λ i d within.
+      let within' : i < length b = omega (arith, before.count) in
+      let more : TakesLines seed (get_or b i d) (block_of lines i (length a)) (get_or c i d) =
+      subst (λ (l : List (List ℕ)). TakesLines seed (get_or b i d) l (get_or c i d)) (one_block lines i (length b) ∙ ap (λ (n : ℕ). block_of lines i n) before.count) (after.each i d within') in
+      subst (λ (l : List (List ℕ)). TakesLines seed (get_or a i d) l (get_or c i d)) (sym (blocks_more windows lines i (length a)))
+      (takes_more seed (get_or a i d) (get_or b i d) (get_or c i d) (blocks_of windows i (length a)) (block_of lines i (length a)) (before.each i d within) more);
+}
+
+-- desks that were unused have room for a window more
+pub room_for : (seed : ℕ) (names : List (List ℕ)) (first desks : List DeskState) (windows : List (List (List ℕ))) (count : ℕ) → AreUnused names first → TakeBlocks seed first windows desks → length (all_lines windows) + count ≤ most_kept → HaveRoom count desks
+room_for seed names first desks windows count unused took few = λ i d within.
+    let before : i < length first = omega (arith, took.count) in
+    let desk = get_or first i d in
+    let is = unused.each i d before in
+    let blocks = blocks_of windows i (length first) in
+    let its : TakesLines seed desk blocks (get_or desks i d) = took.each i d before in
+    let room : HasRoom (length blocks + count) desk = λ t u inside. omega (arith, few_blocks windows (length first) i before, ap length (is.none t u inside), is.quota_is, few) in
+    (has_still seed desk (get_or desks i d) blocks its is.has, room_after seed desk (get_or desks i d) blocks count is.has its room)
+
+-- ---- all blocks of all windows
+
+-- what each number has in two parts is all first parts and all second ones
+parts : {A : Type 0} (f g : ℕ → List A) (xs : List ℕ) → IsPermutation (flat_map (λ i. f i ++ g i) xs) (flat_map f xs ++ flat_map g xs)
+parts f g [] = IsPermutation-refl []
+parts {A} f g (x ∷ xs) =
+    let fs = flat_map f xs in let gs = flat_map g xs in
+    let both = flat_map (λ i. f i ++ g i) xs in
+    let inner : IsPermutation (g x ++ (fs ++ gs)) (fs ++ (g x ++ gs)) =
+    subst (λ l. IsPermutation l (fs ++ (g x ++ gs))) (append_assoc (g x) fs gs)
+    (subst (λ l. IsPermutation ((g x ++ fs) ++ gs) l) (append_assoc fs (g x) gs) (IsPermutation-append_left gs (g x ++ fs) (fs ++ g x) (IsPermutation-append_comm (g x) fs))) in
+    let moved : IsPermutation (g x ++ both) (fs ++ (g x ++ gs)) = IsPermutation-trans (g x ++ both) (g x ++ (fs ++ gs)) (fs ++ (g x ++ gs)) (IsPermutation-append_right (g x) both (fs ++ gs) (parts f g xs)) inner in
+    subst (λ l. IsPermutation l ((f x ++ fs) ++ (g x ++ gs))) (sym (append_assoc (f x) (g x) both))
+    (subst (IsPermutation (f x ++ (g x ++ both))) (sym (append_assoc (f x) fs (g x ++ gs))) (IsPermutation-append_right (f x) (g x ++ both) (fs ++ (g x ++ gs)) moved))
+
+none_of_each : (seed : ℕ) (name : List ℕ) (from count : ℕ) → flat_map (λ i. items_for seed name []) (range_with_len from count) ≡ []
+none_of_each seed name from zero = refl
+none_of_each seed name from (suc count) = ap (λ (l : List ℕ). l ++ flat_map (λ i. items_for seed name []) (range_with_len (from + 1) count)) (none_for seed name) ∙ none_of_each seed name (from + 1) count
+
+same_flat : (f g : ℕ → List ℕ) (from count : ℕ) → ((i : ℕ) → f i ≡ g i) → flat_map f (range_with_len from count) ≡ flat_map g (range_with_len from count)
+same_flat f g from zero same = refl
+same_flat f g from (suc count) same = ap (λ (l : List ℕ). l ++ flat_map f (range_with_len (from + 1) count)) (same from) ∙ ap (λ (l : List ℕ). g from ++ l) (same_flat f g (from + 1) count same)
+
+items_of_each : (seed : ℕ) (name : List ℕ) (block : ℕ → List (List ℕ)) (from count : ℕ) → flat_map (λ i. items_for seed name (block i)) (range_with_len from count) ≡ items_for seed name (flat_map block (range_with_len from count))
+items_of_each seed name block from zero = sym (none_for seed name)
+items_of_each seed name block from (suc count) =
+    ap (λ (l : List ℕ). items_for seed name (block from) ++ l) (items_of_each seed name block (from + 1) count)
+    ∙ sym (items_for-append seed name (block from) (flat_map block (range_with_len (from + 1) count)))
+
+-- the items of a tenant in the blocks of all desks are those in all lines, in some order
+pub of_all_blocks : (seed : ℕ) (name : List ℕ) (windows : List (List (List ℕ))) (n : ℕ) → 0 < n → IsPermutation (flat_map (λ i. items_for seed name (blocks_of windows i n)) (range_with_len 0 n)) (items_for seed name (all_lines windows))
+of_all_blocks seed name [] n some =
+    subst (λ (l : List ℕ). IsPermutation l (items_for seed name [])) (sym (none_of_each seed name 0 n))
+    (subst (λ (l : List ℕ). IsPermutation [] l) (sym (none_for seed name)) (IsPermutation-refl []))
+of_all_blocks seed name (lines ∷ windows) n some =
+    let range = range_with_len 0 n in
+    let first : ℕ → List ℕ = λ i. items_for seed name (block_of lines i n) in
+    let rest : ℕ → List ℕ = λ i. items_for seed name (blocks_of windows i n) in
+    let whole : IsPermutation (flat_map first range ++ flat_map rest range) (flat_map first range ++ items_for seed name (all_lines windows)) =
+    IsPermutation-append_right (flat_map first range) (flat_map rest range) (items_for seed name (all_lines windows)) (of_all_blocks seed name windows n some) in
+    let joined : flat_map first range ≡ items_for seed name lines = items_of_each seed name (λ i. block_of lines i n) 0 n ∙ ap (items_for seed name) (blocks_joined lines n some) in
+    let split : flat_map first range ++ items_for seed name (all_lines windows) ≡ items_for seed name (lines ++ all_lines windows) =
+    ap (λ (l : List ℕ). l ++ items_for seed name (all_lines windows)) joined ∙ sym (items_for-append seed name lines (all_lines windows)) in
+    subst (λ (l : List ℕ). IsPermutation l (items_for seed name (lines ++ all_lines windows)))
+    (sym (same_flat (λ i. items_for seed name (block_of lines i n ++ blocks_of windows i n)) (λ i. first i ++ rest i) 0 n (λ i. items_for-append seed name (block_of lines i n) (blocks_of windows i n))))
+    (IsPermutation-trans (flat_map (λ i. first i ++ rest i) range) (flat_map first range ++ flat_map rest range) (items_for seed name (lines ++ all_lines windows)) (parts first rest range)
+    (subst (IsPermutation (flat_map first range ++ flat_map rest range)) split whole))

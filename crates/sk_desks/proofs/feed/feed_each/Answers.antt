@@ -1,0 +1,20 @@
+use Rattle.std.proofs.Common.{ℕ, ◌<◌, length, get_or, sym, subst, arith}
+use Rattle.sk_fill.specs.Blocks.{block_of}
+use Rattle.sk_tenant.specs.Desks.{DeskState}
+use Rattle.sk_desks.specs.Feeds.{HasRoom, HasTenants, TakesLines}
+use Rattle.sk_desks.proofs.BlockLaws.{take_each}
+use Rattle.sk_desks.proofs.feed.feed_each.Goals as goal
+
+pub for_each_mut-requires-clause-accepts : goal.for_each_mut-requires-clause-accepts
+for_each_mut-requires-clause-accepts g c κs within = λ i p inside is.
+    let few = c.requires.few in
+    let both : HasTenants p.now × HasRoom (length c.args.window.now.lines) p.now =
+    subst (λ (d : DeskState). HasTenants d × HasRoom (length c.args.window.now.lines) d) (sym is) (c.requires.room i p.now inside) in
+    search
+
+pub returns : goal.returns
+returns g c =
+    let lines = c.args.window.now.lines in let desks = c.args.desks.now in let desks' = c.for_each_mut.new.s in
+    let each : (i : ℕ) (d : DeskState) → i < length desks → TakesLines c.args.seed (get_or desks i d) (block_of lines i (length desks)) (get_or desks' i d)
+    = λ i d inside. let call = (c.for_each_mut.ensures i d inside).1 in grind arith in
+    take_each c.args.seed desks desks' lines (omega (arith, c.for_each_mut.auto.s)) each

@@ -1,0 +1,5 @@
+pub mod Desks
+pub mod Plans
+pub mod Feeds
+pub mod Clerks
+pub mod Endings

@@ -1,0 +1,156 @@
+//! The command over tenants.
+ghost use Rattle.std.specs.Prelude.{◌≡◌, ◌≢◌, ◌<◌, ◌≤◌, [], length, None, Err, All, OnOk, OnErr, IfOk, IfErr};
+ghost use Rattle.std.specs.Io.KnownBytes.{Appends};
+ghost use Rattle.sk_model.specs.Causes.{AppendsPart, HasCause, HasCauseIn};
+ghost use Rattle.sk_model.specs.Limits.{source_limit, most_kept};
+ghost use Rattle.sk_label.specs.Goes.{setting, Goes, ReadsLines, EndsBefore};
+ghost use Rattle.sk_label.specs.Rules.{AreFine};
+ghost use Rattle.sk_tenant.specs.Hosts.{AreNewTenants, AreNewDesks, IsDeskOf};
+ghost use Rattle.sk_tenant.specs.Names.{bytes_of};
+ghost use Rattle.sk_desks.specs.Clerks.{AreUnused, HaveTaken, window_lines};
+ghost use Rattle.sk_desks.specs.Plans.{IsWithin, AreNames, shape_of};
+ghost use Rattle.sk_desks.specs.Desks.{desk_rules};
+
+use crate::clerk::Clerk;
+use crate::ending::{take_in_all, text_of};
+use crate::plan::Plan;
+use sk_fill::Window;
+use sk_io::{Sink, Source, write_all};
+use sk_label::{LabelFault, read_labelled};
+use sk_model::OutOfMemory;
+use sk_model::limits::{MOST_KEPT, MOST_UPDATERS};
+use sk_tenant::{Desk, Names, Opening, TenantStop, Tenants};
+use sk_theta::Shape;
+use std::alloc::Global;
+use std::num::NonZeroUsize;
+use std::sync::Wait;
+use std::thread::{Threads, available_parallelism};
+
+// A window has at most this many lines.
+const WINDOW_LINES: u32 = 65_536;
+
+/// Counts the items of each of 1 to 64 tenants with different names, in a hub of its own: a line of a source of fewer than
+/// `most` bytes is a name, a space and an item. Once the source has ended it writes for each name, in order, the name and
+/// the estimate of its items.
+pub fn tenants<S: Source, O: Sink, R: Threads + Wait + Sync>(
+    rt: &R,
+    alloc: Global,
+    plan: &Plan,
+    names: Vec<String>,
+    most: u64,
+    source: &mut S,
+    out: &mut O,
+) -> Result<(), LabelFault>
+    requires within { IsWithin plan.now }
+    requires names { AreNames (bytes_of names.items) }
+    requires bound { most ≤ source_limit }
+    ensures goes { Goes (desk_rules plan.now (bytes_of names.items)) most (setting (S.left source.old) (O.written out.old)) (setting (S.left source.new) (O.written out.new)) result }
+    ensures quiet { IfErr result (λ fault. fault ≢ LabelFault.WriteFault → out.new ≡ out.old) }
+    ensures reads { HasCauseIn LabelFault.ReadFault (S.faults source.old) (S.faults source.new) result }
+    ensures writes { HasCauseIn LabelFault.WriteFault (O.faults out.old) (O.faults out.new) result }
+    ensures stays { S.stands_on source.new ≡ S.stands_on source.old }
+{
+    let Opening {
+        mut hosts,
+        mut desks,
+    } = open_desks(alloc, plan, names)?;
+    read_all(rt, alloc, plan, most, source, hosts.names(), &mut desks)?;
+    take_in_all(rt, &mut hosts, desks);
+    let text = text_of(alloc, plan, &mut hosts)?;
+    write_text(out, text.as_slice())?;
+    Ok(())
+}
+
+// Writes a text.
+fn write_text<O: Sink>(out: &mut O, text: &[u8]) -> Result<(), LabelFault>
+    ensures ok { OnOk result (Appends (O.written out.old) (O.written out.new) text.now) }
+    ensures part { OnErr result (AppendsPart (O.written out.old) (O.written out.new) text.now) }
+    ensures fault { IfErr result (λ fault. fault ≡ LabelFault.WriteFault) }
+    ensures cause { HasCause (O.faults out.old) (O.faults out.new) result }
+{
+    write_all(out, text).map_err(|_| LabelFault::WriteFault)
+}
+
+// The tenants of a plan. A desk may keep 2^40 items for each, which is as many as a source has lines.
+fn open_desks(alloc: Global, plan: &Plan, names: Vec<String>) -> Result<Opening, OutOfMemory>
+    requires within { IsWithin plan.now }
+    requires names { AreNames (bytes_of names.items) }
+    ensures hosts { IfOk result (λ opening. AreNewTenants (bytes_of names.items) (shape_of plan.now) opening.hosts) }
+    ensures count { IfOk result (λ opening. length opening.desks.items ≡ plan.now.updaters) }
+    ensures desks { IfOk result (λ opening. AreNewDesks opening.hosts (shape_of plan.now) most_kept opening.desks.items) }
+    ensures of_hosts { IfOk result (λ opening. All (IsDeskOf opening.hosts) opening.desks.items) }
+{
+    let Ok(shape) = Shape::new(plan.k, plan.size, plan.updaters, plan.seed, false) else {
+        unreachable!()
+    };
+    match Tenants::open(alloc, names, &shape, MOST_KEPT) {
+        Ok(opening) => Ok(opening),
+        Err(TenantStop::OutOfMemory) => Err(OutOfMemory),
+        Err(TenantStop::Twice(_)) => unreachable!(),
+    }
+}
+
+// Reads a source to its end, and gives its lines to the desks.
+fn read_all<S: Source, R: Threads + Wait + Sync>(
+    rt: &R,
+    alloc: Global,
+    plan: &Plan,
+    most: u64,
+    source: &mut S,
+    names: &Names,
+    desks: &mut Vec<Desk>,
+) -> Result<(), LabelFault>
+    requires bound { most ≤ source_limit }
+    requires unused { AreUnused names.now desks.old.items }
+    ensures read { IfOk result (λ _. ReadsLines most (λ lines. AreFine (desk_rules plan.now names.now) lines × HaveTaken plan.now.seed desks.old.items desks.new.items lines)
+        (S.left source.old) (S.left source.new)) }
+    ensures early { IfErr result (EndsBefore (desk_rules plan.now names.now) most (setting (S.left source.old) None) (setting (S.left source.new) None)) }
+    ensures quiet { result ≢ Err LabelFault.WriteFault }
+    ensures reads { HasCauseIn LabelFault.ReadFault (S.faults source.old) (S.faults source.new) result }
+    ensures stays { S.stands_on source.new ≡ S.stands_on source.old }
+{
+    let mut window = Window::new(alloc, WINDOW_LINES)?;
+    let threads = threads_for(rt, desks.len());
+    let mut clerk = Clerk {
+        rt,
+        plan: *plan,
+        names,
+        desks,
+        window: &mut window,
+        threads,
+    };
+    read_with(alloc, most, source, &mut clerk)
+}
+
+// The same, with the clerk at hand.
+fn read_with<S: Source, R: Threads + Wait + Sync>(
+    alloc: Global,
+    most: u64,
+    source: &mut S,
+    clerk: &mut Clerk<'_, '_, '_, '_, R>,
+) -> Result<(), LabelFault>
+    requires bound { most ≤ source_limit }
+    requires unused { AreUnused clerk.old.names.now clerk.old.desks.now.items }
+    requires empty { clerk.old.window.now.lines ≡ [] }
+    requires lines { clerk.old.window.now.most ≡ window_lines }
+    ensures read { IfOk result (λ _. ReadsLines most (λ lines. AreFine (desk_rules clerk.old.plan clerk.old.names.now) lines × HaveTaken clerk.old.plan.seed clerk.old.desks.now.items clerk.new.desks.now.items lines)
+        (S.left source.old) (S.left source.new)) }
+    ensures early { IfErr result (EndsBefore (desk_rules clerk.old.plan clerk.old.names.now) most (setting (S.left source.old) None) (setting (S.left source.new) None)) }
+    ensures quiet { result ≢ Err LabelFault.WriteFault }
+    ensures reads { HasCauseIn LabelFault.ReadFault (S.faults source.old) (S.faults source.new) result }
+    ensures stays { S.stands_on source.new ≡ S.stands_on source.old }
+    ensures desks { clerk.new.desks.ghost_name ≡ clerk.old.desks.ghost_name }
+{
+    read_labelled(alloc, most, source, clerk)?;
+    clerk.feed();
+    Ok(())
+}
+
+// As many threads as there are processors, and no more than desks.
+fn threads_for<R: Threads>(rt: &R, desks: usize) -> u32
+    ensures { 0 < result }
+{
+    let processors = available_parallelism(rt).map_or(1, NonZeroUsize::get);
+    let threads = processors.min(desks).clamp(1, MOST_UPDATERS as usize);
+    threads as u32
+}

@@ -1,0 +1,93 @@
+// Lines of a window, fed to desks.
+ghost use Rattle.std.specs.Prelude.{◌≡◌, ◌<◌, ◌≤◌, ◌+◌, ◌-◌, ◌∷◌, [], length, slice_range};
+ghost use Rattle.sk_model.specs.Limits.{most_updaters};
+ghost use Rattle.sk_fill.specs.Blocks.{block_of};
+ghost use Rattle.sk_desks.specs.Feeds.{HasRoom, HaveRoom, HasTenants, TakesLines, TakeBlocks};
+
+use crate::calls::insist;
+use sk_fill::{Block, Window};
+use sk_hash::hash63;
+use sk_label::split;
+use sk_tenant::Desk;
+use std::sync::Wait;
+use std::thread;
+use std::thread::Threads;
+
+// Feeds a window to the desks, at most this many in parallel: to each its block.
+pub(crate) fn feed_window<R: Threads + Wait + Sync>(
+    rt: &R,
+    desks: &mut Vec<Desk>,
+    window: &Window,
+    seed: u32,
+    threads: u32,
+)
+    requires threads { 0 < threads }
+    requires few { length desks.old.items ≤ most_updaters }
+    requires room { HaveRoom (length window.now.lines) desks.old.items }
+    ensures { TakeBlocks seed desks.old.items (window.now.lines ∷ []) desks.new.items }
+{
+    feed_each(rt, desks.as_mut_slice(), window, seed, threads);
+}
+
+// The same, of a slice of desks.
+fn feed_each<R: Threads + Wait + Sync>(
+    rt: &R,
+    desks: &mut [Desk],
+    window: &Window,
+    seed: u32,
+    threads: u32,
+)
+    requires threads { 0 < threads }
+    requires few { length desks.old ≤ most_updaters }
+    requires room { HaveRoom (length window.now.lines) desks.old }
+    ensures { TakeBlocks seed desks.old (window.now.lines ∷ []) desks.new }
+{
+    let n = desks.len();
+    thread::for_each_mut(
+        rt,
+        desks,
+        threads as usize,
+        &|i, desk| { feed_block(rt, desk, window, i, n, seed) },
+    );
+}
+
+// Feeds block i of n of a window to a desk.
+fn feed_block<R: Wait>(rt: &R, desk: &mut Desk, window: &Window, i: usize, n: usize, seed: u32)
+    requires few { n ≤ most_updaters }
+    requires within { i < n }
+    requires tenants { HasTenants desk.old }
+    requires room { HasRoom (length window.now.lines) desk.old }
+    ensures { TakesLines seed desk.old (block_of window.now.lines i n) desk.new }
+{
+    let block = Block::of(window.len(), i as u32, n as u32);
+    feed_lines(rt, desk, window, block.from, block.to, seed);
+}
+
+// Feeds the lines from one place up to another to a desk.
+fn feed_lines<R: Wait>(rt: &R, desk: &mut Desk, window: &Window, from: u32, to: u32, seed: u32)
+    requires order { from ≤ to }
+    requires within { to ≤ length window.now.lines }
+    requires tenants { HasTenants desk.old }
+    requires room { HasRoom (to - from) desk.old }
+    ensures { TakesLines seed desk.old (slice_range window.now.lines from to) desk.new }
+{
+    let mut lines = window.lines_from(from);
+    'line: for _ in from..to {
+        feed_line(rt, desk, lines.next_line(), seed);
+    }
+}
+
+// Feeds the item of a line to the updater of its tenant. A line of no tenant has no item.
+fn feed_line<R: Wait>(rt: &R, desk: &mut Desk, line: &[u8], seed: u32)
+    requires tenants { HasTenants desk.old }
+    requires room { HasRoom 1 desk.old }
+    ensures { TakesLines seed desk.old (line.now ∷ []) desk.new }
+{
+    let Some(parts) = split(line) else {
+        return;
+    };
+    let Some(t) = desk.place(parts.label) else {
+        return;
+    };
+    insist(rt, desk, t, hash63(seed, parts.item_text));
+}

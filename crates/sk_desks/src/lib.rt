@@ -1,0 +1,13 @@
+//! Items counted for each of many tenants: labelled lines, given to desks in threads, and a line for
+//! each tenant once they have ended.
+#![tactic(auto)]
+
+mod calls;
+mod clerk;
+mod command;
+mod ending;
+mod feed;
+mod plan;
+
+pub use command::tenants;
+pub use plan::Plan;
