@@ -6,7 +6,6 @@ mod ranks;
 mod read;
 mod schedules;
 mod sessions;
-mod tallies;
 mod versions;
 mod waking;
 mod windows;
