@@ -1,3 +1,4 @@
 pub mod Estimates
+pub mod Joined
 pub mod Parts
 pub mod Updates

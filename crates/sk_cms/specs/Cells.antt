@@ -4,10 +4,9 @@ use Rattle.std.specs.Prelude.{slice_set}
 use Rattle.std.proofs.lemmas.Bool.{eq-eqb, ne_eqb, cases_eq, cases_lt}
 use Rattle.std.proofs.lemmas.List.{length-set}
 use Rattle.std.proofs.lemmas.List.Elements.{All-get_or, All-from_get_or}
-use Rattle.std.proofs.Math.Nat.{mul-le-mul, mul-le-mul_right}
+use Rattle.std.proofs.Math.Nat.{mul-le-mul_right}
 use Rattle.sk_cms.specs.Counts.{raised}
 use Rattle.sk_cms.specs.Estimate.{cell_of}
-use Rattle.sk_cms.specs.Limits.{IsShape}
 
 pub cell_below : (width r x : ℕ) → 1 ≤ width → cell_of width r x < width
 unfolding cell_of
@@ -23,10 +22,6 @@ place width r x = r * width + cell_of width r x
 -- an item's place in a row lies before the end of all rows
 pub place_within : (rows width r x : ℕ) → 1 ≤ width → r < rows → place width r x < rows * width
 place_within rows width r x some below = place_below rows width r (cell_of width r x) below (cell_below width r x some)
-
--- a sketch of an allowed shape has few cells
-pub few_cells : (rows width : ℕ) → IsShape rows width → rows * width ≤ 16777216
-few_cells rows width shape = mul-le-mul {n₁ = rows} {m₁ = width} {n₂ = 16} {m₂ = 1048576} shape.few_rows shape.few_width
 
 pub raised-suc : (r width x : ℕ) (cells : List ℕ) → raised (suc r) width x cells ≡ slice_set (raised r width x cells) (place width r x) (get_or (raised r width x cells) (place width r x) 0 + 1)
 unfolding raised

@@ -1,5 +1,5 @@
 -- What contracts see of a sketch, and the lists that it stands for.
-use Rattle.std.specs.Prelude.{◌≡◌, ◌≢◌, ℕ, zero, suc, ◌+◌, ◌*◌, ◌%◌, ◌<◌, ◌≤◌, List, length, replicate, All, bit_and, slice_index, slice_set}
+use Rattle.std.specs.Prelude.{◌≡◌, ◌≢◌, ℕ, zero, suc, ◌+◌, ◌*◌, ◌%◌, ◌<◌, ◌≤◌, List, [], ◌∷◌, length, replicate, All, bit_and, slice_index, slice_set}
 use Rattle.sk_cms.specs.Estimate.{cell_of, cell_count}
 use Rattle.sk_cms.specs.Limits.{most_counted, IsShape}
 
@@ -46,6 +46,25 @@ pub record IsWholeCounts (sketch : Counts) : Type 0 where
   pub size : length sketch.cells ≡ sketch.rows * sketch.width
   pub small : All (λ cell. cell ≤ sketch.count) sketch.cells
 
+-- ---- what the fields hold
+
+-- the counts in cells, from the lower byte of each and how often that came round
+unfoldable pub joined : List ℕ → List ℕ → List ℕ
+joined [] high = []
+joined (l ∷ low) [] = []
+joined (l ∷ low) (h ∷ high) = (l + 256 * h) ∷ joined low high
+
+-- what all fields show
+abbrev pub shown_by : ℕ → ℕ → ℕ → List ℕ → List ℕ → Counts
+shown_by rows width count low high =
+    record { rows = rows; width = width; count = count; cells = joined low high }
+
 -- a mask other than 0 takes a number's remainder by the width
 abbrev pub IsMaskOf : ℕ → ℕ → Type 0
 IsMaskOf width mask = mask ≢ 0 → (number : ℕ) → bit_and number mask ≡ number % width
+
+-- the fields of a sketch
+pub record AreStored (rows width mask count : ℕ) (low high : List ℕ) : Type 0 where
+  pub masks : IsMaskOf width mask
+  pub whole : IsWholeCounts (shown_by rows width count low high)
+  pub sizes : length high ≡ length low

@@ -1,6 +1,6 @@
 //! The sketch.
-ghost use Rattle.std.specs.Prelude.{◌≡◌, ◌+◌, ◌*◌, ◌<◌, ◌≤◌, ◌^◌, ℕ, List, [], ◌∷◌, ◌++◌, length, All, IfOk};
-ghost use Rattle.sk_cms.specs.Counts.{no_counts, counted, raised, IsCountOf, IsMaskOf};
+ghost use Rattle.std.specs.Prelude.{◌≡◌, ◌+◌, ◌*◌, ◌<◌, ◌≤◌, ◌^◌, ℕ, List, [], ◌∷◌, ◌++◌, length, slice_index, slice_set, All, IfOk};
+ghost use Rattle.sk_cms.specs.Counts.{joined, no_counts, counted, raised, IsCountOf, IsMaskOf};
 ghost use Rattle.sk_cms.specs.Estimate.{cell_of, least_of, times};
 ghost use Rattle.sk_cms.specs.Limits.{most_counted, IsShape};
 
@@ -18,38 +18,42 @@ pub struct CountMin {
     // If the width is a power of two, one less than it. 0 stands for none.
     mask: u64,
     count: u64,
-    cells: Vec<u64>,
+    // The count in a cell is its lower byte and 256 times how often that came round. The lower bytes lie close
+    // together, so that most updates find them in the cache.
+    low: Vec<u8>,
+    high: Vec<u64>,
 }
 
 impl Model for CountMin {
-    ghost use Rattle.sk_cms.specs.Counts.{Counts, IsWholeCounts, IsMaskOf};
+    ghost use Rattle.sk_cms.specs.Counts.{Counts, shown_by, AreStored};
 
     ghost Value = { Counts };
 
-    ghost view = { λ s. record { rows = s.rows; width = s.width; count = s.count; cells = s.cells.items } };
+    ghost view = { λ s. shown_by s.rows s.width s.count s.low.items s.high.items };
 
-    ghost invariant = { λ s. IsMaskOf s.width s.mask
-        × IsWholeCounts (record { rows = s.rows; width = s.width; count = s.count; cells = s.cells.items }) };
+    ghost invariant = { λ s. AreStored s.rows s.width s.mask s.count s.low.items s.high.items };
 }
 
 impl CountMin {
-    /// The sketch of the empty list. All its memory is taken here, 8 bytes a cell.
+    /// The sketch of the empty list. All its memory is taken here, 9 bytes a cell.
     pub fn new(alloc: Global, rows: u32, width: u32) -> Result<CountMin, OutOfMemory>
         requires { IsShape rows width }
         ensures value { IfOk result (λ s. s ≡ no_counts rows width) }
         ensures empty { IfOk result (λ s. IsCountOf s []) }
     {
+        let size = rows as usize * width as usize;
         Ok(CountMin {
             rows,
             width,
             mask: mask_of(width),
             count: 0,
-            cells: vec![in alloc; 0; rows as usize * width as usize]?,
+            low: vec![in alloc; 0; size]?,
+            high: vec![in alloc; 0; size]?,
         })
     }
 
     /// Puts an item to the end of the list.
-    #[inline]
+    #[inline(always)]
     pub fn update(&mut self, x: u64)
         requires { self.old.count < most_counted }
         ensures left { self.new ≡ counted self.old x }
@@ -57,7 +61,8 @@ impl CountMin {
             → IsCountOf self.new (items ++ x ∷ []) }
     {
         raise(
-            &mut self.cells,
+            &mut self.low,
+            &mut self.high,
             self.rows,
             u64::from(self.width),
             self.mask,
@@ -76,7 +81,8 @@ impl CountMin {
         let mut least = self.count;
         'row: for r in 0..self.rows {
             let at = place(width, self.mask, r, x);
-            least = least.min(self.cells[at]);
+            let count = count_at(&self.low, &self.high, at);
+            least = least.min(count);
         }
         least
     }
@@ -105,17 +111,45 @@ fn mask_of(width: u32) -> u64
 
 // Puts one more into the cell of an item in each row.
 #[inline(always)]
-fn raise(cells: &mut [u64], rows: u32, width: u64, mask: u64, x: u64)
+fn raise(low: &mut [u8], high: &mut [u64], rows: u32, width: u64, mask: u64, x: u64)
     requires shape { IsShape rows width }
     requires mask { IsMaskOf width mask }
-    requires size { length cells.old ≡ rows * width }
-    requires small { All (λ cell. cell < 2 ^ 47) cells.old }
-    ensures cells { cells.new ≡ raised rows width x cells.old }
+    requires low { length low.old ≡ rows * width }
+    requires high { length high.old ≡ rows * width }
+    requires small { All (λ cell. cell < 2 ^ 47) (joined low.old high.old) }
+    ensures cells { joined low.new high.new ≡ raised rows width x (joined low.old high.old) }
 {
     'row: for r in 0..rows {
         let at = place(width, mask, r, x);
-        cells[at] += 1;
+        raise_at(low, high, at);
     }
+}
+
+// Puts one more into a cell.
+#[inline(always)]
+fn raise_at(low: &mut [u8], high: &mut [u64], at: usize)
+    requires within { at < length low.old }
+    requires sizes { length high.old ≡ length low.old }
+    requires small { slice_index (joined low.old high.old) at < 2 ^ 47 }
+    ensures { joined low.new high.new ≡ slice_set (joined low.old high.old) at
+        (slice_index (joined low.old high.old) at + 1) }
+{
+    let next = low[at].wrapping_add(1);
+    low[at] = next;
+    if next == 0 {
+        high[at] += 1;
+    }
+}
+
+// The count in a cell.
+#[inline(always)]
+fn count_at(low: &[u8], high: &[u64], at: usize) -> u64
+    requires within { at < length low.now }
+    requires sizes { length high.now ≡ length low.now }
+    requires small { slice_index (joined low.now high.now) at < 2 ^ 47 }
+    ensures { result ≡ slice_index (joined low.now high.now) at }
+{
+    u64::from(low[at]) + 256 * high[at]
 }
 
 // Where the cell of an item in a row lies.
