@@ -5,7 +5,7 @@ use Rattle.std.specs.Bool.{OnTrue}
 use Rattle.std.specs.Io.KnownBytes.{Consumes, IsAtEnd}
 use Rattle.sk_read.specs.Reads.{IsSettled}
 use Rattle.sk_cli.specs.Behaviour.{Behaviour, IsDecided}
-use Rattle.sk_cli.specs.Beside.{Beside}
+use Rattle.sk_cli.specs.Beside.{Beside, NoHub, RankingHub}
 use Rattle.sk_cli.specs.Command.{OneText, behaviour_of}
 use Rattle.sk_cli.specs.Fault.{status_of}
 use Rattle.sk_cli.specs.Values.{Word}
@@ -13,13 +13,21 @@ use Rattle.sk_cli.specs.Outside.{Streams, Outside, over_input, over_file, beside
 use Rattle.sk_cli.specs.Run.{Finishes, Stops, Refuses, Ends, Over, SucceedsText, FailsText, told_text}
 use Rattle.sk_cli.specs.Statuses.{IsCallStatus}
 use Rattle.sk_cli.specs.declared.command.Command.{Command}
-use Rattle.sk_cli.specs.declared.command.Command.TheVariants.{Count, Hash, Image, Make, Quantile, Replay, Help, Version}
+use Rattle.sk_cli.specs.declared.command.Command.TheVariants.{Count, Hash, Image, Make, Quantile, Replay, Tally, Tenants, Window, Help, Version}
 use Rattle.sk_cli.specs.declared.commands.about.TheConstants.{HELP, VERSION}
 use Rattle.sk_cli.specs.declared.fault.Fault.{Fault}
 use Rattle.sk_cli.specs.declared.fault.Fault.TheVariants as fault
+use Rattle.sk_cli.specs.declared.fault.Refusal.TheVariants.{Earlier, Unknown}
 use Rattle.sk_cli.specs.commands.Image.{image_of}
+use Rattle.sk_cli.specs.commands.Quantile.{LeavesRanks}
+use Rattle.sk_desks.specs.Desks.{desk_rules}
+use Rattle.sk_panes.specs.Panes.{pane_rules}
+use Rattle.sk_rank.specs.Plans.{rank_manner}
+use Rattle.sk_tally.specs.Plans.{tally_manner}
+use Rattle.sk_tally.specs.Headline.{TalliesAll}
 use Rattle.sk_cli.proofs.CountDeciding.{count_decides}
-use Rattle.sk_cli.proofs.RankDeciding.{rank_decides}
+use Rattle.sk_cli.proofs.Labelled.{labels_decide}
+use Rattle.sk_cli.proofs.MannerDeciding.{manner_decides}
 use Rattle.sk_cli.proofs.ToldItems.{items_decide}
 use Rattle.sk_cli.proofs.Deciding.{hash_decides, make_decides, replay_decides, about_decides}
 
@@ -28,8 +36,11 @@ decides (Count plan) = count_decides plan
 decides (Hash plan) = hash_decides plan
 decides (Image plan) = items_decide plan.what.kind plan.what.column (image_of plan)
 decides (Make plan) = make_decides plan
-decides (Quantile plan) = rank_decides plan
+decides (Quantile plan) = manner_decides (rank_manner plan) RankingHub (LeavesRanks plan)
 decides Replay = replay_decides
+decides (Tally plan) = manner_decides (tally_manner plan) NoHub (λ from units due to. TalliesAll plan units due)
+decides (Tenants plan) = labels_decide (desk_rules plan.desks plan.names) Unknown
+decides (Window plan) = labels_decide (pane_rules plan) Earlier
 decides Help = about_decides HELP.now
 decides Version = about_decides VERSION.now
 

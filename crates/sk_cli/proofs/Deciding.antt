@@ -21,13 +21,13 @@ use Rattle.sk_cli.proofs.Schedules.{no_more_is_last, schedule_before, answered_o
 
 -- ---- lines that are too long
 
-no_long : (n : ℕ) (lines : List (List ℕ)) → AreWithin line_limit lines → IsLongLine n lines → ⊥
+pub no_long : (n : ℕ) (lines : List (List ℕ)) → AreWithin line_limit lines → IsLongLine n lines → ⊥
 no_long n lines within long =
     let short : length (get_or lines (n - 1) []) ≤ line_limit = within (n - 1) [] long.1.0 in
     absurd (omega (arith, short, long.1.2))
 
 -- the line is not longer than those that are within the limit
-long_behind : (n j : ℕ) (lines : List (List ℕ)) → AreWithin line_limit (take j lines) → IsLongLine n lines → j < n
+pub long_behind : (n j : ℕ) (lines : List (List ℕ)) → AreWithin line_limit (take j lines) → IsLongLine n lines → j < n
 long_behind n j lines within long = by_order (cases_lt j n)
   where
     by_order : (j < n) ⊎ (n ≤ j) → j < n
@@ -38,7 +38,7 @@ long_behind n j lines within long = by_order (cases_lt j n)
         let short : length (get_or lines (n - 1) []) ≤ line_limit = subst (λ (l : List ℕ). length l ≤ line_limit) here (within (n - 1) [] below) in
         absurd (omega (arith, short, long.1.2))
 
-one_long : (n m : ℕ) (lines : List (List ℕ)) → IsLongLine n lines → IsLongLine m lines → n ≡ m
+pub one_long : (n m : ℕ) (lines : List (List ℕ)) → IsLongLine n lines → IsLongLine m lines → n ≡ m
 one_long n m lines one two =
     let before = long_behind n (m - 1) lines two.1.1 one in
     let behind = long_behind m (n - 1) lines one.1.1 two in

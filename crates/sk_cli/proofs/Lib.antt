@@ -1,5 +1,6 @@
 pub mod Asking
 pub mod ByAnswers
+pub mod ByManner
 pub mod Completing
 pub mod CountDeciding
 pub mod CountFronts
@@ -12,16 +13,19 @@ pub mod Fronts
 pub mod Hashing
 pub mod JoinDeciding
 pub mod Joining
+pub mod Labelled
 pub mod MadeRuns
 pub mod Making
+pub mod MannerDeciding
+pub mod MannerFronts
 pub mod Moves
+pub mod NameLaws
 pub mod Numbers
 pub mod OnTheWay
 pub mod Opening
 pub mod OptionLaws
 pub mod Performing
 pub mod RankDeciding
-pub mod RankFronts
 pub mod Ranking
 pub mod Reading
 pub mod Replaying
@@ -30,6 +34,7 @@ pub mod Schedules
 pub mod Serving
 pub mod Showing
 pub mod StatusLaws
+pub mod Tallying
 pub mod Telling
 pub mod ToldItems
 pub mod Touching

@@ -1,11 +1,15 @@
 -- Which count a fault moves.
 use Rattle.std.proofs.Common.{◌≡◌, ℕ, zero, suc, Result, Ok, Err, IsErrAnd, refl, sym, ap, ◌∙◌, subst}
+use Rattle.sk_label.specs.declared.fault.LabelFault.{LabelFault}
+use Rattle.sk_label.specs.declared.fault.LabelFault.TheVariants as label
 use Rattle.sk_model.specs.Causes.{Rose, HasCauseIn}
 use Rattle.sk_read.specs.declared.fault.Fault.{Fault as ReadingFault}
 use Rattle.sk_read.specs.declared.fault.Fault.TheVariants as reading
 use Rattle.sk_cli.specs.declared.fault.Fault.{Fault}
 use Rattle.sk_cli.specs.declared.fault.Fault.TheVariants as fault
-use Rattle.sk_cli.specs.Fault.{fault_by, bad_unit}
+use Rattle.sk_cli.specs.declared.fault.Refusal.{Refusal}
+use Rattle.sk_cli.specs.declared.fault.Refusal.TheVariants.{Earlier, Unknown}
+use Rattle.sk_cli.specs.Fault.{fault_by, bad_unit, fault_by_label}
 use Rattle.sk_cli.specs.Outside.{Streams}
 use Rattle.sk_cli.specs.Run.{HasCauses}
 
@@ -86,3 +90,22 @@ counting_moves T a b column r f is read write = (
 pub counting_causes : {T : Type 0} (a b : Streams) (column : ℕ) (r : Result T ReadingFault) (f : ReadingFault) (g : Fault) → r ≡ Err f → g ≡ fault_by column f →
     HasCauseIn reading.ReadFault a.read_faults b.read_faults r → HasCauseIn reading.WriteFault a.write_faults b.write_faults r → HasCauses a b (Err g)
 counting_causes {T} a b column r f g ended is read write = subst (λ (x : Fault). HasCauses a b (Err x)) (sym is) (causes_of a b (fault_by column f) (counting_moves T a b column r f ended read write))
+
+-- a fault of labelled lines
+not_this : (T : Type 0) (r : Result T LabelFault) (f g : LabelFault) → (f ≡ g → ⊥) → r ≡ Err f → r ≡ Err g → ⊥
+not_this T r f g differs is other = differs (one f g (sym is ∙ other))
+  where
+    one : (f g : LabelFault) → error_of T f ≡ Err g → f ≡ g
+    one f g is = cc
+
+label_moves : (T : Type 0) (a b : Streams) (why : Refusal) (r : Result T LabelFault) (f : LabelFault) → r ≡ Err f → HasCauseIn label.ReadFault a.read_faults b.read_faults r → HasCauseIn label.WriteFault a.write_faults b.write_faults r →
+    Moves a b (fault_by_label why f)
+label_moves T a b why r label.ReadFault is read write = (read.failed is, write.steady (not_this T r label.ReadFault label.WriteFault (λ e. cc) is))
+label_moves T a b why r label.WriteFault is read write = (read.steady (not_this T r label.WriteFault label.ReadFault (λ e. cc) is), write.failed is)
+label_moves T a b Earlier r f is read write = (read.steady (not_this T r f label.ReadFault (λ e. cc) is), write.steady (not_this T r f label.WriteFault (λ e. cc) is))
+label_moves T a b Unknown r f is read write = (read.steady (not_this T r f label.ReadFault (λ e. cc) is), write.steady (not_this T r f label.WriteFault (λ e. cc) is))
+
+-- a command over labelled lines that ended by a fault, which became one of the program
+pub label_causes : {T : Type 0} (a b : Streams) (why : Refusal) (r : Result T LabelFault) (f : LabelFault) (g : Fault) → r ≡ Err f → g ≡ fault_by_label why f →
+    HasCauseIn label.ReadFault a.read_faults b.read_faults r → HasCauseIn label.WriteFault a.write_faults b.write_faults r → HasCauses a b (Err g)
+label_causes {T} a b why r f g ended is read write = subst (λ (x : Fault). HasCauses a b (Err x)) (sym is) (causes_of a b (fault_by_label why f) (label_moves T a b why r f ended read write))

@@ -5,7 +5,7 @@ use Rattle.std.proofs.lemmas.Bool.Decides.{Decides-eqb}
 use Rattle.sk_cli.specs.declared.options.Verb.{Verb}
 use Rattle.sk_cli.specs.declared.options.Name.{Name}
 use Rattle.sk_cli.specs.Values.{Word}
-use Rattle.sk_cli.specs.declared.options.Name.TheVariants.{Alarm, AsImage, At, B, Csv, Eager, File, K, Key, Left, N, Port, Propagator, Raw, Right, Seed, Sessions, Updaters, Wave, Window}
+use Rattle.sk_cli.specs.declared.options.Name.TheVariants.{Alarm, AsImage, At, B, Csv, Eager, File, Item, K, Key, Last, Left, N, Port, Propagator, Raw, Right, Rows, Seed, Sessions, Span, TenantNames, Updaters, Wave, Width, Window}
 use Rattle.sk_cli.specs.Options.{Given, texts_of, known, allowed_by, name_of, allows, takes_value, place_of, value_behind, options_of, alone, led}
 
 pub known_is : (verb : Verb) (word : Word) (name : Name) → name_of word ≡ Some name → allows verb name ≡ true → known verb word ≡ Some name
@@ -50,7 +50,7 @@ not_allowed verb word (next ∷ words) name named refused =
 -- names are told apart by their places
 abbrev name_at : ℕ → Name
 name_at place =
-    get_or (Alarm ∷ AsImage ∷ At ∷ B ∷ Csv ∷ Eager ∷ File ∷ K ∷ Key ∷ Left ∷ N ∷ Port ∷ Propagator ∷ Raw ∷ Right ∷ Seed ∷ Sessions ∷ Updaters ∷ Wave ∷ Window ∷ []) place Window
+    get_or (Alarm ∷ AsImage ∷ At ∷ B ∷ Csv ∷ Eager ∷ File ∷ Item ∷ K ∷ Key ∷ Last ∷ Left ∷ N ∷ Port ∷ Propagator ∷ Raw ∷ Right ∷ Rows ∷ Seed ∷ Sessions ∷ Span ∷ TenantNames ∷ Updaters ∷ Wave ∷ Width ∷ Window ∷ []) place Window
 
 there_and_back : (name : Name) → name_at (place_of name) ≡ name
 there_and_back Alarm = refl
@@ -60,18 +60,24 @@ there_and_back B = refl
 there_and_back Csv = refl
 there_and_back Eager = refl
 there_and_back File = refl
+there_and_back Item = refl
 there_and_back K = refl
 there_and_back Key = refl
+there_and_back Last = refl
 there_and_back Left = refl
 there_and_back N = refl
 there_and_back Port = refl
 there_and_back Propagator = refl
 there_and_back Raw = refl
 there_and_back Right = refl
+there_and_back Rows = refl
 there_and_back Seed = refl
 there_and_back Sessions = refl
+there_and_back Span = refl
+there_and_back TenantNames = refl
 there_and_back Updaters = refl
 there_and_back Wave = refl
+there_and_back Width = refl
 there_and_back Window = refl
 
 other_place : (a b : Name) → (a ≡ b → ⊥) → (place_of a == place_of b) ≡ false

@@ -17,16 +17,8 @@ pub parts_none : (word : Word) → ((k : ℕ) → k < length word → get_or wor
 parts_none word absent = slice_split_none is_comma word (λ k d below. no_comma word d k below (absent k below))
 
 -- the first part ends at the first comma
-pub parts_at : (word : Word) (at : ℕ) → at < length word → get_or word at 0 ≡ 44 → ((k : ℕ) → k < at → get_or word k 0 ≡ 44 → ⊥) → parts_of word ≡ take at word ∷ parts_of (drop (at + 1) word)
-parts_at word at below here absent =
-    let behind : drop at word ≡ get_or word at 0 ∷ drop (suc at) word = drop-cons word at 0 below in
-    let next : suc at ≡ at + 1 = omega arith in
-    let split : take at word ++ (get_or word at 0 ∷ drop (at + 1) word) ≡ word =
-    ap (λ (l : Word). take at word ++ l) (sym (behind ∙ ap (λ (n : ℕ). get_or word at 0 ∷ drop n word) next)) ∙ take-append-drop at word in
-    let before : All (λ (byte : ℕ). is_comma byte ≡ false) (take at word) = λ k d near.
-    let inside : k < at = omega (arith, near, length-take at word) in
-    ap is_comma (get_or-take at word k d inside) ∙ no_comma word d k (omega (arith, inside, below)) (absent k inside) in
-    ap parts_of (sym split) ∙ slice_split_at is_comma (take at word) (get_or word at 0) (drop (at + 1) word) before (ap is_comma here)
+pub parts_cut : (word part rest : Word) → word ≡ part ++ 44 ∷ rest → ((k : ℕ) → k < length part → get_or part k 0 ≡ 44 → ⊥) → parts_of word ≡ part ∷ parts_of rest
+parts_cut word part rest is absent = ap parts_of is ∙ slice_split_at is_comma part 44 rest (λ k d below. no_comma part d k below (absent k below)) refl
 
 -- ---- the numbers of some parts, and those of the others
 

@@ -11,7 +11,7 @@ use Rattle.sk_count.specs.Texts.{places_after}
 use Rattle.sk_cli.specs.Beside.{cleared}
 use Rattle.sk_cli.specs.Command.{behaviour_of, armed_at_start}
 use Rattle.sk_cli.specs.declared.command.Command.{Command}
-use Rattle.sk_cli.specs.declared.command.Command.TheVariants.{Count, Hash, Image, Make, Quantile, Replay, Help, Version}
+use Rattle.sk_cli.specs.declared.command.Command.TheVariants.{Count, Hash, Image, Make, Quantile, Replay, Tally, Tenants, Window, Help, Version}
 
 -- a watcher that is there is seen
 pub live_seen : {X Y : Type 0} (f : X → Y) (xs : List (Option X)) → All IsSome xs → All IsSome (map (option_map f) xs)
@@ -61,6 +61,9 @@ unarmed (Image plan) places places' is none = is
 unarmed (Make plan) places places' is none = is
 unarmed (Quantile plan) places places' is none = is
 unarmed Replay places places' is none = is
+unarmed (Tally plan) places places' is none = is
+unarmed (Tenants plan) places places' is none = is
+unarmed (Window plan) places places' is none = is
 unarmed Help places places' is none = is
 unarmed Version places places' is none = is
 

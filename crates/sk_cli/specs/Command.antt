@@ -5,7 +5,7 @@ use Rattle.sk_cli.specs.declared.options.Verb.TheVariants as verb
 use Rattle.sk_cli.specs.declared.command.Request.{Request}
 use Rattle.sk_cli.specs.declared.command.Request.TheVariants.{OverText, Join, Serve}
 use Rattle.sk_cli.specs.declared.command.Command.{Command}
-use Rattle.sk_cli.specs.declared.command.Command.TheVariants.{Count, Hash, Image, Make, Quantile, Replay, Help, Version}
+use Rattle.sk_cli.specs.declared.command.Command.TheVariants.{Count, Hash, Image, Make, Quantile, Replay, Tally, Tenants, Window, Help, Version}
 use Rattle.sk_cli.specs.declared.commands.about.TheConstants.{HELP, VERSION}
 use Rattle.sk_cli.specs.Behaviour.{Behaviour}
 use Rattle.sk_cli.specs.Beside.{MadeHub, NoHub, CountingHub, cleared}
@@ -20,9 +20,14 @@ use Rattle.sk_cli.specs.commands.Make as make
 use Rattle.sk_cli.specs.commands.Quantile as quantile
 use Rattle.sk_cli.specs.commands.Replay as replay
 use Rattle.sk_cli.specs.commands.Serve as serve
+use Rattle.sk_cli.specs.commands.Tally as tally
+use Rattle.sk_cli.specs.commands.Tenants as tenants
+use Rattle.sk_cli.specs.commands.Window as window
 use Rattle.sk_count.specs.Texts.{armed_by}
+use Rattle.sk_panes.specs.Plans as panes
 use Rattle.sk_rank.specs.Plans as ranks
 use Rattle.sk_serve.specs.declared.plan.ServePlan.{ServePlan}
+use Rattle.sk_tally.specs.Plans as tallies
 use Rattle.sk_watch.specs.Places.{Place}
 
 -- what a command does
@@ -33,6 +38,9 @@ behaviour_of (Image plan) = image.imaging plan
 behaviour_of (Make plan) = make.making plan
 behaviour_of (Quantile plan) = quantile.ranking plan
 behaviour_of Replay = replay.replaying
+behaviour_of (Tally plan) = tally.tallying plan
+behaviour_of (Tenants plan) = tenants.hosting plan
+behaviour_of (Window plan) = window.paning plan
 behaviour_of Help = about HELP.now
 behaviour_of Version = about VERSION.now
 
@@ -47,6 +55,9 @@ IsWithin (Count plan) = count.IsWithin plan
 IsWithin (Image plan) = image.IsWithin plan
 IsWithin (Make plan) = make.IsWithin plan
 IsWithin (Quantile plan) = ranks.IsWithin plan
+IsWithin (Tally plan) = tallies.IsWithin plan
+IsWithin (Tenants plan) = tenants.IsWithin plan
+IsWithin (Window plan) = panes.IsWithin plan
 IsWithin other = Unit {0}
 
 -- a command over at most one text, and the name of the file that it reads in place of the standard input
@@ -149,6 +160,15 @@ replay_by given = Some Replay
 abbrev pub serve_by : List Given → Option Asked
 serve_by given = option_map (λ plan. OfLinks plan) (serve.plan_by given)
 
+abbrev pub tally_by : List Given → Option Command
+tally_by given = option_map (λ plan. Tally plan) (tally.plan_by given)
+
+abbrev pub tenants_by : List Given → Option Command
+tenants_by given = option_map (λ plan. Tenants plan) (tenants.plan_by given)
+
+abbrev pub window_by : List Given → Option Command
+window_by given = option_map (λ plan. Window plan) (window.plan_by given)
+
 -- what words ask for: a command with its options
 abbrev pub request_of : List Word → Option Asked
 request_of [] = None
@@ -161,5 +181,8 @@ request_of (word ∷ words) =
     if bytes_eq word (codes "quantile") then option_and_then (asked_by quantile_by) (spelled_by verb.Quantile words) else (
     if bytes_eq word (codes "replay") then option_and_then (asked_by replay_by) (spelled_by verb.Replay words) else (
     if bytes_eq word (codes "serve") then option_and_then serve_by (spelled_by verb.Serve words) else (
+    if bytes_eq word (codes "tally") then option_and_then (asked_by tally_by) (spelled_by verb.Tally words) else (
+    if bytes_eq word (codes "tenants") then option_and_then (asked_by tenants_by) (spelled_by verb.Tenants words) else (
+    if bytes_eq word (codes "window") then option_and_then (asked_by window_by) (spelled_by verb.Window words) else (
     if bytes_eq word (codes "--help") then alone Help words else (
-    if bytes_eq word (codes "--version") then alone Version words else None)))))))))
+    if bytes_eq word (codes "--version") then alone Version words else None))))))))))))

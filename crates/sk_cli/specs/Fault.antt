@@ -1,5 +1,7 @@
 -- Statuses, and what standard error gets.
 use Rattle.std.specs.Prelude.{ℕ, zero, suc, List, ◌++◌, codes, decimal}
+use Rattle.sk_label.specs.declared.fault.LabelFault.{LabelFault}
+use Rattle.sk_label.specs.declared.fault.LabelFault.TheVariants as label
 use Rattle.sk_read.specs.declared.fault.Fault.{Fault as ReadingFault}
 use Rattle.sk_read.specs.declared.fault.Fault.TheVariants as reading
 use Rattle.sk_read.specs.declared.reader.LineFault.{LineFault}
@@ -10,8 +12,10 @@ use Rattle.sk_image.specs.declared.stop.ReadStop.TheVariants as image
 use Rattle.sk_serve.specs.declared.fault.ServeFault.{ServeFault}
 use Rattle.sk_serve.specs.declared.fault.ServeFault.TheVariants as serve
 use Rattle.sk_cli.specs.declared.fault.Stamp.{Stamp}
+use Rattle.sk_cli.specs.declared.fault.Refusal.{Refusal}
+use Rattle.sk_cli.specs.declared.fault.Refusal.TheVariants.{Earlier, Unknown}
 use Rattle.sk_cli.specs.declared.fault.Fault.{Fault}
-use Rattle.sk_cli.specs.declared.fault.Fault.TheVariants.{OutOfMemory, Usage, ReadFault, WriteFault, LongLine, BadItem, BadField, BadEvent, OpenFault, BadImage, NetFault, Mixed, BadCsv, TooMuch}
+use Rattle.sk_cli.specs.declared.fault.Fault.TheVariants.{OutOfMemory, Usage, ReadFault, WriteFault, LongLine, BadItem, BadField, BadEvent, OpenFault, BadImage, NetFault, Mixed, BadCsv, TooMuch, BadLine, Backward, UnknownTenant}
 
 abbrev pub status_of : Fault → ℕ
 status_of OutOfMemory = 1
@@ -28,6 +32,9 @@ status_of NetFault = 10
 status_of (Mixed left right) = 11
 status_of (BadCsv number) = 12
 status_of TooMuch = 13
+status_of (BadLine line) = 14
+status_of (Backward line) = 15
+status_of (UnknownTenant line) = 16
 
 -- what is wrong with a line or a record
 abbrev pub unit_message : List ℕ → ℕ → List ℕ → List ℕ
@@ -48,7 +55,7 @@ mixed_message left right = codes "mixed: " ++ (stamp_message left (codes " and "
 -- the line that standard error gets
 abbrev pub message_of : Fault → List ℕ
 message_of OutOfMemory = codes "out of memory\n"
-message_of Usage = codes "usage: sketchd count, hash, replay, image, join, quantile, serve or make\n"
+message_of Usage = codes "usage: sketchd count, hash, replay, image, join, quantile, serve, make, window, tally or tenants\n"
 message_of ReadFault = codes "read fault\n"
 message_of WriteFault = codes "write fault\n"
 message_of (LongLine line) = unit_message (codes "line ") line (codes ": too long\n")
@@ -61,6 +68,9 @@ message_of NetFault = codes "net fault\n"
 message_of (Mixed left right) = mixed_message left right
 message_of (BadCsv number) = unit_message (codes "record ") number (codes ": bad csv\n")
 message_of TooMuch = codes "too much\n"
+message_of (BadLine line) = unit_message (codes "line ") line (codes ": bad line\n")
+message_of (Backward line) = unit_message (codes "line ") line (codes ": earlier moment\n")
+message_of (UnknownTenant line) = unit_message (codes "line ") line (codes ": unknown tenant\n")
 
 -- a line or the field of a record that is no item
 abbrev pub bad_unit : ℕ → ℕ → Fault
@@ -95,3 +105,18 @@ abbrev pub fault_by_serve : ServeFault → Fault
 fault_by_serve serve.OutOfMemory = OutOfMemory
 fault_by_serve serve.NetFault = NetFault
 fault_by_serve serve.WriteFault = WriteFault
+
+-- the fault of a line that is refused for its label
+abbrev pub refused_at : Refusal → ℕ → Fault
+refused_at Earlier line = Backward line
+refused_at Unknown line = UnknownTenant line
+
+-- the fault that a fault of labelled lines makes
+abbrev pub fault_by_label : Refusal → LabelFault → Fault
+fault_by_label why label.OutOfMemory = OutOfMemory
+fault_by_label why label.ReadFault = ReadFault
+fault_by_label why label.WriteFault = WriteFault
+fault_by_label why (label.LongLine line) = LongLine line
+fault_by_label why label.TooMuch = TooMuch
+fault_by_label why (label.BadLine line) = BadLine line
+fault_by_label why (label.Refused line) = refused_at why line

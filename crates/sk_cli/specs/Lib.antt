@@ -1,9 +1,12 @@
 pub mod Answering
 pub mod Behaviour
 pub mod Beside
+pub mod ByManner
 pub mod Command
 pub mod Fault
+pub mod Labelled
 pub mod Lines
+pub mod Names
 pub mod Options
 pub mod Outside
 pub mod Readable

@@ -3,7 +3,7 @@ use Rattle.std.specs.Prelude.{ℕ, ◌-◌, ◌≤◌, List, [], take, slice_ind
 use Rattle.sk_model.specs.Limits.{line_limit}
 use Rattle.sk_model.specs.Lines.{IsFirstLong}
 use Rattle.sk_cli.specs.declared.fault.Fault.{Fault}
-use Rattle.sk_cli.specs.declared.fault.Fault.TheVariants.{LongLine, BadItem, BadField, BadCsv, BadEvent}
+use Rattle.sk_cli.specs.declared.fault.Fault.TheVariants.{LongLine, BadItem, BadField, BadCsv, BadEvent, BadLine, Backward, UnknownTenant}
 
 -- line n is the first that is too long
 abbrev pub IsLongLine : ℕ → List (List ℕ) → Type 0
@@ -20,4 +20,7 @@ lines_before (BadItem n) lines = take (n - 1) lines
 lines_before (BadField n) fields = take (n - 1) fields
 lines_before (BadCsv n) fields = take (n - 1) fields
 lines_before (BadEvent n) lines = take (n - 1) lines
+lines_before (BadLine n) lines = take (n - 1) lines
+lines_before (Backward n) lines = take (n - 1) lines
+lines_before (UnknownTenant n) lines = take (n - 1) lines
 lines_before other lines = []

@@ -2,13 +2,14 @@
 use Rattle.std.specs.Prelude.{ℕ, ◌-◌, ◌^◌, Bool, true, false, ◌&&◌, List, [], ◌∷◌, map, codes, if◌then◌else◌, Option, Some, None, is_some, option_map, option_and_then, unwrap_or, is_none, ◌==◌, bytes_eq, string_bytes}
 use Rattle.std.specs.declared.string.String.{String}
 use Rattle.std.specs.declared.alloc.Global.{Global}
-use Rattle.sk_model.specs.Limits.{most_size, most_updaters}
+use Rattle.sk_model.specs.Limits.{least_k, most_k, most_size, most_updaters}
 use Rattle.sk_cli.specs.Beside.{board_places}
 use Rattle.sk_cli.specs.Values.{Word, number_from, number_list, yes_or_no}
 use Rattle.sk_cli.specs.declared.options.Verb.{Verb}
-use Rattle.sk_cli.specs.declared.options.Verb.TheVariants.{Count, Hash, Image, Join, Make, Quantile, Replay, Serve}
+use Rattle.sk_cli.specs.declared.options.Verb.TheVariants.{Count, Hash, Image, Join, Make, Quantile, Replay, Serve, Tally, Tenants}
+use Rattle.sk_cli.specs.declared.options.Verb.TheVariants as verb
 use Rattle.sk_cli.specs.declared.options.Name.{Name}
-use Rattle.sk_cli.specs.declared.options.Name.TheVariants.{Alarm, AsImage, At, B, Csv, Eager, File, K, Key, Left, N, Port, Propagator, Raw, Right, Seed, Sessions, Updaters, Wave, Window}
+use Rattle.sk_cli.specs.declared.options.Name.TheVariants.{Alarm, AsImage, At, B, Csv, Eager, File, Item, K, Key, Last, Left, N, Port, Propagator, Raw, Right, Rows, Seed, Sessions, Span, TenantNames, Updaters, Wave, Width, Window}
 
 abbrev pub texts_of : List (String Global) → List Word
 texts_of words = map string_bytes words
@@ -23,19 +24,25 @@ name_of word =
     if bytes_eq word (codes "--eager") then Some Eager else (
     if bytes_eq word (codes "--file") then Some File else (
     if bytes_eq word (codes "--image") then Some AsImage else (
+    if bytes_eq word (codes "--item") then Some Item else (
     if bytes_eq word (codes "--k") then Some K else (
     if bytes_eq word (codes "--key") then Some Key else (
+    if bytes_eq word (codes "--last") then Some Last else (
     if bytes_eq word (codes "--left") then Some Left else (
     if bytes_eq word (codes "--n") then Some N else (
+    if bytes_eq word (codes "--names") then Some TenantNames else (
     if bytes_eq word (codes "--port") then Some Port else (
     if bytes_eq word (codes "--propagator") then Some Propagator else (
     if bytes_eq word (codes "--raw") then Some Raw else (
     if bytes_eq word (codes "--right") then Some Right else (
+    if bytes_eq word (codes "--rows") then Some Rows else (
     if bytes_eq word (codes "--seed") then Some Seed else (
     if bytes_eq word (codes "--sessions") then Some Sessions else (
+    if bytes_eq word (codes "--span") then Some Span else (
     if bytes_eq word (codes "--updaters") then Some Updaters else (
     if bytes_eq word (codes "--wave") then Some Wave else (
-    if bytes_eq word (codes "--window") then Some Window else None)))))))))))))))))))
+    if bytes_eq word (codes "--width") then Some Width else (
+    if bytes_eq word (codes "--window") then Some Window else None)))))))))))))))))))))))))
 
 -- whether a value stands behind a name
 abbrev pub takes_value : Name → Bool
@@ -97,6 +104,31 @@ allows Serve Seed = true
 allows Serve Sessions = true
 allows Serve Wave = true
 allows Serve name = false
+allows Tally B = true
+allows Tally Csv = true
+allows Tally File = true
+allows Tally Item = true
+allows Tally Propagator = true
+allows Tally Rows = true
+allows Tally Seed = true
+allows Tally Updaters = true
+allows Tally Width = true
+allows Tally Window = true
+allows Tally name = false
+allows Tenants B = true
+allows Tenants File = true
+allows Tenants K = true
+allows Tenants Seed = true
+allows Tenants TenantNames = true
+allows Tenants Updaters = true
+allows Tenants name = false
+allows verb.Window B = true
+allows verb.Window File = true
+allows verb.Window K = true
+allows verb.Window Last = true
+allows verb.Window Seed = true
+allows verb.Window Span = true
+allows verb.Window name = false
 
 -- an option: its name, and the value behind it, empty for a flag
 abbrev pub Given : Type 0
@@ -111,19 +143,25 @@ place_of B = 3
 place_of Csv = 4
 place_of Eager = 5
 place_of File = 6
-place_of K = 7
-place_of Key = 8
-place_of Left = 9
-place_of N = 10
-place_of Port = 11
-place_of Propagator = 12
-place_of Raw = 13
-place_of Right = 14
-place_of Seed = 15
-place_of Sessions = 16
-place_of Updaters = 17
-place_of Wave = 18
-place_of Window = 19
+place_of Item = 7
+place_of K = 8
+place_of Key = 9
+place_of Last = 10
+place_of Left = 11
+place_of N = 12
+place_of Port = 13
+place_of Propagator = 14
+place_of Raw = 15
+place_of Right = 16
+place_of Rows = 17
+place_of Seed = 18
+place_of Sessions = 19
+place_of Span = 20
+place_of TenantNames = 21
+place_of Updaters = 22
+place_of Wave = 23
+place_of Width = 24
+place_of Window = 25
 
 -- the name, where the command has it
 abbrev pub allowed_by : Verb → Option Name → Option Name
@@ -196,6 +234,18 @@ is_yes_in (Some word) = yes_or_no word
 abbrev pub seed_by : List Given → Option ℕ
 seed_by given = number_in 0 (2 ^ 32 - 1) 0 (value_behind Seed given)
 
+-- the column of the records that are read in place of lines; 0 for lines
+abbrev pub column_by : List Given → Option ℕ
+column_by given = if is_given Csv given then number_in 1 4096 1 (value_behind Csv given) else Some 0
+
+-- how many hashes the sketch keeps
+abbrev pub k_by : List Given → Option ℕ
+k_by given = number_in least_k most_k 4096 (value_behind K given)
+
+-- how many items a buffer of each updater has room for
+abbrev pub size_by : List Given → Option ℕ
+size_by given = number_in 1 most_size 64 (value_behind B given)
+
 -- how many updaters there are
 abbrev pub updaters_by : List Given → Option ℕ
 updaters_by given = number_in 1 most_updaters 1 (value_behind Updaters given)
@@ -234,8 +284,8 @@ name_by (Some (byte ∷ bytes)) = Some (Some (byte ∷ bytes))
 abbrev pub file_by : List Given → Option (Option Word)
 file_by given = name_by (value_behind File given)
 
--- the name of a file that has to be given
-abbrev pub name_in : Option Word → Option Word
-name_in None = None
-name_in (Some []) = None
-name_in (Some (byte ∷ bytes)) = Some (byte ∷ bytes)
+-- a word that has to be given, and is not empty
+abbrev pub word_in : Option Word → Option Word
+word_in None = None
+word_in (Some []) = None
+word_in (Some (byte ∷ bytes)) = Some (byte ∷ bytes)

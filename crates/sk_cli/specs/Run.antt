@@ -23,8 +23,11 @@ use Rattle.sk_cli.specs.commands.Quantile.{LeavesRanks}
 use Rattle.sk_count.specs.declared.plan.Plan.{Plan as CountPlan}
 use Rattle.sk_model.specs.Limits.{source_limit}
 use Rattle.sk_rank.specs.declared.plan.Plan.{Plan as RankPlan}
+use Rattle.sk_label.specs.Rules.{Rules, AreFine, whole_text}
 use Rattle.sk_read.specs.Units.{units_by, units_of}
 use Rattle.sk_serve.specs.declared.plan.ServePlan.{ServePlan}
+use Rattle.sk_tally.specs.declared.plan.Plan.{Plan as TallyPlan}
+use Rattle.sk_tally.specs.Headline.{TalliesAll}
 use Rattle.sk_cli.specs.declared.command.Command.{Command}
 use Rattle.sk_cli.specs.declared.commands.make.MakePlan.{MakePlan}
 use Rattle.sk_cli.specs.declared.fault.Fault.{Fault}
@@ -252,6 +255,14 @@ CountsText plan file old new = TakesWhole file old new (λ text due. LeavesHub p
 -- `quantile` that ended well
 abbrev pub RanksText : RankPlan → Option Word → Outside → Outside → Type 0
 RanksText plan file old new = TakesWhole file old new (λ text due. LeavesRanks plan (beside_in old) (units_of (units_by 0) text) due (beside_in new))
+
+-- `tally` that ended well
+abbrev pub TalliesText : TallyPlan → Option Word → Outside → Outside → Type 0
+TalliesText plan file old new = TakesWhole file old new (λ text due. TalliesAll plan (units_of (units_by plan.column) text) due)
+
+-- a command over labelled lines that ended well: no line is refused, and their whole text was written
+abbrev pub WritesLines : Rules → Option Word → Outside → Outside → Type 0
+WritesLines rules file old new = TakesWhole file old new (λ text due. AreFine rules (lines_of text) × (due ≡ whole_text rules (lines_of text)))
 
 -- `serve` that ended well
 abbrev pub ServesLinks : ServePlan → Outside → Outside → Type 0

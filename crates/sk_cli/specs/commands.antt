@@ -8,3 +8,6 @@ pub mod Make
 pub mod Quantile
 pub mod Replay
 pub mod Serve
+pub mod Tally
+pub mod Tenants
+pub mod Window

@@ -2,21 +2,22 @@
 ghost use Rattle.std.specs.Prelude.{◌≡◌, None, IfSome};
 ghost use Rattle.std.specs.Option.{option_map, option_copied};
 ghost use Rattle.sk_cli.specs.Options.{texts_of, file_by};
-ghost use Rattle.sk_cli.specs.Command.{request_of, asked_of, asked_by, count_by, hash_by, image_by, join_by, serve_by, make_by, quantile_by, replay_by, alone, OfText, IsInOrder};
+ghost use Rattle.sk_cli.specs.Command.{request_of, asked_of, asked_by, count_by, hash_by, image_by, join_by, serve_by, make_by, quantile_by, replay_by, tally_by, tenants_by, window_by, alone, OfText, IsInOrder};
 
 use crate::commands::count::plan_of;
 use crate::commands::hash::HashPlan;
 use crate::commands::image::ImagePlan;
 use crate::commands::join::JoinPlan;
 use crate::commands::make::MakePlan;
-use crate::commands::{quantile, serve};
+use crate::commands::tenants::TenantsPlan;
+use crate::commands::{quantile, serve, tally, window};
 use crate::options::{Name, Options, Verb};
 use sk_count::Plan;
 use sk_serve::ServePlan;
 
 /// A command over at most one text.
-#[derive(Clone, Copy)]
-pub enum Command {
+#[derive(Drop)]
+pub enum Command<'a> {
     /// Estimate how many distinct items there are.
     Count(Plan),
     /// Write the hash of each line that is not empty.
@@ -29,19 +30,25 @@ pub enum Command {
     Quantile(sk_rank::Plan),
     /// Play a schedule and write the answer to each event.
     Replay,
+    /// Count how often one item comes.
+    Tally(sk_tally::Plan),
+    /// Estimate how many distinct items each tenant has.
+    Tenants(TenantsPlan<'a>),
+    /// Estimate how many distinct items the last intervals have.
+    Window(sk_panes::Plan),
     Help,
     Version,
 }
 
 /// A command over at most one text, and the name of the file that it reads in place of the standard input.
-#[derive(Clone, Copy)]
+#[derive(Drop)]
 pub struct OverText<'a> {
-    pub command: Command,
+    pub command: Command<'a>,
     pub file: Option<&'a str>,
 }
 
 /// What the program is asked to do.
-#[derive(Clone, Copy)]
+#[derive(Drop)]
 pub enum Request<'a> {
     OverText(OverText<'a>),
     /// Join two images.
@@ -66,6 +73,9 @@ impl<'a> Request<'a> {
             "quantile" => Request::quantile(&Options::new(Verb::Quantile, behind)?),
             "replay" => Request::replay(&Options::new(Verb::Replay, behind)?),
             "serve" => Request::serve(&Options::new(Verb::Serve, behind)?),
+            "tally" => Request::tally(&Options::new(Verb::Tally, behind)?),
+            "tenants" => Request::tenants(&Options::new(Verb::Tenants, behind)?),
+            "window" => Request::window(&Options::new(Verb::Window, behind)?),
             "--help" => alone(Command::Help, behind),
             "--version" => alone(Command::Version, behind),
             _ => None,
@@ -143,12 +153,39 @@ impl<'a> Request<'a> {
     {
         Some(Request::Serve(serve::plan_of(options)?))
     }
+
+    fn tally(options: &Options<'a>) -> Option<Request<'a>>
+        ensures value { option_map asked_of result ≡ asked_by tally_by options.now }
+        ensures order { IfSome result (λ request. IsInOrder (asked_of request)) }
+    {
+        let command = Command::Tally(tally::plan_of(options)?);
+        let file = file_in(options)?;
+        Some(Request::OverText(OverText { command, file }))
+    }
+
+    fn tenants(options: &Options<'a>) -> Option<Request<'a>>
+        ensures value { option_map asked_of result ≡ asked_by tenants_by options.now }
+        ensures order { IfSome result (λ request. IsInOrder (asked_of request)) }
+    {
+        let command = Command::Tenants(TenantsPlan::of(options)?);
+        let file = file_in(options)?;
+        Some(Request::OverText(OverText { command, file }))
+    }
+
+    fn window(options: &Options<'a>) -> Option<Request<'a>>
+        ensures value { option_map asked_of result ≡ asked_by window_by options.now }
+        ensures order { IfSome result (λ request. IsInOrder (asked_of request)) }
+    {
+        let command = Command::Window(window::plan_of(options)?);
+        let file = file_in(options)?;
+        Some(Request::OverText(OverText { command, file }))
+    }
 }
 
 // The command, where no word stands behind it.
-fn alone<'a>(command: Command, behind: &[String]) -> Option<Request<'a>>
-    ensures value { option_map asked_of result ≡ alone command (texts_of behind.now) }
-    ensures alone { IfSome result (λ request. asked_of request ≡ OfText (record { command = command; file = None })) }
+fn alone<'a>(command: Command<'a>, behind: &[String]) -> Option<Request<'a>>
+    ensures value { option_map asked_of result ≡ alone command.entry (texts_of behind.now) }
+    ensures alone { IfSome result (λ request. asked_of request ≡ OfText (record { command = command.entry; file = None })) }
 {
     if behind.is_empty() {
         Some(Request::OverText(OverText {

@@ -8,3 +8,6 @@ pub mod make;
 pub mod quantile;
 pub mod replay;
 pub mod serve;
+pub mod tally;
+pub mod tenants;
+pub mod window;

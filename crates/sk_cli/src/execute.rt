@@ -18,6 +18,9 @@ use crate::commands::make::make;
 use crate::commands::quantile::quantile;
 use crate::commands::replay::replay;
 use crate::commands::serve::serve;
+use crate::commands::tally::tally;
+use crate::commands::tenants::tenants;
+use crate::commands::window::window;
 use crate::fault::Fault;
 use crate::remains::Remains;
 use crate::watchers::clear;
@@ -34,7 +37,7 @@ use std::thread::Threads;
 fn perform_text<'r, R: Threads + Wait + Sync, S: Source, O: Sink, F: Shelf, B: Seen>(
     rt: &'r R,
     alloc: Global,
-    command: Command,
+    command: &Command<'_>,
     file: Option<&str>,
     most: u64,
     input: &mut S,
@@ -43,14 +46,14 @@ fn perform_text<'r, R: Threads + Wait + Sync, S: Source, O: Sink, F: Shelf, B: S
     board: &mut B,
     remains: &mut Remains<&'r R>,
 ) -> Result<(), Fault>
-    requires within { IsWithin command }
+    requires within { IsWithin command.now }
     requires bound { most ≤ source_limit }
     requires board { IsFullBoard (B.places board.old) }
     ensures done { (net : Net) → let outside = outside_with S.Source O.Sink F.Shelf B.Seen in
-        Performs (OfText (record { command = command; file = option_copied file.entry })) most
+        Performs (OfText (record { command = command.now; file = option_copied file.entry })) most
         (outside input.old out.old shelf.old board.old (left_of remains.old) net)
         (outside input.new out.new shelf.new board.new (left_of remains.new) net) result }
-    ensures touches { TouchesOnly (frame_of (OfText (record { command = command; file = option_copied file.entry }))) (exit_of result)
+    ensures touches { TouchesOnly (frame_of (OfText (record { command = command.now; file = option_copied file.entry }))) (exit_of result)
         (handed input.old out.old shelf.old (tt {0}) board.old) (handed input.new out.new shelf.new (tt {0}) board.new) }
 {
     match file {
@@ -58,7 +61,7 @@ fn perform_text<'r, R: Threads + Wait + Sync, S: Source, O: Sink, F: Shelf, B: S
         Some(name) => match OpenFile::open(shelf, name) {
             Ok(mut file) => execute(rt, alloc, command, most, &mut file, out, board, remains),
             Err(_refused) => {
-                set_alarms(&command, board);
+                set_alarms(command, board);
                 Err(Fault::OpenFault)
             }
         },
@@ -95,7 +98,7 @@ where
         Request::OverText(over) => perform_text(
             rt,
             alloc,
-            over.command,
+            &over.command,
             over.file,
             most,
             input,
@@ -113,7 +116,7 @@ where
 }
 
 // Arms the first places for the alarms of a command, and lets all other watchers go.
-fn set_alarms<B: Seen>(command: &Command, board: &mut B)
+fn set_alarms<B: Seen>(command: &Command<'_>, board: &mut B)
     requires within { IsWithin command.now }
     requires board { IsFullBoard (B.places board.old) }
     ensures { B.places board.new ≡ armed_at_start command.now (B.places board.old) }
@@ -128,43 +131,55 @@ fn set_alarms<B: Seen>(command: &Command, board: &mut B)
 pub fn execute<'r, R: Threads + Wait + Sync, S: Source, O: Sink, B: Seen>(
     rt: &'r R,
     alloc: Global,
-    command: Command,
+    command: &Command<'_>,
     most: u64,
     source: &mut S,
     out: &mut O,
     board: &mut B,
     remains: &mut Remains<&'r R>,
 ) -> Result<(), Fault>
-    requires within { IsWithin command }
+    requires within { IsWithin command.now }
     requires bound { most ≤ source_limit }
     requires board { IsFullBoard (B.places board.old) }
     ensures done { let old = streams_of S.Source O.Sink source.old out.old in
         let new = streams_of S.Source O.Sink source.new out.new in
-        ExecutesSo (behaviour_of command) most (beside_of (B.places board.old) remains.old) (beside_of (B.places board.new) remains.new) old new result }
+        ExecutesSo (behaviour_of command.now) most (beside_of (B.places board.old) remains.old) (beside_of (B.places board.new) remains.new) old new result }
 
     // Only what it reads is touched, and the output only if there is something to write.
-    ensures idle { (behaviour_of command).reads ≡ false → source.new ≡ source.old }
-    ensures last { (behaviour_of command).writes_last ≡ true → IfErr result (λ fault. fault ≢ Fault.WriteFault → out.new ≡ out.old) }
+    ensures idle { (behaviour_of command.now).reads ≡ false → source.new ≡ source.old }
+    ensures last { (behaviour_of command.now).writes_last ≡ true → IfErr result (λ fault. fault ≢ Fault.WriteFault → out.new ≡ out.old) }
     ensures stays { S.stands_on source.new ≡ S.stands_on source.old }
 {
     match command {
-        Command::Count(plan) => count(rt, alloc, &plan, most, source, out, board, remains),
+        Command::Count(plan) => count(rt, alloc, plan, most, source, out, board, remains),
         Command::Hash(plan) => {
             clear(board);
-            hash(alloc, &plan, most, source, out)
+            hash(alloc, plan, most, source, out)
         }
         Command::Image(plan) => {
             clear(board);
-            image(alloc, &plan, most, source, out)
+            image(alloc, plan, most, source, out)
         }
-        Command::Make(plan) => make(rt, alloc, &plan, out, board, remains),
+        Command::Make(plan) => make(rt, alloc, plan, out, board, remains),
         Command::Quantile(plan) => {
             clear(board);
-            quantile(rt, alloc, &plan, most, source, out, remains)
+            quantile(rt, alloc, plan, most, source, out, remains)
         }
         Command::Replay => {
             clear(board);
             replay(alloc, most, source, out)
+        }
+        Command::Tally(plan) => {
+            clear(board);
+            tally(rt, alloc, plan, most, source, out)
+        }
+        Command::Tenants(plan) => {
+            clear(board);
+            tenants(rt, alloc, plan, most, source, out)
+        }
+        Command::Window(plan) => {
+            clear(board);
+            window(rt, alloc, plan, most, source, out)
         }
         Command::Help => {
             clear(board);

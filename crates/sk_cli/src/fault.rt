@@ -2,10 +2,11 @@
 ghost use Rattle.std.specs.Prelude.{◌≡◌, OnOk, OnErr};
 ghost use Rattle.std.specs.Io.KnownBytes.{Appends};
 ghost use Rattle.sk_model.specs.Causes.{HasCause, AppendsPart};
-ghost use Rattle.sk_cli.specs.Fault.{status_of, message_of, unit_message, bad_image_message, stamp_message, mixed_message, fault_by, fault_by_image, fault_by_serve};
+ghost use Rattle.sk_cli.specs.Fault.{status_of, message_of, unit_message, bad_image_message, stamp_message, mixed_message, fault_by, fault_by_image, fault_by_serve, refused_at, fault_by_label};
 
 use sk_image::{MOST_LINE, ReadStop, put_first_line};
 use sk_io::{Failed, Sink, write_all};
+use sk_label::LabelFault;
 use sk_lines::put_decimal;
 use sk_model::OutOfMemory;
 use sk_read::{Fault as ReadingFault, LineFault};
@@ -18,6 +19,15 @@ pub struct Stamp {
     pub version: u32,
     pub k: u32,
     pub seed: u32,
+}
+
+/// Why a command refuses a labelled line for its label.
+#[derive(Clone, Copy, Debug, PartialEq, Eq)]
+pub enum Refusal {
+    /// Its moment lies in an earlier interval than the running one.
+    Earlier,
+    /// Its name is that of no tenant.
+    Unknown,
 }
 
 /// Why the program ends by a status other than 0. Lines and records are counted from 1.
@@ -47,6 +57,12 @@ pub enum Fault {
     BadCsv(u64),
     /// As many bytes were taken as are too much.
     TooMuch,
+    /// A line is not empty and has not its two parts.
+    BadLine(u64),
+    /// The moment of a line lies in an earlier interval than the running one.
+    Backward(u64),
+    /// The name of a line is that of no tenant.
+    UnknownTenant(u64),
 }
 
 impl From<OutOfMemory> for Fault {
@@ -123,6 +139,31 @@ impl Fault {
         }
     }
 
+    /// The fault of labelled lines, of which this command refuses some for their labels.
+    pub fn of_labels(why: Refusal, fault: LabelFault) -> Fault
+        ensures { result ≡ fault_by_label why fault }
+    {
+        match fault {
+            LabelFault::OutOfMemory => Fault::OutOfMemory,
+            LabelFault::ReadFault => Fault::ReadFault,
+            LabelFault::WriteFault => Fault::WriteFault,
+            LabelFault::LongLine(line) => Fault::LongLine(line),
+            LabelFault::TooMuch => Fault::TooMuch,
+            LabelFault::BadLine(line) => Fault::BadLine(line),
+            LabelFault::Refused(line) => Fault::refused(why, line),
+        }
+    }
+
+    // The fault of a line that is refused for its label.
+    fn refused(why: Refusal, line: u64) -> Fault
+        ensures { result ≡ refused_at why line }
+    {
+        match why {
+            Refusal::Earlier => Fault::Backward(line),
+            Refusal::Unknown => Fault::UnknownTenant(line),
+        }
+    }
+
     /// The exit status.
     pub fn status(self) -> u8
         ensures { result ≡ status_of self }
@@ -142,6 +183,9 @@ impl Fault {
             Fault::Mixed(_, _) => 11,
             Fault::BadCsv(_) => 12,
             Fault::TooMuch => 13,
+            Fault::BadLine(_) => 14,
+            Fault::Backward(_) => 15,
+            Fault::UnknownTenant(_) => 16,
         }
     }
 
@@ -155,7 +199,7 @@ impl Fault {
             Fault::OutOfMemory => write_all(err, b"out of memory\n"),
             Fault::Usage => write_all(
                 err,
-                b"usage: sketchd count, hash, replay, image, join, quantile, serve or make\n",
+                b"usage: sketchd count, hash, replay, image, join, quantile, serve, make, window, tally or tenants\n",
             ),
             Fault::ReadFault => write_all(err, b"read fault\n"),
             Fault::WriteFault => write_all(err, b"write fault\n"),
@@ -169,6 +213,9 @@ impl Fault {
             Fault::Mixed(left, right) => tell_mixed(err, left, right),
             Fault::BadCsv(number) => tell_unit(err, b"record ", number, b": bad csv\n"),
             Fault::TooMuch => write_all(err, b"too much\n"),
+            Fault::BadLine(line) => tell_unit(err, b"line ", line, b": bad line\n"),
+            Fault::Backward(line) => tell_unit(err, b"line ", line, b": earlier moment\n"),
+            Fault::UnknownTenant(line) => tell_unit(err, b"line ", line, b": unknown tenant\n"),
         }
     }
 }

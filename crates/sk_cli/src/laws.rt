@@ -1,16 +1,24 @@
 //! Laws of what is due and what is refused.
-ghost use Rattle.std.specs.Prelude.{◌≡◌, ℕ, ◌+◌, ◌<◌, None, All, List, ◌∷◌, ◌++◌, Result};
+ghost use Rattle.std.specs.Prelude.{◌≡◌, ℕ, ◌+◌, ◌<◌, None, All, List, ◌∷◌, ◌++◌, Option, Result, Ok};
 ghost use Rattle.sk_cli.specs.Behaviour.{IsDecided, WritesOneText};
 ghost use Rattle.sk_cli.specs.commands.Count.{counting};
 ghost use Rattle.sk_cli.specs.commands.Hash.{hashing};
 ghost use Rattle.sk_cli.specs.commands.Image.{imaging};
 ghost use Rattle.sk_cli.specs.commands.Make.{making};
 ghost use Rattle.sk_cli.specs.commands.Quantile.{ranking, numbers_in, TellsNear};
+ghost use Rattle.sk_cli.specs.commands.Tally.{tallying};
+ghost use Rattle.sk_cli.specs.commands.Tenants.{hosting};
+ghost use Rattle.sk_cli.specs.commands.Window.{paning};
 ghost use Rattle.sk_cli.specs.commands.Replay.{IsAnswered, IsNoMore, replaying};
 ghost use Rattle.sk_count.specs.declared.plan.Plan.{Plan};
 ghost use Rattle.sk_cli.specs.declared.commands.hash.HashPlan.{HashPlan};
 ghost use Rattle.sk_cli.specs.declared.commands.image.ImagePlan.{ImagePlan};
 ghost use Rattle.sk_cli.specs.declared.commands.make.MakePlan.{MakePlan};
+ghost use Rattle.sk_cli.specs.declared.commands.tenants.TenantsPlan.{TenantsPlan};
+ghost use Rattle.sk_desks.specs.Desks.{desk_rules};
+ghost use Rattle.sk_panes.specs.Panes.{pane_rules};
+ghost use Rattle.sk_panes.specs.declared.plan.Plan.{Plan as PanePlan};
+ghost use Rattle.sk_tally.specs.declared.plan.Plan.{Plan as TallyPlan};
 ghost use Rattle.sk_rank.specs.declared.plan.Plan.{Plan as RankPlan};
 ghost use Rattle.sk_rank.specs.Texts.{rank_line};
 ghost use Rattle.sk_model.specs.Lines.{lines_of};
@@ -18,9 +26,11 @@ ghost use Rattle.sk_quant.specs.Ranks.{rank_of};
 ghost use Rattle.sk_read.specs.Items.{items_by, IsGood};
 ghost use Rattle.sk_read.specs.declared.kind.Kind.TheVariants.{Raw};
 ghost use Rattle.sk_cli.specs.Beside.{Beside};
-ghost use Rattle.sk_cli.specs.Command.{Asked};
+ghost use Rattle.sk_cli.specs.Command.{Asked, over_text};
+ghost use Rattle.sk_cli.specs.declared.command.Command.TheVariants as command;
 ghost use Rattle.sk_cli.specs.Outside.{Outside};
-ghost use Rattle.sk_cli.specs.Run.{Performs, exit_of};
+ghost use Rattle.sk_cli.specs.Run.{Performs, TalliesText, WritesLines, exit_of};
+ghost use Rattle.sk_cli.specs.Values.{Word};
 ghost use Rattle.sk_cli.specs.Statuses.{ShowsAt};
 ghost use Rattle.sk_cli.specs.declared.fault.Fault.{Fault};
 
@@ -78,6 +88,36 @@ pub fn ranks_are_of_numbers()
 pub fn make_decides()
     ensures decided { (plan : MakePlan) → IsDecided (making plan) }
     ensures one_text { (plan : MakePlan) → WritesOneText (making plan) }
+{}
+
+/// A text is fine or refused in one way. Without a window one text is due, for any number of updaters.
+pub fn tally_decides()
+    ensures decided { (plan : TallyPlan) → IsDecided (tallying plan) }
+    ensures one_text { (plan : TallyPlan) → 0 < plan.updaters → plan.window ≡ None → WritesOneText (tallying plan) }
+{}
+
+/// A text is fine or refused in one way, and one text is due.
+pub fn tenants_decides()
+    ensures decided { (plan : TenantsPlan) → IsDecided (hosting plan) }
+    ensures one_text { (plan : TenantsPlan) → WritesOneText (hosting plan) }
+{}
+
+/// A text is fine or refused in one way, and one text is due.
+pub fn window_decides()
+    ensures decided { (plan : PanePlan) → IsDecided (paning plan) }
+    ensures one_text { (plan : PanePlan) → WritesOneText (paning plan) }
+{}
+
+/// What commands show that end well and leave no handles: the whole text was read, none of it is refused, and this was
+/// written for it. `tally` wrote the count of all items, and interim counts if they are asked for; `tenants` the estimate of
+/// each tenant; `window` that of each interval that has a line.
+pub fn texts_are_shown()
+    ensures tally { (plan : TallyPlan) (file : Option Word) (most : ℕ) (old new : Outside)
+        → Performs (over_text (command.Tally plan) file) most old new (Ok tt) → TalliesText plan file old new }
+    ensures tenants { (plan : TenantsPlan) (file : Option Word) (most : ℕ) (old new : Outside)
+        → Performs (over_text (command.Tenants plan) file) most old new (Ok tt) → WritesLines (desk_rules plan.desks plan.names) file old new }
+    ensures window { (plan : PanePlan) (file : Option Word) (most : ℕ) (old new : Outside)
+        → Performs (over_text (command.Window plan) file) most old new (Ok tt) → WritesLines (pane_rules plan) file old new }
 {}
 
 /// How a run ended shows in its status: at 0 all was done, at each other a fault has its place, and a count of faults

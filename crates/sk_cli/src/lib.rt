@@ -7,6 +7,7 @@ mod commands;
 mod execute;
 mod fault;
 pub mod laws;
+mod names;
 mod options;
 mod program;
 mod remains;

@@ -1,13 +1,13 @@
 //! The options behind a command: names with a value, and flags, in any order, each at most once.
 
 ghost use Rattle.std.specs.Prelude.{◌+◌, ◌^◌, ◌≡◌, ◌↔◌, All, IsTrue, IfSome, IfNone, Some, None, ◌<◌, ◌≤◌, length, drop, option_copied, option_map, is_some, IsSome, ◌∷◌};
-ghost use Rattle.sk_model.specs.Limits.{IsFrom, most_size, most_updaters};
+ghost use Rattle.sk_model.specs.Limits.{IsFrom, least_k, most_k, most_size, most_updaters};
 ghost use Rattle.sk_fill.specs.Windows.{most_lines};
 ghost use Rattle.sk_cli.specs.Beside.{board_places};
-ghost use Rattle.sk_cli.specs.Options.{name_of, takes_value, allows, options_of, texts_of, is_once, value_behind, given_in, spelled_by, is_given, number_in, required_in, is_yes_in, name_in, seed_by, updaters_by, sizes_by, window_by, eager_by, propagator_by, alarms_by};
+ghost use Rattle.sk_cli.specs.Options.{name_of, takes_value, allows, options_of, texts_of, is_once, value_behind, given_in, spelled_by, is_given, number_in, required_in, is_yes_in, word_in, column_by, k_by, size_by, seed_by, updaters_by, sizes_by, window_by, eager_by, propagator_by, alarms_by};
 
 use crate::values::{number_from, number_list, yes_or_no};
-use sk_model::limits::{MOST_SIZE, MOST_UPDATERS};
+use sk_model::limits::{LEAST_K, MOST_K, MOST_SIZE, MOST_UPDATERS};
 use sk_report::Numbers;
 use std::marker::Model;
 
@@ -25,6 +25,9 @@ pub enum Verb {
     Quantile,
     Replay,
     Serve,
+    Tally,
+    Tenants,
+    Window,
 }
 
 /// The name of an option.
@@ -37,18 +40,24 @@ pub enum Name {
     Csv,
     Eager,
     File,
+    Item,
     K,
     Key,
+    Last,
     Left,
     N,
     Port,
     Propagator,
     Raw,
     Right,
+    Rows,
     Seed,
     Sessions,
+    Span,
+    TenantNames,
     Updaters,
     Wave,
+    Width,
     Window,
 }
 
@@ -65,18 +74,24 @@ impl Name {
             "--eager" => Some(Name::Eager),
             "--file" => Some(Name::File),
             "--image" => Some(Name::AsImage),
+            "--item" => Some(Name::Item),
             "--k" => Some(Name::K),
             "--key" => Some(Name::Key),
+            "--last" => Some(Name::Last),
             "--left" => Some(Name::Left),
             "--n" => Some(Name::N),
+            "--names" => Some(Name::TenantNames),
             "--port" => Some(Name::Port),
             "--propagator" => Some(Name::Propagator),
             "--raw" => Some(Name::Raw),
             "--right" => Some(Name::Right),
+            "--rows" => Some(Name::Rows),
             "--seed" => Some(Name::Seed),
             "--sessions" => Some(Name::Sessions),
+            "--span" => Some(Name::Span),
             "--updaters" => Some(Name::Updaters),
             "--wave" => Some(Name::Wave),
+            "--width" => Some(Name::Width),
             "--window" => Some(Name::Window),
             _ => None,
         }
@@ -141,6 +156,38 @@ impl Name {
             _ => false,
         }
     }
+
+    // Whether it is an option of a tally.
+    fn is_of_tally(self) -> bool
+        ensures { result ≡ allows Verb.Tally self }
+    {
+        match self {
+            Name::B | Name::Csv | Name::File | Name::Item | Name::Propagator => true,
+            Name::Rows | Name::Seed | Name::Updaters | Name::Width | Name::Window => true,
+            _ => false,
+        }
+    }
+
+    // Whether it is an option of tenants.
+    fn is_of_tenants(self) -> bool
+        ensures { result ≡ allows Verb.Tenants self }
+    {
+        match self {
+            Name::B | Name::File | Name::K => true,
+            Name::Seed | Name::TenantNames | Name::Updaters => true,
+            _ => false,
+        }
+    }
+
+    // Whether it is an option of intervals.
+    fn is_of_window(self) -> bool
+        ensures { result ≡ allows Verb.Window self }
+    {
+        match self {
+            Name::B | Name::File | Name::K | Name::Last | Name::Seed | Name::Span => true,
+            _ => false,
+        }
+    }
 }
 
 impl Verb {
@@ -157,6 +204,9 @@ impl Verb {
             Verb::Quantile => name.is_of_quantile(),
             Verb::Replay => name == Name::File,
             Verb::Serve => name.is_of_serve(),
+            Verb::Tally => name.is_of_tally(),
+            Verb::Tenants => name.is_of_tenants(),
+            Verb::Window => name.is_of_window(),
         }
     }
 }
@@ -301,9 +351,9 @@ impl<'a> Options<'a> {
         number_from(self.value(name)?.as_bytes(), low, high)
     }
 
-    /// The name of a file behind a name that has to be given. `None` where it is not, or is empty.
-    pub fn name_of_file(&self, name: Name) -> Option<&'a str>
-        ensures { option_copied result ≡ name_in (value_behind name self.now) }
+    /// The word after a name that has to be given. `None` if it is not, or is empty.
+    pub fn word(&self, name: Name) -> Option<&'a str>
+        ensures { option_copied result ≡ word_in (value_behind name self.now) }
     {
         let word = self.value(name)?;
         if word.is_empty() { None } else { Some(word) }
@@ -314,6 +364,33 @@ impl<'a> Options<'a> {
         ensures { result ≡ seed_by self.now }
     {
         Some(self.number(Name::Seed, 0, u64::from(u32::MAX), 0)? as u32)
+    }
+
+    /// The column of the records that are read in place of lines, 0 for lines.
+    pub fn column(&self) -> Option<u32>
+        ensures { result ≡ column_by self.now }
+    {
+        if self.has(Name::Csv) {
+            Some(self.number(Name::Csv, 1, 4_096, 1)? as u32)
+        } else {
+            Some(0)
+        }
+    }
+
+    /// How many hashes the sketch keeps, 4,096 if that is not given.
+    pub fn k(&self) -> Option<u32>
+        ensures value { result ≡ k_by self.now }
+        ensures within { IfSome result (IsFrom least_k most_k) }
+    {
+        Some(self.number(Name::K, u64::from(LEAST_K), u64::from(MOST_K), 4_096)? as u32)
+    }
+
+    /// How many items a buffer of each updater has room for, 64 if that is not given.
+    pub fn size(&self) -> Option<u32>
+        ensures value { result ≡ size_by self.now }
+        ensures within { IfSome result (IsFrom 1 most_size) }
+    {
+        Some(self.number(Name::B, 1, u64::from(MOST_SIZE), 64)? as u32)
     }
 
     /// How many updaters there are, 1 where that is not given.
@@ -332,7 +409,7 @@ impl<'a> Options<'a> {
         ensures within { IfSome result (λ sizes. All (IsFrom 1 most_size) sizes) }
     {
         match self.value(Name::B) {
-            Some(word) => number_list(word.as_bytes(), 64, 1, u64::from(MOST_SIZE)),
+            Some(word) => number_list(word, 64, 1, u64::from(MOST_SIZE)),
             None => {
                 let mut sizes = Numbers::new();
                 sizes.push(64);
@@ -373,7 +450,7 @@ impl<'a> Options<'a> {
         ensures few { IfSome result (λ alarms. length alarms ≤ board_places) }
     {
         match self.value(Name::Alarm) {
-            Some(word) => number_list(word.as_bytes(), 8, 0, MOST_MARK),
+            Some(word) => number_list(word, 8, 0, MOST_MARK),
             None => Some(Numbers::new()),
         }
     }

@@ -17,20 +17,18 @@ pub fn number_from(word: &[u8], low: u64, high: u64) -> Option<u64>
     if low <= number { Some(number) } else { None }
 }
 
-// The first part of a word between its commas, and what stands behind the comma, if there is one.
-fn first_part(word: &[u8]) -> (&[u8], Option<&[u8]>)
+/// The first part of a word between its commas, and what stands after the comma, if there is one.
+pub fn first_part(word: &str) -> (&str, Option<&str>)
     ensures { parts_of word.now ≡ result.0.now ∷ parts_in (option_copied result.1) }
 {
-    'byte: for (at, byte) in word.iter().enumerate() {
-        if *byte == b',' {
-            return (&word[..at], Some(&word[at + 1..]));
-        }
+    match word.split_once(',') {
+        Some((part, rest)) => (part, Some(rest)),
+        None => (word, None),
     }
-    (word, None)
 }
 
 /// The numbers from `low` to `high` that a word spells, joined by commas. `None` where they are more than `most`.
-pub fn number_list(word: &[u8], most: usize, low: u64, high: u64) -> Option<Numbers>
+pub fn number_list(word: &str, most: usize, low: u64, high: u64) -> Option<Numbers>
     requires end { high + 1 < 2 ^ 64 }
     requires few { most ≤ most_numbers }
     ensures value { result ≡ number_list most low high word.now }
@@ -41,13 +39,13 @@ pub fn number_list(word: &[u8], most: usize, low: u64, high: u64) -> Option<Numb
     let mut numbers = Numbers::new();
     let mut rest = Some(word);
     'part: while let Some(text) = rest {
-        let (part, behind) = first_part(text);
-        let number = number_from(part, low, high)?;
+        let (part, others) = first_part(text);
+        let number = number_from(part.as_bytes(), low, high)?;
         if numbers.as_slice().len() == most {
             return None;
         }
         numbers.push(number);
-        rest = behind;
+        rest = others;
     }
     Some(numbers)
 }

@@ -1,5 +1,5 @@
 -- What `count` is asked, and what it does.
-use Rattle.std.specs.Prelude.{◌≡◌, ℕ, ◌≤◌, List, ◌++◌, length, All, if◌then◌else◌, Option, None, Some, IfSome, is_none, option_and_then, option_map}
+use Rattle.std.specs.Prelude.{◌≡◌, ℕ, ◌≤◌, List, ◌++◌, length, All, if◌then◌else◌, Option, None, IfSome, is_none, option_and_then, option_map}
 use Rattle.sk_model.specs.Limits.{least_k, most_k, most_size, most_updaters, IsFrom}
 use Rattle.sk_read.specs.declared.kind.Kind.{Kind}
 use Rattle.sk_read.specs.declared.kind.Kind.TheVariants as kind
@@ -14,7 +14,7 @@ use Rattle.sk_count.specs.Texts.{interim_by, places_by, last_lines}
 use Rattle.sk_cli.specs.Behaviour.{Behaviour}
 use Rattle.sk_cli.specs.Beside.{Beside, board_places, CountingHub}
 use Rattle.sk_cli.specs.Told.{telling_on}
-use Rattle.sk_cli.specs.Options.{Given, value_behind, is_given, number_in, seed_by, updaters_by, sizes_by, window_by, eager_by, propagator_by, alarms_by}
+use Rattle.sk_cli.specs.Options.{Given, value_behind, is_given, number_in, column_by, seed_by, updaters_by, sizes_by, window_by, eager_by, propagator_by, alarms_by}
 use Rattle.sk_cli.specs.declared.options.Name.TheVariants as name
 use Rattle.sk_cli.specs.declared.commands.count.What.{What}
 use Rattle.sk_cli.specs.declared.commands.count.How.{How}
@@ -24,10 +24,6 @@ use Rattle.sk_cli.specs.declared.commands.count.How.{How}
 -- how a line that is not empty becomes an item: it spells one, or is hashed
 abbrev pub kind_by : List Given → ℕ → Kind
 kind_by given seed = if is_given name.Raw given then kind.Raw else kind.Hash seed
-
--- the column of the records that are read in place of lines; 0 for lines
-abbrev pub column_by : List Given → Option ℕ
-column_by given = if is_given name.Csv given then number_in 1 4096 1 (value_behind name.Csv given) else Some 0
 
 -- what is counted, and by how many hashes
 abbrev pub what_by : List Given → Option What

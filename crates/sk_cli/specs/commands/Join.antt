@@ -10,7 +10,7 @@ use Rattle.sk_image.specs.Versions.{end_of}
 use Rattle.sk_image.specs.Reading.{IsBadAt, IsGoodSoFar, IsImageText}
 use Rattle.sk_image.specs.Written.{image_text}
 use Rattle.sk_image.specs.declared.image.Image.{Image}
-use Rattle.sk_cli.specs.Options.{Given, value_behind, is_given, name_in}
+use Rattle.sk_cli.specs.Options.{Given, value_behind, is_given, word_in}
 use Rattle.sk_cli.specs.Values.{Word}
 use Rattle.sk_cli.specs.declared.options.Name.TheVariants as name
 use Rattle.sk_cli.specs.declared.commands.join.JoinPlan.{JoinPlan}
@@ -33,8 +33,8 @@ images_of plan = record { left = plan.left.now; right = plan.right.now; as_image
 -- what options ask for
 abbrev pub images_by : List Given → Option TwoImages
 images_by given =
-    option_and_then (λ left. option_map (λ right. record { left = left; right = right; as_image = is_given name.AsImage given }) (name_in (value_behind name.Right given)))
-    (name_in (value_behind name.Left given))
+    option_and_then (λ left. option_map (λ right. record { left = left; right = right; as_image = is_given name.AsImage given }) (word_in (value_behind name.Right given)))
+    (word_in (value_behind name.Left given))
 
 -- ---- one file
 

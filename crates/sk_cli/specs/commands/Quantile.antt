@@ -1,7 +1,6 @@
 -- What `quantile` is asked, and what it does.
-use Rattle.std.specs.Prelude.{◌≡◌, ℕ, ◌+◌, ◌-◌, ◌^◌, ◌<◌, ◌≤◌, List, [], ◌∷◌, ◌++◌, length, is_none, Option, Some, IfSome, option_and_then, option_map, unwrap_or}
+use Rattle.std.specs.Prelude.{◌≡◌, ℕ, ◌+◌, ◌-◌, ◌^◌, ◌<◌, ◌≤◌, List, [], ◌∷◌, ◌++◌, length, Option, Some, IfSome, option_and_then, option_map, unwrap_or}
 use Rattle.std.specs.Int.{abs_diff}
-use Rattle.sk_model.specs.Entries.{Entry, items_of_entries}
 use Rattle.sk_model.specs.Limits.{most_size, most_updaters, IsFrom}
 use Rattle.sk_model.specs.Lines.{items_of}
 use Rattle.sk_model.specs.Numbers.{number_of}
@@ -10,17 +9,15 @@ use Rattle.sk_hub.specs.Hearts.{HeartState}
 use Rattle.sk_quant.specs.Limits.{least_quantile_k, most_quantile_k, key_end}
 use Rattle.sk_quant.specs.Ranks.{rank_of, rank_error}
 use Rattle.sk_fill.specs.Windows.{most_lines}
-use Rattle.sk_read.specs.declared.kind.Kind.TheVariants.{Raw}
 use Rattle.sk_snap.specs.Versions.{Learnt}
 use Rattle.sk_rank.specs.declared.plan.Plan.{Plan}
-use Rattle.sk_rank.specs.Feeding.{Course}
-use Rattle.sk_rank.specs.Nearness.{IsNear}
-use Rattle.sk_rank.specs.Headline.{IsListOf, Goes, RanksNear}
-use Rattle.sk_rank.specs.Texts.{interim_text, told_line, rank_line}
+use Rattle.sk_rank.specs.Headline.{RanksNear}
+use Rattle.sk_rank.specs.Plans.{rank_manner}
+use Rattle.sk_rank.specs.Texts.{told_line}
 use Rattle.sk_cli.specs.Behaviour.{Behaviour}
 use Rattle.sk_cli.specs.Beside.{Beside, RankingHub}
-use Rattle.sk_cli.specs.Options.{Given, value_behind, number_in, required_in, updaters_by, window_by, propagator_by}
-use Rattle.sk_cli.specs.Told.{telling_on}
+use Rattle.sk_cli.specs.ByManner.{telling_by}
+use Rattle.sk_cli.specs.Options.{Given, value_behind, number_in, required_in, size_by, updaters_by, window_by, propagator_by}
 use Rattle.sk_cli.specs.declared.options.Name.TheVariants as name
 use Rattle.sk_cli.specs.declared.commands.quantile.How.{How}
 use Rattle.sk_cli.specs.declared.commands.quantile.What.{What}
@@ -42,7 +39,7 @@ abbrev pub how_by : List Given → Option How
 how_by given =
     option_and_then (λ size. option_and_then (λ updaters. option_and_then (λ window.
     option_map (λ propagator. record { size = size; updaters = updaters; window = window; propagator = propagator })
-    (propagator_by given)) (window_by given)) (updaters_by given)) (number_in 1 most_size 64 (value_behind name.B given))
+    (propagator_by given)) (window_by given)) (updaters_by given)) (size_by given)
 
 -- the number's item is one more, and the items below that are those of the numbers below it
 abbrev pub plan_with : What → How → Plan
@@ -71,22 +68,7 @@ pub record IsHow (how : How) : Type 0 where
 abbrev pub plan_by : List Given → Option Plan
 plan_by given = option_and_then (λ what. option_map (λ how. plan_with what how) (how_by given)) (what_by given)
 
--- ---- what it writes, with a course of it: its lines cut into windows, and a moment behind each full one
-
--- the interim text of these lines: a line for each moment
-pub record IsInterim (plan : Plan) (from to : Beside) (units : List (List ℕ)) (due : List ℕ) : Type 0 where
-  pub course : Course plan units
-  pub is : due ≡ interim_text plan course.moments
-
--- the whole text of these lines: the interim text, and then the rank in a list that has of each updater the items of its
--- blocks, and that the list of each moment begins
-pub record IsWhole (plan : Plan) (from to : Beside) (units : List (List ℕ)) (due : List ℕ) : Type 0 where
-  pub course : Course plan units
-  pub list : List Entry
-  pub has_all : IsListOf plan (course.windows ++ course.rest ∷ []) list
-  pub goes : Goes course.moments list
-  pub near : IsNear plan.at plan.k plan.key (items_of_entries list)
-  pub is : due ≡ interim_text plan course.moments ++ rank_line plan (items_of_entries list)
+-- ---- what it does
 
 -- once this is written, a heart and a reader are left, and the headline is so of it
 pub record LeavesRanks (plan : Plan) (from : Beside) (units : List (List ℕ)) (due : List ℕ) (to : Beside) : Type 0 where
@@ -98,7 +80,7 @@ pub record LeavesRanks (plan : Plan) (from : Beside) (units : List (List ℕ)) (
 
 -- each line spells a number, and its item is one more; it writes the interim text as it reads, and last the rank in all
 abbrev pub ranking : Plan → Behaviour
-ranking plan = telling_on Raw 0 (is_none plan.window) [] RankingHub (IsInterim plan) (IsWhole plan) (LeavesRanks plan)
+ranking plan = telling_by (rank_manner plan) RankingHub (LeavesRanks plan)
 
 -- what is due ends with a line of as many items as these, and of their rank up to the error that it tells
 pub record TellsNear (plan : Plan) (items due : List ℕ) : Type 0 where

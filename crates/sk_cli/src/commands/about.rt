@@ -64,6 +64,29 @@ usage:
       --sessions N how many links are accepted in all, 1 to 64 (1)
       --wave N     how many of them run at once at most, 1 to 64 (all)
       --k, --b, --seed, --eager, --alarm as for count
+  sketchd tally --rows N --width N --item WORD [--seed S] [--csv C] [--file NAME] [--updaters N]
+                [--b B] [--window W] [--propagator yes|no]
+      writes how many lines there are that are not empty, and how many of them are WORD, or more
+      --rows N     1 to 16; with more rows a count is less often far too high
+      --width N    how many cells a row has, 1 to 1048576; with more a count is nearer
+      --item WORD  what is counted, not empty
+      --b B        how many items an updater hands over at once, 1 to 4096 (64)
+      --window W   writes the same of what was handed over by then after each W lines too
+      --seed, --csv, --file, --updaters, --propagator as for count
+  sketchd tenants --names A,B,.. [--k K] [--b B] [--seed S] [--updaters N] [--file NAME]
+      reads lines NAME ITEM, and writes for each name, once all are read, the estimate of how many
+      distinct items its lines have
+      --names A,B,.. whose lines are counted: 1 to 64 names, all different, without spaces
+      --b B        how many items an updater hands over at once, 1 to 4096 (64)
+      --k, --seed, --updaters, --file as for count
+  sketchd window --span N --last N [--k K] [--b B] [--seed S] [--file NAME]
+      reads lines MOMENT ITEM, a moment being a number from 0 to 281474976710655, and writes for
+      each interval, once a line of a later one comes, the estimate of how many distinct items it
+      and the intervals before it have
+      --span N     how long an interval is, 1 to 281474976710655
+      --last N     how many intervals an estimate is of, 2 to 64
+      --b B        how many items an updater hands over at once, 1 to 4096 (64)
+      --k, --seed, --file as for count
   sketchd --help
   sketchd --version
 

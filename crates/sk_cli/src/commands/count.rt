@@ -4,7 +4,7 @@ ghost use Rattle.sk_model.specs.Limits.{source_limit};
 ghost use Rattle.sk_cli.specs.Beside.{beside_of, CountingHub, IsFullBoard};
 ghost use Rattle.sk_cli.specs.Outside.{streams_of};
 ghost use Rattle.sk_cli.specs.Run.{Executes, HasCauses, LeavesBeside};
-ghost use Rattle.sk_cli.specs.commands.Count.{what_by, how_by, plan_by, column_by, IsWithin, IsWhat, IsHow, counting};
+ghost use Rattle.sk_cli.specs.commands.Count.{what_by, how_by, plan_by, IsWithin, IsWhat, IsHow, counting};
 
 use crate::fault::Fault;
 use crate::options::{Name, Options};
@@ -60,7 +60,7 @@ impl What {
         } else {
             Kind::Hash(seed)
         };
-        let column = column_in(options)?;
+        let column = options.column()?;
         Some(What { k, kind, column })
     }
 }
@@ -107,17 +107,6 @@ pub fn plan_of(options: &Options<'_>) -> Option<Plan>
         alarms: how.alarms,
         made: None,
     })
-}
-
-// The column of the records that are read in place of lines; 0 for lines.
-fn column_in(options: &Options<'_>) -> Option<u32>
-    ensures { result ≡ column_by options.now }
-{
-    if options.has(Name::Csv) {
-        Some(options.number(Name::Csv, 1, 4_096, 1)? as u32)
-    } else {
-        Some(0)
-    }
 }
 
 /// Counts the distinct items of a source by many updaters, and writes an estimate after each full window, where that

@@ -28,8 +28,8 @@ impl<'a> JoinPlan<'a> {
     pub fn of(options: &Options<'a>) -> Option<JoinPlan<'a>>
         ensures { option_map images_of result ≡ images_by options.now }
     {
-        let left = options.name_of_file(Name::Left)?;
-        let right = options.name_of_file(Name::Right)?;
+        let left = options.word(Name::Left)?;
+        let right = options.word(Name::Right)?;
         let as_image = options.has(Name::AsImage);
         Some(JoinPlan {
             left,

@@ -12,7 +12,6 @@ use crate::fault::Fault;
 use crate::options::{Name, Options};
 use crate::remains::Remains;
 use sk_io::{Sink, Source};
-use sk_model::limits::MOST_SIZE;
 use sk_quant::limits::{KEY_END, LEAST_QUANTILE_K, MOST_QUANTILE_K};
 use sk_rank::{Plan, rank};
 use std::alloc::Global;
@@ -66,7 +65,7 @@ impl How {
         ensures value { result ≡ how_by options.now }
         ensures limits { IfSome result IsHow }
     {
-        let size = options.number(Name::B, 1, u64::from(MOST_SIZE), 64)? as u32;
+        let size = options.size()?;
         let updaters = options.updaters()?;
         let window = options.window()?;
         let propagator = options.propagator()?;

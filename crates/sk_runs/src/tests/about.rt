@@ -20,6 +20,15 @@ each, at most 8
 --propagator one thread merges what updaters hand over; with no they do it themselves, as
 they always do if several share lines without --window (yes)
 writes the hash of each line that is not empty, 16 digits in base 16
+sketchd tally --rows N --width N --item WORD [--seed S] [--csv C] [--file NAME] [--updaters N]
+--rows N     1 to 16; with more rows a count is less often far too high
+--width N    how many cells a row has, 1 to 1048576; with more a count is nearer
+--item WORD  what is counted, not empty
+sketchd tenants --names A,B,.. [--k K] [--b B] [--seed S] [--updaters N] [--file NAME]
+--names A,B,.. whose lines are counted: 1 to 64 names, all different, without spaces
+sketchd window --span N --last N [--k K] [--b B] [--seed S] [--file NAME]
+--span N     how long an interval is, 1 to 281474976710655
+--last N     how many intervals an estimate is of, 2 to 64
 A line has at most 65536 bytes. An option stands at most once.";
 
 #[test]
@@ -28,7 +37,7 @@ fn help_tells_of_each_option(rt: HostRuntime) -> Result<(), Fail> {
     let ran = run_alone(&rt, alloc, &FINE, "--help", Vec::new(alloc))?;
     let help = String::from_utf8(ran.out.written().to_vec(alloc)?)?;
     expect(&rt, &ran, "--help", 0, help.as_bytes(), b"");
-    assert_eq!(rt; TOLD.lines().count(), 17);
+    assert_eq!(rt; TOLD.lines().count(), 26);
     'told: for told in TOLD.lines() {
         assert!(rt; help.contains(told), "{told}");
     }

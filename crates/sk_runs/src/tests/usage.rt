@@ -7,7 +7,8 @@ use std::sync::Wait;
 use std::test::Fail;
 use std::thread::Threads;
 
-const USAGE: &[u8] = b"usage: sketchd count, hash, replay, image, join, quantile, serve or make\n";
+const USAGE: &[u8] =
+    b"usage: sketchd count, hash, replay, image, join, quantile, serve, make, window, tally or tenants\n";
 
 // One line has no words.
 const REFUSED: &str = "\
@@ -121,6 +122,48 @@ count --alarm ,1
 count --alarm 1,2,3,4,5,6,7,8,9
 count --alarm 281474976710656
 hash --seed
+window
+window --span 10
+window --last 2
+window --span 0 --last 2
+window --span 281474976710656 --last 2
+window --span 10 --last 1
+window --span 10 --last 65
+window --span 10 --last 2 --b 1,2
+window --span 10 --last 2 --updaters 2
+window --span 10 --last 2 --k 1
+window --span 10 --last 2 --window 2
+count --span 10
+count --last 2
+tally
+tally --rows 1 --width 1
+tally --rows 1 --item a
+tally --width 1 --item a
+tally --rows 0 --width 1 --item a
+tally --rows 17 --width 1 --item a
+tally --rows 1 --width 0 --item a
+tally --rows 1 --width 1048577 --item a
+tally --rows 1 --width 1 --item ''
+tally --rows 1 --width 1 --item a --b 1,2
+tally --rows 1 --width 1 --item a --raw
+tally --rows 1 --width 1 --item a --csv 0
+tally --rows 1 --width 1 --item a --k 4
+count --item a
+tenants
+tenants --names
+tenants --names ''
+tenants --names a,
+tenants --names ,a
+tenants --names a,,b
+tenants --names a,b,a
+tenants --names a_b
+tenants --names a --b 1,2
+tenants --names a --updaters 65
+tenants --names a --window 2
+tenants --names a --csv 1
+count --names a
+tenants --names 1,2,3,4,5,6,7,8,9,10,11,12,13,14,15,16,17,18,19,20,21,22,23,24,25,26,27,28,29,30,31,\
+32,33,34,35,36,37,38,39,40,41,42,43,44,45,46,47,48,49,50,51,52,53,54,55,56,57,58,59,60,61,62,63,64,65
 count --k=4
 count x
 Count
@@ -143,6 +186,10 @@ const ACCEPTED: &str = "\
 | count --window 1 --eager yes --propagator no | a;a; | 0 \
 | at 1 estimate 1/1;at 2 estimate 1/1;estimate 1/1; |
 | count --alarm 0,1,2,3,4,5,6,281474976710655 | a;a; | 0 | estimate 1/1; |
+| window --span 281474976710655 --last 64 | | 0 | pane 0 estimate 0/1; |
+| tenants --names 1,2,3,4,5,6,7,8,9,10,11,12,13,14,15,16,17,18,19,20,21,22,23,24,25,26,27,28,29,30,31,\
+32,33,34,35,36,37,38,39,40,41,42,43,44,45,46,47,48,49,50,51,52,53,54,55,56,57,58,59,60,61,62,63,64 \
+| x; | 14 | | line 1: bad line;
 | --version | | 0 | sketchd 0.2.0; |";
 
 // Runs each line, of which there are so many, over a text that it does not read.
@@ -162,10 +209,10 @@ fn check_refused<R: Threads + Wait + Abort + Sync>(
 
 #[test]
 fn words_that_are_no_command(rt: HostRuntime) -> Result<(), Fail> {
-    check_refused(&rt, rt.alloc(), REFUSED, 115)
+    check_refused(&rt, rt.alloc(), REFUSED, 156)
 }
 
 #[test]
 fn values_at_their_limits(rt: HostRuntime) -> Result<(), Fail> {
-    check_rows(&rt, rt.alloc(), ACCEPTED, 12)
+    check_rows(&rt, rt.alloc(), ACCEPTED, 14)
 }

@@ -91,3 +91,30 @@ returns-in-Quantile-clause-done g c =
     let went = c.quantile.ensures in
     subst (λ (command : Command). ExecutesSo (behaviour_of command) c.args.most from to a b c.quantile.result) (sym c.in-Quantile.is)
     (record { done = went.done before after; causes = went.causes; beside = record { board = λ _. c.clear-in-Quantile.ensures; remains = remains_left c.quantile.result _ _ went.remains; leaves = went.hub } })
+
+pub returns-in-Tally-clause-done : goal.returns-in-Tally-clause-done
+returns-in-Tally-clause-done g c =
+    let from : Beside = beside_of (g.B.Seen.places c.args.board.now) c.args.remains.now in
+    let to : Beside = beside_of (g.B.Seen.places c.clear-in-Tally.new.board) c.args.remains.now in
+    let a : Streams = streams_of g.S.Source g.O.Sink c.args.source.now c.args.out.now in
+    let b : Streams = streams_of g.S.Source g.O.Sink c.tally.new.source c.tally.new.out in
+    subst (λ (command : Command). ExecutesSo (behaviour_of command) c.args.most from to a b c.tally.result) (sym c.in-Tally.is)
+    (streams_alone _ c.args.most from to a b c.tally.result (c.tally.ensures.done from to) c.tally.ensures.causes c.clear-in-Tally.ensures refl)
+
+pub returns-in-Tenants-clause-done : goal.returns-in-Tenants-clause-done
+returns-in-Tenants-clause-done g c =
+    let from : Beside = beside_of (g.B.Seen.places c.args.board.now) c.args.remains.now in
+    let to : Beside = beside_of (g.B.Seen.places c.clear-in-Tenants.new.board) c.args.remains.now in
+    let a : Streams = streams_of g.S.Source g.O.Sink c.args.source.now c.args.out.now in
+    let b : Streams = streams_of g.S.Source g.O.Sink c.tenants.new.source c.tenants.new.out in
+    subst (λ (command : Command). ExecutesSo (behaviour_of command) c.args.most from to a b c.tenants.result) (sym c.in-Tenants.is)
+    (streams_alone _ c.args.most from to a b c.tenants.result (c.tenants.ensures.done from to) c.tenants.ensures.causes c.clear-in-Tenants.ensures refl)
+
+pub returns-in-Window-clause-done : goal.returns-in-Window-clause-done
+returns-in-Window-clause-done g c =
+    let from : Beside = beside_of (g.B.Seen.places c.args.board.now) c.args.remains.now in
+    let to : Beside = beside_of (g.B.Seen.places c.clear-in-Window.new.board) c.args.remains.now in
+    let a : Streams = streams_of g.S.Source g.O.Sink c.args.source.now c.args.out.now in
+    let b : Streams = streams_of g.S.Source g.O.Sink c.window.new.source c.window.new.out in
+    subst (λ (command : Command). ExecutesSo (behaviour_of command) c.args.most from to a b c.window.result) (sym c.in-Window.is)
+    (streams_alone _ c.args.most from to a b c.window.result (c.window.ensures.done from to) c.window.ensures.causes c.clear-in-Window.ensures refl)

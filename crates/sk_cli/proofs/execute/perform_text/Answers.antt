@@ -17,13 +17,13 @@ returns-in-None-clause-done g c = λ net.
     let old : Outside = outside_with g.S.Source g.O.Sink g.F.Shelf g.B.Seen c.args.input.now c.args.out.now c.args.shelf.now c.args.board.now (left_of c.args.remains.now) net in
     let new : Outside = outside_with g.S.Source g.O.Sink g.F.Shelf g.B.Seen c.execute.new.source c.execute.new.out c.args.shelf.now c.execute.new.board (left_of c.execute.new.remains) net in
     let file : option_copied c.args.file ≡ None = ap (λ o. option_copied o) c.in-None.is in
-    subst (λ (name : Option Word). Performs (OfText (record { command = c.args.command; file = name })) c.args.most old new c.execute.result) (sym file)
-    (input_performs c.args.most old new c.args.command c.execute.result c.execute.ensures.done refl refl refl refl c.execute.ensures.stays)
+    subst (λ (name : Option Word). Performs (OfText (record { command = c.args.command.now; file = name })) c.args.most old new c.execute.result) (sym file)
+    (input_performs c.args.most old new c.args.command.now c.execute.result c.execute.ensures.done refl refl refl refl c.execute.ensures.stays)
 
 pub returns-in-None-clause-touches : goal.returns-in-None-clause-touches
 returns-in-None-clause-touches g c =
     let file : option_copied c.args.file ≡ None = ap (λ o. option_copied o) c.in-None.is in
-    subst (λ (name : Option Word). TouchesOnly (frame_of (OfText (record { command = c.args.command; file = name }))) (exit_of c.execute.result)
+    subst (λ (name : Option Word). TouchesOnly (frame_of (OfText (record { command = c.args.command.now; file = name }))) (exit_of c.execute.result)
     (handed c.args.input.now c.args.out.now c.args.shelf.now tt c.args.board.now) (handed c.execute.new.source c.execute.new.out c.args.shelf.now tt c.execute.new.board)) (sym file)
     (touched_only _ c.execute.result _ _ c.execute.ensures.idle (λ _. refl) (λ _. refl) (λ is. absurd (never_opens _ _ _ _ _ _ c.execute.result c.execute.ensures.done.done is)) c.execute.ensures.last)
 
@@ -35,7 +35,7 @@ returns-in-Ok-clause-done g c = λ net.
     let name : Word = c.in-Some.name.now in
     let a : Streams = record { left = g.F.Shelf.left file.shelf.now file.file; read_faults = g.F.Shelf.read_faults file.shelf.now; written = g.O.Sink.written c.args.out.now; write_faults = g.O.Sink.faults c.args.out.now } in
     let b : Streams = record { left = g.F.Shelf.left read.shelf.now read.file; read_faults = g.F.Shelf.read_faults read.shelf.now; written = g.O.Sink.written out; write_faults = g.O.Sink.faults out } in
-    opened_performs c.args.most _ _ c.args.command (option_copied c.args.file) name a b c.execute-in-Ok.result (ap (λ o. option_copied o) c.in-Some.is) c.in-Ok.ensures.content c.in-Ok.ensures.reads refl refl
+    opened_performs c.args.most _ _ c.args.command.now (option_copied c.args.file) name a b c.execute-in-Ok.result (ap (λ o. option_copied o) c.in-Some.is) c.in-Ok.ensures.content c.in-Ok.ensures.reads refl refl
     (search rules) (search rules) refl refl c.execute-in-Ok.ensures.done (search rules) (search rules) (search rules) (search rules) refl refl
 
 pub returns-in-Ok-clause-touches : goal.returns-in-Ok-clause-touches
@@ -45,7 +45,7 @@ returns-in-Ok-clause-touches g c =
 
 pub returns-in-Err-clause-done : goal.returns-in-Err-clause-done
 returns-in-Err-clause-done g c = λ net.
-    not_opened_performs c.args.most _ _ c.args.command (option_copied c.args.file) c.in-Some.name.now (ap (λ o. option_copied o) c.in-Some.is) refl (search rules) refl (search rules) (search rules) (search rules) c.set_alarms.ensures refl refl refl
+    not_opened_performs c.args.most _ _ c.args.command.now (option_copied c.args.file) c.in-Some.name.now (ap (λ o. option_copied o) c.in-Some.is) refl (search rules) refl (search rules) (search rules) (search rules) c.set_alarms.ensures refl refl refl
 
 pub returns-in-Err-clause-touches : goal.returns-in-Err-clause-touches
 returns-in-Err-clause-touches g c =

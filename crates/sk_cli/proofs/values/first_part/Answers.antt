@@ -1,14 +1,14 @@
-use Rattle.std.proofs.Common.{◌+◌, ◌-◌, ◌∷◌, List, ℕ, length, take, drop, sym, ap, ◌∙◌, arith, take_all, length-drop}
-use Rattle.sk_cli.specs.Values.{parts_of}
-use Rattle.sk_cli.proofs.ValueLaws.{parts_none, parts_at}
+use Rattle.std.proofs.Common.{arith}
+use Rattle.std.proofs.lemmas.Str.Pattern.{split_parts}
+use Rattle.sk_cli.proofs.ValueLaws.{parts_none, parts_cut}
 use Rattle.sk_cli.proofs.values.first_part.Goals as goal
 
-pub returns-then-byte-eq44 : goal.returns-then-byte-eq44
-returns-then-byte-eq44 c =
-    let word = c.args.word.now in
-    let at = c.byte.at in
-    let rest = take_all (length word - (at + 1)) (drop (at + 1) word) (omega (arith, length-drop (at + 1) word)) in
-    parts_at word at c.byte-test.true c.if-byte-eq44.true c.byte.invariant ∙ ap (λ (l : List ℕ). take at word ∷ parts_of l) (sym rest)
+pub returns-in-Some : goal.returns-in-Some
+returns-in-Some c =
+    let cut = rw c.in-Some.is at (split_parts 44 c.args.word.now c.split_once.result c.split_once.ensures.cases (omega arith)) in
+    parts_cut c.args.word.now c.in-Some.part.now c.in-Some.rest.now cut.0 cut.1
 
-pub returns : goal.returns
-returns c = parts_none c.args.word.now (λ k below. c.byte.invariant k (omega (arith, below, c.byte-test.false)))
+pub returns-in-None : goal.returns-in-None
+returns-in-None c =
+    let none = rw c.in-None.is at (split_parts 44 c.args.word.now c.split_once.result c.split_once.ensures.cases (omega arith)) in
+    parts_none c.args.word.now none

@@ -12,7 +12,7 @@ returns-in-Ok-clause-done g c = λ before after.
     let a : Streams = streams_of g.S.Source g.O.Sink c.args.source.now c.args.out.now in
     let b : Streams = streams_of g.S.Source g.O.Sink c.rank.new.source c.rank.new.out in
     let went = c.in-Ok.ensures.ranks in
-    rank_finished c.args.plan.now c.args.most (beside_of before c.args.remains.now) _ a b _ _ refl refl went.0 went.1
+    rank_finished c.args.plan.now c.args.most (beside_of before c.args.remains.now) _ a b _ _ refl refl went
 
 pub returns-in-Err-clause-done : goal.returns-in-Err-clause-done
 returns-in-Err-clause-done g c = λ before after.

@@ -64,3 +64,27 @@ returns-in-BadCsv-clause-ok g c =
 pub returns-in-BadCsv-clause-part : goal.returns-in-BadCsv-clause-part
 returns-in-BadCsv-clause-part g c =
     subst (λ (f : Fault). OnErr c.tell_unit-in-BadCsv.result (AppendsPart (g.E.Sink.written c.args.err.now) (g.E.Sink.written c.tell_unit-in-BadCsv.new.err) (message_of f))) (sym c.in-BadCsv.is) c.tell_unit-in-BadCsv.ensures.part
+
+pub returns-in-BadLine-clause-ok : goal.returns-in-BadLine-clause-ok
+returns-in-BadLine-clause-ok g c =
+    subst (λ (f : Fault). OnOk c.tell_unit-in-BadLine.result (Appends (g.E.Sink.written c.args.err.now) (g.E.Sink.written c.tell_unit-in-BadLine.new.err) (message_of f))) (sym c.in-BadLine.is) c.tell_unit-in-BadLine.ensures.ok
+
+pub returns-in-BadLine-clause-part : goal.returns-in-BadLine-clause-part
+returns-in-BadLine-clause-part g c =
+    subst (λ (f : Fault). OnErr c.tell_unit-in-BadLine.result (AppendsPart (g.E.Sink.written c.args.err.now) (g.E.Sink.written c.tell_unit-in-BadLine.new.err) (message_of f))) (sym c.in-BadLine.is) c.tell_unit-in-BadLine.ensures.part
+
+pub returns-in-Backward-clause-ok : goal.returns-in-Backward-clause-ok
+returns-in-Backward-clause-ok g c =
+    subst (λ (f : Fault). OnOk c.tell_unit-in-Backward.result (Appends (g.E.Sink.written c.args.err.now) (g.E.Sink.written c.tell_unit-in-Backward.new.err) (message_of f))) (sym c.in-Backward.is) c.tell_unit-in-Backward.ensures.ok
+
+pub returns-in-Backward-clause-part : goal.returns-in-Backward-clause-part
+returns-in-Backward-clause-part g c =
+    subst (λ (f : Fault). OnErr c.tell_unit-in-Backward.result (AppendsPart (g.E.Sink.written c.args.err.now) (g.E.Sink.written c.tell_unit-in-Backward.new.err) (message_of f))) (sym c.in-Backward.is) c.tell_unit-in-Backward.ensures.part
+
+pub returns-in-UnknownTenant-clause-ok : goal.returns-in-UnknownTenant-clause-ok
+returns-in-UnknownTenant-clause-ok g c =
+    subst (λ (f : Fault). OnOk c.tell_unit-in-UnknownTenant.result (Appends (g.E.Sink.written c.args.err.now) (g.E.Sink.written c.tell_unit-in-UnknownTenant.new.err) (message_of f))) (sym c.in-UnknownTenant.is) c.tell_unit-in-UnknownTenant.ensures.ok
+
+pub returns-in-UnknownTenant-clause-part : goal.returns-in-UnknownTenant-clause-part
+returns-in-UnknownTenant-clause-part g c =
+    subst (λ (f : Fault). OnErr c.tell_unit-in-UnknownTenant.result (AppendsPart (g.E.Sink.written c.args.err.now) (g.E.Sink.written c.tell_unit-in-UnknownTenant.new.err) (message_of f))) (sym c.in-UnknownTenant.is) c.tell_unit-in-UnknownTenant.ensures.part
