@@ -17,9 +17,11 @@ def usage_line(commands):
 
 
 def is_known(command):
-    """Whether the program has this command. A program that was built before the last three came has another line of usage."""
-    known = usage() == usage_line(COMMANDS)
-    return known or command in COMMANDS[:8] and usage() == usage_line(COMMANDS[:8])
+    """Whether the program has this command. A program that was built before the last three came has another line of usage,
+    and there is no third one."""
+    known = [commands for commands in (COMMANDS, COMMANDS[:8]) if usage() == usage_line(commands)]
+    assert known, f"the line of usage is {usage()!r}"
+    return command in known[0]
 
 
 def unknown(commands):
