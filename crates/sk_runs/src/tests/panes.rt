@@ -32,8 +32,8 @@ const REFUSED: &str = "\
 | window --span 10 --last 2 | 0 a;+12 b; | 14 | | line 2: bad line;
 | window --span 10 --last 2 | 12 a;9; | 14 | pane 0 estimate 0/1; | line 2: bad line;
 | window --span 10 --last 2 | 12 a;9 b;x; | 15 | pane 0 estimate 0/1; | line 2: earlier moment;
-| window --span 10 --last 2 | 12 @; | 5 | | line 1: too long;
-| window --span 10 --last 2 | 12 a;x;12 @; | 14 | pane 0 estimate 0/1; | line 2: bad line;";
+piece=65536 | window --span 10 --last 2 | 12 @; | 5 | | line 1: too long;
+piece=65536 | window --span 10 --last 2 | 12 a;x;12 @; | 14 | pane 0 estimate 0/1; | line 2: bad line;";
 
 // Intervals that lines ended before a fault have their estimates.
 const FAULTS: &str = "\

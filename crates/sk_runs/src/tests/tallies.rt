@@ -13,13 +13,13 @@ const TALLIES: &str = "\
 | tally --rows 3 --width 3 --item a | a;b;c;d;e;f;g;h;i;j; | 0 | n 10 item 2; |
 | tally --rows 2 --width 3 --item a --seed 7 | a;b;c;d;e;f;g;h; | 0 | n 8 item 2; |
 | tally --rows 16 --width 1 --item b | a;c; | 0 | n 2 item 2; |
-| tally --rows 1 --width 1048576 --item a | a;a | 0 | n 2 item 2; |
+| tally --rows 1 --width 4096 --item a | a;a | 0 | n 2 item 2; |
 | tally --rows 4 --width 1000 --item x --csv 2 | a,x;b,x;c,y; | 0 | n 3 item 2; |
 | tally --rows 4 --width 1000 --item x --csv 2 | a,x;b; | 12 | | record 2: bad csv;
 read=0 | tally --rows 4 --width 1000 --item a --file text | a;b;a; | 0 | n 3 item 2; |
 read=3 | tally --rows 4 --width 1000 --item a | a;b;a; | 3 | | read fault;
 room=4 | tally --rows 4 --width 1000 --item a | a;b;a; | 4 | n 3_ | write fault;
-| tally --rows 4 --width 1000 --item a | a;@@; | 5 | | line 2: too long;
+piece=65536 | tally --rows 4 --width 1000 --item a | a;@x; | 5 | | line 2: too long;
 | tally --rows 4 --width 1000 --item a --file none | | 8 | | open fault;
 | tally --rows 3 --width 3 --item a --updaters 1 --b 1 | a;b;c;d;e;f;g;h;i;j; | 0 | n 10 item 2; |
 | tally --rows 3 --width 3 --item a --updaters 4 --b 2 | a;b;c;d;e;f;g;h;i;j; | 0 | n 10 item 2; |

@@ -25,7 +25,7 @@ const REFUSED: &str = "\
 | tenants --names a | a x;c; | 14 | | line 2: bad line;
 | tenants --names ab | a x; | 16 | | line 1: unknown tenant;
 | tenants --names a | ab x;a; | 16 | | line 1: unknown tenant;
-| tenants --names a | a @; | 5 | | line 1: too long;
+piece=65536 | tenants --names a | a @; | 5 | | line 1: too long;
 read=5 | tenants --names a | a x;a y; | 3 | | read fault;
 read=8 | tenants --names a | a x;a y; | 3 | | read fault;
 read=9 | tenants --names a | a x;a y; | 0 | a estimate 2/1; |
