@@ -6,6 +6,7 @@ mod ranks;
 mod read;
 mod schedules;
 mod sessions;
+mod tenants;
 mod versions;
 mod waking;
 mod windows;

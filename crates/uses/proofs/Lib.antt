@@ -1,3 +1,4 @@
+pub mod AddsLaws
 pub mod Lengths
 pub mod Maximum
 pub mod One

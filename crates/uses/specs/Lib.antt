@@ -1,3 +1,4 @@
+pub mod Adds
 pub mod Fed
 pub mod Greatest
 pub mod Lengths

@@ -10,6 +10,7 @@ mod lines;
 mod ranks;
 mod schedule;
 mod streams;
+mod tenants;
 
 pub use count_min::{HowOften, how_often};
 pub use draining::drain_last_first;
@@ -21,6 +22,7 @@ pub use ranks::rank_source;
 pub use schedule::replay;
 pub use sk_model::OutOfMemory;
 pub use streams::{Counted, count_streams};
+pub use tenants::{Answered, count_two_tenants};
 
 #[cfg(test)]
 mod tests;

@@ -8,6 +8,7 @@ use super::*;
 use sk_core::{Answer, Event, State};
 use sk_heap::HeapTheta;
 use sk_io::{MemSink, MemSource};
+use sk_tenant::Add;
 use sk_theta::{Reply, Shape, unpack};
 use std::alloc::Global;
 use std::fmt::Debug;
@@ -153,5 +154,27 @@ fn numbers_are_ranked_by_four_updaters(rt: HostRuntime) -> Result<(), Fail> {
     // Of the numbers below 3.
     assert_eq!(rt; rank_source(&rt, alloc, 4, 4, &mut input, &mut out), Ok(()));
     assert_eq!(rt; out.written(), b"n 5 below 2 within 0\n".as_slice());
+    Ok(())
+}
+
+fn two_names(alloc: Global) -> Result<Vec<String>, OutOfMemory>
+    ensures { IfOk result (λ names. length names.items ≡ 2) }
+{
+    let mut names = Vec::with_capacity(alloc, 2)?;
+    names.push(String::from_str(alloc, "a")?)?;
+    names.push(String::from_str(alloc, "b")?)?;
+    Ok(names)
+}
+
+#[test]
+fn two_tenants_are_counted_alone(rt: HostRuntime) -> Result<(), Fail> {
+    let alloc = rt.alloc();
+    let shape = Shape::new(8, 4, 2, 0, false)?;
+    let first = [(0, 5), (1, 7), (0, 9)];
+    let second = [(0, 5), (1, 8), (1, 11), (1, 7)];
+    let names = two_names(alloc)?;
+    let answered = count_two_tenants(&rt, alloc, names, &shape, 2, &first, &second)?;
+    expect(&rt, answered.words, (2, 3));
+    expect(&rt, answered.second.last().copied(), Some(Add::Over));
     Ok(())
 }
