@@ -10,6 +10,7 @@ use sk_heap::HeapTheta;
 use sk_io::{MemSink, MemSource};
 use sk_tenant::Add;
 use sk_theta::{Reply, Shape, unpack};
+use sk_window::{Advance, Frame, Panes, Started};
 use std::alloc::Global;
 use std::fmt::Debug;
 use std::process::Abort;
@@ -176,5 +177,31 @@ fn two_tenants_are_counted_alone(rt: HostRuntime) -> Result<(), Fail> {
     let answered = count_two_tenants(&rt, alloc, names, &shape, 2, &first, &second)?;
     expect(&rt, answered.words, (2, 3));
     expect(&rt, answered.second.last().copied(), Some(Add::Over));
+    Ok(())
+}
+
+// Interval 0 is fed in threads between two moments of which the second ends it.
+#[test]
+fn four_threads_feed_an_interval(rt: HostRuntime) -> Result<(), Fail> {
+    let alloc = rt.alloc();
+    let Ok(shape) = Shape::new(1_024, 16, 4, 0, false) else {
+        panic!(rt; "no shape");
+    };
+    let frame = Frame { span: 10, last: 2 };
+    let streams = four_streams(alloc)?;
+    let Started {
+        mut panes,
+        updaters,
+    } = Panes::new(&rt, alloc, shape, frame)?;
+    let Advance::Same(updaters) = panes.advance(9, updaters) else {
+        panic!(rt; "another interval");
+    };
+    let (meanwhile, updaters) = feed_and_reply(&rt, &mut panes, updaters, streams.as_slice())?;
+    // Each buffer has room for 16 items of the 150 that each thread keeps.
+    assert!(&rt; 322 <= meanwhile.count && meanwhile.count <= 450);
+    let Advance::Moved(last, _updaters) = panes.advance(10, updaters) else {
+        panic!(rt; "no other interval");
+    };
+    expect(&rt, last.count, 450);
     Ok(())
 }
