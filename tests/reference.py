@@ -350,19 +350,24 @@ def cell(row, width, item):
     return murmur128(row, struct.pack("<Q", item))[0] % width
 
 
-def least(rows, width, item, items):
-    """The least, over the rows, of how many of the items have the cell of this one."""
-    return min(sum(cell(row, width, other) == cell(row, width, item) for other in items) for row in range(rows))
+# The bits that a row has in the sum of what items weigh in a tally.
+ROW_BITS = 48
+
+
+def weight_in(rows, width, item):
+    """What an item weighs in the tally of another: a number that has 1 in the place of each row in which they share a cell."""
+    return functools.cache(lambda other: sum((cell(row, width, other) == cell(row, width, item)) << ROW_BITS * row for row in range(rows)))
 
 
 class Counted(Everything):
-    """All items in order, of which a tally is a function."""
+    """How many items there are, and what they weigh together: all that a tally is a function of."""
 
-    def __init__(self):
-        self.items = []
+    def __init__(self, weight):
+        self.weight, self.count, self.sum = weight, 0, 0
 
     def add(self, item):
-        self.items.append(item)
+        self.count += 1
+        self.sum += self.weight(item)
 
 
 class Updater:
@@ -426,12 +431,13 @@ def text_of(n, d):
 
 
 class Windows:
-    """The windows of a text, what each updater was fed of them, and the updater whose steps are fixed, if there is one."""
+    """The windows of a text, what each updater was fed of them and what its first items weigh, and the updater whose steps
+    are fixed, if there is one."""
 
-    def __init__(self, options, sketch, sizes):
+    def __init__(self, options, sketch, sizes, weight=lambda item: 0):
         self.options, self.sizes = options, [*sizes, *sizes[-1:] * options.updaters][: options.updaters]
         self.window, self.bytes, self.count = [], 0, 0
-        self.shares = [[] for _ in self.sizes]
+        self.shares, self.weight, self.sums = [[] for _ in self.sizes], weight, [[0] for _ in self.sizes]
         fixed = options.window and options.updaters == 1 and not options.propagator
         self.updater = Updater(sketch, self.sizes[0], getattr(options, "eager", False)) if fixed else None
 
@@ -446,7 +452,10 @@ class Windows:
             return False
         count, updaters = len(self.window), self.options.updaters
         for i, share in enumerate(self.shares):
-            share += [x for x in self.window[i * count // updaters : (i + 1) * count // updaters] if x is not None]
+            for item in self.window[i * count // updaters : (i + 1) * count // updaters]:
+                if item is not None:
+                    share.append(item)
+                    self.sums[i].append(self.sums[i][-1] + self.weight(item))
         if self.updater:
             for item in self.window:
                 if item is not None:
@@ -455,11 +464,19 @@ class Windows:
         return True
 
     def surely_seen(self):
-        """What an interim list cannot lack if all is kept: all but the last two buffers of each updater."""
-        return [item for share, size in zip(self.shares, self.sizes) for item in share[: max(0, len(share) - 2 * size)]]
+        """Of how many items of each updater an interim list has at least the first, if all are kept: it lacks the last two
+        buffers."""
+        return [max(0, len(share) - 2 * size) for share, size in zip(self.shares, self.sizes)]
 
     def all(self):
-        return [item for share in self.shares for item in share]
+        return [len(share) for share in self.shares]
+
+    def weighed(self, firsts):
+        """How many these first items of each updater are, and what they weigh."""
+        return sum(firsts), sum(sums[first] for sums, first in zip(self.sums, firsts))
+
+    def items(self, firsts):
+        return {item for share, first in zip(self.shares, firsts) for item in share[:first]}
 
 
 class Alarms:
@@ -502,7 +519,7 @@ def count(options, text, due):
 def estimate_between(options, windows, start, before):
     """An estimate of a list that lacks at most the last two buffers of each updater, and is not of an earlier one than
     that before it."""
-    k, every, seen = options.k, sorted(set(windows.all())), len(set(windows.surely_seen()))
+    k, every, seen = options.k, sorted(windows.items(windows.all())), len(windows.items(windows.surely_seen()))
     missing = 2 * sum(windows.sizes)
 
     def takes(line):
@@ -607,30 +624,33 @@ def make(options, text, due):
 
 
 def quantile(options, text, due):
-    windows, at = Windows(options, Quantiles(options.k, options.key), [options.b]), options.at + 1
-    whole, items, before = Quantiles(options.k, options.key), [], [0]
+    at = options.at + 1
+    windows = Windows(options, Quantiles(options.k, options.key), [options.b], lambda item: item < at)
+    whole, below, before = Quantiles(options.k, options.key), 0, [0]
     for _, unit, item in units_of(options, text):
         if item is not None:
-            items.append(item)
+            below += item < at
             whole.add(item)
         if windows.add(unit, item):
             start = f"at {windows.count} "
             if windows.updater:
                 due.append(start + rank_text(options.k, windows.updater.sketch.count, windows.updater.sketch.below(at)))
             else:
-                due.append(Between(rank_between(options.k, at, windows.surely_seen(), windows.all(), start, before)))
+                seen, every = windows.weighed(windows.surely_seen()), windows.weighed(windows.all())
+                due.append(Between(rank_between(options.k, seen, every, start, before)))
     if options.updaters == 1:
         due.append(rank_text(options.k, whole.count, whole.below(at)))
     else:
-        due.append(Between(rank_between(options.k, at, items, items, "", [0])))
+        every = (whole.count, below)
+        due.append(Between(rank_between(options.k, every, every, "", [0])))
 
 
 def rank_text(k, count, below):
     return f"n {count} below {below} within {rank_error(k, count)}\n"
 
 
-def rank_between(k, at, seen, every, start, before):
-    low, high = sum(x < at for x in seen), sum(x < at for x in every)
+def rank_between(k, seen, every, start, before):
+    (least, low), (most, high) = seen, every
 
     def takes(line):
         parts = line[len(start) :].split()
@@ -638,7 +658,7 @@ def rank_between(k, at, seen, every, start, before):
             return False
         count, below = int(parts[1]), int(parts[3])
         error = rank_error(k, count)
-        good = max(len(seen), before[0]) <= count <= len(every) and low - error <= below <= high + error
+        good = max(least, before[0]) <= count <= most and low - error <= below <= high + error
         before[0] = count
         return good and line == start + rank_text(k, count, below)
 
@@ -646,33 +666,39 @@ def rank_between(k, at, seen, every, start, before):
 
 
 def tally(options, text, due):
-    windows, wanted = Windows(options, Counted(), [options.b]), hash63(options.seed, options.item.encode())
-    shape, items, before = (options.rows, options.width, wanted), [], [0, 0]
+    weight = weight_in(options.rows, options.width, hash63(options.seed, options.item.encode()))
+    windows, whole, before = Windows(options, Counted(weight), [options.b], weight), Counted(weight), [0, 0]
     for _, unit, item in units_of(options, text):
         if item is not None:
-            items.append(item)
+            whole.add(item)
         if windows.add(unit, item):
             start = f"at {windows.count} "
             if windows.updater:
-                due.append(start + tally_text(shape, windows.updater.sketch.items))
+                due.append(start + tally_text(options.rows, windows.updater.sketch))
             else:
-                due.append(Between(tally_between(shape, windows.surely_seen(), windows.all(), start, before)))
-    due.append(tally_text(shape, items))
+                seen, every = windows.weighed(windows.surely_seen()), windows.weighed(windows.all())
+                due.append(Between(tally_between(options.rows, seen, every, start, before)))
+    due.append(tally_text(options.rows, whole))
 
 
-def tally_text(shape, items):
-    return f"n {len(items)} item {least(*shape, items)}\n"
+def times_in(rows, weight):
+    """How often the item was there, by the least cell of the rows."""
+    return min(weight >> ROW_BITS * row & (1 << ROW_BITS) - 1 for row in range(rows))
 
 
-def tally_between(shape, seen, every, start, before):
-    low, high = least(*shape, seen), least(*shape, every)
+def tally_text(rows, counted):
+    return f"n {counted.count} item {times_in(rows, counted.sum)}\n"
+
+
+def tally_between(rows, seen, every, start, before):
+    (least, low), (most, high) = ((count, times_in(rows, weight)) for count, weight in (seen, every))
 
     def takes(line):
         parts = line[len(start) :].split()
         if not line.startswith(start + "n ") or len(parts) != 4 or parts[2] != "item":
             return False
         count, times = int(parts[1]), int(parts[3])
-        good = max(len(seen), before[0]) <= count <= len(every) and max(low, before[1]) <= times <= high
+        good = max(least, before[0]) <= count <= most and max(low, before[1]) <= times <= high
         before[:] = [count, times]
         return good
 
