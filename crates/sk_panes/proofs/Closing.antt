@@ -1,5 +1,5 @@
 -- The end of an interval: its reply is that of its pane, and the next ones are closed.
-use Rattle.std.proofs.Common.{◌≡◌, ℕ, ◌+◌, ◌-◌, ◌<◌, ◌≤◌, nat_lt, if◌then◌else◌, List, [], ◌∷◌, ◌++◌, length, filter, drop, replicate, get_or, slice_index, Some, sym, ap, subst, ◌∙◌, arith}
+use Rattle.std.proofs.Common.{◌≡◌, ℕ, ◌+◌, ◌-◌, ◌<◌, ◌≤◌, nat_lt, if◌then◌else◌, List, [], ◌∷◌, ◌++◌, length, filter, drop, replicate, get_or, slice_index, Some, None, sym, ap, subst, ◌∙◌, arith}
 use Rattle.std.proofs.lemmas.List.Elements.{All-map}
 use Rattle.sk_model.specs.Entries.{Entry, items_of_entries}
 use Rattle.sk_model.specs.Sketch.{k_smallest}
@@ -14,12 +14,13 @@ use Rattle.sk_learn.specs.Closing.{AreApart, HasExactly}
 use Rattle.sk_window.specs.Intervals.{StandForEach, IsReplyOf, all_items, with_closed, with_skipped}
 use Rattle.sk_window.specs.Panes.{PanesState, Closes, Moves}
 use Rattle.sk_snap.specs.History.{entries_in}
+use Rattle.sk_panes.specs.Candidates.{CandidatesState, HaveSmallest}
 use Rattle.sk_panes.specs.Panes.{item_of, running_after, pane_items}
-use Rattle.sk_panes.specs.Running.{is_in_interval, items_of_interval, earlier_in, lists_before, FeedsOne, Stands, IsLast, ComesTo}
+use Rattle.sk_panes.specs.Running.{is_in_interval, items_of_interval, earlier_in, lists_before, FeedsSmallest, Stands, IsLast, ComesTo}
 use Rattle.sk_panes.specs.declared.plan.Plan.{Plan}
 use Rattle.sk_panes.proofs.Lines.{none_later, pane_of_intervals}
 use Rattle.sk_panes.proofs.Lists.{closed_next, skipped_next, lists_with_own, SameEach, each_same, same_append, same_drop, stand_same}
-use Rattle.sk_panes.proofs.Feeding.{fresh_feeds, smallest_kept, exactly_kept}
+use Rattle.sk_panes.proofs.Feeding.{at_first, fresh_feeds, smallest_kept, exactly_kept}
 
 -- ---- replies
 
@@ -48,32 +49,36 @@ items_are_items plan lines c = All-map IsItem (item_of plan) (filter (is_in_inte
 one_apart : (us : List UpdaterState) (u : UpdaterState) → us ≡ u ∷ [] → AreApart us
 one_apart us u only i j d less within = absurd (omega (arith, less, within, ap length only))
 
-pub at_first : (us : List UpdaterState) (u v : UpdaterState) → us ≡ v ∷ [] → u ≡ get_or us 0 u → u ≡ v
-at_first us u v only is = is ∙ ap (λ (l : List UpdaterState). get_or l 0 u) only
+-- a moment in the running interval
+pub comes_again : (plan : Plan) (lines : List (List ℕ)) (c : ℕ) (p : PanesState) (us : List UpdaterState) (held : CandidatesState) → Stands plan lines (running_after plan lines) p us held → c ≡ p.running → ComesTo plan lines c None p us held
+comes_again plan lines c p us held stands is =
+    let same : running_after plan lines ≡ c = sym (is ∙ stands.running) in
+    record { later = omega arith; stands = subst (λ (n : ℕ). Stands plan lines n p us held) same stands; due = same }
 
 -- ---- an interval that has ended
 
-module _ (plan : Plan) (lines : List (List ℕ)) (p : PanesState) (us : List UpdaterState) (u : UpdaterState) (hint : List ℕ → List Entry → ℕ)
-    (stands : Stands plan lines (running_after plan lines) p us) (whole : IsWholeUpdater hint u) (first : u ≡ get_or us 0 u) where
+module _ (plan : Plan) (lines : List (List ℕ)) (p : PanesState) (us0 us : List UpdaterState) (held : CandidatesState) (u : UpdaterState) (hint : List ℕ → List Entry → ℕ)
+    (stands : Stands plan lines (running_after plan lines) p us0 held) (feeds : FeedsSmallest plan p.heart (items_of_interval plan lines (running_after plan lines)) us) (whole : IsWholeUpdater hint u) (first : u ≡ get_or us 0 u) where
   last : 1 ≤ plan.last
   last = omega (arith, stands.within.last.0)
 
-  is_one : u ≡ stands.feeds.one
-  is_one = at_first us u stands.feeds.one stands.feeds.only first
+  is_one : u ≡ feeds.feeds.one
+  is_one = at_first us u feeds.feeds.one feeds.feeds.only first
 
   pub apart : AreApart us
-  apart = one_apart us stands.feeds.one stands.feeds.only
+  apart = one_apart us feeds.feeds.one feeds.feeds.only
 
   pub its_lists : StandForEach p.shape.k p.closed (lists_before plan lines (running_after plan lines))
   its_lists = subst (λ (k : ℕ). StandForEach k p.closed (lists_before plan lines (running_after plan lines))) (sym stands.k) stands.closed
 
   same_kept : (list : List Entry) → HasExactly list us → k_smallest plan.k (items_of_entries list) ≡ k_smallest plan.k (items_of_interval plan lines (running_after plan lines))
   same_kept list has =
-      let one = stands.feeds.one in
-      let exactly : HasExactly list (one ∷ []) = subst (HasExactly list) stands.feeds.only has in
+      let one = feeds.feeds.one in
+      let exactly : HasExactly list (one ∷ []) = subst (HasExactly list) feeds.feeds.only has in
       let its : IsWholeUpdater hint one = subst (IsWholeUpdater hint) is_one whole in
       ap (k_smallest plan.k) (exactly_kept list one exactly)
-      ∙ smallest_kept plan p.heart (items_of_interval plan lines (running_after plan lines)) one hint stands.feeds.fed its (items_are_items plan lines (running_after plan lines))
+      ∙ smallest_kept plan p.heart feeds.taken one hint feeds.feeds.fed its feeds.small
+      ∙ feeds.same
 
   of_pane : (list : List Entry) (reply : Reply) → HasExactly list us → IsReplyOf p.shape.k (all_items (lists_before plan lines (running_after plan lines)) ++ items_of_entries list) reply
       → IsReplyOf plan.k (pane_items plan (running_after plan lines) lines) reply
@@ -107,9 +112,9 @@ module _ (plan : Plan) (lines : List (List ℕ)) (p : PanesState) (us : List Upd
       ∙ ap (lists_before plan lines) up)
       (stand_same k closed (with_skipped (with_closed lists kept) n) (with_skipped (with_closed lists items) n) skips before)
 
-  pub comes_later : (c : ℕ) (reply : Reply) (us' : List UpdaterState) (q : PanesState) (interval : ℕ) → p.running < c → Moves p c us (lists_before plan lines (running_after plan lines)) reply us' q
-      → q.frame ≡ p.frame → q.shape ≡ p.shape → interval ≡ p.running → ComesTo plan lines c (Some (record { interval = interval; reply = reply })) q us'
-  comes_later c reply us' q interval after moves frame shape is =
+  pub comes_later : (c : ℕ) (reply : Reply) (us' : List UpdaterState) (q : PanesState) (interval : ℕ) (held' : CandidatesState) → p.running < c → Moves p c us (lists_before plan lines (running_after plan lines)) reply us' q
+      → q.frame ≡ p.frame → q.shape ≡ p.shape → interval ≡ p.running → held'.k ≡ held.k → HaveSmallest [] held' → ComesTo plan lines c (Some (record { interval = interval; reply = reply })) q us' held'
+  comes_later c reply us' q interval held' after moves frame shape is held_k none =
       let later : running_after plan lines < c = omega (arith, after, stands.running) in
       let its : IsLast plan lines (record { interval = interval; reply = reply }) =
       record { interval_is = is ∙ stands.running; reply_is = of_pane moves.list reply moves.exactly moves.reply_is } in
@@ -123,7 +128,9 @@ module _ (plan : Plan) (lines : List (List ℕ)) (p : PanesState) (us : List Upd
           running = moves.running_is;
           closed = next_lists c moves.list q.closed moves.exactly later moves.stand;
           none = moves.none_taken;
-          feeds = subst (λ (l : List ℕ). FeedsOne plan q.heart l us') (sym (none_later plan lines c later)) (fresh_feeds plan p.shape q.heart us' q.learnt moves.fresh stands.one stands.k);
+          feeds = fresh_feeds plan p.shape q.heart us' q.learnt moves.fresh stands.one stands.k;
+          held_k = held_k ∙ stands.held_k;
+          held_is = subst (λ (l : List ℕ). HaveSmallest l held') (sym (none_later plan lines c later)) none;
         };
         due = (later, its);
       }

@@ -1,9 +1,10 @@
 -- What the updater of an interval has taken and kept.
-use Rattle.std.proofs.Common.{◌≡◌, inl, inr, ⊎_elim, ℕ, ◌<◌, ◌≤◌, nat_lt, ◌==◌, if◌then◌else◌, Bool, true, false, List, [], ◌∷◌, ◌++◌, length, map, filter, get_or, All, Contains, Result, Ok, Err, OnOk, refl, sym, ap, subst, ◌∙◌, arith, length-append}
+use Rattle.std.proofs.Common.{◌≡◌, ◌+◌, ◌*◌, inl, inr, ⊎_elim, ℕ, ◌<◌, ◌≤◌, nat_lt, ◌==◌, if◌then◌else◌, Bool, true, false, List, [], ◌∷◌, ◌++◌, length, map, filter, get_or, slice_set, All, Contains, Result, Ok, Err, OnOk, refl, sym, ap, subst, ◌∙◌, arith, length-append}
 use Rattle.std.proofs.Math.ListN.{get_or-append}
 use Rattle.std.proofs.lemmas.Bool.Decides.{nat_tests}
 use Rattle.std.proofs.lemmas.List.Elements.{All-head, All-tail, All-contains}
 use Rattle.sk_model.specs.Entries.{Entry, items_of_entries, entries_by}
+use Rattle.sk_model.specs.Limits.{most_k, most_kept}
 use Rattle.sk_model.specs.Missing.{Begins}
 use Rattle.sk_model.specs.Sketch.{k_smallest, theta_of}
 use Rattle.sk_model.specs.Width.{IsItem, AreItems}
@@ -24,7 +25,8 @@ use Rattle.sk_hub.proofs.Calls.{none_refl, takes_none, takes_trans, takes_few}
 use Rattle.sk_snap.specs.Versions.{Learnt}
 use Rattle.sk_learn.specs.Closing.{HasExactly}
 use Rattle.sk_window.specs.Hubs.{IsFresh, IsFreshUpdater}
-use Rattle.sk_panes.specs.Running.{keeps, hint_of, HasFed, FeedsOne}
+use Rattle.sk_panes.specs.Candidates.{CandidatesState, HaveSmallest, TakesSmallest}
+use Rattle.sk_panes.specs.Running.{keeps, hint_of, HasFed, FeedsOne, FeedsSmallest}
 use Rattle.sk_panes.specs.declared.plan.Plan.{Plan}
 
 -- ---- one more item
@@ -44,6 +46,29 @@ fed_few plan heart items u fed = omega (arith, takes_few keeps hint_of fed.first
 
 pub feeds_more : (plan : Plan) (heart : HeartState) (items more : List ℕ) (us vs : List UpdaterState) (v : UpdaterState) (feeds : FeedsOne plan heart items us) → Takes keeps hint_of feeds.one more v → vs ≡ v ∷ [] → FeedsOne plan heart (items ++ more) vs
 feeds_more plan heart items more us vs v feeds takes only = record { one = v; only = only; fed = fed_more plan heart items more feeds.one v feeds.fed takes }
+
+-- the first of a list of one
+pub at_first : (us : List UpdaterState) (u v : UpdaterState) → us ≡ v ∷ [] → u ≡ get_or us 0 u → u ≡ v
+at_first us u v only is = is ∙ ap (λ (l : List UpdaterState). get_or l 0 u) only
+
+-- the only one has taken what has the k smallest of these items
+pub hands_in : (plan : Plan) (heart : HeartState) (items : List ℕ) (held : CandidatesState) (us : List UpdaterState) (u v : UpdaterState) → FeedsOne plan heart [] us → u ≡ get_or us 0 u → held.k ≡ plan.k → HaveSmallest items held
+    → TakesSmallest keeps hint_of held.k held.items u v → FeedsSmallest plan heart items (slice_set us 0 v)
+hands_in plan heart items held us u v feeds first k have takes =
+    let one : u ≡ feeds.one = at_first us u feeds.one feeds.only first in
+    let its : Takes keeps hint_of feeds.one takes.taken v = subst (λ (w : UpdaterState). Takes keeps hint_of w takes.taken v) one takes.takes in
+    record {
+      taken = takes.taken;
+      small = takes.small;
+      same = subst (λ (n : ℕ). k_smallest n takes.taken ≡ k_smallest n items) k (takes.same ∙ have.same);
+      feeds = feeds_more plan heart [] takes.taken us (slice_set us 0 v) v feeds its (ap (λ (l : List UpdaterState). slice_set l 0 v) feeds.only);
+    }
+
+-- it has kept nothing, so there is room for all of them
+pub has_room : (plan : Plan) (heart : HeartState) (us : List UpdaterState) (u : UpdaterState) → FeedsOne plan heart [] us → u ≡ get_or us 0 u → length (kept_of u) + 2 * most_k ≤ most_kept
+has_room plan heart us u feeds first =
+    let one : u ≡ feeds.one = at_first us u feeds.one feeds.only first in
+    omega (arith, fed_few plan heart [] feeds.one feeds.fed, ap (λ (w : UpdaterState). length (kept_of w)) one)
 
 -- what follows of a success
 pub on_ok_then : {T E : Type 0} (o : Result T E) (P Q : Type 0) → (P → Q) → OnOk o P → OnOk o Q

@@ -1,5 +1,6 @@
 pub mod Lines
 pub mod Lists
+pub mod Smallest
 pub mod Feeding
 pub mod Closing
 pub mod Labels

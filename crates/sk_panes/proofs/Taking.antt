@@ -1,14 +1,14 @@
 -- A line that is taken: the panes after it, and what is due at it.
-use Rattle.std.proofs.Common.{◌≡◌, ℕ, suc, ◌/◌, ◌<◌, ◌≤◌, max, nat_lt, if◌then◌else◌, Bool, true, false, List, [], ◌∷◌, ◌++◌, length, map, filter, Option, Some, None, unwrap_or, is_some, Result, Ok, Err, IfErr, OnErr, refl, sym, ap, subst, ◌∙◌, arith}
+use Rattle.std.proofs.Common.{◌≡◌, ℕ, ◌/◌, ◌<◌, ◌≤◌, max, nat_lt, if◌then◌else◌, Bool, true, false, List, [], ◌∷◌, ◌++◌, length, Option, Some, None, unwrap_or, is_some, Result, Ok, Err, IfErr, OnErr, refl, sym, ap, subst, ◌∙◌, arith}
 use Rattle.std.specs.Io.KnownBytes.{Appends}
 use Rattle.std.proofs.KnownBytes.{Appends-nil}
 use Rattle.std.proofs.Math.Nat.{zero-div}
 use Rattle.std.proofs.lemmas.Bool.Decides.{nat_tests}
 use Rattle.sk_model.specs.Causes.{AppendsPart}
-use Rattle.sk_model.specs.Limits.{most_kept}
 use Rattle.sk_model.specs.Murmur.{hash_of}
 use Rattle.sk_model.specs.Numbers.{number_of}
 use Rattle.sk_model.specs.Sketch.{count_of, fraction_of}
+use Rattle.sk_model.specs.Width.{AreItems}
 use Rattle.sk_label.specs.Labels.{label_of, item_text_of, is_labelled}
 use Rattle.sk_label.specs.Rules.{IsFine}
 use Rattle.sk_label.specs.Stops.{Takes, StopsBy}
@@ -17,19 +17,21 @@ use Rattle.sk_label.specs.declared.fault.LineStop.TheVariants.{WriteFault}
 use Rattle.sk_hub.specs.Updaters.{UpdaterState}
 use Rattle.sk_window.specs.Intervals.{StandForEach}
 use Rattle.sk_window.specs.Panes.{PanesState}
+use Rattle.sk_panes.specs.Candidates.{CandidatesState, HaveSmallest}
 use Rattle.sk_panes.specs.Panes.{moment_end, interval_of, item_of, running_after, pane_items, pane_text, pane_line, pane_ended, pane_rules}
-use Rattle.sk_panes.specs.Running.{is_in_interval, items_of_interval, FeedsOne, Stands, StandsAfter, IsLabelIn, IsLast, IsDue, TakesLabel, reply_text, due_text}
+use Rattle.sk_panes.specs.Running.{items_of_interval, Stands, StandsAfter, IsLabelIn, IsLast, IsDue, TakesLabel, reply_text, due_text}
 use Rattle.sk_panes.specs.declared.plan.Plan.{Plan}
 use Rattle.sk_panes.specs.declared.running.Pane.{Pane}
 use Rattle.sk_panes.proofs.Lines.{running_more, interval_more, interval_stays, other_interval, both_true}
 use Rattle.sk_panes.proofs.Lists.{lists_same}
+use Rattle.sk_panes.proofs.Closing.{items_are_items}
 
 -- ---- the panes after a line
 
--- lines by which all intervals up to c have the same items
-same_stands : (plan : Plan) (lines lines' : List (List ℕ)) (c : ℕ) (p : PanesState) (us us' : List UpdaterState) → Stands plan lines c p us → ((j : ℕ) → j < c → items_of_interval plan lines' j ≡ items_of_interval plan lines j)
-    → FeedsOne plan p.heart (items_of_interval plan lines' c) us' → Stands plan lines' c p us'
-same_stands plan lines lines' c p us us' stands same feeds = record {
+-- lines by which all intervals before c have the same items
+same_stands : (plan : Plan) (lines lines' : List (List ℕ)) (c : ℕ) (p : PanesState) (us : List UpdaterState) (held held' : CandidatesState) → Stands plan lines c p us held → ((j : ℕ) → j < c → items_of_interval plan lines' j ≡ items_of_interval plan lines j)
+    → held'.k ≡ plan.k → HaveSmallest (items_of_interval plan lines' c) held' → Stands plan lines' c p us held'
+same_stands plan lines lines' c p us held held' stands same k have = record {
   within = stands.within;
   frame = stands.frame;
   k = stands.k;
@@ -37,7 +39,9 @@ same_stands plan lines lines' c p us us' stands same feeds = record {
   running = stands.running;
   closed = subst (λ (l : List (List ℕ)). StandForEach plan.k p.closed l) (sym (lists_same plan lines lines' c same)) stands.closed;
   none = stands.none;
-  feeds = feeds;
+  feeds = stands.feeds;
+  held_k = k;
+  held_is = have;
 }
 
 empty_moment : number_of moment_end (label_of []) ≡ None
@@ -59,38 +63,38 @@ ended plan lines line less =
     ap (λ (b : Bool). if b then pane_line plan (running_after plan lines) lines else []) yes
 
 -- an empty line changes nothing
-pub empty_taken : (plan : Plan) (lines : List (List ℕ)) (line : List ℕ) (p : PanesState) (us : List UpdaterState) (label : List ℕ) (w : Option (List ℕ)) → length line ≡ 0 → StandsAfter plan lines p us label
-    → Takes (pane_rules plan) (λ ls. StandsAfter plan ls p us label) w w lines line
-empty_taken plan lines (x ∷ line) p us label w none after = absurd (omega arith)
-empty_taken plan lines [] p us label w none after =
+pub empty_taken : (plan : Plan) (lines : List (List ℕ)) (line : List ℕ) (p : PanesState) (us : List UpdaterState) (held : CandidatesState) (label : List ℕ) (w : Option (List ℕ)) → length line ≡ 0 → StandsAfter plan lines p us held label
+    → Takes (pane_rules plan) (λ ls. StandsAfter plan ls p us held label) w w lines line
+empty_taken plan lines (x ∷ line) p us held label w none after = absurd (omega arith)
+empty_taken plan lines [] p us held label w none after =
     let r = running_after plan lines in
     let runs : running_after plan (lines ++ [] ∷ []) ≡ r = running_more plan lines [] ∙ ap (max r) (empty_interval plan) ∙ omega arith in
     let same : (j : ℕ) → items_of_interval plan (lines ++ [] ∷ []) j ≡ items_of_interval plan lines j = λ j. interval_stays plan lines [] j refl in
-    let feeds = subst (λ (l : List ℕ). FeedsOne plan p.heart l us) (sym (same r)) after.stands.feeds in
-    let stands : Stands plan (lines ++ [] ∷ []) r p us = same_stands plan lines (lines ++ [] ∷ []) r p us us after.stands (λ j less. same j) feeds in
+    let have = subst (λ (l : List ℕ). HaveSmallest l held) (sym (same r)) after.stands.held_is in
+    let stands : Stands plan (lines ++ [] ∷ []) r p us held = same_stands plan lines (lines ++ [] ∷ []) r p us held held after.stands (λ j less. same j) after.stands.held_k have in
     let nothing : pane_ended plan lines [] ≡ [] = not_ended plan lines [] (omega (arith, empty_interval plan)) in
     record {
       fine = λ some. absurd (omega arith);
       went = record {
-        stands = subst (λ (n : ℕ). Stands plan (lines ++ [] ∷ []) n p us) (sym runs) stands;
+        stands = subst (λ (n : ℕ). Stands plan (lines ++ [] ∷ []) n p us held) (sym runs) stands;
         label_is = subst (λ (n : ℕ). IsLabelIn plan n label) (sym runs) after.label_is;
       };
       written = subst (Appends w w) (sym nothing) (Appends-nil w);
     }
 
 -- an item went to interval c, in which its line lies
-fed_stands : (plan : Plan) (lines : List (List ℕ)) (line : List ℕ) (c : ℕ) (p : PanesState) (us us' : List UpdaterState) (label : List ℕ) → interval_of plan line ≡ c → 0 < length line → running_after plan lines ≤ c
-    → Stands plan lines c p us → FeedsOne plan p.heart (items_of_interval plan lines c ++ item_of plan line ∷ []) us' → IsLabelIn plan c label → StandsAfter plan (lines ++ line ∷ []) p us' label
-fed_stands plan lines line c p us us' label its some later stands feeds is =
+fed_stands : (plan : Plan) (lines : List (List ℕ)) (line : List ℕ) (c : ℕ) (p : PanesState) (us : List UpdaterState) (held held' : CandidatesState) (label : List ℕ) → interval_of plan line ≡ c → 0 < length line → running_after plan lines ≤ c
+    → Stands plan lines c p us held → held'.k ≡ held.k → HaveSmallest (items_of_interval plan lines c ++ item_of plan line ∷ []) held' → IsLabelIn plan c label → StandsAfter plan (lines ++ line ∷ []) p us held' label
+fed_stands plan lines line c p us held held' label its some later stands k have is =
     let more = lines ++ line ∷ [] in
     let runs : running_after plan more ≡ c = running_more plan lines line ∙ ap (max (running_after plan lines)) its ∙ omega arith in
     let items : items_of_interval plan more c ≡ items_of_interval plan lines c ++ item_of plan line ∷ [] =
     subst (λ (j : ℕ). items_of_interval plan more j ≡ items_of_interval plan lines j ++ item_of plan line ∷ []) its (interval_more plan lines line some) in
-    let now : Stands plan more c p us' = same_stands plan lines more c p us us' stands
+    let now : Stands plan more c p us held' = same_stands plan lines more c p us held held' stands
     (λ j less. interval_stays plan lines line j (other_interval plan j line (λ same. omega (arith, same, its, less))))
-    (subst (λ (l : List ℕ). FeedsOne plan p.heart l us') (sym items) feeds) in
+    (k ∙ stands.held_k) (subst (λ (l : List ℕ). HaveSmallest l held') (sym items) have) in
     record {
-      stands = subst (λ (n : ℕ). Stands plan more n p us') (sym runs) now;
+      stands = subst (λ (n : ℕ). Stands plan more n p us held') (sym runs) now;
       label_is = subst (λ (n : ℕ). IsLabelIn plan n label) (sym runs) is;
     }
 
@@ -112,9 +116,9 @@ due_is plan lines line c (Some pane) its due = reply_is_line plan lines pane due
 
 -- ---- a line
 
-module _ (plan plan1 plan2 : Plan) (lines : List (List ℕ)) (line label item_text : List ℕ) (pane : Option Pane) (p1 p2 : PanesState) (us1 us2 : List UpdaterState) (label1 label2 : List ℕ)
+module _ (plan plan1 plan2 : Plan) (lines : List (List ℕ)) (line label item_text : List ℕ) (pane : Option Pane) (p1 p2 : PanesState) (us1 us2 : List UpdaterState) (held1 held2 : CandidatesState) (label1 label2 : List ℕ)
     (same1 : plan1 ≡ plan) (same2 : plan2 ≡ plan1) (form : is_labelled line ≡ true) (label_is : label ≡ label_of line) (item_is : item_text ≡ item_text_of line) (some : 0 < length line)
-    (takes : TakesLabel plan lines label pane p1 us1 label1) where
+    (takes : TakesLabel plan lines label pane p1 us1 held1 label1) where
   moment_is : number_of moment_end (label_of line) ≡ Some takes.moment
   moment_is = subst (λ (l : List ℕ). number_of moment_end l ≡ Some takes.moment) label_is takes.moment_is
 
@@ -128,22 +132,23 @@ module _ (plan plan1 plan2 : Plan) (lines : List (List ℕ)) (line label item_te
       let not : nat_lt (interval_of plan line) (running_after plan lines) ≡ false = grind (arith, nat_tests) in
       (both_true (is_labelled line) (is_some (number_of moment_end (label_of line))) form spells, not)
 
-  pub takes_line : (w w' : Option (List ℕ)) → ((items : List ℕ) → FeedsOne plan1 p1.heart items us1 → FeedsOne plan1 p1.heart (items ++ hash_of plan1.seed item_text ∷ []) us2)
-      → p2 ≡ p1 → label2 ≡ label1 → Appends w w' (due_text plan2.k pane) → Takes (pane_rules plan) (λ ls. StandsAfter plan2 ls p2 us2 label2) w w' lines line
-  takes_line w w' feed same_p same_label wrote =
+  pub takes_line : (w w' : Option (List ℕ)) → ((items : List ℕ) → AreItems items → HaveSmallest items held1 → HaveSmallest (items ++ hash_of plan1.seed item_text ∷ []) held2)
+      → held2.k ≡ held1.k → us2 ≡ us1 → p2 ≡ p1 → label2 ≡ label1 → Appends w w' (due_text plan2.k pane) → Takes (pane_rules plan) (λ ls. StandsAfter plan2 ls p2 us2 held2 label2) w w' lines line
+  takes_line w w' fed same_k same_us same_p same_label wrote =
       let c = takes.moment / plan.span in
       let items = items_of_interval plan lines c in
-      let fed : FeedsOne plan1 p1.heart (items ++ hash_of plan1.seed item_text ∷ []) us2 = feed items (subst (λ (q : Plan). FeedsOne q p1.heart items us1) (sym same1) takes.comes.stands.feeds) in
-      let its_own : FeedsOne plan p1.heart (items ++ item_of plan line ∷ []) us2 =
-      subst (λ (t : List ℕ). FeedsOne plan p1.heart (items ++ hash_of plan.seed t ∷ []) us2) item_is
-      (subst (λ (q : Plan). FeedsOne q p1.heart (items ++ hash_of q.seed item_text ∷ []) us2) same1 fed) in
-      let after : StandsAfter plan (lines ++ line ∷ []) p1 us2 label1 = fed_stands plan lines line c p1 us1 us2 label1 its some takes.comes.later takes.comes.stands its_own takes.label_is in
+      let have : HaveSmallest (items ++ hash_of plan1.seed item_text ∷ []) held2 = fed items (items_are_items plan lines c) takes.comes.stands.held_is in
+      let its_own : HaveSmallest (items ++ item_of plan line ∷ []) held2 =
+      subst (λ (t : List ℕ). HaveSmallest (items ++ hash_of plan.seed t ∷ []) held2) item_is
+      (subst (λ (q : Plan). HaveSmallest (items ++ hash_of q.seed item_text ∷ []) held2) same1 have) in
+      let after : StandsAfter plan (lines ++ line ∷ []) p1 us1 held2 label1 = fed_stands plan lines line c p1 us1 held1 held2 label1 its some takes.comes.later takes.comes.stands same_k its_own takes.label_is in
       let k : plan2.k ≡ plan.k = ap (λ (q : Plan). q.k) (same2 ∙ same1) in
       record {
         fine = fine;
-        went = subst (λ (q : Plan). StandsAfter q (lines ++ line ∷ []) p2 us2 label2) (sym (same2 ∙ same1))
-            (subst (λ (x : PanesState). StandsAfter plan (lines ++ line ∷ []) x us2 label2) (sym same_p)
-            (subst (λ (l : List ℕ). StandsAfter plan (lines ++ line ∷ []) p1 us2 l) (sym same_label) after));
+        went = subst (λ (q : Plan). StandsAfter q (lines ++ line ∷ []) p2 us2 held2 label2) (sym (same2 ∙ same1))
+            (subst (λ (x : PanesState). StandsAfter plan (lines ++ line ∷ []) x us2 held2 label2) (sym same_p)
+            (subst (λ (us : List UpdaterState). StandsAfter plan (lines ++ line ∷ []) p1 us held2 label2) (sym same_us)
+            (subst (λ (l : List ℕ). StandsAfter plan (lines ++ line ∷ []) p1 us1 held2 l) (sym same_label) after)));
         written = subst (Appends w w') (ap (λ (n : ℕ). due_text n pane) k ∙ due_is plan lines line c pane its takes.comes.due) wrote;
       }
 
@@ -151,22 +156,6 @@ module _ (plan plan1 plan2 : Plan) (lines : List (List ℕ)) (line label item_te
   stops_line w w' part =
       let k : plan2.k ≡ plan.k = ap (λ (q : Plan). q.k) (same2 ∙ same1) in
       (fine, subst (AppendsPart w w') (ap (λ (n : ℕ). due_text n pane) k ∙ due_is plan lines line (takes.moment / plan.span) pane its takes.comes.due) part)
-
-one_passes : {X : Type 0} (f : X → ℕ) (b : Bool) (x : X) (ys : List X) → length (map f (if b then x ∷ ys else ys)) ≤ suc (length (map f ys))
-one_passes f true x ys = omega arith
-one_passes f false x ys = omega arith
-
-few_pass : {X : Type 0} (f : X → ℕ) (p : X → Bool) (xs : List X) → length (map f (filter p xs)) ≤ length xs
-few_pass f p [] = omega arith
-few_pass f p (x ∷ xs) = omega (arith, one_passes f (p x) x (filter p xs), few_pass f p xs)
-
--- an interval has no more items than there are lines
-pub room_for : (plan plan1 : Plan) (lines : List (List ℕ)) (label : List ℕ) (pane : Option Pane) (p : PanesState) (us : List UpdaterState) (label' : List ℕ) → plan1 ≡ plan → length lines < most_kept → TakesLabel plan lines label pane p us label'
-    → (items : List ℕ) × (length items < most_kept) × FeedsOne plan1 p.heart items us
-room_for plan plan1 lines label pane p us label' same few takes =
-    let items = items_of_interval plan lines (takes.moment / plan.span) in
-    let less : length items < most_kept = omega (arith, few_pass (item_of plan) (is_in_interval plan (takes.moment / plan.span)) lines, few) in
-    (items, less, subst (λ (q : Plan). FeedsOne q p.heart items us) (sym same) takes.comes.stands.feeds)
 
 -- what follows if the only error is a failed write
 pub if_write_failed : {T : Type 0} (o : Result T LineStop) (P : Type 0) (Q : LineStop → Type 0) → IfErr o (λ why. why ≡ WriteFault) → OnErr o P → (P → Q WriteFault) → IfErr o Q

@@ -1,3 +1,4 @@
 pub mod Plans
 pub mod Panes
+pub mod Candidates
 pub mod Running

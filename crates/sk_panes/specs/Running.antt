@@ -3,7 +3,8 @@ use Rattle.std.specs.Prelude.{◌≡◌, ◌⊎◌, ℕ, ◌-◌, ◌/◌, ◌<�
 use Rattle.std.specs.List.{range_with_len}
 use Rattle.sk_model.specs.Entries.{Entry, items_of_entries}
 use Rattle.sk_model.specs.Numbers.{number_of}
-use Rattle.sk_model.specs.Sketch.{theta_of, fraction_of}
+use Rattle.sk_model.specs.Sketch.{k_smallest, theta_of, fraction_of}
+use Rattle.sk_model.specs.Width.{AreItems}
 use Rattle.sk_compose.specs.Numbers.{k_of}
 use Rattle.sk_hub.specs.Calls.{Takes}
 use Rattle.sk_hub.specs.Hearts.{HeartState}
@@ -12,6 +13,7 @@ use Rattle.sk_label.specs.declared.fault.LineStop.{LineStop}
 use Rattle.sk_label.specs.declared.fault.LineStop.TheVariants.{OutOfMemory, WriteFault, BadLine, Refused}
 use Rattle.sk_window.specs.Intervals.{StandForEach, IsReplyOf}
 use Rattle.sk_window.specs.Panes.{PanesState, HasTaken}
+use Rattle.sk_panes.specs.Candidates.{CandidatesState, HaveSmallest}
 use Rattle.sk_panes.specs.Plans.{IsWithin, frame_of}
 use Rattle.sk_panes.specs.Panes.{moment_end, interval_of, item_of, running_after, pane_items, pane_text}
 use Rattle.sk_panes.specs.declared.plan.Plan.{Plan}
@@ -63,10 +65,17 @@ pub record FeedsOne (plan : Plan) (heart : HeartState) (items : List ℕ) (us : 
   pub only : us ≡ one ∷ []
   pub fed : HasFed plan heart items one
 
+-- the only one has taken items with the k smallest of these
+pub record FeedsSmallest (plan : Plan) (heart : HeartState) (items : List ℕ) (us : List UpdaterState) : Type 0 where
+  pub taken : List ℕ
+  pub small : AreItems taken
+  pub same : k_smallest plan.k taken ≡ k_smallest plan.k items
+  pub feeds : FeedsOne plan heart taken us
+
 -- ---- the panes
 
--- interval c runs, and each line went to the interval that it lies in
-pub record Stands (plan : Plan) (lines : List (List ℕ)) (c : ℕ) (p : PanesState) (us : List UpdaterState) : Type 0 where
+-- interval c runs, each line went to the interval that it lies in, and the updater has taken nothing yet
+pub record Stands (plan : Plan) (lines : List (List ℕ)) (c : ℕ) (p : PanesState) (us : List UpdaterState) (held : CandidatesState) : Type 0 where
   pub within : IsWithin plan
   pub frame : p.frame ≡ frame_of plan
   pub k : p.shape.k ≡ plan.k
@@ -74,15 +83,17 @@ pub record Stands (plan : Plan) (lines : List (List ℕ)) (c : ℕ) (p : PanesSt
   pub running : p.running ≡ c
   pub closed : StandForEach plan.k p.closed (lists_before plan lines c)
   pub none : HasTaken p []
-  pub feeds : FeedsOne plan p.heart (items_of_interval plan lines c) us
+  pub feeds : FeedsOne plan p.heart [] us
+  pub held_k : held.k ≡ plan.k
+  pub held_is : HaveSmallest (items_of_interval plan lines c) held
 
 -- a label is kept only if its moment lies in interval c
 abbrev pub IsLabelIn : Plan → ℕ → List ℕ → Type 0
 IsLabelIn plan c label = (label ≡ []) ⊎ ((moment : ℕ) × (number_of moment_end label ≡ Some moment) × (moment / plan.span ≡ c))
 
 -- the latest interval of these lines runs
-pub record StandsAfter (plan : Plan) (lines : List (List ℕ)) (p : PanesState) (us : List UpdaterState) (label : List ℕ) : Type 0 where
-  pub stands : Stands plan lines (running_after plan lines) p us
+pub record StandsAfter (plan : Plan) (lines : List (List ℕ)) (p : PanesState) (us : List UpdaterState) (held : CandidatesState) (label : List ℕ) : Type 0 where
+  pub stands : Stands plan lines (running_after plan lines) p us held
   pub label_is : IsLabelIn plan (running_after plan lines) label
 
 -- ---- a line
@@ -98,16 +109,16 @@ IsDue plan lines c None = running_after plan lines ≡ c
 IsDue plan lines c (Some pane) = (running_after plan lines < c) × IsLast plan lines pane
 
 -- after these lines a moment came
-pub record ComesTo (plan : Plan) (lines : List (List ℕ)) (c : ℕ) (pane : Option Pane) (p : PanesState) (us : List UpdaterState) : Type 0 where
+pub record ComesTo (plan : Plan) (lines : List (List ℕ)) (c : ℕ) (pane : Option Pane) (p : PanesState) (us : List UpdaterState) (held : CandidatesState) : Type 0 where
   pub later : running_after plan lines ≤ c
-  pub stands : Stands plan lines c p us
+  pub stands : Stands plan lines c p us held
   pub due : IsDue plan lines c pane
 
 -- the same, of a label
-pub record TakesLabel (plan : Plan) (lines : List (List ℕ)) (label : List ℕ) (pane : Option Pane) (p : PanesState) (us : List UpdaterState) (label' : List ℕ) : Type 0 where
+pub record TakesLabel (plan : Plan) (lines : List (List ℕ)) (label : List ℕ) (pane : Option Pane) (p : PanesState) (us : List UpdaterState) (held : CandidatesState) (label' : List ℕ) : Type 0 where
   pub moment : ℕ
   pub moment_is : number_of moment_end label ≡ Some moment
-  pub comes : ComesTo plan lines (moment / plan.span) pane p us
+  pub comes : ComesTo plan lines (moment / plan.span) pane p us held
   pub label_is : IsLabelIn plan (moment / plan.span) label'
 
 -- why a label was not taken

@@ -51,8 +51,8 @@ fn read_lines<S: Source, O: Sink, R: Wait>(
     out: &mut O,
 ) -> Result<u64, LabelFault>
     requires bound { most ≤ source_limit }
-    requires start { StandsAfter running.old.plan [] running.old.panes running.old.updaters.items running.old.label }
-    ensures read { ReadsTaken (pane_rules running.old.plan) most (λ lines. StandsAfter running.old.plan lines running.new.panes running.new.updaters.items running.new.label)
+    requires start { StandsAfter running.old.plan [] running.old.panes running.old.updaters.items running.old.candidates running.old.label }
+    ensures read { ReadsTaken (pane_rules running.old.plan) most (λ lines. StandsAfter running.old.plan lines running.new.panes running.new.updaters.items running.new.candidates running.new.label)
         (setting (S.left source.old) (O.written out.old)) (setting (S.left source.new) (O.written out.new)) result }
     ensures plan { running.new.plan ≡ running.old.plan }
     ensures reads { HasCauseIn LabelFault.ReadFault (S.faults source.old) (S.faults source.new) result }
@@ -71,8 +71,8 @@ fn take_lines<S: Source, O: Sink, R: Wait>(
     taker: &mut Taker<'_, '_, '_, O, R>,
 ) -> Result<u64, LabelFault>
     requires bound { most ≤ source_limit }
-    requires start { StandsAfter taker.old.running.now.plan [] taker.old.running.now.panes taker.old.running.now.updaters.items taker.old.running.now.label }
-    ensures read { ReadsTaken (pane_rules taker.old.running.now.plan) most (λ lines. StandsAfter taker.old.running.now.plan lines taker.new.running.now.panes taker.new.running.now.updaters.items taker.new.running.now.label)
+    requires start { StandsAfter taker.old.running.now.plan [] taker.old.running.now.panes taker.old.running.now.updaters.items taker.old.running.now.candidates taker.old.running.now.label }
+    ensures read { ReadsTaken (pane_rules taker.old.running.now.plan) most (λ lines. StandsAfter taker.old.running.now.plan lines taker.new.running.now.panes taker.new.running.now.updaters.items taker.new.running.now.candidates taker.new.running.now.label)
         (setting (S.left source.old) (O.written taker.old.out.now)) (setting (S.left source.new) (O.written taker.new.out.now)) result }
     ensures plan { taker.new.running.now.plan ≡ taker.old.running.now.plan }
     ensures reads { HasCauseIn LabelFault.ReadFault (S.faults source.old) (S.faults source.new) result }

@@ -1,6 +1,7 @@
 //! Distinct counts over the last intervals of time, of lines with moments: a pane for each interval that ends.
 #![tactic(auto)]
 
+mod candidates;
 mod command;
 mod label;
 pub mod laws;

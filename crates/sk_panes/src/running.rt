@@ -1,15 +1,15 @@
 // The panes of a run, with the updater of the running interval.
 ghost use Rattle.std.specs.Prelude.{◌≡◌, ◌+◌, ◌/◌, ◌<◌, ◌≤◌, ◌++◌, ◌∷◌, [], ℕ, List, None, Some, length, IfOk, IfErr, OnOk};
-ghost use Rattle.sk_model.specs.Limits.{most_kept};
 ghost use Rattle.sk_model.specs.Murmur.{hash_of};
-ghost use Rattle.sk_model.specs.Sketch.{estimate_of};
+ghost use Rattle.sk_model.specs.Width.{AreItems};
 ghost use Rattle.sk_panes.specs.Plans.{IsWithin};
-ghost use Rattle.sk_panes.specs.Panes.{running_after, pane_items};
-ghost use Rattle.sk_panes.specs.Running.{Stands, StandsAfter, ComesTo, TakesLabel, RefusesLabel, FeedsOne, IsLast};
+ghost use Rattle.sk_panes.specs.Candidates.{HaveSmallest};
+ghost use Rattle.sk_panes.specs.Panes.{running_after};
+ghost use Rattle.sk_panes.specs.Running.{StandsAfter, ComesTo, TakesLabel, RefusesLabel, IsLast};
 
+use crate::candidates::Candidates;
 use crate::label::Label;
 use crate::plan::{MOMENT_END, Plan, frame_of};
-use sk_feed::insist;
 use sk_hash::hash63;
 use sk_label::LineStop;
 use sk_lines::read_number;
@@ -33,8 +33,10 @@ pub(crate) struct Running<'r, R: Wait> {
     alloc: Global,
     pub(crate) plan: Plan,
     pub(crate) panes: Panes<'r, R>,
-    // The one of the running interval.
+    // The one of the running interval. It is fed once that has ended.
     pub(crate) updaters: Updaters<'r, R>,
+    // Of the running interval.
+    pub(crate) candidates: Candidates,
     // Of the last line that was taken.
     pub(crate) label: Label,
 }
@@ -44,18 +46,20 @@ impl<'r, R: Wait> Running<'r, R> {
     pub(crate) fn new(rt: &'r R, alloc: Global, plan: &Plan) -> Result<Running<'r, R>, OutOfMemory>
         requires within { IsWithin plan.now }
         ensures plan { IfOk result (λ r. r.plan ≡ plan.now) }
-        ensures stands { IfOk result (λ r. StandsAfter plan.now [] r.panes r.updaters.items r.label) }
+        ensures stands { IfOk result (λ r. StandsAfter plan.now [] r.panes r.updaters.items r.candidates r.label) }
     {
         let Ok(shape) = Shape::new(plan.k, plan.size, 1, plan.seed, false) else {
             unreachable!()
         };
         let Started { panes, updaters } = Panes::new(rt, alloc, shape, frame_of(plan))?;
+        let candidates = Candidates::new(alloc, plan.k)?;
         Ok(Running {
             rt,
             alloc,
             plan: *plan,
             panes,
             updaters,
+            candidates,
             label: Label::new(),
         })
     }
@@ -64,10 +68,10 @@ impl<'r, R: Wait> Running<'r, R> {
     #[inline(always)]
     pub(crate) fn come_to(&mut self, label: &[u8]) -> Result<Option<Pane>, LineStop>
         requires some { 0 < length label.now }
-        requires stands { (lines : List (List ℕ)) × StandsAfter self.old.plan lines self.old.panes self.old.updaters.items self.old.label }
-        ensures taken { IfOk result (λ pane. (lines : List (List ℕ)) → StandsAfter self.old.plan lines self.old.panes self.old.updaters.items self.old.label
-            → TakesLabel self.old.plan lines label.now pane self.new.panes self.new.updaters.items self.new.label) }
-        ensures refused { IfErr result (λ why. (lines : List (List ℕ)) → StandsAfter self.old.plan lines self.old.panes self.old.updaters.items self.old.label
+        requires stands { (lines : List (List ℕ)) × StandsAfter self.old.plan lines self.old.panes self.old.updaters.items self.old.candidates self.old.label }
+        ensures taken { IfOk result (λ pane. (lines : List (List ℕ)) → StandsAfter self.old.plan lines self.old.panes self.old.updaters.items self.old.candidates self.old.label
+            → TakesLabel self.old.plan lines label.now pane self.new.panes self.new.updaters.items self.new.candidates self.new.label) }
+        ensures refused { IfErr result (λ why. (lines : List (List ℕ)) → StandsAfter self.old.plan lines self.old.panes self.old.updaters.items self.old.candidates self.old.label
             → RefusesLabel self.old.plan lines label.now why) }
         ensures plan { self.new.plan ≡ self.old.plan }
     {
@@ -81,10 +85,10 @@ impl<'r, R: Wait> Running<'r, R> {
     // The same, for a label that is not that of the last line.
     #[inline(never)]
     fn come_to_other(&mut self, label: &[u8]) -> Result<Option<Pane>, LineStop>
-        requires stands { (lines : List (List ℕ)) × StandsAfter self.old.plan lines self.old.panes self.old.updaters.items self.old.label }
-        ensures taken { IfOk result (λ pane. (lines : List (List ℕ)) → StandsAfter self.old.plan lines self.old.panes self.old.updaters.items self.old.label
-            → TakesLabel self.old.plan lines label.now pane self.new.panes self.new.updaters.items self.new.label) }
-        ensures refused { IfErr result (λ why. (lines : List (List ℕ)) → StandsAfter self.old.plan lines self.old.panes self.old.updaters.items self.old.label
+        requires stands { (lines : List (List ℕ)) × StandsAfter self.old.plan lines self.old.panes self.old.updaters.items self.old.candidates self.old.label }
+        ensures taken { IfOk result (λ pane. (lines : List (List ℕ)) → StandsAfter self.old.plan lines self.old.panes self.old.updaters.items self.old.candidates self.old.label
+            → TakesLabel self.old.plan lines label.now pane self.new.panes self.new.updaters.items self.new.candidates self.new.label) }
+        ensures refused { IfErr result (λ why. (lines : List (List ℕ)) → StandsAfter self.old.plan lines self.old.panes self.old.updaters.items self.old.candidates self.old.label
             → RefusesLabel self.old.plan lines label.now why) }
         ensures plan { self.new.plan ≡ self.old.plan }
     {
@@ -98,62 +102,77 @@ impl<'r, R: Wait> Running<'r, R> {
 
     // Comes to a moment. If it ends the running interval, its reply is returned, and the updater is of the moment's.
     fn advance(&mut self, moment: u64) -> Result<Option<Pane>, LineStop>
-        requires stands { (lines : List (List ℕ)) × StandsAfter self.old.plan lines self.old.panes self.old.updaters.items self.old.label }
-        ensures came { IfOk result (λ pane. (lines : List (List ℕ)) → StandsAfter self.old.plan lines self.old.panes self.old.updaters.items self.old.label
-            → ComesTo self.old.plan lines (moment / self.old.plan.span) pane self.new.panes self.new.updaters.items) }
-        ensures earlier { result ≡ Err LineStop.Refused → (lines : List (List ℕ)) → StandsAfter self.old.plan lines self.old.panes self.old.updaters.items self.old.label
+        requires stands { (lines : List (List ℕ)) × StandsAfter self.old.plan lines self.old.panes self.old.updaters.items self.old.candidates self.old.label }
+        ensures came { IfOk result (λ pane. (lines : List (List ℕ)) → StandsAfter self.old.plan lines self.old.panes self.old.updaters.items self.old.candidates self.old.label
+            → ComesTo self.old.plan lines (moment / self.old.plan.span) pane self.new.panes self.new.updaters.items self.new.candidates) }
+        ensures earlier { result ≡ Err LineStop.Refused → (lines : List (List ℕ)) → StandsAfter self.old.plan lines self.old.panes self.old.updaters.items self.old.candidates self.old.label
             → moment / self.old.plan.span < running_after self.old.plan lines }
         ensures well { result ≡ Err LineStop.BadLine → ⊥ }
         ensures quiet { result ≡ Err LineStop.WriteFault → ⊥ }
         ensures plan { self.new.plan ≡ self.old.plan }
         ensures label { self.new.label ≡ self.old.label }
     {
+        let interval = frame_of(&self.plan).interval(moment);
+        if interval < self.panes.running() {
+            return Err(LineStop::Refused);
+        }
+        if interval == self.panes.running() {
+            return Ok(None);
+        }
+        let pane = self.move_to(moment)?;
+        Ok(Some(pane))
+    }
+
+    // Ends the running interval, and continues in that of a later moment.
+    fn move_to(&mut self, moment: u64) -> Result<Pane, OutOfMemory>
+        requires stands { (lines : List (List ℕ)) × StandsAfter self.old.plan lines self.old.panes self.old.updaters.items self.old.candidates self.old.label }
+        requires later { self.old.panes.running < moment / self.old.plan.span }
+        ensures came { IfOk result (λ pane. (lines : List (List ℕ)) → StandsAfter self.old.plan lines self.old.panes self.old.updaters.items self.old.candidates self.old.label
+            → ComesTo self.old.plan lines (moment / self.old.plan.span) (Some pane) self.new.panes self.new.updaters.items self.new.candidates) }
+        ensures plan { self.new.plan ≡ self.old.plan }
+        ensures label { self.new.label ≡ self.old.label }
+    {
         let interval = self.panes.running();
+        self.candidates.hand_to(self.rt, &mut self.updaters[0])?;
         // It tells the proof what is true of the updater.
         let _number = self.updaters[0].number();
         let updaters = replace(&mut self.updaters, Vec::new(self.alloc));
         match self.panes.advance(moment, updaters) {
-            Advance::Same(updaters) => {
-                self.updaters = updaters;
-                Ok(None)
-            }
-            Advance::Back(updaters) => {
-                self.updaters = updaters;
-                Err(LineStop::Refused)
-            }
             Advance::Moved(reply, updaters) => {
                 self.updaters = updaters;
-                Ok(Some(Pane { interval, reply }))
+                Ok(Pane { interval, reply })
             }
             Advance::OutOfMemory(updaters) => {
                 self.updaters = updaters;
-                Err(LineStop::OutOfMemory)
+                Err(OutOfMemory)
             }
+            Advance::Same(_) | Advance::Back(_) => unreachable!(),
         }
     }
 
-    // Feeds the item of a text to the updater.
+    // Takes the item of a text.
     #[inline(always)]
-    pub(crate) fn feed(&mut self, item_text: &[u8]) -> Result<(), OutOfMemory>
-        requires room { (items : List ℕ) × (length items < most_kept) × FeedsOne self.old.plan self.old.panes.heart items self.old.updaters.items }
-        ensures fed { OnOk result ((items : List ℕ) → FeedsOne self.old.plan self.old.panes.heart items self.old.updaters.items
-            → FeedsOne self.old.plan self.old.panes.heart (items ++ hash_of self.old.plan.seed item_text.now ∷ []) self.new.updaters.items) }
+    pub(crate) fn feed(&mut self, item_text: &[u8])
+        ensures fed { (items : List ℕ) → AreItems items → HaveSmallest items self.old.candidates
+            → HaveSmallest (items ++ hash_of self.old.plan.seed item_text.now ∷ []) self.new.candidates }
+        ensures k { self.new.candidates.k ≡ self.old.candidates.k }
+        ensures updaters { self.new.updaters.items ≡ self.old.updaters.items }
         ensures panes { self.new.panes ≡ self.old.panes }
         ensures plan { self.new.plan ≡ self.old.plan }
         ensures label { self.new.label ≡ self.old.label }
     {
-        let item = hash63(self.plan.seed, item_text);
-        insist(self.rt, &mut self.updaters[0], item)
+        self.candidates.add(hash63(self.plan.seed, item_text));
     }
 
     // Closes the last interval.
     pub(crate) fn finish(&mut self) -> Result<Pane, OutOfMemory>
-        requires stands { (lines : List (List ℕ)) × StandsAfter self.old.plan lines self.old.panes self.old.updaters.items self.old.label }
-        ensures last { IfOk result (λ pane. (lines : List (List ℕ)) → StandsAfter self.old.plan lines self.old.panes self.old.updaters.items self.old.label
+        requires stands { (lines : List (List ℕ)) × StandsAfter self.old.plan lines self.old.panes self.old.updaters.items self.old.candidates self.old.label }
+        ensures last { IfOk result (λ pane. (lines : List (List ℕ)) → StandsAfter self.old.plan lines self.old.panes self.old.updaters.items self.old.candidates self.old.label
             → IsLast self.old.plan lines pane) }
         ensures plan { self.new.plan ≡ self.old.plan }
     {
         let interval = self.panes.running();
+        self.candidates.hand_to(self.rt, &mut self.updaters[0])?;
         // It tells the proof what is true of the updater.
         let _number = self.updaters[0].number();
         let updaters = replace(&mut self.updaters, Vec::new(self.alloc));

@@ -26,7 +26,7 @@ impl<O: Sink, R: Wait> LineTaker for Taker<'_, '_, '_, O, R> {
 
     ghost rules = { λ t. pane_rules t.running.now.plan };
 
-    ghost went = { λ _ t lines. StandsAfter t.running.now.plan lines t.running.now.panes t.running.now.updaters.items t.running.now.label };
+    ghost went = { λ _ t lines. StandsAfter t.running.now.plan lines t.running.now.panes t.running.now.updaters.items t.running.now.candidates t.running.now.label };
 
     ghost written = { λ t. O.written t.out.now };
 
@@ -43,7 +43,7 @@ impl<O: Sink, R: Wait> LineTaker for Taker<'_, '_, '_, O, R> {
             return Err(LineStop::BadLine);
         };
         let ended = self.running.come_to(label)?;
-        self.running.feed(item_text)?;
+        self.running.feed(item_text);
         write_ended(self.out, self.running.plan.k, ended)
     }
 }

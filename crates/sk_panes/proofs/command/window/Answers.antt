@@ -22,10 +22,10 @@ returns-clause-goes g c =
     let w'' = g.O.Sink.written c.write_last.new.out in
     let first : started.plan ≡ plan = c.in_ok-running.ensures.plan in
     let second : t.plan ≡ plan = c.in_ok-read_lines.ensures.plan ∙ first in
-    let read : ReadsLines c.args.most (λ lines. WroteSoFar (pane_rules plan) w w' lines × StandsAfter plan lines t.panes t.updaters.items t.label) left left' =
-    subst (λ (p : Plan). ReadsLines c.args.most (λ lines. WroteSoFar (pane_rules p) w w' lines × StandsAfter p lines t.panes t.updaters.items t.label) left left') first c.in_ok-read_lines.ensures.read in
-    let last : (lines : List (List ℕ)) → StandsAfter plan lines t.panes t.updaters.items t.label → IsLast plan lines c.in_ok-pane.pane =
+    let read : ReadsLines c.args.most (λ lines. WroteSoFar (pane_rules plan) w w' lines × StandsAfter plan lines t.panes t.updaters.items t.candidates t.label) left left' =
+    subst (λ (p : Plan). ReadsLines c.args.most (λ lines. WroteSoFar (pane_rules p) w w' lines × StandsAfter p lines t.panes t.updaters.items t.candidates t.label) left left') first c.in_ok-read_lines.ensures.read in
+    let last : (lines : List (List ℕ)) → StandsAfter plan lines t.panes t.updaters.items t.candidates t.label → IsLast plan lines c.in_ok-pane.pane =
     λ lines after. subst (λ (p : Plan). IsLast p lines c.in_ok-pane.pane) second
-    (c.in_ok-pane.ensures.last lines (subst (λ (p : Plan). StandsAfter p lines t.panes t.updaters.items t.label) (sym second) after)) in
-    goes_at_end plan c.args.most left left' w w' w'' (λ lines. StandsAfter plan lines t.panes t.updaters.items t.label) c.in_ok-pane.pane last read c.write_last.result
+    (c.in_ok-pane.ensures.last lines (subst (λ (p : Plan). StandsAfter p lines t.panes t.updaters.items t.candidates t.label) (sym second) after)) in
+    goes_at_end plan c.args.most left left' w w' w'' (λ lines. StandsAfter plan lines t.panes t.updaters.items t.candidates t.label) c.in_ok-pane.pane last read c.write_last.result
     c.write_last.ensures.ok c.write_last.ensures.part c.write_last.ensures.fault

@@ -24,6 +24,8 @@ returns-clause-stands g c =
             (subst (λ (n : ℕ). StandForEach n made.panes.closed (replicate (c.frame_of.result.last - 1) [])) k c.in_ok-panes.ensures.closed);
         none = c.in_ok-panes.ensures.taken;
         feeds = fresh_feeds plan c.in-Ok.shape made.panes.heart made.updaters.items made.panes.learnt c.in_ok-panes.ensures.fresh one k;
+        held_k = c.in_ok-candidates.ensures.k;
+        held_is = c.in_ok-candidates.ensures.none;
       };
-      label_is = inl c.new-3.ensures;
+      label_is = inl c.new-4.ensures;
     }
