@@ -1,4 +1,5 @@
 pub mod Standing
+pub mod Joined
 pub mod Fresh
 pub mod Closed
 pub mod Filtered

@@ -4,6 +4,7 @@
 mod answers;
 mod frame;
 mod hub;
+mod joins;
 pub mod laws;
 mod panes;
 mod room;

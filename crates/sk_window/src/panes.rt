@@ -13,15 +13,16 @@ ghost use Rattle.sk_window.specs.Panes.{HasTaken, Closes, Moves, StopsAtDrain, S
 use crate::answers::{Advance, Finish, Started, Updaters};
 use crate::frame::Frame;
 use crate::hub::{Hub, open_hub};
+use crate::joins::join_each;
 use crate::room::{Room, cleared, new_room};
-use crate::sketches::{empty_sketches, join_each, replace_oldest, reply_of, skip};
+use crate::sketches::{empty_sketches, replace_oldest, reply_of, skip};
 use circular_buffer::HeapCircularBuffer;
 use sk_heap::HeapTheta;
 use sk_hub::{Heart, Updater};
 use sk_learn::{learn_all, read_whole, take_in_all};
 use sk_model::OutOfMemory;
 use sk_snap::{JoinInto, ThetaReader, VersionedTheta};
-use sk_theta::{Reply, Shape};
+use sk_theta::{ITEM_END, Reply, Shape};
 use std::alloc::Global;
 use std::marker::Model;
 use std::mem::replace;
@@ -41,6 +42,8 @@ pub struct Panes<'r, R: Wait> {
     taken: u64,
     // Oldest first, one fewer than a reply is of.
     closed: HeapCircularBuffer<HeapTheta>,
+    // A little above theta of the closed ones when they were last joined. The next join begins with what is below.
+    bound: u64,
     // Their memory is taken before the running one is closed, and kept if that runs out of memory.
     next: Option<Hub<'r, R>>,
     room: Option<Room>,
@@ -108,6 +111,7 @@ impl<'r, R: Wait> Panes<'r, R> {
             reader,
             taken: 0,
             closed,
+            bound: ITEM_END,
             next: None,
             room: None,
         };
@@ -141,7 +145,8 @@ impl<'r, R: Wait> Panes<'r, R> {
         ensures stays { self.new ≡ record self.old { learnt = self.new.learnt } }
     {
         let Room { mut pane, closed } = self.take_room()?;
-        join_each(&mut pane, &self.closed);
+        join_each(&mut pane, &self.closed, self.bound);
+        self.bound = bound_above(pane.theta());
         let (pane, _count) = self.reader.read(self.rt, JoinInto { sketch: pane });
         let reply = reply_of(&pane);
         self.room = Some(Room { pane, closed });
@@ -190,7 +195,8 @@ impl<'r, R: Wait> Panes<'r, R> {
         let Room { mut pane, closed } = room;
         let query = JoinInto { sketch: closed };
         let (sketch, _count) = read_whole(self.rt, &mut self.reader, query, self.taken);
-        join_each(&mut pane, &self.closed);
+        join_each(&mut pane, &self.closed, self.bound);
+        self.bound = bound_above(pane.theta());
         pane.join(&sketch);
         let reply = reply_of(&pane);
         // The memory of the oldest interval, which is gone, is for the next end.
@@ -328,4 +334,9 @@ impl<'r, R: Wait> Panes<'r, R> {
             Err(OutOfMemory) => Finish::OutOfMemory(updaters),
         }
     }
+}
+
+// An eighth above theta. If theta rises by more until the next join, that one looks at all hashes a second time.
+fn bound_above(theta: u64) -> u64 {
+    theta.saturating_add(theta / 8)
 }

@@ -2,7 +2,7 @@
 ghost use Rattle.std.specs.Prelude.{◌≡◌, ◌<◌, ◌-◌, ◌++◌, ◌∷◌, [], List, ℕ, All, length, drop, replicate, IfOk};
 ghost use Rattle.sk_model.specs.Limits.{least_k, most_k, IsFrom};
 ghost use Rattle.sk_theta.specs.Kept.{StandsFor};
-ghost use Rattle.sk_window.specs.Intervals.{StandForEach, IsReplyOf, all_items, with_skipped};
+ghost use Rattle.sk_window.specs.Intervals.{StandForEach, IsReplyOf, with_skipped};
 
 use circular_buffer::HeapCircularBuffer;
 use sk_heap::HeapTheta;
@@ -25,21 +25,6 @@ pub(crate) fn empty_sketches(
         let _none = sketches.push_back(HeapTheta::new(alloc, k)?);
     }
     Ok(sketches)
-}
-
-// Joins each of them into a sketch.
-pub(crate) fn join_each(into: &mut HeapTheta, sketches: &HeapCircularBuffer<HeapTheta>)
-    requires k { All (λ s. s.k ≡ into.old.k) sketches.now.items }
-    ensures k { into.new.k ≡ into.old.k }
-    ensures stands { (lists : List (List ℕ)) (items : List ℕ) → StandForEach into.old.k sketches.now.items lists → StandsFor into.old items
-        → StandsFor into.new (items ++ all_items lists) }
-{
-    'sketch: for place in 0..sketches.len() {
-        let Some(sketch) = sketches.get(place) else {
-            unreachable!()
-        };
-        into.join(sketch);
-    }
 }
 
 // Puts a sketch to the end of a full buffer, and returns the oldest one.

@@ -4,7 +4,7 @@ use Rattle.std.proofs.lemmas.Option.{slice_get-get_or}
 use Rattle.sk_theta.specs.Kept.{Sketch, StandsFor}
 use Rattle.sk_window.specs.Intervals.{all_items}
 use Rattle.sk_window.proofs.Standing.{stand_count, stand_at, item_at, items_more}
-use Rattle.sk_window.proofs.sketches.join_each.Goals as goal
+use Rattle.sk_window.proofs.joins.join_whole.Goals as goal
 
 pub unreachable-requires : goal.unreachable-requires
 unreachable-requires c =

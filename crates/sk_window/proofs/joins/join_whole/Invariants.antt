@@ -1,7 +1,7 @@
 use Rattle.std.proofs.Common.{◌≡◌, ℕ, List, ◌++◌, take}
 use Rattle.sk_theta.specs.Kept.{StandsFor}
 use Rattle.sk_window.specs.Intervals.{StandForEach, all_items}
-use Rattle.sk_window.proofs.sketches.join_each.Given as goal
+use Rattle.sk_window.proofs.joins.join_whole.Given as goal
 
 abbrev pub invariant-sketch : goal.invariant-sketch
 invariant-sketch l = (l.into.k ≡ l.initial.into.k)
