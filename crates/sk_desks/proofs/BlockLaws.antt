@@ -1,11 +1,10 @@
 -- Blocks of windows that desks took.
-use Rattle.std.proofs.Common.{◌≡◌, ⊎_elim, ℕ, zero, suc, ◌+◌, ◌-◌, ◌<◌, ◌≤◌, List, [], ◌∷◌, ◌++◌, length, get_or, take, drop, slice_range, flat_map, length-drop, IsPermutation, refl, sym, ap, subst, ◌∙◌, arith, append-nil, append_assoc}
+use Rattle.std.proofs.Common.{◌≡◌, ℕ, zero, suc, ◌+◌, ◌-◌, ◌<◌, ◌≤◌, List, [], ◌∷◌, ◌++◌, length, get_or, take, drop, slice_range, flat_map, length-drop, IsPermutation, refl, sym, ap, subst, ◌∙◌, arith, append-nil, append_assoc}
 use Rattle.std.specs.List.{range_with_len}
 use Rattle.std.proofs.lemmas.Grind.{flat_map-append}
 use Rattle.std.proofs.lemmas.List.{get_or-drop, drop-drop, take_more}
 use Rattle.std.proofs.lemmas.List.Sorted.{IsPermutation-refl, IsPermutation-trans, IsPermutation-append_left, IsPermutation-append_right, IsPermutation-append_comm}
 use Rattle.sk_model.specs.Limits.{most_kept}
-use Rattle.sk_hub.specs.Updaters.{UpdaterState, kept_of}
 use Rattle.sk_fill.specs.Blocks.{block_of, blocks_of}
 use Rattle.sk_fill.specs.Windows.{all_lines}
 use Rattle.sk_fill.proofs.Joined.{blocks_joined}
@@ -13,7 +12,7 @@ use Rattle.sk_feed.proofs.Rooms.{few_blocks}
 use Rattle.sk_tenant.specs.Desks.{DeskState}
 use Rattle.sk_desks.specs.Desks.{items_for}
 use Rattle.sk_desks.specs.Feeds.{TakesLines, HasRoom, HaveRoom, TakeBlocks}
-use Rattle.sk_desks.specs.Clerks.{AreUnused}
+use Rattle.sk_desks.specs.Windows.{AreUnused}
 use Rattle.sk_desks.proofs.ItemLaws.{items_for-append, none_for}
 use Rattle.sk_desks.proofs.Taking.{takes_no_line, takes_more, has_still, room_after}
 

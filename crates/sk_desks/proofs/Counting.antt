@@ -1,29 +1,27 @@
 -- What the words of tenants are of, once all desks are taken in, and the text that is made of them.
-use Rattle.std.proofs.Common.{◌≡◌, ◌≢◌, ℕ, ◌+◌, ◌<◌, ◌≤◌, List, [], ◌∷◌, ◌++◌, length, get_or, take, slice_get, Some, codes, All, flat_map, IsPermutation, refl, sym, ap, subst, ◌∙◌, arith, append-nil, length-set}
+use Rattle.std.proofs.Common.{◌≡◌, ℕ, ◌+◌, ◌<◌, List, [], ◌∷◌, ◌++◌, length, get_or, take, slice_get, Some, codes, All, flat_map, IsPermutation, refl, sym, ap, subst, ◌∙◌, arith, append-nil, length-set}
 use Rattle.std.specs.List.{range_with_len}
 use Rattle.std.proofs.lemmas.Grind.{flat_map-append}
 use Rattle.std.proofs.lemmas.List.{take_more}
 use Rattle.std.proofs.lemmas.List.Sorted.{IsPermutation-sym, Contains-permutation}
 use Rattle.std.proofs.lemmas.Option.{get_or_from_slice_get, slice_get_within}
 use Rattle.sk_model.specs.Limits.{most_kept}
-use Rattle.sk_model.specs.Sketch.{k_smallest, packed_of, unpacked, fraction_of, estimate_of}
+use Rattle.sk_model.specs.Sketch.{packed_of, fraction_of, estimate_of}
 use Rattle.sk_model.proofs.Sketch.{k_smallest_of_members, packed_reads_back}
 use Rattle.sk_compose.proofs.Smallest.{same_word}
 use Rattle.sk_lines.specs.Fractions.{estimate_line}
 use Rattle.sk_fill.specs.Blocks.{blocks_of}
-use Rattle.sk_fill.specs.Windows.{all_lines}
-use Rattle.sk_tenant.specs.Calls.{Call, items_taken}
+use Rattle.sk_tenant.specs.Calls.{items_taken}
 use Rattle.sk_tenant.specs.Desks.{DeskState, calls_for}
 use Rattle.sk_tenant.specs.Names.{AreDifferent}
-use Rattle.sk_tenant.specs.Hosts.{TenantsState, AreNewTenants, AreNewDesks, IsDeskOf, DrainsDesk, HasTakenInDesk, AreAskedFor, WasUsed, WasFed}
+use Rattle.sk_tenant.specs.Hosts.{TenantsState, AreNewTenants, AreNewDesks, IsDeskOf, DrainsDesk, HasTakenInDesk, AreAskedFor, WasFed}
 use Rattle.sk_tenant.proofs.Done.{desk_stays, stays_of_tenants}
 use Rattle.sk_tenant.proofs.LastWord.{place_within, word_of_fed, used_is_fed}
 use Rattle.sk_tenant.proofs.Standing.{with_member}
 use Rattle.sk_desks.specs.declared.plan.Plan.{Plan}
 use Rattle.sk_desks.specs.Plans.{IsWithin, AreNames, shape_of}
 use Rattle.sk_desks.specs.Desks.{items_for, tenant_line}
-use Rattle.sk_desks.specs.Feeds.{TakeBlocks}
-use Rattle.sk_desks.specs.Clerks.{AreUnused, HaveTaken}
+use Rattle.sk_desks.specs.Windows.{AreUnused, HaveTaken}
 use Rattle.sk_desks.specs.Endings.{AreTheSame, AreDesksOf, AreNumbered, HaveTakenIn, HaveCounted, PutsLine, estimate_in}
 use Rattle.sk_desks.proofs.ItemLaws.{are_items}
 use Rattle.sk_desks.proofs.BlockLaws.{of_all_blocks}

@@ -1,23 +1,22 @@
 -- Lines that a desk took, one after another.
-use Rattle.std.proofs.Common.{◌≡◌, ◌≢◌, ⊎_elim, ℕ, ◌==◌, ◌+◌, ◌<◌, ◌≤◌, Bool, true, false, cond, List, [], ◌∷◌, ◌++◌, length, get_or, slice_get, Some, map, flat_map, refl, sym, ap, subst, ◌∙◌, arith, append-nil, length-append}
+use Rattle.std.proofs.Common.{◌≡◌, ◌≢◌, ⊎_elim, ℕ, ◌==◌, ◌+◌, ◌<◌, Bool, true, false, cond, List, [], ◌∷◌, ◌++◌, length, get_or, slice_get, Some, map, refl, sym, ap, subst, ◌∙◌, arith}
 use Rattle.std.specs.List.{filter, Contains}
 use Rattle.std.proofs.lemmas.Bool.{eq-eqb, ne_eqb, cases_eq, cases_order}
 use Rattle.std.proofs.lemmas.Grind.{flat_map-append}
 use Rattle.std.proofs.lemmas.List.{map-append}
 use Rattle.std.proofs.lemmas.List.Elements.{filter-append}
 use Rattle.std.proofs.lemmas.Option.{get_or_from_slice_get, slice_get_within}
-use Rattle.sk_model.specs.Limits.{most_kept}
 use Rattle.sk_model.specs.Murmur.{hash_of}
 use Rattle.sk_label.specs.Labels.{label_of, item_text_of, is_labelled}
-use Rattle.sk_hub.specs.Updaters.{UpdaterState, kept_of}
+use Rattle.sk_hub.specs.Updaters.{UpdaterState}
 use Rattle.sk_hub.proofs.Calls.{takes_few}
-use Rattle.sk_tenant.specs.Calls.{Call, TakesItems, taken_of, items_taken, theta_keeps, theta_hint}
+use Rattle.sk_tenant.specs.Calls.{Call, Insists, TakesItems, taken_of, items_taken, theta_keeps, theta_hint}
 use Rattle.sk_tenant.specs.Names.{AreDifferent}
 use Rattle.sk_tenant.specs.Desks.{DeskState, IsDone, AreDone, calls_for}
 use Rattle.sk_tenant.proofs.Done.{none_done, one_more_done, lone_on_desk, desk_stays}
 use Rattle.sk_tenant.proofs.Owed.{lone_takes}
 use Rattle.sk_desks.specs.Desks.{items_for}
-use Rattle.sk_desks.specs.Feeds.{TakesLines, TakesItem, TakesNothing, HasTenants, HasRoom}
+use Rattle.sk_desks.specs.Feeds.{TakesLines, TakesItem, HasTenants, HasRoom}
 use Rattle.sk_desks.proofs.ItemLaws.{items_for-append, none_for, few_items, its_item, no_item_of_other, no_item, no_item_of_unknown}
 
 -- ---- calls
@@ -60,49 +59,14 @@ taken_by d d' calls t u done within = lone_takes d.quota (get_or d.updaters t u)
 
 -- ---- an item that is offered until it is taken
 
-pub nothing_yet : (d : DeskState) (t : ℕ) → TakesNothing d t d
-nothing_yet d t = record { calls = []; done = none_done d; took = refl }
-
-call_more : (d e d' : DeskState) (t : ℕ) (calls : List Call) (call : Call) → AreDone d (map (λ c. (t, c)) calls) e → IsDone e t call d' → AreDone d (map (λ c. (t, c)) (calls ++ call ∷ [])) d'
-call_more d e d' t calls call done one = subst (λ (l : List (ℕ × Call)). AreDone d l d') (sym (map-append (λ (c : Call). (t, c)) calls (call ∷ []))) (one_more_done d e d' (map (λ c. (t, c)) calls) t call done one)
-
-taken_more : (calls : List Call) (call : Call) → items_taken calls ≡ [] → items_taken (calls ++ call ∷ []) ≡ taken_of call
-taken_more calls call none = flat_map-append taken_of calls (call ∷ []) ∙ ap (λ (l : List ℕ). l ++ items_taken (call ∷ [])) none ∙ append-nil (taken_of call)
-
--- a call more that takes nothing
-pub nothing_more : (d e d' : DeskState) (t : ℕ) (call : Call) → TakesNothing d t e → IsDone e t call d' → taken_of call ≡ [] → TakesNothing d t d'
-nothing_more d e d' t call before one none = record {
-  calls = before.calls ++ call ∷ [];
-  done = call_more d e d' t before.calls call before.done one;
-  took = taken_more before.calls call before.took ∙ none;
+-- an item that was insisted on, and taken
+pub insisted : (d d' : DeskState) (t item : ℕ) (taken : Bool) → IsDone d t (Insists item taken) d' → (taken ≡ false → ⊥) → TakesItem d t item d'
+insisted d d' t item true done never = record {
+  calls = Insists item true ∷ [];
+  done = one_more_done d d d' [] t (Insists item true) (none_done d) done;
+  took = refl;
 }
-
--- a call more that takes the item
-pub item_then : (d e d' : DeskState) (t item : ℕ) (call : Call) → TakesNothing d t e → IsDone e t call d' → taken_of call ≡ item ∷ [] → TakesItem d t item d'
-item_then d e d' t item call before one its = record {
-  calls = before.calls ++ call ∷ [];
-  done = call_more d e d' t before.calls call before.done one;
-  took = taken_more before.calls call before.took ∙ its;
-}
-
--- and calls more that take nothing
-pub nothing_then : (d e d' : DeskState) (t : ℕ) → TakesNothing d t e → TakesNothing e t d' → TakesNothing d t d'
-nothing_then d e d' t before after = record {
-  calls = before.calls ++ after.calls;
-  done = subst (λ (l : List (ℕ × Call)). AreDone d l d') (sym (map-append (λ (c : Call). (t, c)) before.calls after.calls)) (done_append d e d' (map (λ c. (t, c)) before.calls) (map (λ c. (t, c)) after.calls) before.done after.done);
-  took = flat_map-append taken_of before.calls after.calls ∙ ap (λ (l : List ℕ). l ++ items_taken after.calls) before.took ∙ after.took;
-}
-
-pub count_still : (d d' : DeskState) (t : ℕ) → TakesNothing d t d' → length d'.updaters ≡ length d.updaters
-count_still d d' t none = count_stays d d' (map (λ c. (t, c)) none.calls) none.done
-
--- for whom there was room there still is
-pub room_still : (d d' : DeskState) (t s n : ℕ) (u : UpdaterState) → TakesNothing d t d' → t ≡ s → s < length d.updaters → length (kept_of (get_or d.updaters s u)) + n ≤ d.quota → length (kept_of (get_or d'.updaters s u)) + n ≤ d'.quota
-room_still d d' t s n u none same within room =
-    let calls = map (λ c. (t, c)) none.calls in
-    let nothing : items_taken (calls_for s calls) ≡ [] = ap (λ (z : ℕ). items_taken (calls_for z calls)) (sym same) ∙ ap items_taken (calls_same t none.calls) ∙ none.took in
-    let few = takes_few theta_keeps theta_hint (get_or d.updaters s u) (get_or d'.updaters s u) (items_taken (calls_for s calls)) (taken_by d d' calls s u none.done within) in
-    omega (arith, few, ap length nothing, quota_stays d d' calls none.done, room)
+insisted d d' t item false done never = absurd (never refl)
 
 -- ---- lines
 

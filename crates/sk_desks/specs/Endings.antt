@@ -4,10 +4,10 @@ use Rattle.sk_model.specs.Limits.{most_kept}
 use Rattle.sk_model.specs.Sketch.{fraction_of, unpacked}
 use Rattle.sk_lines.specs.Fractions.{estimate_line}
 use Rattle.sk_tenant.specs.Desks.{DeskState}
-use Rattle.sk_tenant.specs.Hosts.{TenantsState, AreNewTenants, AreNewDesks, IsDeskOf, HasTakenInDesk, AreAskedFor}
+use Rattle.sk_tenant.specs.Hosts.{TenantsState, AreNewDesks, IsDeskOf, HasTakenInDesk, AreAskedFor}
 use Rattle.sk_desks.specs.declared.plan.Plan.{Plan}
 use Rattle.sk_desks.specs.Plans.{shape_of}
-use Rattle.sk_desks.specs.Clerks.{AreUnused, HaveTaken}
+use Rattle.sk_desks.specs.Windows.{AreUnused, HaveTaken}
 
 -- the same tenants, whatever their hubs did since
 pub record AreTheSame (hosts hosts' : TenantsState) : Type 0 where

@@ -20,12 +20,6 @@ pub record TakesItem (d : DeskState) (t item : ℕ) (d' : DeskState) : Type 0 wh
   pub done : AreDone d (map (λ call. (t, call)) calls) d'
   pub took : items_taken calls ≡ item ∷ []
 
--- calls for the tenant at this place took nothing
-pub record TakesNothing (d : DeskState) (t : ℕ) (d' : DeskState) : Type 0 where
-  pub calls : List Call
-  pub done : AreDone d (map (λ call. (t, call)) calls) d'
-  pub took : items_taken calls ≡ []
-
 -- a desk has an updater for each of its names, all different
 pub record HasTenants (d : DeskState) : Type 0 where
   pub different : AreDifferent d.names

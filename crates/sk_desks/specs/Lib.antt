@@ -1,5 +1,6 @@
 pub mod Desks
 pub mod Plans
 pub mod Feeds
-pub mod Clerks
+pub mod Windows
 pub mod Endings
+pub mod Gathers

@@ -1,5 +1,5 @@
 //! The command over tenants.
-ghost use Rattle.std.specs.Prelude.{◌≡◌, ◌≢◌, ◌<◌, ◌≤◌, [], length, None, Err, All, OnOk, OnErr, IfOk, IfErr};
+ghost use Rattle.std.specs.Prelude.{◌≡◌, ◌≢◌, ◌<◌, ◌≤◌, length, true, false, None, Err, All, OnOk, OnErr, IfOk, IfErr};
 ghost use Rattle.std.specs.Io.KnownBytes.{Appends};
 ghost use Rattle.sk_model.specs.Causes.{AppendsPart, HasCause, HasCauseIn};
 ghost use Rattle.sk_model.specs.Limits.{source_limit, most_kept};
@@ -7,21 +7,24 @@ ghost use Rattle.sk_label.specs.Goes.{setting, Goes, ReadsLines, EndsBefore};
 ghost use Rattle.sk_label.specs.Rules.{AreFine};
 ghost use Rattle.sk_tenant.specs.Hosts.{AreNewTenants, AreNewDesks, IsDeskOf};
 ghost use Rattle.sk_tenant.specs.Names.{bytes_of};
-ghost use Rattle.sk_desks.specs.Clerks.{AreUnused, HaveTaken, window_lines};
+ghost use Rattle.sk_desks.specs.Windows.{AreUnused, HaveTaken, Went};
 ghost use Rattle.sk_desks.specs.Plans.{IsWithin, AreNames, shape_of};
 ghost use Rattle.sk_desks.specs.Desks.{desk_rules};
 
-use crate::clerk::Clerk;
 use crate::ending::{take_in_all, text_of};
+use crate::feed::{feed_and_gather, feed_window};
+use crate::gather::Gatherer;
 use crate::plan::Plan;
 use sk_fill::Window;
 use sk_io::{Sink, Source, write_all};
-use sk_label::{LabelFault, read_labelled};
+use sk_label::LabelFault;
 use sk_model::OutOfMemory;
 use sk_model::limits::{MOST_KEPT, MOST_UPDATERS};
+use sk_read::LineReader;
 use sk_tenant::{Desk, Names, Opening, TenantStop, Tenants};
 use sk_theta::Shape;
 use std::alloc::Global;
+use std::mem::swap;
 use std::num::NonZeroUsize;
 use std::sync::Wait;
 use std::thread::{Threads, available_parallelism};
@@ -109,40 +112,41 @@ fn read_all<S: Source, R: Threads + Wait + Sync>(
     ensures reads { HasCauseIn LabelFault.ReadFault (S.faults source.old) (S.faults source.new) result }
     ensures stays { S.stands_on source.new ≡ S.stands_on source.old }
 {
-    let mut window = Window::new(alloc, WINDOW_LINES)?;
-    let threads = threads_for(rt, desks.len());
-    let mut clerk = Clerk {
-        rt,
-        plan: *plan,
+    let mut gatherer = Gatherer {
         names,
-        desks,
-        window: &mut window,
-        threads,
+        reader: LineReader::new(alloc, most)?,
+        window: Window::new(alloc, WINDOW_LINES)?,
     };
-    read_with(alloc, most, source, &mut clerk)
+    let mut full = Window::new(alloc, WINDOW_LINES)?;
+    read_windows(rt, plan, &mut gatherer, &mut full, source, desks)?;
+    feed_window(rt, desks, &full, plan.seed, threads_for(rt, desks.len()));
+    Ok(())
 }
 
-// The same, with the clerk at hand.
-fn read_with<S: Source, R: Threads + Wait + Sync>(
-    alloc: Global,
-    most: u64,
+// Gathers the lines of a source, and feeds each window that is full to the desks while the next one is gathered. `full`
+// has the last lines then.
+fn read_windows<S: Source, R: Threads + Wait + Sync>(
+    rt: &R,
+    plan: &Plan,
+    gatherer: &mut Gatherer<'_>,
+    full: &mut Window,
     source: &mut S,
-    clerk: &mut Clerk<'_, '_, '_, '_, R>,
+    desks: &mut Vec<Desk>,
 ) -> Result<(), LabelFault>
-    requires bound { most ≤ source_limit }
-    requires unused { AreUnused clerk.old.names.now clerk.old.desks.now.items }
-    requires empty { clerk.old.window.now.lines ≡ [] }
-    requires lines { clerk.old.window.now.most ≡ window_lines }
-    ensures read { IfOk result (λ _. ReadsLines most (λ lines. AreFine (desk_rules clerk.old.plan clerk.old.names.now) lines × HaveTaken clerk.old.plan.seed clerk.old.desks.now.items clerk.new.desks.now.items lines)
-        (S.left source.old) (S.left source.new)) }
-    ensures early { IfErr result (EndsBefore (desk_rules clerk.old.plan clerk.old.names.now) most (setting (S.left source.old) None) (setting (S.left source.new) None)) }
+    requires went { Went plan.now gatherer.old.names.now desks.old.items desks.old.items full.old gatherer.old.window true gatherer.old.reader (S.left source.old) (S.left source.old) }
+    ensures went { OnOk result (Went plan.now gatherer.old.names.now desks.old.items desks.new.items full.new gatherer.new.window false gatherer.new.reader (S.left source.old) (S.left source.new)) }
+    ensures bound { OnOk result (gatherer.new.reader.most ≡ gatherer.old.reader.most) }
+    ensures early { IfErr result (EndsBefore (desk_rules plan.now gatherer.old.names.now) gatherer.old.reader.most (setting (S.left source.old) None) (setting (S.left source.new) None)) }
     ensures quiet { result ≢ Err LabelFault.WriteFault }
     ensures reads { HasCauseIn LabelFault.ReadFault (S.faults source.old) (S.faults source.new) result }
     ensures stays { S.stands_on source.new ≡ S.stands_on source.old }
-    ensures desks { clerk.new.desks.ghost_name ≡ clerk.old.desks.ghost_name }
 {
-    read_labelled(alloc, most, source, clerk)?;
-    clerk.feed();
+    let threads = threads_for(rt, desks.len());
+    let mut more = true;
+    'window: while more {
+        more = feed_and_gather(rt, desks, full, plan.seed, threads, gatherer, source)?;
+        swap(full, &mut gatherer.window);
+    }
     Ok(())
 }
 

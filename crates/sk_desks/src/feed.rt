@@ -1,17 +1,95 @@
 // Lines of a window, fed to desks.
-ghost use Rattle.std.specs.Prelude.{◌≡◌, ◌<◌, ◌≤◌, ◌+◌, ◌-◌, ◌∷◌, [], length, slice_range};
+ghost use Rattle.std.specs.Prelude.{◌≡◌, ℕ, ◌<◌, ◌≤◌, ◌+◌, ◌-◌, List, ◌∷◌, [], length, slice_range};
+ghost use Rattle.sk_model.specs.Causes.{HasCauseIn};
 ghost use Rattle.sk_model.specs.Limits.{most_updaters};
+ghost use Rattle.sk_read.specs.Reading.{HasRead};
 ghost use Rattle.sk_fill.specs.Blocks.{block_of};
+ghost use Rattle.sk_desks.specs.Windows.{window_lines};
+ghost use Rattle.sk_desks.specs.Gathers.{Gathers};
 ghost use Rattle.sk_desks.specs.Feeds.{HasRoom, HaveRoom, HasTenants, TakesLines, TakeBlocks};
 
 use crate::calls::insist;
+use crate::gather::Gatherer;
 use sk_fill::{Block, Window};
 use sk_hash::hash63;
-use sk_label::split;
+use sk_io::Source;
+use sk_label::{LabelFault, split};
 use sk_tenant::Desk;
 use std::sync::Wait;
-use std::thread;
-use std::thread::Threads;
+use std::thread::{Threads, for_each_mut, join_mut};
+
+// Feeds a window to the desks, and meanwhile gathers the lines of the next one.
+pub(crate) fn feed_and_gather<S: Source, R: Threads + Wait + Sync>(
+    rt: &R,
+    desks: &mut Vec<Desk>,
+    window: &Window,
+    seed: u32,
+    threads: u32,
+    gatherer: &mut Gatherer<'_>,
+    source: &mut S,
+) -> Result<bool, LabelFault>
+    requires threads { 0 < threads }
+    requires few { length desks.old.items ≤ most_updaters }
+    requires room { HaveRoom (length window.now.lines) desks.old.items }
+    requires lines { gatherer.old.window.most ≡ window_lines }
+    requires started { (given : List (List ℕ)) × (taken : List ℕ) × HasRead gatherer.old.reader (S.left source.old) given taken }
+    ensures took { TakeBlocks seed desks.old.items (window.now.lines ∷ []) desks.new.items }
+    ensures gathers { Gathers gatherer.old.names.now gatherer.old.reader gatherer.new.reader (S.left source.old) (S.left source.new) gatherer.new.window.lines result }
+    ensures names { gatherer.new.names.now ≡ gatherer.old.names.now }
+    ensures lines { gatherer.new.window.most ≡ gatherer.old.window.most }
+    ensures cause { HasCauseIn LabelFault.ReadFault (S.faults source.old) (S.faults source.new) result }
+    ensures stays { S.stands_on source.new ≡ S.stands_on source.old }
+{
+    if threads < 2 || window.is_empty() {
+        feed_window(rt, desks, window, seed, threads);
+        return gatherer.gather(source);
+    }
+    feed_beside(
+        rt,
+        desks,
+        window,
+        seed,
+        threads,
+        &mut ||
+            requires lines { gatherer.now.window.most ≡ window_lines }
+            requires started { (given : List (List ℕ)) × (taken : List ℕ) × HasRead gatherer.now.reader (S.left source.now) given taken }
+            ensures gathers { Gathers gatherer.entry.now.names.now gatherer.entry.now.reader gatherer.exit.now.reader (S.left source.entry.now) (S.left source.exit.now) gatherer.exit.now.window.lines result }
+            ensures names { gatherer.exit.now.names.now ≡ gatherer.entry.now.names.now }
+            ensures lines { gatherer.exit.now.window.most ≡ gatherer.entry.now.window.most }
+            ensures cause { HasCauseIn LabelFault.ReadFault (S.faults source.entry.now) (S.faults source.exit.now) result }
+            ensures stays { S.stands_on source.exit.now ≡ S.stands_on source.entry.now }
+        { gatherer.gather(source) },
+    )
+}
+
+// Feeds a window to the desks while other work is done here.
+fn feed_beside<R: Threads + Wait + Sync, F: FnMut() -> A, A>(
+    rt: &R,
+    desks: &mut Vec<Desk>,
+    window: &Window,
+    seed: u32,
+    threads: u32,
+    work: &mut F,
+) -> A
+    requires threads { 0 < threads }
+    requires few { length desks.old.items ≤ most_updaters }
+    requires room { HaveRoom (length window.now.lines) desks.old.items }
+    requires work { F.pre work.old }
+    ensures took { TakeBlocks seed desks.old.items (window.now.lines ∷ []) desks.new.items }
+    ensures work { F.step work.old result work.new }
+{
+    let (_, done) = join_mut(
+        rt,
+        &mut ||
+            requires threads { 0 < threads }
+            requires few { length desks.now.items ≤ most_updaters }
+            requires room { HaveRoom (length window.now.lines) desks.now.items }
+            ensures { TakeBlocks seed desks.entry.now.items (window.entry.now.lines ∷ []) desks.exit.now.items }
+        { feed_window(rt, desks, window, seed, threads) },
+        work,
+    );
+    done
+}
 
 // Feeds a window to the desks, at most this many in parallel: to each its block.
 pub(crate) fn feed_window<R: Threads + Wait + Sync>(
@@ -43,7 +121,7 @@ fn feed_each<R: Threads + Wait + Sync>(
     ensures { TakeBlocks seed desks.old (window.now.lines ∷ []) desks.new }
 {
     let n = desks.len();
-    thread::for_each_mut(
+    for_each_mut(
         rt,
         desks,
         threads as usize,

@@ -3,10 +3,10 @@
 #![tactic(auto)]
 
 mod calls;
-mod clerk;
 mod command;
 mod ending;
 mod feed;
+mod gather;
 mod plan;
 
 pub use command::tenants;

@@ -16,7 +16,8 @@ use Rattle.sk_label.specs.declared.fault.LineStop.TheVariants as stop
 use Rattle.sk_label.specs.Rules.{Rules, IsBad, IsRefused}
 use Rattle.sk_label.specs.Goes.{setting, EndsBefore, WroteSoFar, WrotePartAt}
 use Rattle.sk_label.specs.Stops.{Takes, StopsBy}
-use Rattle.sk_label.specs.Carrying.{Shown, Carried, BreaksAt, Broke, Dropped, fault_at, fault_by}
+use Rattle.sk_label.specs.Faults.{fault_at}
+use Rattle.sk_label.specs.Carrying.{Shown, Carried, BreaksAt, Broke, Dropped, fault_by}
 use Rattle.sk_label.proofs.RuleLaws.{wrote_more, wrote_part}
 
 not_failed : {A E : Type 0} (v : A) (fault : E) → Ok v ≡ Err fault → ⊥

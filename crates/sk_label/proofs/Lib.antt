@@ -1,3 +1,4 @@
 pub mod RuleLaws
 pub mod CarryLaws
 pub mod QuietLaws
+pub mod SpaceMarks

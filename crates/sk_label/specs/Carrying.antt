@@ -5,6 +5,7 @@ use Rattle.sk_read.specs.declared.fault.Fault.{Fault}
 use Rattle.sk_read.specs.declared.fault.Fault.TheVariants as fault
 use Rattle.sk_label.specs.Rules.{Rules, IsBad, IsRefused}
 use Rattle.sk_label.specs.Goes.{WroteSoFar, WrotePartAt}
+use Rattle.sk_label.specs.Faults.{fault_at}
 use Rattle.sk_label.specs.declared.fault.LabelFault.{LabelFault}
 use Rattle.sk_label.specs.declared.fault.LabelFault.TheVariants as label
 use Rattle.sk_label.specs.declared.fault.LineStop.{LineStop}
@@ -42,13 +43,6 @@ pub record Broke (a b : Shown) (lines : List (List ℕ)) (line : List ℕ) (why 
 abbrev pub Dropped : Shown → Shown → Option LineStop → Fault → List (List ℕ) → List ℕ → Type 0
 Dropped a b carried (fault.BadItem n) lines line = IsSomeAnd carried (λ why. Broke a b lines line why)
 Dropped a b carried other lines line = ⊥
-
--- the fault of a taker that stopped at the line of this number
-abbrev pub fault_at : LineStop → ℕ → LabelFault
-fault_at stop.OutOfMemory n = label.OutOfMemory
-fault_at stop.WriteFault n = label.WriteFault
-fault_at stop.BadLine n = label.BadLine n
-fault_at stop.Refused n = label.Refused n
 
 -- the fault that a fault of units and the reason that is carried make; none of the others comes of lines
 abbrev pub fault_by : Fault → Option LineStop → LabelFault

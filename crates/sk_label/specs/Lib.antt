@@ -3,3 +3,4 @@ pub mod Rules
 pub mod Goes
 pub mod Stops
 pub mod Carrying
+pub mod Faults

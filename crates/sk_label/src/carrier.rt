@@ -2,7 +2,7 @@
 ghost use Rattle.std.specs.Prelude.{◌≡◌, ◌≤◌, ℕ, List, [], IfErr, OnOk, MatchResult};
 ghost use Rattle.sk_model.specs.Causes.{HasCauseIn};
 ghost use Rattle.sk_model.specs.Limits.{source_limit};
-ghost use Rattle.sk_label.specs.Carrying.{fault_at, fault_by};
+ghost use Rattle.sk_label.specs.Carrying.{fault_by};
 ghost use Rattle.sk_label.specs.Goes.{setting, ReadsTaken, EndsBefore};
 
 use crate::fault::{LabelFault, LineStop};
@@ -95,21 +95,9 @@ fn fault_by(fault: Fault, carried: Option<LineStop>) -> LabelFault
         Fault::LongLine(n) => LabelFault::LongLine(n),
         Fault::TooMuch => LabelFault::TooMuch,
         Fault::BadItem(n) => match carried {
-            Some(why) => fault_at(why, n),
+            Some(why) => why.at(n),
             None => LabelFault::OutOfMemory,
         },
         _ => LabelFault::OutOfMemory,
-    }
-}
-
-// The fault of a taker that stopped at the line of this number.
-fn fault_at(why: LineStop, n: u64) -> LabelFault
-    ensures { result ≡ fault_at why n }
-{
-    match why {
-        LineStop::OutOfMemory => LabelFault::OutOfMemory,
-        LineStop::WriteFault => LabelFault::WriteFault,
-        LineStop::BadLine => LabelFault::BadLine(n),
-        LineStop::Refused => LabelFault::Refused(n),
     }
 }

@@ -1,7 +1,9 @@
 // Why labelled lines were not all taken.
 ghost use Rattle.std.specs.Prelude.{◌≡◌};
+ghost use Rattle.sk_label.specs.Faults.{fault_at};
 
 use sk_model::OutOfMemory;
+use sk_read::LineFault;
 use std::alloc::AllocError;
 
 /// Why a taker of labelled lines stopped at one.
@@ -15,6 +17,20 @@ pub enum LineStop {
     BadLine,
     /// The line has the form, and is refused after those before it.
     Refused,
+}
+
+impl LineStop {
+    /// The fault of a command whose taker stopped so at the line of this number.
+    pub fn at(self, n: u64) -> LabelFault
+        ensures { result ≡ fault_at self n }
+    {
+        match self {
+            LineStop::OutOfMemory => LabelFault::OutOfMemory,
+            LineStop::WriteFault => LabelFault::WriteFault,
+            LineStop::BadLine => LabelFault::BadLine(n),
+            LineStop::Refused => LabelFault::Refused(n),
+        }
+    }
 }
 
 /// Why a command over labelled lines ended before its whole text was written. Lines are counted from 1.
@@ -73,5 +89,19 @@ impl From<AllocError> for LabelFault {
 
     fn from(_: AllocError) -> Self {
         LabelFault::OutOfMemory
+    }
+}
+
+impl From<LineFault> for LabelFault {
+    ghost use Rattle.sk_label.specs.Faults.{fault_of_lines};
+
+    ghost from_gives = { λ fault e. e ≡ fault_of_lines fault };
+
+    fn from(fault: LineFault) -> Self {
+        match fault {
+            LineFault::ReadFault => LabelFault::ReadFault,
+            LineFault::LongLine(n) => LabelFault::LongLine(n),
+            LineFault::TooMuch => LabelFault::TooMuch,
+        }
     }
 }

@@ -5,6 +5,7 @@
 mod carrier;
 mod fault;
 mod parts;
+mod spaces;
 mod taker;
 
 pub use carrier::read_labelled;

@@ -1,7 +1,8 @@
 // The two parts of a line.
-ghost use Rattle.std.specs.Prelude.{◌≡◌, is_some, IfSome, length, ◌≤◌};
-ghost use Rattle.std.specs.List.{position_or_len};
-ghost use Rattle.sk_label.specs.Labels.{is_space, label_of, item_text_of, is_labelled};
+ghost use Rattle.std.specs.Prelude.{◌≡◌, is_some, IfSome};
+ghost use Rattle.sk_label.specs.Labels.{label_of, item_text_of, is_labelled};
+
+use crate::spaces::first_space;
 
 /// A line in two parts.
 #[derive(Clone, Copy)]
@@ -27,18 +28,4 @@ pub fn split(line: &[u8]) -> Option<Parts<'_>>
         label: &line[..at],
         item_text: &line[at + 1..],
     })
-}
-
-// The place of the first space, or the length of a line without one.
-#[inline(always)]
-fn first_space(line: &[u8]) -> usize
-    ensures place { result ≡ position_or_len is_space line.now }
-    ensures within { result ≤ length line.now }
-{
-    'byte: for at in 0..line.len() {
-        if line[at] == b' ' {
-            return at;
-        }
-    }
-    line.len()
 }

@@ -1,13 +1,14 @@
 -- The place of a name, by a table of names.
-use Rattle.std.proofs.Common.{◌≡◌, ◌≢◌, ◌⊎◌, inl, inr, ⊎_elim, ℕ, zero, suc, ◌+◌, ◌<◌, ◌≤◌, nat_lt, Bool, true, false, not, ◌||◌, cond, if◌then◌else◌, List, [], ◌∷◌, ◌++◌, length, get_or, map, Option, Some, None, slice_get, Contains, IfNone, refl, sym, ap, subst, ◌∙◌, arith, length-append}
+use Rattle.std.proofs.Common.{◌≡◌, ◌≢◌, ◌⊎◌, inl, inr, ⊎_elim, ℕ, zero, suc, ◌+◌, ◌<◌, ◌≤◌, nat_lt, Bool, true, false, not, ◌||◌, cond, if◌then◌else◌, List, [], ◌∷◌, ◌++◌, length, get_or, map, Option, Some, None, slice_get, Contains, IfSome, IfNone, refl, sym, ap, subst, ◌∙◌, arith, length-append}
 use Rattle.std.specs.List.{position, position_or_len, list_any}
 use Rattle.std.specs.Str.{bytes_eq}
 use Rattle.std.proofs.lemmas.Grind.{common_steps}
 use Rattle.std.proofs.lemmas.List.{map-append, length-map}
-use Rattle.std.proofs.lemmas.List.Sums.{fails_before_first}
+use Rattle.std.proofs.lemmas.List.Sums.{fails_before_first, position_or_len_is}
 use Rattle.std.proofs.Math.Seq.{take-append_seam, get_or-append_seam}
 use Rattle.std.proofs.lemmas.List.Quantifiers.{all_pairs_push, position-Some}
-use Rattle.std.proofs.lemmas.Option.{slice_get-get_or}
+use Rattle.std.proofs.lemmas.Option.{slice_get-get_or, slice_get_within, get_or_from_slice_get}
+use Rattle.std.proofs.lemmas.Bool.{cond-true, lt-ltb}
 use Rattle.std.proofs.lemmas.Slice.Eq.{bytes_eq-Decides}
 use Rattle.sk_tenant.specs.Names.{AreDifferent, IsFirstTwice, place_of}
 
@@ -28,7 +29,7 @@ same_name name own passes = sym ((bytes_eq-Decides name own).0 passes)
 pub name_passes : (name own : List ℕ) → own ≡ name → bytes_eq name own ≡ true
 name_passes name own same = (bytes_eq-Decides name own).1 (sym same)
 
-pub found_name : (names : List (List ℕ)) (name : List ℕ) (i : ℕ) → place_of names name ≡ Some i → slice_get names i ≡ Some name
+found_name : (names : List (List ℕ)) (name : List ℕ) (i : ℕ) → place_of names name ≡ Some i → slice_get names i ≡ Some name
 found_name names name i is =
     let at = position-Some (bytes_eq name) names i [] is in
     slice_get-get_or names i [] at.0 ∙ ap Some (same_name name (get_or names i []) at.1)
@@ -42,9 +43,28 @@ no_name names name none has =
     let passes : bytes_eq name (get_or names has.0 name) ≡ true = name_passes name (get_or names has.0 name) has.2 in
     let never : true ≡ false = sym passes ∙ fails in cc
 
-pub no_name_here : (place : Option ℕ) (names : List (List ℕ)) (name : List ℕ) → place_of names name ≡ None → IfNone place (¬ Contains names name)
-no_name_here (Some i) names name none = tt
-no_name_here None names name none = no_name names name none
+pub none_here : (place : Option ℕ) (names : List (List ℕ)) (name : List ℕ) → place ≡ place_of names name → IfNone place (¬ Contains names name)
+none_here (Some i) names name is = tt
+none_here None names name is = no_name names name (sym is)
+
+pub found_here : (place : Option ℕ) (names : List (List ℕ)) (name : List ℕ) → place ≡ place_of names name → IfSome place (λ t. slice_get names t ≡ Some name)
+found_here (Some i) names name is = found_name names name i (sym is)
+found_here None names name is = tt
+
+by_none : (b : Bool) → (b ≡ true → ⊥) → b ≡ false
+by_none true never = absurd (never refl)
+by_none false never = refl
+
+-- names that are different stand at one place each
+pub its_place : (names : List (List ℕ)) (name : List ℕ) (t : ℕ) → AreDifferent names → slice_get names t ≡ Some name → Some t ≡ place_of names name
+its_place names name t different is =
+    let within : t < length names = slice_get_within names t name is in
+    let at : get_or names t [] ≡ name = get_or_from_slice_get names t name [] is in
+    let fails : (k : ℕ) → k < t → bytes_eq name (get_or names k []) ≡ false =
+    λ k less. by_none _ (λ passes. different k t [] less within (same_name name _ passes ∙ sym at)) in
+    let first : position_or_len (bytes_eq name) names ≡ t =
+    position_or_len_is (bytes_eq name) names t [] (omega (arith, within)) fails (λ _. name_passes name _ at) in
+    sym (ap (λ n. cond (nat_lt n (length names)) (Some n) None) first ∙ cond-true (nat_lt t (length names)) (Some t) None (lt-ltb t (length names) within))
 
 -- ---- a table of the names so far
 

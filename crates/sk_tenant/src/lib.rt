@@ -3,6 +3,7 @@
 
 mod answers;
 mod desk;
+mod guesses;
 pub mod laws;
 mod names;
 mod opening;

@@ -1,8 +1,9 @@
 //! The names of tenants, which all desks share.
-ghost use Rattle.std.specs.Prelude.{◌≡◌, ℕ, ◌<◌, ◌≤◌, Some, length, map, slice_get, IfOk, IfSome, IfNone, Contains};
+ghost use Rattle.std.specs.Prelude.{◌≡◌, ℕ, ◌<◌, ◌≤◌, true, Some, length, map, slice_get, IfOk, IfSome, IfNone, Contains};
 ghost use Rattle.sk_tenant.specs.Names.{place_of, bytes_of, most_tenants, AreDifferent, IsFirstTwice};
 
 use crate::answers::TenantStop;
+use crate::guesses::Guesses;
 use indexmap::IndexSet;
 use sk_model::OutOfMemory;
 use std::alloc::Global;
@@ -15,7 +16,14 @@ pub const MOST_TENANTS: usize = 64;
 /// The names of tenants, no two of them equal. All desks share one table, by which a name is found.
 #[derive(Drop)]
 pub struct Names {
-    table: Arc<IndexSet<Vec<u8>>, Global>,
+    table: Arc<Table, Global>,
+}
+
+// Names, and where each is sought first.
+#[derive(Drop)]
+struct Table {
+    names: IndexSet<Vec<u8>>,
+    guesses: Guesses,
 }
 
 impl Model for Names {
@@ -25,10 +33,10 @@ impl Model for Names {
 
     ghost Value = { List (List ℕ) };
 
-    ghost view = { λ n. map (λ name. name.items) (arc_value n.table).keys };
+    ghost view = { λ n. map (λ name. name.items) (arc_value n.table).names.keys };
 
-    ghost invariant = { λ n. (length (arc_value n.table).keys ≤ most_tenants)
-        × AreDifferent (map (λ name. name.items) (arc_value n.table).keys) };
+    ghost invariant = { λ n. (length (arc_value n.table).names.keys ≤ most_tenants)
+        × AreDifferent (map (λ name. name.items) (arc_value n.table).names.keys) };
 }
 
 impl Names {
@@ -38,8 +46,9 @@ impl Names {
         ensures names { IfOk result (λ n. n ≡ bytes_of names.items) }
         ensures twice { (i : ℕ) → result ≡ Err (TenantStop.Twice i) → IsFirstTwice (bytes_of names.items) i }
     {
-        let table = table_of(alloc, names)?;
-        match Arc::new(alloc, table) {
+        let names = set_of(alloc, names)?;
+        let guesses = Guesses::of(&names);
+        match Arc::new(alloc, Table { names, guesses }) {
             Ok(table) => Ok(Names { table }),
             Err(_) => Err(TenantStop::OutOfMemory),
         }
@@ -60,8 +69,11 @@ impl Names {
         ensures found { IfSome result (λ t. slice_get self.now t ≡ Some name.now) }
         ensures none { IfNone result (¬ Contains self.now name.now) }
     {
-        let place = self.table.get_index_of(name)?;
-        Some(place as u32)
+        let guess = self.table.guesses.place(name);
+        if is_at(&self.table.names, guess, name) {
+            return Some(guess);
+        }
+        sought(&self.table.names, name)
     }
 
     /// The name of the tenant at place t.
@@ -69,7 +81,7 @@ impl Names {
         requires place { t < length self.now }
         ensures { slice_get self.now t ≡ Some result.now }
     {
-        match self.table.get_index(t as usize) {
+        match self.table.names.get_index(t as usize) {
             Some(name) => name.as_slice(),
             None => unreachable!(),
         }
@@ -81,26 +93,46 @@ impl Names {
         ensures few { length self.now ≤ most_tenants }
         ensures different { AreDifferent self.now }
     {
-        self.table.len() as u32
+        self.table.names.len() as u32
     }
 }
 
-// A table of these names, in order.
-fn table_of(alloc: Global, names: Vec<String>) -> Result<IndexSet<Vec<u8>>, TenantStop>
+// Whether the name at place t is this one.
+#[inline(always)]
+fn is_at(names: &IndexSet<Vec<u8>>, t: u32, name: &[u8]) -> bool
+    ensures { result ≡ true → slice_get (map (λ own. own.items) names.now.keys) t ≡ Some name.now }
+{
+    match names.get_index(t as usize) {
+        Some(own) => own.as_slice() == name,
+        None => false,
+    }
+}
+
+// The place of a name, by its hash.
+fn sought(names: &IndexSet<Vec<u8>>, name: &[u8]) -> Option<u32>
+    requires few { length names.now.keys ≤ most_tenants }
+    ensures { result ≡ place_of (map (λ own. own.items) names.now.keys) name.now }
+{
+    let place = names.get_index_of(name)?;
+    Some(place as u32)
+}
+
+// A set of these names, in order.
+fn set_of(alloc: Global, names: Vec<String>) -> Result<IndexSet<Vec<u8>>, TenantStop>
     requires few { length names.items ≤ most_tenants }
-    ensures names { IfOk result (λ table. map (λ name. name.items) table.keys ≡ bytes_of names.items) }
-    ensures different { IfOk result (λ table. AreDifferent (map (λ name. name.items) table.keys)) }
+    ensures names { IfOk result (λ set. map (λ name. name.items) set.keys ≡ bytes_of names.items) }
+    ensures different { IfOk result (λ set. AreDifferent (map (λ name. name.items) set.keys)) }
     ensures twice { (i : ℕ) → result ≡ Err (TenantStop.Twice i) → IsFirstTwice (bytes_of names.items) i }
 {
-    let Ok(mut table) = IndexSet::with_capacity(alloc, names.len()) else {
+    let Ok(mut set) = IndexSet::with_capacity(alloc, names.len()) else {
         return Err(TenantStop::OutOfMemory);
     };
     'name: for name in names {
-        match table.insert(name.into_bytes()) {
+        match set.insert(name.into_bytes()) {
             Ok(true) => {}
-            Ok(false) => return Err(TenantStop::Twice(table.len() as u32)),
+            Ok(false) => return Err(TenantStop::Twice(set.len() as u32)),
             Err(_) => return Err(TenantStop::OutOfMemory),
         }
     }
-    Ok(table)
+    Ok(set)
 }

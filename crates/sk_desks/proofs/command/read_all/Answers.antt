@@ -1,14 +1,42 @@
+use Rattle.std.proofs.Common.{None, false, refl, ◌∙◌}
 use Rattle.sk_label.specs.Goes.{setting, EndsBefore}
 use Rattle.sk_label.specs.declared.fault.LabelFault.{LabelFault}
 use Rattle.sk_label.specs.declared.fault.LabelFault.TheVariants as fault
-use Rattle.std.proofs.Common.{None}
 use Rattle.sk_label.proofs.QuietLaws.{ends_at_start}
 use Rattle.sk_desks.specs.Desks.{desk_rules}
-use Rattle.sk_desks.proofs.ClerkLaws.{stop_is}
+use Rattle.sk_desks.proofs.WentLaws.{went_start, went_room, went_all, stop_is}
 use Rattle.sk_desks.proofs.command.read_all.Goals as goal
 
-pub returns-in_err-window-clause-early : goal.returns-in_err-window-clause-early
-returns-in_err-window-clause-early g c =
-    let rules = desk_rules c.args.plan.now c.args.names.now in
-    let left = g.S.Source.left c.args.source.now in
+pub returns-in_err-new-clause-early : goal.returns-in_err-new-clause-early
+returns-in_err-new-clause-early g c =
+    let rules = desk_rules c.args.plan.now c.args.names.now in let left = g.S.Source.left c.args.source.now in
     stop_is (λ (f : LabelFault). EndsBefore rules c.args.most (setting left None) (setting left None) f) fault.OutOfMemory c.from_residual.result c.from_residual.ensures.1 (ends_at_start rules c.args.most left None)
+
+pub returns-in_err-new-2-clause-early : goal.returns-in_err-new-2-clause-early
+returns-in_err-new-2-clause-early g c =
+    let rules = desk_rules c.args.plan.now c.args.names.now in let left = g.S.Source.left c.args.source.now in
+    stop_is (λ (f : LabelFault). EndsBefore rules c.args.most (setting left None) (setting left None) f) fault.OutOfMemory c.from_residual-in_err-new-2.result c.from_residual-in_err-new-2.ensures.1 (ends_at_start rules c.args.most left None)
+
+pub returns-in_err-full-clause-early : goal.returns-in_err-full-clause-early
+returns-in_err-full-clause-early g c =
+    let rules = desk_rules c.args.plan.now c.args.names.now in let left = g.S.Source.left c.args.source.now in
+    stop_is (λ (f : LabelFault). EndsBefore rules c.args.most (setting left None) (setting left None) f) fault.OutOfMemory c.from_residual-in_err-full.result c.from_residual-in_err-full.ensures.1 (ends_at_start rules c.args.most left None)
+
+pub read_windows-requires-clause-went : goal.read_windows-requires-clause-went
+read_windows-requires-clause-went g c κs within =
+    let left = g.S.Source.left c.args.source.now in
+    went_start c.args.plan.now c.args.names.now c.args.desks.now.items c.in_ok-full.full c.in_ok-new-2.field-0 c.in_ok-new.field-0 left c.requires.unused (c.in_ok-new.ensures.read left)
+    c.in_ok-full.ensures.lines c.in_ok-full.ensures.most c.in_ok-new-2.ensures.most
+
+pub feed_window-requires-clause-room : goal.feed_window-requires-clause-room
+feed_window-requires-clause-room g c κs within =
+    let w = c.read_windows.new in
+    went_room c.args.plan.now c.args.names.now c.args.desks.now.items w.desks.items w.full w.gatherer.window false w.gatherer.reader
+    (g.S.Source.left c.args.source.now) (g.S.Source.left w.source) c.in_ok-read_windows.ensures.went
+
+pub returns-clause-read : goal.returns-clause-read
+returns-clause-read g c =
+    let w = c.read_windows.new in
+    went_all c.args.plan.now c.args.names.now c.args.desks.now.items w.desks.items w.full w.gatherer.window false w.gatherer.reader
+    (g.S.Source.left c.args.source.now) (g.S.Source.left w.source) c.in_ok-read_windows.ensures.went c.args.most c.feed_window.new.desks.items
+    (c.in_ok-read_windows.ensures.bound ∙ c.in_ok-new.ensures.most) refl c.feed_window.ensures

@@ -9,8 +9,9 @@ use Rattle.sk_label.specs.declared.fault.LabelFault.TheVariants as fault
 use Rattle.sk_label.proofs.QuietLaws.{goes_by, reads_so, ends_at_start, wrote_none, wrote_whole, wrote_part_whole}
 use Rattle.sk_tenant.specs.Names.{bytes_of}
 use Rattle.sk_desks.specs.Desks.{desk_rules, tenant_line}
-use Rattle.sk_desks.specs.Clerks.{AreUnused, HaveTaken}
-use Rattle.sk_desks.proofs.ClerkLaws.{never, ends_early, fine_same}
+use Rattle.sk_desks.specs.Windows.{AreUnused, HaveTaken}
+use Rattle.sk_desks.proofs.GatherLaws.{never}
+use Rattle.sk_desks.proofs.WentLaws.{ends_early, fine_same}
 use Rattle.sk_desks.proofs.Counting.{unused_new, desks_still, numbers_still, counted_then, text_due}
 use Rattle.sk_desks.proofs.command.tenants.Goals as goal
 

@@ -1,4 +1,4 @@
-use Rattle.std.proofs.Common.{◌≡◌, ◌≤◌, ◌++◌, ◌∷◌, [], ℕ, List, length, sym, ap, ◌∙◌, arith, append-nil, append_assoc, length-append}
+use Rattle.std.proofs.Common.{◌≡◌, ◌++◌, ◌∷◌, [], List, length, sym, ap, ◌∙◌, arith, append-nil, append_assoc, length-append}
 use Rattle.sk_tenant.specs.Desks.{DeskState}
 use Rattle.sk_desks.proofs.Counting.{same_refl, same_trans, same_drained}
 use Rattle.sk_desks.proofs.EndingLaws.{taken_more}

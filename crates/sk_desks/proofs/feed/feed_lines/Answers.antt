@@ -1,4 +1,4 @@
-use Rattle.std.proofs.Common.{◌≡◌, ◌+◌, ◌-◌, ◌<◌, ◌≤◌, ◌∷◌, [], ℕ, List, length, get_or, subst, arith}
+use Rattle.std.proofs.Common.{◌≡◌, ◌+◌, ◌-◌, ◌<◌, ◌∷◌, [], ℕ, length, get_or, subst, arith}
 use Rattle.sk_desks.specs.Feeds.{HasRoom}
 use Rattle.sk_desks.proofs.Taking.{has_still, room_after}
 use Rattle.sk_desks.proofs.BlockLaws.{no_lines, line_more, first_is, rest_is}

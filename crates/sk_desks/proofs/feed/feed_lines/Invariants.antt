@@ -1,4 +1,4 @@
-use Rattle.std.proofs.Common.{◌≡◌, ◌+◌, ◌-◌, ◌≤◌, drop, slice_range}
+use Rattle.std.proofs.Common.{◌≡◌, ◌-◌, drop, slice_range}
 use Rattle.sk_desks.specs.Feeds.{HasRoom, HasTenants, TakesLines}
 use Rattle.sk_desks.proofs.feed.feed_lines.Given as goal
 

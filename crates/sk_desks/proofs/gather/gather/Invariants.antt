@@ -1,0 +1,20 @@
+use Rattle.std.proofs.Common.{◌≡◌, ◌≤◌, false}
+use Rattle.sk_read.specs.Reading.{remaining_of}
+use Rattle.sk_fill.specs.Windows.{is_full}
+use Rattle.sk_desks.specs.Gathers.{GivesLines, GoOnFine}
+use Rattle.sk_desks.proofs.gather.gather.Given as goal
+
+abbrev pub invariant-piece : goal.invariant-piece
+invariant-piece g l = record {
+  gives : GivesLines l.window.lines l.initial.reader l.reader (g.S.Source.left l.initial.source) (g.S.Source.left l.source);
+  fine : GoOnFine l.names l.window.lines;
+  room : is_full l.window ≡ false;
+  most : l.window.most ≡ l.initial.window.most;
+  bound : l.reader.most ≡ l.initial.reader.most;
+  fewer : remaining_of l.reader ≤ remaining_of l.initial.reader;
+  steady : g.S.Source.faults l.source ≡ g.S.Source.faults l.initial.source;
+  stays : g.S.Source.stands_on l.source ≡ g.S.Source.stands_on l.initial.source;
+}
+
+abbrev pub decreases-piece : goal.decreases-piece
+decreases-piece g l = remaining_of l.reader
