@@ -1,3 +1,4 @@
+pub mod Address
 pub mod Doors
 pub mod Links
 pub mod Waiting

@@ -1,6 +1,7 @@
 //! Links and a door over TCP on 127.0.0.1.
 #![tactic(auto)]
 
+mod listening;
 mod replies;
 mod tcp_door;
 mod tcp_link;

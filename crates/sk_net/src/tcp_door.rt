@@ -1,20 +1,28 @@
 // Where connections over TCP are accepted.
 ghost use Rattle.std.specs.Prelude.{◌≡◌, ◌+◌, ◌≤◌, [], ◌∷◌, All, IfOk, IfSome, OnOk, OnErr, None, IsSome, length, vec_len, vec_capacity};
+ghost use Rattle.std.specs.Option.{option_map};
 ghost use Rattle.sk_model.specs.Causes.{HasCause, Rose};
 ghost use Rattle.sk_io.specs.Traffic.{IsUntouched, Arrive};
+ghost use Rattle.sk_net.specs.Address.{local_address};
 ghost use Rattle.sk_net.specs.Doors.{all_ended};
 ghost use Rattle.sk_net.specs.Links.{waiting_of};
 ghost use Rattle.sk_net.specs.Waiting.{IsUnused};
 
+use crate::listening::{Listening, listen_at};
 use crate::replies::Replies;
 use crate::tcp_link::TcpLink;
 use sk_io::{Door, DoorFault, Failed, Link, count_fault};
 use std::alloc::{AllocError, Global};
 use std::io::ErrorKind;
-use std::net::{Ipv4Addr, Net, OpenListener, OpenStream, SocketAddr};
+use std::net::{Net, OpenListener, OpenStream, SocketAddr};
+use std::time::Duration;
 
 // How many bytes may wait on a link before they are sent.
 const WAITING: usize = 16_384;
+
+// How long one send may wait for a peer that does not read, in seconds. A send that has moved some bytes
+// by then succeeds, and the next one fails: a peer that stops reading is a fault within twice as long.
+const SEND_WAIT: u64 = 30;
 
 /// A link that was closed.
 #[derive(Clone, Copy, Debug, PartialEq, Eq)]
@@ -25,15 +33,9 @@ pub struct ClosedLink {
     pub waiting: usize,
 }
 
-// A listener, and the port that was asked for.
-#[derive(Drop)]
-struct Listening<L> {
-    listener: L,
-    port: u16,
-}
-
 /// A door over TCP at a port of 127.0.0.1, at port 0 one that the system chooses. When it listens it takes
 /// the memory of this many links, and links beyond them hold nothing back. It knows of no link before it comes.
+/// A call on a link that sends fails at the latest a minute after the peer has stopped reading.
 #[derive(Drop)]
 pub struct TcpDoor<R: Net> {
     rt: R,
@@ -44,6 +46,8 @@ pub struct TcpDoor<R: Net> {
     accepted: u64,
     room: u32,
     faults: u64,
+    // How long one send on a link may wait.
+    pub(crate) send_wait: Duration,
     ghost reserved: { vec_len closed + room ≤ vec_capacity closed },
     ghost unused: { All IsUnused spare.items },
 }
@@ -65,7 +69,16 @@ impl<R: Net> TcpDoor<R> {
             accepted: 0,
             room: 0,
             faults: 0,
+            send_wait: Duration::from_secs(SEND_WAIT),
         }
+    }
+
+    /// The address that was asked for when it began to listen.
+    pub fn address(&self) -> Option<SocketAddr>
+        ensures { result ≡ option_map local_address (⟦<TcpDoor<R> as Door>⟧.doorway self.now).port }
+    {
+        let listening = self.listening.as_ref()?;
+        Some(listening.address)
     }
 
     /// The port at which the system says that it listens.
@@ -103,11 +116,10 @@ impl<R: Net> Door for TcpDoor<R> {
     fn listen(&mut self, port: u16, links: u32) -> Result<(), DoorFault> {
         let spare = spare_replies(self.alloc, links)?;
         self.closed.reserve(links as usize)?;
-        let addr = SocketAddr::from((Ipv4Addr::LOCALHOST, port));
-        let Ok(listener) = self.rt.bind(addr) else {
+        let Ok(listening) = listen_at(&self.rt, port) else {
             return Err(count_fault(&mut self.faults).into());
         };
-        self.listening = Some(Listening { listener, port });
+        self.listening = Some(listening);
         self.spare = spare;
         self.room = links;
         Ok(())
@@ -127,11 +139,9 @@ impl<R: Net> Door for TcpDoor<R> {
         let Some(listening) = &self.listening else {
             unreachable!()
         };
-        let Ok(stream) = next_stream(&listening.listener) else {
+        let Ok(stream) = next_stream(&listening.listener, self.send_wait) else {
             return Err(count_fault(&mut self.faults));
         };
-        // If the peer is gone already, the first read fails.
-        let _ = stream.set_nodelay(true);
         let replies = self.spare.pop().unwrap_or(Replies::none(self.alloc));
         self.accepted = self.accepted.saturating_add(1);
         Ok(TcpLink::new(stream, replies))
@@ -159,16 +169,29 @@ fn spare_replies(alloc: Global, links: u32) -> Result<Vec<Replies>, AllocError>
     Ok(spare)
 }
 
-// Waits for the next connection that its peer has not broken off yet.
-fn next_stream<L: OpenListener>(listener: &L) -> Result<L::Stream, Failed> {
+// Waits for the next connection that its peer has not broken off yet. Each of its sends waits this long at most.
+fn next_stream<L: OpenListener>(listener: &L, send_wait: Duration) -> Result<L::Stream, Failed>
+where
+    L::Stream: OpenStream + Drop,
+{
     'next: for _ in 0..u64::MAX {
         match listener.accept() {
-            Ok((stream, _)) => return Ok(stream),
+            Ok((stream, _)) => return prepared(stream, send_wait),
             Err(e) if is_passing(e.kind()) => {}
             Err(_) => return Err(Failed),
         }
     }
     Err(Failed)
+}
+
+// A stream that sends without delay, and no longer than this. A peer that is gone already refuses neither.
+fn prepared<S: OpenStream + Drop>(stream: S, send_wait: Duration) -> Result<S, Failed> {
+    // Without it replies come later, and nothing else changes.
+    let _ = stream.set_nodelay(true);
+    match stream.set_write_timeout(Some(send_wait)) {
+        Ok(()) => Ok(stream),
+        Err(_) => Err(Failed),
+    }
 }
 
 // Whether an error of `accept` says nothing of the door: a signal came, or a peer broke off.

@@ -92,6 +92,7 @@ impl<S: Read + Write + OpenStream> Link for TcpLink<S> {
         ensures end { IfOk result (λ n. n ≡ 0 → IsAtEnd (left_of None)) }
         ensures cause { let faults = ⟦<TcpLink<S> as Link>⟧.faults in HasCause (faults self.old) (faults self.new) result }
         ensures sent { OnOk result (length (waiting_of self.new) ≡ 0) }
+        ensures ended { IfOk result (λ n. n ≡ 0 → IsAtEnd (S.remaining (stream_of self.new))) }
     {
         self.send()?;
         let Ok(n) = read_some(&mut self.stream, buf) else {

@@ -8,6 +8,7 @@ use std::io::{Read, Write};
 use std::net::{Ipv4Addr, Net, Shutdown, SocketAddr, TcpStream};
 use std::process::Abort;
 use std::test::Fail;
+use std::time::Duration;
 use std::{io, thread};
 
 // Links that were closed, on which nothing waited: no call had failed, or one.
@@ -133,6 +134,31 @@ fn a_peer_that_left_is_a_fault_and_no_signal(rt: HostRuntime) -> Result<(), Fail
 }
 
 #[test]
+fn a_peer_that_stops_reading_is_a_fault_of_its_link(rt: HostRuntime) -> Result<(), Fail> {
+    let mut door = door_for(&rt, rt.alloc(), 1)?;
+    door.send_wait = Duration::from_millis(20);
+    let client = client_of(&rt, door.port())?;
+    let mut link = door.accept()?;
+    // The system takes some replies for the peer before a send waits.
+    let mut failed = false;
+    'reply: for _ in 0..1_000_000 {
+        if !failed {
+            failed = link.write(&[b'x'; 1024]).is_err();
+        }
+    }
+    expect(&rt, failed, true);
+    let broken = ClosedLink {
+        faults: 1,
+        waiting: link.waiting(),
+    };
+    expect(&rt, broken.waiting > 0, true);
+    door.close(link);
+    expect(&rt, door.closed(), [broken].as_slice());
+    drop(client);
+    Ok(())
+}
+
+#[test]
 fn what_waits_is_sent_at_the_close(rt: HostRuntime) -> Result<(), Fail> {
     let mut door = door_for(&rt, rt.alloc(), 1)?;
     let mut client = client_of(&rt, door.port())?;
@@ -187,9 +213,12 @@ fn a_port_is_listened_at_once(rt: HostRuntime) -> Result<(), Fail> {
     let port = door.port().unwrap_or(0);
     let mut other = TcpDoor::new(&rt, rt.alloc());
     expect(&rt, other.port(), None);
+    expect(&rt, other.address(), None);
     expect(&rt, other.listen(port, 1), Err(DoorFault::Failed));
     drop(door);
     expect(&rt, other.listen(port, 1), Ok(()));
     expect(&rt, other.port(), Some(port));
+    let local = SocketAddr::from((Ipv4Addr::LOCALHOST, port));
+    expect(&rt, other.address(), Some(local));
     Ok(())
 }
