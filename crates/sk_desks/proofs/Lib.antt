@@ -5,3 +5,4 @@ pub mod GatherLaws
 pub mod WentLaws
 pub mod Counting
 pub mod EndingLaws
+pub mod ClerkLaws

@@ -4,3 +4,4 @@ pub mod Feeds
 pub mod Windows
 pub mod Endings
 pub mod Gathers
+pub mod Clerks

@@ -8,16 +8,18 @@ ghost use Rattle.sk_label.specs.Rules.{AreFine};
 ghost use Rattle.sk_tenant.specs.Hosts.{AreNewTenants, AreNewDesks, IsDeskOf};
 ghost use Rattle.sk_tenant.specs.Names.{bytes_of};
 ghost use Rattle.sk_desks.specs.Windows.{AreUnused, HaveTaken, Went};
+ghost use Rattle.sk_desks.specs.Feeds.{IsUnused, TakesLines};
 ghost use Rattle.sk_desks.specs.Plans.{IsWithin, AreNames, shape_of};
 ghost use Rattle.sk_desks.specs.Desks.{desk_rules};
 
+use crate::clerk::Clerk;
 use crate::ending::{take_in_all, text_of};
 use crate::feed::{feed_and_gather, feed_window};
 use crate::gather::Gatherer;
 use crate::plan::Plan;
 use sk_fill::Window;
 use sk_io::{Sink, Source, write_all};
-use sk_label::LabelFault;
+use sk_label::{LabelFault, read_labelled};
 use sk_model::OutOfMemory;
 use sk_model::limits::{MOST_KEPT, MOST_UPDATERS};
 use sk_read::LineReader;
@@ -112,6 +114,9 @@ fn read_all<S: Source, R: Threads + Wait + Sync>(
     ensures reads { HasCauseIn LabelFault.ReadFault (S.faults source.old) (S.faults source.new) result }
     ensures stays { S.stands_on source.new ≡ S.stands_on source.old }
 {
+    if desks.len() == 1 {
+        return read_alone(rt, alloc, plan, most, source, &mut desks[0]);
+    }
     let mut gatherer = Gatherer {
         names,
         reader: LineReader::new(alloc, most)?,
@@ -120,6 +125,53 @@ fn read_all<S: Source, R: Threads + Wait + Sync>(
     let mut full = Window::new(alloc, WINDOW_LINES)?;
     read_windows(rt, plan, &mut gatherer, &mut full, source, desks)?;
     feed_window(rt, desks, &full, plan.seed, threads_for(rt, desks.len()));
+    Ok(())
+}
+
+// Reads a source to its end, and gives each of its lines to the one desk at once.
+fn read_alone<S: Source, R: Wait>(
+    rt: &R,
+    alloc: Global,
+    plan: &Plan,
+    most: u64,
+    source: &mut S,
+    desk: &mut Desk,
+) -> Result<(), LabelFault>
+    requires bound { most ≤ source_limit }
+    requires unused { IsUnused desk.old.names desk.old }
+    ensures read { IfOk result (λ _. ReadsLines most (λ lines. AreFine (desk_rules plan.now desk.old.names) lines × TakesLines plan.now.seed desk.old lines desk.new)
+        (S.left source.old) (S.left source.new)) }
+    ensures early { IfErr result (EndsBefore (desk_rules plan.now desk.old.names) most (setting (S.left source.old) None) (setting (S.left source.new) None)) }
+    ensures quiet { result ≢ Err LabelFault.WriteFault }
+    ensures reads { HasCauseIn LabelFault.ReadFault (S.faults source.old) (S.faults source.new) result }
+    ensures stays { S.stands_on source.new ≡ S.stands_on source.old }
+{
+    let mut clerk = Clerk {
+        rt,
+        plan: *plan,
+        desk,
+    };
+    read_with(alloc, most, source, &mut clerk)
+}
+
+// The same, with the clerk at hand.
+fn read_with<S: Source, R: Wait>(
+    alloc: Global,
+    most: u64,
+    source: &mut S,
+    clerk: &mut Clerk<'_, '_, R>,
+) -> Result<(), LabelFault>
+    requires bound { most ≤ source_limit }
+    requires unused { IsUnused clerk.old.desk.now.names clerk.old.desk.now }
+    ensures read { IfOk result (λ _. ReadsLines most (λ lines. AreFine (desk_rules clerk.old.plan clerk.old.desk.now.names) lines × TakesLines clerk.old.plan.seed clerk.old.desk.now lines clerk.new.desk.now)
+        (S.left source.old) (S.left source.new)) }
+    ensures early { IfErr result (EndsBefore (desk_rules clerk.old.plan clerk.old.desk.now.names) most (setting (S.left source.old) None) (setting (S.left source.new) None)) }
+    ensures quiet { result ≢ Err LabelFault.WriteFault }
+    ensures reads { HasCauseIn LabelFault.ReadFault (S.faults source.old) (S.faults source.new) result }
+    ensures stays { S.stands_on source.new ≡ S.stands_on source.old }
+    ensures desk { clerk.new.desk.ghost_name ≡ clerk.old.desk.ghost_name }
+{
+    read_labelled(alloc, most, source, clerk)?;
     Ok(())
 }
 

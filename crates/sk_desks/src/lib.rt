@@ -3,6 +3,7 @@
 #![tactic(auto)]
 
 mod calls;
+mod clerk;
 mod command;
 mod ending;
 mod feed;

@@ -1,10 +1,16 @@
-use Rattle.std.proofs.Common.{None, false, refl, ◌∙◌}
+use Rattle.std.proofs.Common.{◌≡◌, None, false, length, get_or, refl, ap, subst, ◌∙◌, arith}
+use Rattle.std.proofs.lemmas.List.{get_or_default}
+use Rattle.sk_fill.proofs.Readings.{if_ok_then}
+use Rattle.sk_label.specs.Rules.{AreFine}
+use Rattle.sk_tenant.specs.Desks.{DeskState}
+use Rattle.sk_desks.specs.Feeds.{TakesLines}
+use Rattle.sk_desks.proofs.ClerkLaws.{taken_alone}
 use Rattle.sk_label.specs.Goes.{setting, EndsBefore}
 use Rattle.sk_label.specs.declared.fault.LabelFault.{LabelFault}
 use Rattle.sk_label.specs.declared.fault.LabelFault.TheVariants as fault
-use Rattle.sk_label.proofs.QuietLaws.{ends_at_start}
+use Rattle.sk_label.proofs.QuietLaws.{reads_so, ends_at_start}
 use Rattle.sk_desks.specs.Desks.{desk_rules}
-use Rattle.sk_desks.proofs.WentLaws.{went_start, went_room, went_all, stop_is}
+use Rattle.sk_desks.proofs.WentLaws.{fine_same, went_start, went_room, went_all, stop_is}
 use Rattle.sk_desks.proofs.command.read_all.Goals as goal
 
 pub returns-in_err-new-clause-early : goal.returns-in_err-new-clause-early
@@ -40,3 +46,14 @@ returns-clause-read g c =
     went_all c.args.plan.now c.args.names.now c.args.desks.now.items w.desks.items w.full w.gatherer.window false w.gatherer.reader
     (g.S.Source.left c.args.source.now) (g.S.Source.left w.source) c.in_ok-read_windows.ensures.went c.args.most c.feed_window.new.desks.items
     (c.in_ok-read_windows.ensures.bound ∙ c.in_ok-new.ensures.most) refl c.feed_window.ensures
+
+pub returns-then-len-eq1-clause-read : goal.returns-then-len-eq1-clause-read
+returns-then-len-eq1-clause-read g c =
+    let plan = c.args.plan.now in let names = c.args.names.now in let first = c.args.desks.now.items in
+    let desk = c.index_mut.result.now in let d' = c.read_alone.new.desk in
+    let one : length first ≡ 1 = omega (arith, c.args.desks.now.ok, c.len.ensures, c.if-len-eq1.true) in
+    let same : desk.names ≡ names = ap (λ (d : DeskState). d.names) c.index_mut.ensures.value ∙ (c.requires.unused.each 0 desk (omega (arith, one))).names_are in
+    let here : desk ≡ get_or first 0 d' = c.index_mut.ensures.value ∙ get_or_default first 0 desk d' (omega (arith, one)) in
+    if_ok_then c.read_alone.result _ _ c.read_alone.ensures.read
+    (λ x read. reads_so (λ lines. AreFine (desk_rules plan desk.names) lines × TakesLines plan.seed desk lines d') _ c.args.most (g.S.Source.left c.args.source.now) (g.S.Source.left c.read_alone.new.source)
+    (λ lines both. (fine_same plan names desk.names lines same both.0, taken_alone plan.seed first _ d' lines one refl (subst (λ (d : DeskState). TakesLines plan.seed d lines d') here both.1))) read)

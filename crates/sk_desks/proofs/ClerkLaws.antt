@@ -1,0 +1,83 @@
+-- Lines that a clerk gave to the one desk that there is.
+use Rattle.std.proofs.Common.{◌≡◌, ℕ, ◌+◌, ◌<◌, false, not, None, Result, Ok, Err, OnOk, List, [], ◌∷◌, ◌++◌, length, get_or, set, refl, sym, ap, subst, ◌∙◌, arith, append-nil, length-set, get_or-set_same}
+use Rattle.std.proofs.KnownBytes.{Appends-nil}
+use Rattle.std.proofs.lemmas.List.{get_or_default}
+use Rattle.sk_model.specs.Limits.{most_kept}
+use Rattle.sk_label.specs.Labels.{is_labelled}
+use Rattle.sk_label.specs.Stops.{Takes, StopsBy}
+use Rattle.sk_label.specs.declared.fault.LineStop.{LineStop}
+use Rattle.sk_label.specs.declared.fault.LineStop.TheVariants as stop
+use Rattle.sk_fill.specs.Blocks.{block_of}
+use Rattle.sk_fill.proofs.Joined.{blocks_joined}
+use Rattle.sk_tenant.specs.Desks.{DeskState}
+use Rattle.sk_desks.specs.declared.plan.Plan.{Plan}
+use Rattle.sk_desks.specs.Desks.{desk_rules}
+use Rattle.sk_desks.specs.Feeds.{HasRoom, HasTenants, TakesLines}
+use Rattle.sk_desks.specs.Gathers.{IsOfTenant}
+use Rattle.sk_desks.specs.Windows.{HaveTaken}
+use Rattle.sk_desks.specs.Clerks.{StopsAtLine, Serves}
+use Rattle.sk_desks.proofs.Taking.{takes_more, has_still, room_after}
+use Rattle.sk_desks.proofs.BlockLaws.{take_each}
+
+pub empty_unlabelled : (line : List ℕ) → length line ≡ 0 → is_labelled line ≡ false
+empty_unlabelled [] empty = refl
+empty_unlabelled (x ∷ xs) empty = absurd (omega (arith, empty))
+
+pub if_both : {T E P Q S : Type 0} (r : Result T E) → OnOk r P → OnOk r Q → (P → Q → S) → OnOk r S
+if_both (Ok x) p q so = so p q
+if_both (Err e) p q so = tt
+
+module _ (plan plan' : Plan) (d e : DeskState) (lines : List (List ℕ)) (serves : Serves plan plan' d e lines) where
+  pub serves_tenants : HasTenants e
+  serves_tenants = has_still plan.seed d e lines serves.took serves.unused.has
+
+  -- there is room for a line more
+  pub serves_room : length lines < most_kept → HasRoom 1 e
+  serves_room few =
+      let room : HasRoom (length lines + 1) d = λ t u within. omega (arith, ap length (serves.unused.none t u within), serves.unused.quota_is, few) in
+      room_after plan.seed d e lines 1 serves.unused.has serves.took room
+
+  -- a line more was given
+  pub serves_more : (e' : DeskState) (line : List ℕ) → TakesLines plan'.seed e (line ∷ []) e' → IsOfTenant e.names line → Takes (desk_rules plan' e.names) (Serves plan plan' d e') None None lines line
+  serves_more e' line took fine = record {
+    fine = λ filled. let is = fine filled in (is.0, ap not is.1);
+    went = record {
+      unused = serves.unused;
+      took = takes_more plan.seed d e e' lines (line ∷ []) serves.took (subst (λ (p : Plan). TakesLines p.seed e (line ∷ []) e') serves.plan_stays took);
+      plan_stays = serves.plan_stays;
+    };
+    written = Appends-nil None;
+  }
+
+-- the line is refused
+pub serves_not : (plan : Plan) (names before : List (List ℕ)) (line : List ℕ) (why : LineStop) → StopsAtLine names line why → StopsBy (desk_rules plan names) None None before line why
+serves_not plan names before line stop.BadLine stops = ((stops.0, stops.1), refl)
+serves_not plan names before line stop.Refused stops = ((stops.0, stops.1, ap not stops.2), refl)
+serves_not plan names before line stop.OutOfMemory stops = absurd stops
+serves_not plan names before line stop.WriteFault stops = absurd stops
+
+-- the one desk took all lines
+whole_block : (lines : List (List ℕ)) (n : ℕ) → n ≡ 1 → block_of lines 0 n ≡ lines
+whole_block lines n one =
+    let all : block_of lines 0 1 ++ [] ≡ lines = blocks_joined lines 1 (omega arith) in
+    ap (λ (m : ℕ). block_of lines 0 m) one ∙ sym (append-nil (block_of lines 0 1)) ∙ all
+
+pub taken_alone : (seed : ℕ) (first desks : List DeskState) (d' : DeskState) (lines : List (List ℕ)) → length first ≡ 1 → desks ≡ set first 0 d' → TakesLines seed (get_or first 0 d') lines d' → HaveTaken seed first desks lines
+taken_alone seed first desks d' lines one is took = record {
+  windows = lines ∷ [];
+  joined = sym (append-nil lines);
+  took = take_each seed first desks lines (ap length is ∙ length-set first 0 d') each;
+}
+  where
+    here : (d : DeskState) → TakesLines seed (get_or first 0 d) (block_of lines 0 (length first)) (get_or desks 0 d)
+    here d =
+        let same : get_or first 0 d' ≡ get_or first 0 d = get_or_default first 0 d' d (omega (arith, one)) in
+        let now : get_or desks 0 d ≡ d' = ap (λ (l : List DeskState). get_or l 0 d) is ∙ get_or-set_same first 0 d' d (omega (arith, one)) in
+        subst (λ (e : DeskState). TakesLines seed (get_or first 0 d) (block_of lines 0 (length first)) e) (sym now)
+        (subst (λ (e : DeskState). TakesLines seed e (block_of lines 0 (length first)) d') same
+        (subst (λ (l : List (List ℕ)). TakesLines seed (get_or first 0 d') l d') (sym (whole_block lines (length first) one)) took))
+
+    each : (i : ℕ) (d : DeskState) → i < length first → TakesLines seed (get_or first i d) (block_of lines i (length first)) (get_or desks i d)
+    each i d within =
+        let zero : 0 ≡ i = omega (arith, within, one) in
+        subst (λ (n : ℕ). TakesLines seed (get_or first n d) (block_of lines n (length first)) (get_or desks n d)) zero (here d)
