@@ -75,6 +75,10 @@ Goes rules most old new result = MatchResult result
 
 -- ---- its reading
 
+-- the lines of a source were read to its end, and are this many
+abbrev pub CountsLines : ℕ → Option (List ℕ) → Option (List ℕ) → ℕ → Type 0
+CountsLines most left left' n = ReadsAll (units_by 0) most n (λ lines. Unit {0}) left left'
+
 -- how the lines were read, where this is so of a taker that was given them
 abbrev pub ReadsTaken : {T : Type 0} → Rules → ℕ → (List (List ℕ) → Type 0) → Setting → Setting → Result T LabelFault → Type 0
 ReadsTaken rules most Went old new result = MatchResult result

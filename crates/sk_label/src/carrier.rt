@@ -1,9 +1,9 @@
 // Labelled lines, read by the reader of units.
-ghost use Rattle.std.specs.Prelude.{◌≡◌, ◌≤◌, ℕ, List, [], IfErr, OnOk, MatchResult};
+ghost use Rattle.std.specs.Prelude.{◌≡◌, ◌≤◌, ℕ, List, [], IfErr, IfOk, OnOk, MatchResult};
 ghost use Rattle.sk_model.specs.Causes.{HasCauseIn};
 ghost use Rattle.sk_model.specs.Limits.{source_limit};
 ghost use Rattle.sk_label.specs.Carrying.{fault_by};
-ghost use Rattle.sk_label.specs.Goes.{setting, ReadsTaken, EndsBefore};
+ghost use Rattle.sk_label.specs.Goes.{setting, CountsLines, ReadsTaken, EndsBefore};
 
 use crate::fault::{LabelFault, LineStop};
 use crate::taker::LineTaker;
@@ -54,6 +54,7 @@ pub fn read_labelled<S: Source, T: LineTaker>(
     requires bound { most ≤ source_limit }
     requires start { T.went taker.old taker.old [] }
     ensures read { ReadsTaken (T.rules taker.old) most (T.went taker.old taker.new) (setting (S.left source.old) (T.written taker.old)) (setting (S.left source.new) (T.written taker.new)) result }
+    ensures count { IfOk result (CountsLines most (S.left source.old) (S.left source.new)) }
     ensures reads { HasCauseIn LabelFault.ReadFault (S.faults source.old) (S.faults source.new) result }
     ensures writes { HasCauseIn LabelFault.WriteFault (T.faults taker.old) (T.faults taker.new) result }
     ensures stays { S.stands_on source.new ≡ S.stands_on source.old }
@@ -74,6 +75,7 @@ fn read_carried<S: Source, T: LineTaker>(
     requires start { T.went carrier.old.taker.now carrier.old.taker.now [] }
     ensures read { ReadsTaken (T.rules carrier.old.taker.now) most (T.went carrier.old.taker.now carrier.new.taker.now)
         (setting (S.left source.old) (T.written carrier.old.taker.now)) (setting (S.left source.new) (T.written carrier.new.taker.now)) result }
+    ensures count { IfOk result (CountsLines most (S.left source.old) (S.left source.new)) }
     ensures reads { HasCauseIn LabelFault.ReadFault (S.faults source.old) (S.faults source.new) result }
     ensures writes { HasCauseIn LabelFault.WriteFault (T.faults carrier.old.taker.now) (T.faults carrier.new.taker.now) result }
     ensures stays { S.stands_on source.new ≡ S.stands_on source.old }

@@ -40,8 +40,9 @@ module _ (p : PanesState) (before : List UpdaterState) (has : HasTaken p before)
   counted_both : (us : List UpdaterState) (n : ℕ) → n ≡ counted p.taken us → n ≡ counted 0 (before ++ us)
   counted_both us n is = omega (arith, is, has.count, sum_by-append (λ (u : UpdaterState). length (kept_of u)) before us)
 
-  pub stops : (us us' : List UpdaterState) (q : PanesState) → StopsEarly p.heart us p.learnt p.taken q.heart us' q.learnt q.taken → StopsAtDrain p before us us' q
-  stops us us' q early = record {
+  pub stops : (us us' : List UpdaterState) (q : PanesState) → q ≡ record p { heart = q.heart; learnt = q.learnt; taken = q.taken } → StopsEarly p.heart us p.learnt p.taken q.heart us' q.learnt q.taken → StopsAtDrain p before us us' q
+  stops us us' q stays early = record {
+    stays = stays;
     early = early;
     so_far = record { learnt_all = both early.taken q.learnt early.takes.goes early.takes.learnt; count = counted_both early.taken q.taken early.count };
   }

@@ -58,8 +58,10 @@ pub record Moves (p : PanesState) (interval : ℕ) (us : List UpdaterState) (lis
   pub fresh : IsFresh p.shape q.heart us' q.learnt
   pub none_taken : HasTaken q []
 
--- the first of these updaters were taken in, as some were before; then memory ran out, and the others are left
+-- the first of these updaters were taken in, as some were before; then memory ran out, and the others are left. The same
+-- interval runs, and what is closed stays
 pub record StopsAtDrain (p : PanesState) (before us : List UpdaterState) (us' : List UpdaterState) (q : PanesState) : Type 0 where
+  pub stays : q ≡ record p { heart = q.heart; learnt = q.learnt; taken = q.taken }
   pub early : StopsEarly p.heart us p.learnt p.taken q.heart us' q.learnt q.taken
   pub so_far : HasTaken q (before ++ early.taken)
 

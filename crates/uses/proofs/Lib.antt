@@ -1,4 +1,5 @@
 pub mod AddsLaws
+pub mod Again
 pub mod Intervals
 pub mod Lengths
 pub mod Maximum

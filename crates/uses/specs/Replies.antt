@@ -5,6 +5,7 @@ use Rattle.sk_model.specs.Missing.{LacksAtMost}
 use Rattle.sk_model.specs.Sketch.{theta_of}
 use Rattle.sk_compose.specs.Numbers.{k_of}
 use Rattle.sk_hub.specs.Updaters.{UpdaterState, kept_of}
+use Rattle.sk_learn.specs.Closing.{HasExactly}
 use Rattle.sk_theta.specs.declared.reply.Reply.{Reply}
 use Rattle.sk_window.specs.Intervals.{IsReplyOf, all_items}
 use Rattle.uses.specs.Fed.{AreFed}
@@ -28,3 +29,9 @@ pub record RepliesOf (k : ℕ) (us : List UpdaterState) (streams lists : List (L
   pub fed : List UpdaterState
   pub took : AreFed keeps hint_of us streams fed
   pub now : RepliesNow k fed lists reply
+
+-- it is of the closed intervals' items and of exactly what these updaters kept
+pub record EndsWith (k : ℕ) (us : List UpdaterState) (lists : List (List ℕ)) (reply : Reply) : Type 0 where
+  pub list : List Entry
+  pub exactly : HasExactly list us
+  pub reply_is : IsReplyOf k (all_items lists ++ items_of_entries list) reply

@@ -19,7 +19,7 @@ pub use feeding::{feed_all, feed_item};
 pub use greatest::{Greatest, greatest_item};
 pub use joins::{estimate_again, estimate_of_both, list_of_both};
 pub use lines::{Measured, Threes, measure_lines, measure_text};
-pub use panes::{feed_and_reply, reply_now};
+pub use panes::{feed_and_reply, finish_again, reply_now};
 pub use ranks::rank_source;
 pub use schedule::replay;
 pub use sk_model::OutOfMemory;

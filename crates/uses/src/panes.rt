@@ -1,5 +1,5 @@
 //! Distinct items of the last intervals, asked for while one of them runs.
-ghost use Rattle.std.specs.Prelude.{◌≡◌, ◌≤◌, ℕ, List, length, map, All, IfOk};
+ghost use Rattle.std.specs.Prelude.{◌≡◌, ◌≤◌, [], ℕ, List, length, map, All, IfOk};
 ghost use Rattle.sk_hub.specs.Updaters.{UpdaterState};
 ghost use Rattle.sk_model.specs.Limits.{most_kept};
 ghost use Rattle.sk_model.specs.Width.{AreItems};
@@ -8,7 +8,8 @@ ghost use Rattle.sk_learn.specs.Learning.{AreAsked};
 ghost use Rattle.sk_snap.specs.History.{name_of};
 ghost use Rattle.sk_window.specs.Hubs.{IsFresh};
 ghost use Rattle.sk_window.specs.Intervals.{StandForEach};
-ghost use Rattle.uses.specs.Replies.{RepliesNow, RepliesOf};
+ghost use Rattle.sk_window.specs.Panes.{HasTaken};
+ghost use Rattle.uses.specs.Replies.{EndsWith, RepliesNow, RepliesOf};
 
 use crate::streams::feed_streams;
 use sk_hub::Updater;
@@ -16,7 +17,7 @@ use sk_model::OutOfMemory;
 use sk_snap::VersionedTheta;
 use sk_theta::Reply;
 use sk_window::laws::replies_lack_two_buffers;
-use sk_window::{Panes, Updaters};
+use sk_window::{Finish, Panes, Updaters};
 use std::sync::Wait;
 use std::thread::Threads;
 
@@ -60,4 +61,26 @@ pub fn feed_and_reply<'r, R: Threads + Wait + Sync>(
     let mut updaters = feed_streams(rt, updaters, streams);
     let reply = reply_now(panes, updaters.as_mut_slice())?;
     Ok((reply, updaters))
+}
+
+/// Closes the last interval, and tries once more if memory runs out: the reply is of all that the updaters kept, and of
+/// the intervals before it, whether memory ran out in between or not.
+pub fn finish_again<'r, R: Wait>(
+    panes: &mut Panes<'r, R>,
+    updaters: Updaters<'r, R>,
+) -> Result<Reply, OutOfMemory>
+    requires tables { All (λ (u : UpdaterState). u.table ≡ panes.old.heart.table) updaters.items }
+    requires apart { AreApart updaters.items }
+    requires none { HasTaken panes.old [] }
+    ensures reply { (lists : List (List ℕ)) → StandForEach panes.old.shape.k panes.old.closed lists
+        → IfOk result (EndsWith panes.old.shape.k updaters.entry.items lists) }
+{
+    let left = match panes.finish(updaters) {
+        Finish::Done(reply) => return Ok(reply),
+        Finish::OutOfMemory(left) => left,
+    };
+    let Finish::Done(reply) = panes.finish(left) else {
+        return Err(OutOfMemory);
+    };
+    Ok(reply)
 }

@@ -1,4 +1,4 @@
-use Rattle.std.proofs.Common.{◌≡◌, ◌++◌, List, OnOk, OnErr, subst}
+use Rattle.std.proofs.Common.{◌≡◌, ◌++◌, List, OnOk, OnErr, refl, subst}
 use Rattle.sk_hub.specs.Updaters.{UpdaterState}
 use Rattle.sk_learn.specs.Closing.{TakesInAll, StopsEarly, counted}
 use Rattle.sk_window.specs.Panes.{PanesState, HasTaken, StopsAtDrain}
@@ -24,4 +24,4 @@ returns-clause-early g c =
     let q : PanesState = record { frame = i.frame; shape = i.shape; running = i.running; heart = c.take_in_all.new.heart; learnt = c.take_in_all.new.reader; taken = c.take_in_all.new.taken; closed = i.closed.items } in
     subst (λ (z : PanesState). (before : List UpdaterState) → HasTaken z before → OnErr c.take_in_all.result (StopsAtDrain z before us us' q)) c.self.view_is
     (λ before has. on_err c.take_in_all.result (StopsEarly p.heart us p.learnt p.taken q.heart us' q.learnt q.taken) (StopsAtDrain p before us us' q)
-    (stops p before has us us' q) c.take_in_all.ensures.early)
+    (stops p before has us us' q refl) c.take_in_all.ensures.early)
