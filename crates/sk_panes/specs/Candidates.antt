@@ -1,5 +1,5 @@
 -- What of an interval's items may be among its k smallest.
-use Rattle.std.specs.Prelude.{◌≡◌, ℕ, ◌≤◌, Bool, List}
+use Rattle.std.specs.Prelude.{◌≡◌, ℕ, ◌≤◌, Bool, List, length}
 use Rattle.sk_model.specs.Entries.{Entry}
 use Rattle.sk_model.specs.Sketch.{k_smallest, theta_of}
 use Rattle.sk_model.specs.Width.{AreItems}
@@ -17,9 +17,10 @@ pub record HaveSmallest (items : List ℕ) (c : CandidatesState) : Type 0 where
   pub same : k_smallest c.k c.items ≡ k_smallest c.k items
   pub bound : theta_of c.k items ≤ c.bound
 
--- an updater took some items with the k smallest of these
+-- an updater took at most k items, with the k smallest of these
 pub record TakesSmallest (keeps : ℕ → ℕ → Bool) (hint_of : List ℕ → List Entry → ℕ) (k : ℕ) (items : List ℕ) (u u' : UpdaterState) : Type 0 where
   pub taken : List ℕ
+  pub few : length taken ≤ k
   pub small : AreItems taken
   pub same : k_smallest k taken ≡ k_smallest k items
   pub takes : Takes keeps hint_of u taken u'

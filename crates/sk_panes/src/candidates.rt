@@ -103,6 +103,7 @@ impl Candidates {
     fn settle(&mut self)
         ensures k { self.new.k ≡ self.old.k }
         ensures smallest { k_smallest self.old.k self.new.items ≡ k_smallest self.old.k self.old.items }
+        ensures few { length self.new.items ≤ self.old.k }
     {
         self.bound = cut(&mut self.items, self.k);
         self.items.reverse();

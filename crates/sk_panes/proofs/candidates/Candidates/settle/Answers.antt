@@ -1,4 +1,4 @@
-use Rattle.std.proofs.Common.{◌≡◌, ℕ, ◌≤◌, List, length, sym, subst, arith}
+use Rattle.std.proofs.Common.{◌≡◌, ℕ, ◌≤◌, List, length, sym, ap, subst, arith}
 use Rattle.std.specs.List.Sorted.{IsPermutation}
 use Rattle.std.proofs.lemmas.List.Sorted.{All-permutation}
 use Rattle.sk_model.specs.Sketch.{k_smallest}
@@ -26,3 +26,10 @@ returns-clause-smallest c =
     let turned = c.reverse.new.self.items in
     let moved : IsPermutation (k_smallest i.k i.items.items) turned = subst (λ (l : List ℕ). IsPermutation l turned) c.cut-self-inside.ensures.smallest c.reverse.ensures.permutation in
     subst (λ (s : CandidatesState). k_smallest s.k turned ≡ k_smallest s.k s.items) c.self.view_is (settled i.k i.items.items turned moved)
+
+pub returns-clause-few : goal.returns-clause-few
+returns-clause-few c =
+    let i = c.self.inside in
+    let left : c.cut-self-inside.new.items.items ≡ k_smallest i.k i.items.items = c.cut-self-inside.ensures.smallest in
+    let few : length c.cut-self-inside.new.items.items ≤ i.k = subst (λ (l : List ℕ). length l ≤ i.k) (sym left) (count_within i.k i.items.items) in
+    omega (arith, few, c.reverse.ensures.len, ap (λ (s : CandidatesState). s.k) c.self.view_is)
