@@ -3,4 +3,5 @@ pub mod Counting
 pub mod Counts
 pub mod Estimate
 pub mod Limits
+pub mod Places
 pub mod Tallies

@@ -43,7 +43,7 @@ pub same_numbers : (s : Counts) (items : List ℕ) → cms_numbers (put_all s it
 same_numbers s [] = refl
 same_numbers s (x ∷ items) = same_numbers (put s x) items ∙ put_shape s x
 
-put_here : (s : Counts) (x : ℕ) → s.count < most_counted → put s x ≡ counted s x
+pub put_here : (s : Counts) (x : ℕ) → s.count < most_counted → put s x ≡ counted s x
 put_here s x few = let is : nat_lt s.count most_counted ≡ true = grind (arith, nat_tests) in rw is refl
 
 -- if the count has room for all of them, they are put to the end of the list

@@ -1,9 +1,13 @@
 //! The sketch.
-ghost use Rattle.std.specs.Prelude.{◌≡◌, ◌+◌, ◌*◌, ◌<◌, ◌≤◌, ◌^◌, ℕ, List, [], ◌∷◌, ◌++◌, length, slice_index, slice_set, All, IfOk};
+ghost use Rattle.std.specs.Prelude.{◌≡◌, ◌+◌, ◌*◌, ◌<◌, ◌≤◌, ◌^◌, ℕ, List, [], ◌∷◌, ◌++◌, length, slice_index, slice_set, fold, All, IfOk, IsTrue, IsFalse};
 ghost use Rattle.sk_cms.specs.Counts.{joined, no_counts, counted, raised, IsCountOf, IsMaskOf};
 ghost use Rattle.sk_cms.specs.Estimate.{cell_of, least_of, times};
 ghost use Rattle.sk_cms.specs.Limits.{most_counted, IsShape};
+ghost use Rattle.sk_cms.specs.Places.{raised_once, ArePlacesOf};
+ghost use Rattle.sk_cms.specs.Tallies.{put_all};
 
+use crate::limits::MOST_COUNTED;
+use crate::places::{Places, find_places};
 use sk_hash::murmur128;
 use sk_model::OutOfMemory;
 use std::alloc::Global;
@@ -71,6 +75,37 @@ impl CountMin {
         self.count += 1;
     }
 
+    // Where the cells of items lie.
+    pub(crate) fn find(&self, alloc: Global, items: &[u64]) -> Result<Places, OutOfMemory>
+        ensures { IfOk result (λ p. ArePlacesOf p.rows p.width items.now p.places.items) }
+    {
+        let width = u64::from(self.width);
+        Ok(Places {
+            rows: self.rows,
+            width: self.width,
+            places: find_places(alloc, self.rows, width, self.mask, items)?,
+        })
+    }
+
+    // Puts items to the end of the list, and returns whether it did: if their places are of a sketch of this shape, and
+    // the count has room for all of them.
+    pub(crate) fn update_at(&mut self, items: &[u64], found: &Places) -> bool
+        requires found { ArePlacesOf found.now.rows found.now.width items.now found.now.places.items }
+        ensures put { IsTrue result → self.new ≡ put_all self.old items.now }
+        ensures none { IsFalse result → self.new ≡ self.old }
+    {
+        let more = items.len() as u64;
+        if found.rows != self.rows
+            || found.width != self.width
+            || MOST_COUNTED - self.count < more
+        {
+            return false;
+        }
+        raise_each(&mut self.low, &mut self.high, found.places.as_slice());
+        self.count += more;
+        true
+    }
+
     /// How often the item stands in the list, or more: the least of its counts in all rows.
     pub fn least(&self, x: u64) -> u64
         ensures value { (items : List ℕ) → IsCountOf self.now items
@@ -125,12 +160,26 @@ fn raise(low: &mut [u8], high: &mut [u64], rows: u32, width: u64, mask: u64, x: 
     }
 }
 
+// Puts one more into the cell at each place.
+fn raise_each(low: &mut [u8], high: &mut [u64], places: &[u32])
+    requires within { All (λ at. at < length low.old) places.now }
+    requires sizes { length high.old ≡ length low.old }
+    requires few { length places.now < 2 ^ 62 }
+    requires small { All (λ cell. cell ≤ most_counted) (joined low.old high.old) }
+    ensures cells { joined low.new high.new ≡ fold raised_once (joined low.old high.old) places.now }
+{
+    'place: for at in places {
+        let place = *at as usize;
+        raise_at(low, high, place);
+    }
+}
+
 // Puts one more into a cell.
 #[inline(always)]
 fn raise_at(low: &mut [u8], high: &mut [u64], at: usize)
     requires within { at < length low.old }
     requires sizes { length high.old ≡ length low.old }
-    requires small { slice_index (joined low.old high.old) at < 2 ^ 47 }
+    requires small { slice_index (joined low.old high.old) at < 2 ^ 63 }
     ensures { joined low.new high.new ≡ slice_set (joined low.old high.old) at
         (slice_index (joined low.old high.old) at + 1) }
 {
@@ -154,7 +203,7 @@ fn count_at(low: &[u8], high: &[u64], at: usize) -> u64
 
 // Where the cell of an item in a row lies.
 #[inline(always)]
-fn place(width: u64, mask: u64, r: u32, x: u64) -> usize
+pub(crate) fn place(width: u64, mask: u64, r: u32, x: u64) -> usize
     requires some { 1 ≤ width }
     requires few { width < 2 ^ 32 }
     requires mask { IsMaskOf width mask }

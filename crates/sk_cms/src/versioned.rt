@@ -3,6 +3,7 @@ ghost use Rattle.std.specs.Prelude.{◌≡◌, ◌≤◌, ◌<◌, ℕ, List, le
 ghost use Rattle.sk_cms.specs.Tallies.{put, put_all};
 
 use crate::limits::MOST_COUNTED;
+use crate::places::Places;
 use crate::sketch::CountMin;
 use sk_model::OutOfMemory;
 use sk_snap::{Query, Sequential, VersionReader, Versioned};
@@ -38,6 +39,7 @@ impl Sequential for CountMin {
     ghost use Rattle.std.specs.Prelude.{true, false};
     ghost use Rattle.sk_cms.specs.Counts.{no_counts, IsCountOf};
     ghost use Rattle.sk_cms.specs.Limits.{IsShape};
+    ghost use Rattle.sk_cms.specs.Places.{ArePlacesOf};
     ghost use Rattle.sk_cms.specs.Tallies.{cms_numbers, put_all, put_all_is_of, same_numbers};
     ghost use Rattle.sk_cms.specs.Counting.{no_items_is_of};
     ghost use Rattle.sk_compose.specs.Idle as Idle;
@@ -62,12 +64,22 @@ impl Sequential for CountMin {
 
     ghost early_of = { λ _. false };
 
+    type Prepared = Places;
+
+    ghost is_prepared = { λ found items. ArePlacesOf found.rows found.width items found.places.items };
+
     fn open(alloc: Global, setup: CmsSetup) -> Result<CountMin, OutOfMemory> {
         CountMin::new(alloc, setup.rows, setup.width)
     }
 
-    fn take(&mut self, items: &[u64]) {
-        put_items(self, items);
+    fn prepare(&self, alloc: Global, items: &[u64]) -> Result<Places, OutOfMemory> {
+        self.find(alloc, items)
+    }
+
+    fn take(&mut self, items: &[u64], found: &Places) {
+        if !self.update_at(items, found) {
+            put_items(self, items);
+        }
     }
 
     fn hint(&self) -> u64 {

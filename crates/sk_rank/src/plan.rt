@@ -1,6 +1,6 @@
 //! What a ranking is asked.
 
-/// Which rank is written, by which sketch, and by how many updaters at once.
+/// Which rank is written, by which sketch, and by how many updaters in parallel.
 #[derive(Clone, Copy, Debug, PartialEq, Eq)]
 pub struct Plan {
     /// How many items a level of the sketch has.
@@ -16,6 +16,6 @@ pub struct Plan {
     pub updaters: u32,
     /// With a number n an interim rank is written after each n lines.
     pub window: Option<u32>,
-    /// Whether a propagator of its own runs beside the updaters.
+    /// Whether a propagator of its own runs next to the updaters.
     pub propagator: bool,
 }

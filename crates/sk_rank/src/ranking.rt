@@ -21,7 +21,7 @@ pub type Ranked<W> = Handles<Quant, W>;
 
 /// Reads the numbers of a source of fewer than `most` bytes, one a line, and once it has ended writes how many there
 /// are, how many of them lie below the plan's, and by how much that may be off. After each full window that the plan
-/// asks for it writes the same of what its updaters were told by then.
+/// asks for it writes the same of what its updaters know by then.
 pub fn rank<'r, S: Source, O: Sink, R: Threads + Wait + Sync>(
     rt: &'r R,
     alloc: Global,

@@ -41,7 +41,7 @@ pub struct Below {
 }
 
 impl Sequential for Quant {
-    ghost use Rattle.std.specs.Prelude.{true, false};
+    ghost use Rattle.std.specs.Prelude.{true, false, ⊤};
     ghost use Rattle.sk_quant.specs.Limits.{least_quantile_k, most_quantile_k, key_end};
     ghost use Rattle.sk_snap.specs.Quants.{quant_numbers, opened, put_all, put_all_is_of, same_numbers, opened_is_of};
     ghost use Rattle.sk_compose.specs.Idle as Idle;
@@ -66,11 +66,19 @@ impl Sequential for Quant {
 
     ghost early_of = { λ _. false };
 
+    type Prepared = ();
+
+    ghost is_prepared = { λ _ _. ⊤ };
+
     fn open(alloc: Global, setup: QuantSetup) -> Result<Quant, OutOfMemory> {
         Ok(Quant::new(alloc, setup.k, setup.key)?)
     }
 
-    fn take(&mut self, items: &[u64]) {
+    fn prepare(&self, _alloc: Global, _items: &[u64]) -> Result<(), OutOfMemory> {
+        Ok(())
+    }
+
+    fn take(&mut self, items: &[u64], _prepared: &()) {
         put_items(self, items);
     }
 

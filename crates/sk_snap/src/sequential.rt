@@ -38,14 +38,25 @@ pub trait Sequential: Drop {
     /// Whether a hint is of a short stream.
     ghost early_of: { ℕ → Bool };
 
+    /// What is worked out of items once, for all sketches that take them.
+    type Prepared: Drop;
+
+    /// Whether it was worked out of these items.
+    ghost is_prepared: { Self.Prepared → List ℕ → Type 0 };
+
     /// A sketch of no item, which has all the memory that it will need.
     fn open(alloc: Global, setup: Self::Setup) -> Result<Self, OutOfMemory>
         requires fits { fits setup }
         ensures value { IfOk result (λ s. s ≡ opened setup) };
 
-    /// Takes items.
-    fn take(&mut self, items: &[u64])
+    /// Works out of items what is the same for sketches that were opened alike.
+    fn prepare(&self, alloc: Global, items: &[u64]) -> Result<Self::Prepared, OutOfMemory>
+        ensures prepared { IfOk result (λ p. is_prepared p items.now) };
+
+    /// Takes items, of which this was worked out, by this sketch or another.
+    fn take(&mut self, items: &[u64], prepared: &Self::Prepared)
         requires items { AreItems items.now }
+        requires prepared { is_prepared prepared.now items.now }
         ensures after { self.new ≡ after self.old items.now };
 
     /// By which items are filtered. It is never 0.

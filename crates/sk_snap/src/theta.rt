@@ -24,7 +24,7 @@ pub struct JoinInto {
 }
 
 impl Sequential for HeapTheta {
-    ghost use Rattle.std.specs.Prelude.{◌≤◌, ◌==◌, nat_lt, refl};
+    ghost use Rattle.std.specs.Prelude.{◌≤◌, ◌==◌, nat_lt, refl, ⊤};
     ghost use Rattle.sk_compose.specs.Numbers.{k_of};
     ghost use Rattle.sk_model.specs.Limits.{least_k, most_k};
     ghost use Rattle.sk_model.specs.Sketch as k_min;
@@ -52,11 +52,19 @@ impl Sequential for HeapTheta {
 
     ghost early_of = { λ hint. hint == item_end };
 
+    type Prepared = ();
+
+    ghost is_prepared = { λ _ _. ⊤ };
+
     fn open(alloc: Global, setup: u32) -> Result<HeapTheta, OutOfMemory> {
         HeapTheta::new(alloc, setup)
     }
 
-    fn take(&mut self, items: &[u64]) {
+    fn prepare(&self, _alloc: Global, _items: &[u64]) -> Result<(), OutOfMemory> {
+        Ok(())
+    }
+
+    fn take(&mut self, items: &[u64], _prepared: &()) {
         // It shows to the proof that the sketch is whole.
         let _k = self.k();
         self.merge(items);

@@ -23,20 +23,20 @@ use std::sync::Wait;
 /// since its end waits for a reader that is inside a call.
 pub struct Versioned<S: Sequential, R: Wait + Drop>
 where
-    Version<S>: Absorb<Batch, State = Version<S>>,
+    Version<S>: Absorb<Batch<S>, State = Version<S>>,
 {
     // It is there except within a merge.
-    writer: Option<Writer<Version<S>, Batch, About, Versions>>,
+    writer: Option<Writer<Version<S>, Batch<S>, About, Versions>>,
     history: History,
     // The history has it already, so no other is taken until it is merged.
-    refused: Option<Batch>,
+    refused: Option<Batch<S>>,
     alloc: Global,
     rt: R,
 }
 
 impl<S: Sequential, R: Wait + Drop> Model for Versioned<S, R>
 where
-    Version<S>: Absorb<Batch, State = Version<S>>,
+    Version<S>: Absorb<Batch<S>, State = Version<S>>,
 {
     ghost use Rattle.std.specs.Prelude.{◌≡◌, [], drop, Some};
     ghost use Rattle.std.specs.Option.{option_map_or};
@@ -69,20 +69,20 @@ impl<S: Sequential, R: Wait + Drop> Drop for Versioned<S, R> {
     }
 }
 
-// A batch as the versions take it: the refused one, if it is the same, or else a new one.
-fn next_batch(
+// A batch as the versions take it after this one: the refused one, if it is the same, or else a new one.
+fn next_batch<S: Sequential>(
     alloc: Global,
     history: &History,
-    known: &Known,
-    refused: &mut Option<Batch>,
+    version: &Version<S>,
+    refused: &mut Option<Batch<S>>,
     from: u32,
     items: &[u64],
-) -> Result<Batch, OutOfMemory>
+) -> Result<Batch<S>, OutOfMemory>
     requires items { AreItems items.now }
-    requires word { history.now.word ≡ length_word known.now.book }
-    requires refused { WillContinue known.now refused.old }
+    requires word { history.now.word ≡ length_word version.now.known.book }
+    requires refused { WillContinue version.now.known refused.old }
     ensures batch { IfOk result (λ batch. IsOf from items.now batch) }
-    ensures continues { IfOk result (λ batch. Continues known.now batch) }
+    ensures continues { IfOk result (λ batch. Continues version.now.known batch) }
     ensures first { IfOk result (λ batch. IfSome refused.old (λ other. other ≡ batch)) }
     ensures none { IfOk result (λ _. refused.new ≡ None) }
     ensures kept { IfErr result (λ _. refused.new ≡ refused.old) }
@@ -96,10 +96,12 @@ fn next_batch(
     }
     let mut copy = Vec::with_capacity(alloc, items.len())?;
     copy.extend_from_slice(items)?;
-    match history.add(known, from, items) {
+    let prepared = version.sketch.prepare(alloc, items)?;
+    match history.add(&version.known, from, items) {
         Some(known) => Ok(Batch {
             from,
             items: copy,
+            prepared,
             known,
         }),
         None => Err(OutOfMemory),
@@ -108,12 +110,12 @@ fn next_batch(
 
 // Appends a batch and publishes it.
 fn give<S: Sequential, W: Wait>(
-    writer: Writer<Version<S>, Batch, About, Versions>,
+    writer: Writer<Version<S>, Batch<S>, About, Versions>,
     rt: &W,
-    batch: Batch,
+    batch: Batch<S>,
 ) -> (
-    Writer<Version<S>, Batch, About, Versions>,
-    Result<(), Batch>,
+    Writer<Version<S>, Batch<S>, About, Versions>,
+    Result<(), Batch<S>>,
 )
     requires takes { CanTake writer.desk.shown.value (drop writer.behind writer.log.items) batch }
     ensures taken { HasTaken S.after writer.desk.shown.value result.0.desk.shown.value
@@ -131,10 +133,10 @@ fn give<S: Sequential, W: Wait>(
 
 // Makes a reader that knows what the versions are of.
 fn paired<S: Sequential, W: Wait>(
-    writer: Writer<Version<S>, Batch, About, Versions>,
+    writer: Writer<Version<S>, Batch<S>, About, Versions>,
     rt: &W,
 ) -> (
-    Writer<Version<S>, Batch, About, Versions>,
+    Writer<Version<S>, Batch<S>, About, Versions>,
     Result<Reader<Version<S>, About, Versions>, OutOfMemory>,
 )
     requires pending { drop writer.behind writer.log.items ≡ [] }
@@ -250,14 +252,14 @@ impl<S: Sequential, R: Wait + Drop> Versioned<S, R> {
 
 // Merges a batch, or publishes nothing, and returns whether it did.
 fn merged<S: Sequential, W: Wait>(
-    writer: Writer<Version<S>, Batch, About, Versions>,
+    writer: Writer<Version<S>, Batch<S>, About, Versions>,
     rt: &W,
     alloc: Global,
     history: &History,
-    refused: &mut Option<Batch>,
+    refused: &mut Option<Batch<S>>,
     from: u32,
     items: &[u64],
-) -> (Writer<Version<S>, Batch, About, Versions>, bool)
+) -> (Writer<Version<S>, Batch<S>, About, Versions>, bool)
     requires writing { IsWriting S.is_of writer.desk.shown.value (drop writer.behind writer.log.items)
         history.now.word refused.old }
     requires items { AreItems items.now }
@@ -268,8 +270,8 @@ fn merged<S: Sequential, W: Wait>(
         items.now result.1 }
     ensures refused { Refuses refused.old refused.new from items.now result.1 }
 {
-    let known = writer.published().known.again();
-    let Ok(batch) = next_batch(alloc, history, &known, refused, from, items) else {
+    let version = writer.published();
+    let Ok(batch) = next_batch(alloc, history, version, refused, from, items) else {
         return (writer, false);
     };
     let (writer, given) = give(writer, rt, batch);

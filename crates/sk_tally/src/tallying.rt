@@ -18,7 +18,7 @@ use std::thread::Threads;
 
 /// Reads the lines of a source of fewer than `most` bytes, and once it has ended writes how many items there are, and the
 /// Count-Min estimate of how often the plan's is among them. After each full window that the plan asks for it writes the
-/// same of what its updaters were told by then.
+/// same of what its updaters know by then.
 pub fn tally<S: Source, O: Sink, R: Threads + Wait + Sync>(
     rt: &R,
     alloc: Global,

@@ -1,4 +1,4 @@
-//! The end of a telling.
+//! The last line, and the handles that are left.
 ghost use Rattle.std.specs.Prelude.{◌≡◌, ◌≢◌, ℕ, List, OnOk, OnErr, IfOk, IfErr};
 ghost use Rattle.std.specs.Io.KnownBytes.{Appends};
 ghost use Rattle.sk_model.specs.Causes.{AppendsPart, HasCause, HasCauseIn};

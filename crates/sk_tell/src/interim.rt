@@ -13,7 +13,7 @@ use sk_report::write_at;
 use sk_snap::{Sequential, VersionReader, Versioned};
 use std::sync::Wait;
 
-/// Writes a line after each full window, of what the updaters were told by then.
+/// Writes a line after each full window, of what the updaters know by then.
 #[derive(Drop)]
 pub(crate) struct Interim<'o, 'p, 'q, 'r, S: Sequential, Q: Line<S>, O: Sink, R: Wait> {
     pub(crate) rt: &'r R,

@@ -1,5 +1,5 @@
-//! What is told of a source: a line of all its items, counted by many updaters of one hub of versioned sketches, and
-//! interim lines after full windows.
+//! A line of all items of a source, counted by many updaters of one hub of versioned sketches, and interim lines after
+//! full windows.
 #![tactic(auto)]
 
 mod ending;

@@ -1,4 +1,4 @@
-//! The hub of a telling, as it is opened.
+//! A hub over a sketch by versions, as it is opened.
 ghost use Rattle.std.specs.Prelude.{◌≡◌, [], IfOk};
 ghost use Rattle.sk_model.specs.Limits.{most_size, most_updaters, IsFrom};
 ghost use Rattle.sk_feed.specs.Hubs.{hub_of};

@@ -1,4 +1,4 @@
-//! The telling.
+//! The source, read, counted and written of.
 ghost use Rattle.std.specs.Prelude.{◌≡◌, ◌≢◌, ◌≤◌, ℕ, List, None, OnOk, OnErr, IfOk, IfErr};
 ghost use Rattle.std.specs.Io.KnownBytes.{Appends};
 ghost use Rattle.sk_model.specs.Causes.{AppendsPart, HasCause, HasCauseIn};
@@ -44,11 +44,11 @@ pub struct Telling<A, Q> {
     pub propagator: bool,
 }
 
-/// What a telling leaves: the heart of its hub, and the reader of its sketch.
+/// What is left in the end: the heart of its hub, and the reader of its sketch.
 pub type Handles<S, W> = (Heart<Versioned<S, W>>, VersionReader<S>);
 
 /// Reads the units of a source of fewer than `most` bytes, and once it has ended writes the line of all their items. After
-/// each full window that is asked for it writes, after the number of units, the line of what the updaters were told by then.
+/// each full window that is asked for it writes, after the number of units, the line of what the updaters know by then.
 pub fn tell<
     'r,
     S: Sequential + Send + Sync,
@@ -66,6 +66,7 @@ pub fn tell<
 ) -> Result<Handles<S, &'r R>, Fault>
 where
     S::Setup: Send + Sync,
+    S::Prepared: Send + Sync,
     requires can { CanTell S.fits S.keeps_of telling.now }
     requires bound { most ≤ source_limit }
     ensures tells { TellsOrEnds (manner_by (S.numbers (S.opened telling.now.setup)) Q.line Q.lower Q.upper telling.now) most
@@ -78,7 +79,7 @@ where
     tell_over(rt, rt, alloc, telling, most, source, out)
 }
 
-// The same, over a sketch that keeps a runtime of any type.
+// Split off for the proof: the runtime that the sketch keeps has a type of its own.
 fn tell_over<
     S: Sequential + Send + Sync,
     Q: Line<S>,
@@ -97,6 +98,7 @@ fn tell_over<
 ) -> Result<Handles<S, W>, Fault>
 where
     S::Setup: Send + Sync,
+    S::Prepared: Send + Sync,
     requires can { CanTell S.fits S.keeps_of telling.now }
     requires bound { most ≤ source_limit }
     ensures tells { TellsOrEnds (manner_by (S.numbers (S.opened telling.now.setup)) Q.line Q.lower Q.upper telling.now) most
@@ -144,6 +146,7 @@ fn feed<
 ) -> Result<(), Fault>
 where
     S::Setup: Send + Sync,
+    S::Prepared: Send + Sync,
     requires can { CanTell S.fits S.keeps_of telling.now }
     requires bound { most ≤ source_limit }
     requires opened { IsOpened telling.now.updaters telling.now.size (hub_of opened.old) }
@@ -166,7 +169,7 @@ where
     feed_reported(rt, alloc, telling, most, source, opened, &mut report)
 }
 
-// The same, with the report at hand.
+// Split off for the proof: borrows the report.
 fn feed_reported<
     S: Sequential + Send + Sync,
     Q: Line<S>,
@@ -185,6 +188,7 @@ fn feed_reported<
 ) -> Result<(), Fault>
 where
     S::Setup: Send + Sync,
+    S::Prepared: Send + Sync,
     requires can { CanTell S.fits S.keeps_of telling.now }
     requires bound { most ≤ source_limit }
     requires opened { IsOpened telling.now.updaters telling.now.size (hub_of opened.old) }

@@ -9,7 +9,7 @@ use Rattle.sk_snap.proofs.versioned.merged.Goals as goal
 
 pub next_batch-requires-clause-refused : goal.next_batch-requires-clause-refused
 next_batch-requires-clause-refused g c =
-    let known : c.again-known.result ≡ c.args.writer.desk.shown.value.known = c.again-known.ensures ∙ ap (λ (v : Version g.row.S.Denot). v.known) c.published.ensures in
+    let known : c.published-version.result.now.known ≡ c.args.writer.desk.shown.value.known = ap (λ (v : Version g.row.S.Denot). v.known) c.published-version.ensures in
     λ batch is. subst (λ (b : Beginning). Continues b batch) (sym known) (c.requires.writing.continues batch is)
 
 pub returns-in_default-clause-writing : goal.returns-in_default-clause-writing
@@ -25,7 +25,7 @@ pub returns-in-Ok-given-clause-writing : goal.returns-in-Ok-given-clause-writing
 returns-in-Ok-given-clause-writing g c =
     let now = c.args.writer.desk.shown.value in
     let batch = c.in-Ok.batch in
-    let known : c.again-known.result ≡ now.known = c.again-known.ensures ∙ ap (λ (v : Version g.row.S.Denot). v.known) c.published.ensures in
+    let known : c.published-version.result.now.known ≡ now.known = ap (λ (v : Version g.row.S.Denot). v.known) c.published-version.ensures in
     let continues : Continues now.known batch = subst (λ (b : Beginning). Continues b batch) known c.in-Ok.ensures.continues in
     let few : length (items_in now.known) + length batch.items ≤ 2 ^ 46 = omega (arith, c.requires.room, ap (λ (l : List ℕ). length l) c.in-Ok.ensures.batch.1) in
     let taken = c.give-writer.ensures.taken in
@@ -43,7 +43,7 @@ pub returns-in-Ok-given-clause-merged : goal.returns-in-Ok-given-clause-merged
 returns-in-Ok-given-clause-merged g c =
     let now = c.args.writer.desk.shown.value in
     let batch = c.in-Ok.batch in
-    let known : c.again-known.result ≡ now.known = c.again-known.ensures ∙ ap (λ (v : Version g.row.S.Denot). v.known) c.published.ensures in
+    let known : c.published-version.result.now.known ≡ now.known = ap (λ (v : Version g.row.S.Denot). v.known) c.published-version.ensures in
     let continues : Continues now.known batch = subst (λ (b : Beginning). Continues b batch) known c.in-Ok.ensures.continues in
     let next : c.give-writer.result.0.desk.shown.value ≡ with_batch g.S.Sequential.after now batch = rw (c.in-Ok-given.is) at (c.give-writer.ensures.taken.shown) in
     record {
@@ -65,8 +65,8 @@ pub returns-in-Ok-given-clause-refused : goal.returns-in-Ok-given-clause-refused
 returns-in-Ok-given-clause-refused g c =
     (refused_is c.args.refused.now c.in-Ok.batch c.args.from c.args.items.now c.in-Ok.ensures.first c.in-Ok.ensures.batch, c.in-Ok.ensures.none)
 
-pub returns-clause-refused : goal.returns-clause-refused
-returns-clause-refused g c =
+pub returns-in-Err-clause-refused : goal.returns-in-Err-clause-refused
+returns-in-Err-clause-refused g c =
     let shown = rw (c.in-Err.is) at (c.give-writer.ensures.taken.shown) in
     subst (λ (batch : Taken). Refuses c.args.refused.now (Some batch) c.args.from c.args.items.now false) (sym shown.0)
     (refuses_this c.args.refused.now c.in-Ok.batch c.args.from c.args.items.now c.in-Ok.ensures.first c.in-Ok.ensures.batch)

@@ -1,0 +1,53 @@
+//! Where the cells of items lie, which is the same in all sketches of a shape.
+ghost use Rattle.std.specs.Prelude.{◌≡◌, ◌+◌, ◌≤◌, ◌++◌, length, flat_map, vec_capacity, IfOk};
+ghost use Rattle.sk_cms.specs.Counts.{IsMaskOf};
+ghost use Rattle.sk_cms.specs.Limits.{IsShape};
+ghost use Rattle.sk_cms.specs.Places.{places_of, ArePlacesOf};
+
+use crate::sketch::place;
+use sk_model::OutOfMemory;
+use std::alloc::Global;
+
+/// Where the cells of items lie in sketches of a shape, one item after another.
+#[derive(Drop)]
+pub struct Places {
+    pub(crate) rows: u32,
+    pub(crate) width: u32,
+    pub(crate) places: Vec<u32>,
+}
+
+// Finds the places of items.
+pub(crate) fn find_places(
+    alloc: Global,
+    rows: u32,
+    width: u64,
+    mask: u64,
+    items: &[u64],
+) -> Result<Vec<u32>, OutOfMemory>
+    requires shape { IsShape rows width }
+    requires mask { IsMaskOf width mask }
+    ensures { IfOk result (λ places. ArePlacesOf rows width items.now places.items) }
+{
+    let Some(count) = items.len().checked_mul(rows as usize) else {
+        return Err(OutOfMemory);
+    };
+    let mut places = Vec::with_capacity(alloc, count)?;
+    'item: for x in items {
+        push_places(&mut places, rows, width, mask, *x);
+    }
+    Ok(places)
+}
+
+// Puts the places of an item to the end of others.
+#[inline(always)]
+fn push_places(places: &mut Vec<u32>, rows: u32, width: u64, mask: u64, x: u64)
+    requires shape { IsShape rows width }
+    requires mask { IsMaskOf width mask }
+    requires room { length places.old.items + rows ≤ vec_capacity places.old }
+    ensures found { places.new.items ≡ places.old.items ++ places_of rows width x }
+    ensures room { vec_capacity places.new ≡ vec_capacity places.old }
+{
+    'row: for r in 0..rows {
+        places.push_reserved(place(width, mask, r, x) as u32);
+    }
+}
