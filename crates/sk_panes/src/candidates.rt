@@ -17,8 +17,8 @@ use std::alloc::Global;
 use std::marker::Model;
 use std::sync::Wait;
 
-// Fewer than 2k items, some perhaps more than once. Only what is left of them at the end of the interval goes to its
-// hub: far less than comes by.
+// Fewer than 2k items of an interval, some perhaps more than once. Its hub gets those that are left at its end: at most
+// k, and each of them once.
 #[derive(Drop)]
 pub(crate) struct Candidates {
     k: usize,
