@@ -15,7 +15,7 @@ use Rattle.sk_desks.specs.Desks.{desk_rules}
 use Rattle.sk_desks.specs.Feeds.{HasRoom, HasTenants, TakesLines}
 use Rattle.sk_desks.specs.Gathers.{IsOfTenant}
 use Rattle.sk_desks.specs.Windows.{HaveTaken}
-use Rattle.sk_desks.specs.Clerks.{StopsAtLine, Serves}
+use Rattle.sk_desks.specs.Clerks.{StopsAtLine, GaveAlone}
 use Rattle.sk_desks.proofs.Taking.{takes_more, has_still, room_after}
 use Rattle.sk_desks.proofs.BlockLaws.{take_each}
 
@@ -27,34 +27,34 @@ pub if_both : {T E P Q S : Type 0} (r : Result T E) → OnOk r P → OnOk r Q �
 if_both (Ok x) p q so = so p q
 if_both (Err e) p q so = tt
 
-module _ (plan plan' : Plan) (d e : DeskState) (lines : List (List ℕ)) (serves : Serves plan plan' d e lines) where
-  pub serves_tenants : HasTenants e
-  serves_tenants = has_still plan.seed d e lines serves.took serves.unused.has
+module _ (plan plan' : Plan) (d e : DeskState) (lines : List (List ℕ)) (gave : GaveAlone plan plan' d e lines) where
+  pub gave_tenants : HasTenants e
+  gave_tenants = has_still plan.seed d e lines gave.took gave.unused.has
 
   -- there is room for a line more
-  pub serves_room : length lines < most_kept → HasRoom 1 e
-  serves_room few =
-      let room : HasRoom (length lines + 1) d = λ t u within. omega (arith, ap length (serves.unused.none t u within), serves.unused.quota_is, few) in
-      room_after plan.seed d e lines 1 serves.unused.has serves.took room
+  pub gave_room : length lines < most_kept → HasRoom 1 e
+  gave_room few =
+      let room : HasRoom (length lines + 1) d = λ t u within. omega (arith, ap length (gave.unused.none t u within), gave.unused.quota_is, few) in
+      room_after plan.seed d e lines 1 gave.unused.has gave.took room
 
   -- a line more was given
-  pub serves_more : (e' : DeskState) (line : List ℕ) → TakesLines plan'.seed e (line ∷ []) e' → IsOfTenant e.names line → Takes (desk_rules plan' e.names) (Serves plan plan' d e') None None lines line
-  serves_more e' line took fine = record {
+  pub gave_more : (e' : DeskState) (line : List ℕ) → TakesLines plan'.seed e (line ∷ []) e' → IsOfTenant e.names line → Takes (desk_rules plan' e.names) (GaveAlone plan plan' d e') None None lines line
+  gave_more e' line took fine = record {
     fine = λ filled. let is = fine filled in (is.0, ap not is.1);
     went = record {
-      unused = serves.unused;
-      took = takes_more plan.seed d e e' lines (line ∷ []) serves.took (subst (λ (p : Plan). TakesLines p.seed e (line ∷ []) e') serves.plan_stays took);
-      plan_stays = serves.plan_stays;
+      unused = gave.unused;
+      took = takes_more plan.seed d e e' lines (line ∷ []) gave.took (subst (λ (p : Plan). TakesLines p.seed e (line ∷ []) e') gave.plan_stays took);
+      plan_stays = gave.plan_stays;
     };
     written = Appends-nil None;
   }
 
 -- the line is refused
-pub serves_not : (plan : Plan) (names before : List (List ℕ)) (line : List ℕ) (why : LineStop) → StopsAtLine names line why → StopsBy (desk_rules plan names) None None before line why
-serves_not plan names before line stop.BadLine stops = ((stops.0, stops.1), refl)
-serves_not plan names before line stop.Refused stops = ((stops.0, stops.1, ap not stops.2), refl)
-serves_not plan names before line stop.OutOfMemory stops = absurd stops
-serves_not plan names before line stop.WriteFault stops = absurd stops
+pub gave_not : (plan : Plan) (names before : List (List ℕ)) (line : List ℕ) (why : LineStop) → StopsAtLine names line why → StopsBy (desk_rules plan names) None None before line why
+gave_not plan names before line stop.BadLine stops = ((stops.0, stops.1), refl)
+gave_not plan names before line stop.Refused stops = ((stops.0, stops.1, ap not stops.2), refl)
+gave_not plan names before line stop.OutOfMemory stops = absurd stops
+gave_not plan names before line stop.WriteFault stops = absurd stops
 
 -- the one desk took all lines
 whole_block : (lines : List (List ℕ)) (n : ℕ) → n ≡ 1 → block_of lines 0 n ≡ lines

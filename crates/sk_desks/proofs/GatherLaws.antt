@@ -26,7 +26,7 @@ use Rattle.sk_fill.specs.Windows.{WindowState, fills, is_full}
 use Rattle.sk_desks.specs.declared.plan.Plan.{Plan}
 use Rattle.sk_desks.specs.Windows.{window_lines}
 use Rattle.sk_desks.specs.Desks.{is_known, desk_rules}
-use Rattle.sk_desks.specs.Gathers.{IsOfTenant, RefusesAs, GivesLines, GoOnFine, StopsReading, Gathers}
+use Rattle.sk_desks.specs.Gathers.{IsOfTenant, RefusesAs, GivesNext, GoOnFine, EndsReading, Gathers}
 
 -- an empty window is not full
 pub empty_has_room : (w : WindowState) → w.lines ≡ [] → w.most ≡ window_lines → is_full w ≡ false
@@ -51,21 +51,21 @@ line_fine names lines lines' line on fine added = λ plan before before_fine.
 
 -- ---- lines that were given
 
-none_given : (r : Reading) (left : Option (List ℕ)) → GivesLines [] r r left left
+none_given : (r : Reading) (left : Option (List ℕ)) → GivesNext [] r r left left
 none_given r left given taken has = (
   [],
   Consumes-nil left,
   subst (λ (l : List (List ℕ)). HasRead r left l (taken ++ [])) (sym (append-nil given)) (subst (HasRead r left given) (sym (append-nil taken)) has),
 )
 
-pub no_line_given : (r : Reading) (left : Option (List ℕ)) (lines : List (List ℕ)) → lines ≡ [] → GivesLines lines r r left left
-no_line_given r left lines empty = subst (λ (l : List (List ℕ)). GivesLines l r r left left) (sym empty) (none_given r left)
+pub no_line_given : (r : Reading) (left : Option (List ℕ)) (lines : List (List ℕ)) → lines ≡ [] → GivesNext lines r r left left
+no_line_given r left lines empty = subst (λ (l : List (List ℕ)). GivesNext l r r left left) (sym empty) (none_given r left)
 
 -- what a call of `next` gave
-abbrev GoesOn : Reading → Reading → Option (List ℕ) → Option (List ℕ) → Result Bool LineFault → Type 0
-GoesOn r r' old new result = (given : List (List ℕ)) (taken : List ℕ) → HasRead r old given taken → (more : List ℕ) × Consumes old new more × Goes r' new given (taken ++ more) result
+abbrev NextGoes : Reading → Reading → Option (List ℕ) → Option (List ℕ) → Result Bool LineFault → Type 0
+NextGoes r r' old new result = (given : List (List ℕ)) (taken : List ℕ) → HasRead r old given taken → (more : List ℕ) × Consumes old new more × Goes r' new given (taken ++ more) result
 
-module _ (names lines : List (List ℕ)) (r r1 r2 : Reading) (old mid new : Option (List ℕ)) (result : Result Bool LineFault) (gives : GivesLines lines r r1 old mid) (next : GoesOn r1 r2 mid new result) where
+module _ (names lines : List (List ℕ)) (r r1 r2 : Reading) (old mid new : Option (List ℕ)) (result : Result Bool LineFault) (gives : GivesNext lines r r1 old mid) (next : NextGoes r1 r2 mid new result) where
   -- a line more
   pub one_line : result ≡ Ok true → (given : List (List ℕ)) (taken : List ℕ) → HasRead r old given taken → ReadsLine r2 old new (given ++ lines) r2.cutter.line taken
   one_line is given taken has =
@@ -73,13 +73,13 @@ module _ (names lines : List (List ℕ)) (r r1 r2 : Reading) (old mid new : Opti
       let on = next (given ++ lines) (taken ++ before.0) before.2 in
       line_read r2 old mid new (given ++ lines) r2.cutter.line taken before.0 on.0 before.1 on.1 (subst (Goes r2 new (given ++ lines) ((taken ++ before.0) ++ on.0)) is on.2)
 
-  pub line_given : result ≡ Ok true → (lines' : List (List ℕ)) (line : List ℕ) → line ≡ r2.cutter.line → lines' ≡ lines ++ line ∷ [] → GivesLines lines' r r2 old new
+  pub line_given : result ≡ Ok true → (lines' : List (List ℕ)) (line : List ℕ) → line ≡ r2.cutter.line → lines' ≡ lines ++ line ∷ [] → GivesNext lines' r r2 old new
   line_given is lines' line own added given taken has =
       let one = one_line is given taken has in
       (one.more, one.consumed, line_added r2 new given lines lines' r2.cutter.line line (taken ++ one.more) own added one.read)
 
   -- the source ended
-  pub end_given : result ≡ Ok false → GivesLines lines r r2 old new
+  pub end_given : result ≡ Ok false → GivesNext lines r r2 old new
   end_given is given taken has =
       let before = gives given taken has in
       let on = next (given ++ lines) (taken ++ before.0) before.2 in
@@ -109,7 +109,7 @@ module _ (names lines : List (List ℕ)) (r r1 r2 : Reading) (old mid new : Opti
     wrote plan given given_fine = wrote_none (desk_rules plan names) (never plan names) None (given ++ lines) (fine plan given given_fine)
 
     -- no line came
-    pub stops_at_fault : (s : LineFault) → result ≡ Err s → StopsReading names r old new (fault_of_lines s)
+    pub stops_at_fault : (s : LineFault) → result ≡ Err s → EndsReading names r old new (fault_of_lines s)
     stops_at_fault s is = λ plan first given taken consumed has given_fine.
         let rules = desk_rules plan names in
         let before = gives given taken has in
@@ -120,7 +120,7 @@ module _ (names lines : List (List ℕ)) (r r1 r2 : Reading) (old mid new : Opti
         (Consumes-trans _ _ _ _ _ (Consumes-trans _ _ _ _ _ consumed before.1) on.1) (wrote plan given given_fine) goes)
 
     -- the line is refused
-    pub stops_at_line : result ≡ Ok true → (line : List ℕ) (n : ℕ) → line ≡ r2.cutter.line → n ≡ r2.cutter.number → (f : LabelFault) → RefusesAs names line n f → StopsReading names r old new f
+    pub stops_at_line : result ≡ Ok true → (line : List ℕ) (n : ℕ) → line ≡ r2.cutter.line → n ≡ r2.cutter.number → (f : LabelFault) → RefusesAs names line n f → EndsReading names r old new f
     stops_at_line is line n own count (label.BadLine m) refused = λ plan first given taken consumed has given_fine.
         let rules = desk_rules plan names in
         let one = one_line is given taken has in
@@ -142,7 +142,7 @@ module _ (names lines : List (List ℕ)) (r r1 r2 : Reading) (old mid new : Opti
     stops_at_line is line n own count (label.LongLine m) refused = absurd refused
 
     -- memory ran out for it
-    pub stops_for_memory : result ≡ Ok true → (line : List ℕ) → line ≡ r2.cutter.line → IsOfTenant names line → StopsReading names r old new label.OutOfMemory
+    pub stops_for_memory : result ≡ Ok true → (line : List ℕ) → line ≡ r2.cutter.line → IsOfTenant names line → EndsReading names r old new label.OutOfMemory
     stops_for_memory is line own line_is = λ plan first given taken consumed has given_fine.
         let rules = desk_rules plan names in
         let one = one_line is given taken has in
@@ -172,13 +172,13 @@ not_written (Ok x) f is quiet same = absurd is
 not_written (Err e) f is quiet same = let written : e ≡ label.WriteFault = cc in quiet (sym is ∙ written)
 
 module _ (names : List (List ℕ)) (r r' : Reading) (old new : Option (List ℕ)) (lines : List (List ℕ)) (bound : r'.most ≡ r.most) where
-  pub gathers_full : GivesLines lines r r' old new → GoOnFine names lines → remaining_of r' < remaining_of r → Gathers names r r' old new lines (Ok true)
+  pub gathers_full : GivesNext lines r r' old new → GoOnFine names lines → remaining_of r' < remaining_of r → Gathers names r r' old new lines (Ok true)
   gathers_full gives fine less = record { gives = gives; fine = fine; end = λ is. cc; progress = λ is. less; bound = bound; stopped = tt; quiet = λ is. cc }
 
-  pub gathers_last : GivesLines lines r r' old new → GoOnFine names lines → r'.ended ≡ true → Gathers names r r' old new lines (Ok false)
+  pub gathers_last : GivesNext lines r r' old new → GoOnFine names lines → r'.ended ≡ true → Gathers names r r' old new lines (Ok false)
   gathers_last gives fine ended = record { gives = gives; fine = fine; end = λ is. ended; progress = λ is. cc; bound = bound; stopped = tt; quiet = λ is. cc }
 
-  pub gathers_not : (result : Result Bool LabelFault) (f : LabelFault) → IsErrAnd result (λ x. x ≡ f) → (f ≡ label.WriteFault → ⊥) → StopsReading names r old new f → Gathers names r r' old new lines result
+  pub gathers_not : (result : Result Bool LabelFault) (f : LabelFault) → IsErrAnd result (λ x. x ≡ f) → (f ≡ label.WriteFault → ⊥) → EndsReading names r old new f → Gathers names r r' old new lines result
   gathers_not (Ok b) f is quiet stops = absurd is
   gathers_not (Err e) f is quiet stops = record {
     gives = tt;
@@ -186,6 +186,6 @@ module _ (names : List (List ℕ)) (r r' : Reading) (old new : Option (List ℕ)
     end = λ same. cc;
     progress = λ same. cc;
     bound = bound;
-    stopped = subst (StopsReading names r old new) (sym is) stops;
+    stopped = subst (EndsReading names r old new) (sym is) stops;
     quiet = not_written (Err e) f is quiet;
   }

@@ -19,8 +19,8 @@ use Rattle.sk_tenant.specs.Desks.{DeskState}
 use Rattle.sk_desks.specs.declared.plan.Plan.{Plan}
 use Rattle.sk_desks.specs.Desks.{desk_rules}
 use Rattle.sk_desks.specs.Feeds.{HaveRoom, TakeBlocks}
-use Rattle.sk_desks.specs.Windows.{window_lines, AreUnused, HaveTaken, Went}
-use Rattle.sk_desks.specs.Gathers.{GivesLines, GoOnFine, StopsReading, Gathers}
+use Rattle.sk_desks.specs.Windows.{window_lines, AreUnused, HaveTaken, WentToDesks}
+use Rattle.sk_desks.specs.Gathers.{GivesNext, GoOnFine, EndsReading, Gathers}
 use Rattle.sk_desks.proofs.BlockLaws.{take_none, take_window, room_for}
 use Rattle.sk_desks.proofs.GatherLaws.{never}
 
@@ -29,7 +29,7 @@ use Rattle.sk_desks.proofs.GatherLaws.{never}
 module _ (plan : Plan) (names : List (List ℕ)) where
   -- nothing was read yet
   pub went_start : (desks : List DeskState) (window spare : WindowState) (r : Reading) (left : Option (List ℕ)) → AreUnused names desks → HasRead r left [] [] → window.lines ≡ [] → window.most ≡ window_lines → spare.most ≡ window_lines →
-      Went plan names desks desks window spare true r left left
+      WentToDesks plan names desks desks window spare true r left left
   went_start desks window spare r left unused read empty most spare_most = record {
     unused = unused;
     windows = [];
@@ -43,7 +43,7 @@ module _ (plan : Plan) (names : List (List ℕ)) where
     end = λ is. cc;
   }
 
-  module _ (first desks : List DeskState) (window spare : WindowState) (more : Bool) (r : Reading) (old mid : Option (List ℕ)) (went : Went plan names first desks window spare more r old mid) where
+  module _ (first desks : List DeskState) (window spare : WindowState) (more : Bool) (r : Reading) (old mid : Option (List ℕ)) (went : WentToDesks plan names first desks window spare more r old mid) where
     pub went_few : length desks ≤ most_updaters
     went_few = omega (arith, went.took.count, went.unused.few)
 
@@ -57,9 +57,9 @@ module _ (plan : Plan) (names : List (List ℕ)) where
 
     -- the window was fed, and the next one gathered
     pub went_more : (desks' : List DeskState) (next : WindowState) (r' : Reading) (new : Option (List ℕ)) (result : Result Bool LabelFault) (b : Bool) → TakeBlocks plan.seed desks (window.lines ∷ []) desks' →
-        Gathers names r r' mid new next.lines result → next.most ≡ window_lines → result ≡ Ok b → Went plan names first desks' next window b r' old new
+        Gathers names r r' mid new next.lines result → next.most ≡ window_lines → result ≡ Ok b → WentToDesks plan names first desks' next window b r' old new
     went_more desks' next r' new result b took gathers most is =
-        let gives : GivesLines next.lines r r' mid new = subst (λ (x : Result Bool LabelFault). OnOk x (GivesLines next.lines r r' mid new)) is gathers.gives in
+        let gives : GivesNext next.lines r r' mid new = subst (λ (x : Result Bool LabelFault). OnOk x (GivesNext next.lines r r' mid new)) is gathers.gives in
         let fine : GoOnFine names next.lines = subst (λ (x : Result Bool LabelFault). OnOk x (GoOnFine names next.lines)) is gathers.fine in
         let lines : List (List ℕ) = all_lines went.windows ++ window.lines in
         let on = gives lines went.taken went.read in
@@ -81,7 +81,7 @@ module _ (plan : Plan) (names : List (List ℕ)) where
     pub went_wrong : (r' : Reading) (new : Option (List ℕ)) (lines : List (List ℕ)) (result : Result Bool LabelFault) (f : LabelFault) → Gathers names r r' mid new lines result → result ≡ Err f →
         EndsBefore (desk_rules plan names) r.most (setting old None) (setting new None) f
     went_wrong r' new lines result f gathers is =
-        let stops : StopsReading names r mid new f = subst (λ (x : Result Bool LabelFault). IfErr x (StopsReading names r mid new)) is gathers.stopped in
+        let stops : EndsReading names r mid new f = subst (λ (x : Result Bool LabelFault). IfErr x (EndsReading names r mid new)) is gathers.stopped in
         stops plan old (all_lines went.windows ++ window.lines) went.taken went.consumed went.read went.fine
 
     -- the source has ended, and the last window was fed

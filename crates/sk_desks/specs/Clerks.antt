@@ -15,7 +15,7 @@ StopsAtLine names line Refused = (0 < length line) × (is_labelled line ≡ true
 StopsAtLine names line other = ⊥
 
 -- the same plan; an unused desk took these lines
-pub record Serves (plan plan' : Plan) (d d' : DeskState) (lines : List (List ℕ)) : Type 0 where
+pub record GaveAlone (plan plan' : Plan) (d d' : DeskState) (lines : List (List ℕ)) : Type 0 where
   pub unused : IsUnused d.names d
   pub took : TakesLines plan.seed d lines d'
   pub plan_stays : plan' ≡ plan

@@ -21,8 +21,8 @@ RefusesAs names line n (Refused m) = (m ≡ n) × (0 < length line) × (is_label
 RefusesAs names line n other = ⊥
 
 -- a reader gave these lines, in order
-abbrev pub GivesLines : List (List ℕ) → Reading → Reading → Option (List ℕ) → Option (List ℕ) → Type 0
-GivesLines lines r r' old new = (given : List (List ℕ)) (taken : List ℕ) → HasRead r old given taken
+abbrev pub GivesNext : List (List ℕ) → Reading → Reading → Option (List ℕ) → Option (List ℕ) → Type 0
+GivesNext lines r r' old new = (given : List (List ℕ)) (taken : List ℕ) → HasRead r old given taken
     → (more : List ℕ) × Consumes old new more × HasRead r' new (given ++ lines) (taken ++ more)
 
 -- after lines that are fine these are fine
@@ -30,16 +30,16 @@ abbrev pub GoOnFine : List (List ℕ) → List (List ℕ) → Type 0
 GoOnFine names lines = (plan : Plan) (before : List (List ℕ)) → AreFine (desk_rules plan names) before → AreFine (desk_rules plan names) (before ++ lines)
 
 -- a source of which a reader had read lines that are fine ended early
-abbrev pub StopsReading : List (List ℕ) → Reading → Option (List ℕ) → Option (List ℕ) → LabelFault → Type 0
-StopsReading names r old new why = (plan : Plan) (first : Option (List ℕ)) (given : List (List ℕ)) (taken : List ℕ) → Consumes first old taken → HasRead r old given taken
+abbrev pub EndsReading : List (List ℕ) → Reading → Option (List ℕ) → Option (List ℕ) → LabelFault → Type 0
+EndsReading names r old new why = (plan : Plan) (first : Option (List ℕ)) (given : List (List ℕ)) (taken : List ℕ) → Consumes first old taken → HasRead r old given taken
     → AreFine (desk_rules plan names) given → EndsBefore (desk_rules plan names) r.most (setting first None) (setting new None) why
 
 -- these lines of a source were read, each of them fine; or the reading ended early
 pub record Gathers (names : List (List ℕ)) (r r' : Reading) (old new : Option (List ℕ)) (lines : List (List ℕ)) (result : Result Bool LabelFault) : Type 0 where
-  pub gives : OnOk result (GivesLines lines r r' old new)
+  pub gives : OnOk result (GivesNext lines r r' old new)
   pub fine : OnOk result (GoOnFine names lines)
   pub end : result ≡ Ok false → r'.ended ≡ true
   pub progress : result ≡ Ok true → remaining_of r' < remaining_of r
   pub bound : r'.most ≡ r.most
-  pub stopped : IfErr result (StopsReading names r old new)
+  pub stopped : IfErr result (EndsReading names r old new)
   pub quiet : result ≢ Err WriteFault

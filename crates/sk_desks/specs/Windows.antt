@@ -28,7 +28,7 @@ pub record HaveTaken (seed : ℕ) (first desks : List DeskState) (lines : List (
 
 -- a source was read from its start on by unused desks: the windows of its lines that were full were given to the
 -- desks, and the last one lies at hand; another one is there to be filled
-pub record Went (plan : Plan) (names : List (List ℕ)) (first desks : List DeskState) (window spare : WindowState) (more : Bool) (r : Reading) (old new : Option (List ℕ)) : Type 0 where
+pub record WentToDesks (plan : Plan) (names : List (List ℕ)) (first desks : List DeskState) (window spare : WindowState) (more : Bool) (r : Reading) (old new : Option (List ℕ)) : Type 0 where
   pub unused : AreUnused names first
   pub windows : List (List (List ℕ))
   pub taken : List ℕ

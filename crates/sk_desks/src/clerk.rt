@@ -23,11 +23,11 @@ impl<R: Wait> LineTaker for Clerk<'_, '_, R> {
     ghost use Rattle.std.specs.Prelude.{None, [], ◌∷◌};
     ghost use Rattle.sk_read.specs.Standing.{Standing};
     ghost use Rattle.sk_desks.specs.Desks.{desk_rules};
-    ghost use Rattle.sk_desks.specs.Clerks.{Serves};
+    ghost use Rattle.sk_desks.specs.Clerks.{GaveAlone};
 
     ghost rules = { λ c. desk_rules c.plan c.desk.now.names };
 
-    ghost went = { λ a b lines. Serves a.plan b.plan a.desk.now b.desk.now lines };
+    ghost went = { λ a b lines. GaveAlone a.plan b.plan a.desk.now b.desk.now lines };
 
     ghost written = { λ _. None };
 
@@ -37,13 +37,13 @@ impl<R: Wait> LineTaker for Clerk<'_, '_, R> {
 
     #[inline(always)]
     fn take(&mut self, line: &[u8]) -> Result<(), LineStop> {
-        serve(self.rt, self.desk, line, self.plan.seed)
+        give(self.rt, self.desk, line, self.plan.seed)
     }
 }
 
 // Gives the item of a line, if it has one, to its tenant.
 #[inline(always)]
-fn serve<R: Wait>(rt: &R, desk: &mut Desk, line: &[u8], seed: u32) -> Result<(), LineStop>
+fn give<R: Wait>(rt: &R, desk: &mut Desk, line: &[u8], seed: u32) -> Result<(), LineStop>
     requires tenants { HasTenants desk.old }
     requires room { HasRoom 1 desk.old }
     ensures took { OnOk result (TakesLines seed desk.old (line.now ∷ []) desk.new) }

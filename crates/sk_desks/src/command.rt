@@ -7,7 +7,7 @@ ghost use Rattle.sk_label.specs.Goes.{setting, Goes, ReadsLines, EndsBefore};
 ghost use Rattle.sk_label.specs.Rules.{AreFine};
 ghost use Rattle.sk_tenant.specs.Hosts.{AreNewTenants, AreNewDesks, IsDeskOf};
 ghost use Rattle.sk_tenant.specs.Names.{bytes_of};
-ghost use Rattle.sk_desks.specs.Windows.{AreUnused, HaveTaken, Went};
+ghost use Rattle.sk_desks.specs.Windows.{AreUnused, HaveTaken, WentToDesks};
 ghost use Rattle.sk_desks.specs.Feeds.{IsUnused, TakesLines};
 ghost use Rattle.sk_desks.specs.Plans.{IsWithin, AreNames, shape_of};
 ghost use Rattle.sk_desks.specs.Desks.{desk_rules};
@@ -185,8 +185,8 @@ fn read_windows<S: Source, R: Threads + Wait + Sync>(
     source: &mut S,
     desks: &mut Vec<Desk>,
 ) -> Result<(), LabelFault>
-    requires went { Went plan.now gatherer.old.names.now desks.old.items desks.old.items full.old gatherer.old.window true gatherer.old.reader (S.left source.old) (S.left source.old) }
-    ensures went { OnOk result (Went plan.now gatherer.old.names.now desks.old.items desks.new.items full.new gatherer.new.window false gatherer.new.reader (S.left source.old) (S.left source.new)) }
+    requires went { WentToDesks plan.now gatherer.old.names.now desks.old.items desks.old.items full.old gatherer.old.window true gatherer.old.reader (S.left source.old) (S.left source.old) }
+    ensures went { OnOk result (WentToDesks plan.now gatherer.old.names.now desks.old.items desks.new.items full.new gatherer.new.window false gatherer.new.reader (S.left source.old) (S.left source.new)) }
     ensures bound { OnOk result (gatherer.new.reader.most ≡ gatherer.old.reader.most) }
     ensures early { IfErr result (EndsBefore (desk_rules plan.now gatherer.old.names.now) gatherer.old.reader.most (setting (S.left source.old) None) (setting (S.left source.new) None)) }
     ensures quiet { result ≢ Err LabelFault.WriteFault }

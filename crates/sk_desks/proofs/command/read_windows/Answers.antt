@@ -5,7 +5,7 @@ use Rattle.sk_label.specs.Goes.{setting, EndsBefore}
 use Rattle.sk_label.specs.declared.fault.LabelFault.{LabelFault}
 use Rattle.sk_desks.specs.Desks.{desk_rules}
 use Rattle.sk_desks.specs.Gathers.{Gathers}
-use Rattle.sk_desks.specs.Windows.{Went}
+use Rattle.sk_desks.specs.Windows.{WentToDesks}
 use Rattle.sk_desks.proofs.GatherLaws.{not_written}
 use Rattle.sk_desks.proofs.WentLaws.{went_room, went_more, went_wrong, stop_is}
 use Rattle.sk_desks.proofs.command.read_windows.Goals as goal
@@ -42,8 +42,8 @@ window-preserved g c =
     let went = went_more plan names first l.desks.items l.full l.gatherer.window l.more l.gatherer.reader old mid l.invariant.went desks next.window next.reader new c.feed_and_gather.result more
     c.feed_and_gather.ensures.took gathers (c.feed_and_gather.ensures.lines ∙ l.invariant.went.spare_most) c.in_ok-more.was in
     record {
-      went = subst (λ (w : WindowState). Went plan names first desks c.swap.new.x w more next.reader old new) (sym c.swap.ensures.y_after)
-          (subst (λ (w : WindowState). Went plan names first desks w l.full more next.reader old new) (sym c.swap.ensures.x_after) went);
+      went = subst (λ (w : WindowState). WentToDesks plan names first desks c.swap.new.x w more next.reader old new) (sym c.swap.ensures.y_after)
+          (subst (λ (w : WindowState). WentToDesks plan names first desks w l.full more next.reader old new) (sym c.swap.ensures.x_after) went);
       names = c.feed_and_gather.ensures.names ∙ l.invariant.names;
       bound = gathers.bound ∙ l.invariant.bound;
       steady = subst (λ r. OnOk r (g.S.Source.faults c.feed_and_gather.new.source ≡ g.S.Source.faults l.source)) c.in_ok-more.was

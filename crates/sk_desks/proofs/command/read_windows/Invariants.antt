@@ -1,11 +1,11 @@
 use Rattle.std.proofs.Common.{◌≡◌, ◌+◌, cond}
 use Rattle.sk_read.specs.Reading.{remaining_of}
-use Rattle.sk_desks.specs.Windows.{Went}
+use Rattle.sk_desks.specs.Windows.{WentToDesks}
 use Rattle.sk_desks.proofs.command.read_windows.Given as goal
 
 abbrev pub invariant-window : goal.invariant-window
 invariant-window g l = record {
-  went : Went l.plan l.initial.gatherer.names.now l.initial.desks.items l.desks.items l.full l.gatherer.window l.more l.gatherer.reader (g.S.Source.left l.initial.source) (g.S.Source.left l.source);
+  went : WentToDesks l.plan l.initial.gatherer.names.now l.initial.desks.items l.desks.items l.full l.gatherer.window l.more l.gatherer.reader (g.S.Source.left l.initial.source) (g.S.Source.left l.source);
   names : l.gatherer.names.now ≡ l.initial.gatherer.names.now;
   bound : l.gatherer.reader.most ≡ l.initial.gatherer.reader.most;
   steady : g.S.Source.faults l.source ≡ g.S.Source.faults l.initial.source;

@@ -1,12 +1,12 @@
 use Rattle.std.proofs.Common.{◌≡◌, ◌≤◌, false}
 use Rattle.sk_read.specs.Reading.{remaining_of}
 use Rattle.sk_fill.specs.Windows.{is_full}
-use Rattle.sk_desks.specs.Gathers.{GivesLines, GoOnFine}
+use Rattle.sk_desks.specs.Gathers.{GivesNext, GoOnFine}
 use Rattle.sk_desks.proofs.gather.gather.Given as goal
 
 abbrev pub invariant-piece : goal.invariant-piece
 invariant-piece g l = record {
-  gives : GivesLines l.window.lines l.initial.reader l.reader (g.S.Source.left l.initial.source) (g.S.Source.left l.source);
+  gives : GivesNext l.window.lines l.initial.reader l.reader (g.S.Source.left l.initial.source) (g.S.Source.left l.source);
   fine : GoOnFine l.names l.window.lines;
   room : is_full l.window ≡ false;
   most : l.window.most ≡ l.initial.window.most;

@@ -1,7 +1,7 @@
 use Rattle.std.proofs.Common.{map, eqb-true, length, sym, ◌∙◌}
 use Rattle.sk_desks.proofs.Taking.{takes_its_line, takes_unlabelled, names_stay}
 use Rattle.sk_desks.proofs.ClerkLaws.{empty_unlabelled}
-use Rattle.sk_desks.proofs.clerk.serve.Goals as goal
+use Rattle.sk_desks.proofs.clerk.give.Goals as goal
 
 pub returns-then-is_empty-clause-took : goal.returns-then-is_empty-clause-took
 returns-then-is_empty-clause-took g c =
