@@ -6,6 +6,7 @@ pub mod Maximum
 pub mod One
 pub mod Parts
 pub mod Runs
+pub mod SaidLaws
 pub mod Tallied
 pub mod Told
 pub mod Words

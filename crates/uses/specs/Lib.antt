@@ -3,6 +3,7 @@ pub mod Fed
 pub mod Greatest
 pub mod Lengths
 pub mod Replies
+pub mod Said
 pub mod Tallied
 pub mod Told
 pub mod Words

@@ -51,7 +51,7 @@ pub fn how_often<R: Threads + Wait + Sync>(
     learn_all(&mut reader, updaters.as_mut_slice());
     let meanwhile = reader.read(rt, Least { x });
     let last = close(rt, &mut heart, &mut updaters, &mut reader, Least { x })?;
-    // These tell the proof how the two compare, and that the last is of all items.
+    // These show the proof how the two compare, and that the last is of all items.
     never_falls();
     a_tally_is_of_all_items();
     Ok(HowOften { meanwhile, last })

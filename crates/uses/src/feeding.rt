@@ -1,4 +1,4 @@
-//! Items that are fed to an updater, which propagates itself where it is busy.
+//! Items that are fed to an updater, which propagates itself when it is busy.
 ghost use Rattle.std.specs.Prelude.{◌≡◌, ◌+◌, ◌<◌, ◌≤◌, ◌∷◌, [], length};
 ghost use Rattle.std.specs.Bool.{OnTrue, OnFalse};
 ghost use Rattle.sk_hub.specs.Calls.{KeepsNone, Takes};
@@ -39,7 +39,7 @@ pub fn feed_item<C: Composable, R: Wait>(rt: &R, updater: &mut Updater<C>, item:
     unreachable!()
 }
 
-// Offers an item once, and answers whether it was taken.
+// Offers an item once, and returns whether it was taken.
 fn offer<C: Composable>(updater: &mut Updater<C>, item: u64) -> bool
     requires item { IsItem item }
     requires room { length (kept_of updater.old) < most_kept }
@@ -54,7 +54,7 @@ fn offer<C: Composable>(updater: &mut Updater<C>, item: u64) -> bool
     }
 }
 
-// Propagates once, unless another seat does or memory is wanting.
+// Propagates once, unless another seat does or memory runs out.
 fn help<C: Composable, R: Wait>(rt: &R, updater: &mut Updater<C>)
     ensures { KeepsNone updater.old updater.new }
 {

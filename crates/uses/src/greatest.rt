@@ -125,7 +125,7 @@ pub fn greatest_item<R: Wait>(
         token: _,
     } = open(alloc, shape, Greatest::new())?;
     feed_all(rt, &mut updaters[0], items);
-    // It tells the proof that what was kept stays so.
+    // It shows the proof that what was kept stays so.
     kept_stays();
     let greatest = drain_all(rt, &mut heart, updaters)?;
     Ok(greatest)

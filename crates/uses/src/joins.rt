@@ -1,4 +1,4 @@
-//! Sketches that were filled apart and are joined, and one that is filled again.
+//! One sketch, sketches that were filled apart and are joined, and one that is filled again.
 ghost use Rattle.std.specs.Prelude.{◌≡◌, ◌≤◌, ◌++◌, ℕ, List, IfOk};
 ghost use Rattle.sk_model.specs.Limits.{least_k, most_k};
 ghost use Rattle.sk_model.specs.Sketch.{k_smallest, estimate_of};
@@ -9,6 +9,20 @@ use sk_heap::HeapTheta;
 use sk_model::OutOfMemory;
 use sk_model::laws::sketch::k_smallest_append;
 use std::alloc::Global;
+
+/// The estimate of how many distinct items a list has.
+pub fn estimate_items(alloc: Global, k: u32, items: &[u64]) -> Result<(u128, u64), OutOfMemory>
+    requires least { least_k ≤ k }
+    requires most { k ≤ most_k }
+    requires items { AreItems items.now }
+    ensures { IfOk result (λ fraction. fraction ≡ estimate_of k items.now) }
+{
+    let mut sketch = HeapTheta::new(alloc, k)?;
+    'item: for item in items {
+        sketch.update(*item);
+    }
+    Ok(sketch.fraction())
+}
 
 /// The estimate of two lists by a sketch of each: one sketch's, over the one after the other.
 pub fn estimate_of_both(
@@ -53,11 +67,11 @@ pub fn list_of_both(
         → IfOk result (λ v. v.items ≡ k_smallest one.now.k (items ++ more)) }
 {
     let mut both = HeapTheta::new(alloc, one.k())?;
-    // It tells the proof what holds of every sketch.
+    // It shows the proof what holds of every sketch.
     let _other = other.k();
     both.merge(one.list()?.as_slice());
     both.merge(other.list()?.as_slice());
-    // It tells the proof that the k smallest need no more than what is kept.
+    // It shows the proof that the k smallest need no more than what is kept.
     k_smallest_append();
     both.list()
 }

@@ -39,7 +39,7 @@ impl Threes {
         Threes { bytes, at: 0 }
     }
 
-    // Moves bytes to the front of `buf`, none only at the end.
+    // Moves bytes to the start of `buf`, none only at the end.
     fn give(&mut self, buf: &mut [u8]) -> usize
         ensures count { result ≡ min (min (length buf.old) 3) (length self.old) }
         ensures bytes { self.old ≡ take result buf.new ++ self.new }
@@ -67,7 +67,7 @@ impl Source for Threes {
     }
 }
 
-// Copies bytes from one front to another, at most three, and answers how many.
+// Copies bytes from the start of one to that of another, at most three, and returns how many.
 fn copy_front(from: &[u8], buf: &mut [u8]) -> usize
     ensures count { result ≡ min (min (length buf.old) 3) (length from.now) }
     ensures bytes { from.now ≡ take result buf.new ++ drop result from.now }

@@ -1,4 +1,4 @@
-//! The rank of a number among those that a source spells, told by several updaters.
+//! The rank of a number among those that a source spells, by several updaters.
 ghost use Rattle.std.specs.Prelude.{OnOk};
 ghost use Rattle.sk_model.specs.Limits.{most_updaters, IsFrom};
 ghost use Rattle.uses.specs.Told.{TellsRank};
@@ -12,7 +12,7 @@ use std::sync::Wait;
 use std::thread::Threads;
 
 /// Reads numbers, one a line, and writes how many there are, how many of their items are below `at`, and by how
-/// much that may be off, with this many updaters at once. The number n is item n + 1, so numbers below X are asked
+/// much that may be off, with this many updaters. The number n is item n + 1, so numbers below X are asked
 /// for by X + 1.
 pub fn rank_source<S: Source, O: Sink, R: Threads + Wait + Sync>(
     rt: &R,
@@ -35,7 +35,7 @@ pub fn rank_source<S: Source, O: Sink, R: Threads + Wait + Sync>(
         propagator: true,
     };
     rank(rt, alloc, &plan, SOURCE_LIMIT, source, out)?;
-    // It tells the proof that the reader's list has the items of all lines.
+    // It shows the proof that the reader's list has the items of all lines.
     ranks_of_lists_are_near();
     Ok(())
 }

@@ -30,7 +30,7 @@ pub struct Counted {
     pub last: u64,
 }
 
-/// Feeds each stream to an updater in a thread of its own, while a token is asked so often. The
+/// Feeds each stream to an updater in a thread of its own, while a token is asked `asks` times. The
 /// last word is one thread's, over the items of all streams.
 pub fn count_streams<C: ThetaKind + Send, R: Threads + Wait + Sync>(
     rt: &R,
@@ -69,13 +69,13 @@ where
     );
     let meanwhile = words?;
     let last = drain_all(rt, &mut heart, updaters)?;
-    // These tell the proof that the word of what was kept is that of all items.
+    // These show the proof that the word of what was kept is that of all items.
     kept_stays();
     the_word_is_of_all_items::<C>(PhantomData);
     Ok(Counted { meanwhile, last })
 }
 
-// Asks a token so often, and gives the words.
+// Asks a token `asks` times, and returns the words.
 fn ask_often<C: Composable>(
     alloc: Global,
     token: Token<C>,
@@ -114,7 +114,7 @@ where
     updaters
 }
 
-// The same, over the updaters where they lie.
+// Split off for the proof: borrows only the updaters.
 fn feed_each<C: Composable + Send, R: Threads + Wait + Sync>(
     rt: &R,
     updaters: &mut [Updater<C>],

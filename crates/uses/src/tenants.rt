@@ -52,7 +52,7 @@ pub fn count_two_tenants<R: Wait>(
     };
     let first = add_each(alloc, &mut desk, first)?;
     let second = add_each(alloc, &mut last, second)?;
-    // These tell the proof that the desks are still those of the tenants.
+    // These show the proof that the desks are still those of the tenants.
     a_desk_stays_of_its_tenants();
     hosts.drain(rt, last);
     hosts.drain(rt, desk);
@@ -71,7 +71,7 @@ fn add_each(alloc: Global, desk: &mut Desk, lines: &[(u32, u64)]) -> Result<Vec<
     requires lines { AreLines (length desk.old.updaters) lines.now }
     ensures { IfOk result (λ answers. AreDone desk.old (adds_of lines.now answers.items) desk.new) }
 {
-    // It tells the proof how calls add up.
+    // It shows the proof how calls add up.
     calls_add_up();
     let mut answers = Vec::with_capacity(alloc, lines.len())?;
     'line: for line in lines {

@@ -60,6 +60,7 @@ fn four_streams(alloc: Global) -> Result<Vec<Vec<u64>>, OutOfMemory>
 #[test]
 fn sketches_join_and_are_filled_again(rt: HostRuntime) -> Result<(), Fail> {
     let alloc = rt.alloc();
+    expect(&rt, estimate_items(alloc, 8, &[5, 3, 9, 3])?, (3, 1));
     expect(
         &rt,
         estimate_of_both(alloc, 8, &[5, 3, 9], &[3, 7])?,
