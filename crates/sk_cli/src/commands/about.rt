@@ -91,7 +91,33 @@ usage:
   sketchd --version
 
 A line has at most 65536 bytes. An option stands at most once.
+
+exit status, each but 0 with one line on the standard error:
+   0  the whole input was read, and the whole text written
+   1  out of memory
+   2  the words are no command
+   3  a read failed
+   4  a write failed; a part of the text may have been written
+   5  a line has more than 65536 bytes
+   6  a line is no number
+   7  a line of a schedule is unreadable, or its event is not enabled
+   8  a file could not be opened
+   9  a line of an image is not as its place requires
+  10  a port could not be listened at, or a link not accepted
+  11  the versions, the k or the seeds of two images differ
+  12  a record has not as many fields as the first, or has no such column
+  13  2^40 bytes were read
+  14  a line is not MOMENT ITEM, or not NAME ITEM
+  15  a line has a moment in an interval that has ended
+  16  a line has a name that was not given
+
+examples:
+  awk '{ print $1 }' access.log | sketchd count
+  sketchd count --csv 3 --file visits.csv --updaters 4 --window 100000 --alarm 5000
 ";
 
-/// What `--version` writes.
-pub const VERSION: &str = "sketchd 0.2.0\n";
+/// What `--version` writes: the version, and the toolchain that proved and built it.
+pub const VERSION: &str = "\
+sketchd 0.2.0
+proved and built with rattle-kit-13f logic dac8208d650f15bf
+";

@@ -1,9 +1,9 @@
-// What `--help` tells of the options, their limits and what holds where they are not given.
+// What `--help` has of the options, their limits and defaults, of the statuses and of examples.
 use super::rows::run_alone;
 use super::stage::{FINE, expect};
 use std::test::Fail;
 
-const TOLD: &str = "\
+const SHOWN: &str = "\
 [--k K] [--raw] [--seed S] [--csv C] [--file NAME] [--updaters N] [--b B,..]
 [--window W] [--alarm M,..] [--eager yes|no] [--propagator yes|no]
 --k K        how many hashes are kept, 2 to 1048576 (4096)
@@ -29,17 +29,21 @@ sketchd tenants --names A,B,.. [--k K] [--b B] [--seed S] [--updaters N] [--file
 sketchd window --span N --last N [--k K] [--b B] [--seed S] [--file NAME]
 --span N     how long an interval is, 1 to 281474976710655
 --last N     how many intervals an estimate is of, 2 to 64
-A line has at most 65536 bytes. An option stands at most once.";
+A line has at most 65536 bytes. An option stands at most once.
+exit status, each but 0 with one line on the standard error:
+2  the words are no command
+16  a line has a name that was not given
+awk '{ print $1 }' access.log | sketchd count";
 
 #[test]
-fn help_tells_of_each_option(rt: HostRuntime) -> Result<(), Fail> {
+fn help_shows_each_option(rt: HostRuntime) -> Result<(), Fail> {
     let alloc = rt.alloc();
     let ran = run_alone(&rt, alloc, &FINE, "--help", Vec::new(alloc))?;
     let help = String::from_utf8(ran.out.written().to_vec(alloc)?)?;
     expect(&rt, &ran, "--help", 0, help.as_bytes(), b"");
-    assert_eq!(rt; TOLD.lines().count(), 26);
-    'told: for told in TOLD.lines() {
-        assert!(rt; help.contains(told), "{told}");
+    assert_eq!(rt; SHOWN.lines().count(), 30);
+    'line: for line in SHOWN.lines() {
+        assert!(rt; help.contains(line), "{line}");
     }
     Ok(())
 }

@@ -43,7 +43,7 @@ fn fakes(alloc: Global) -> Result<Board, Fail>
     Ok(board_of(boxes))
 }
 
-// A board that keeps as a text what it is told, where memory is there for that.
+// A board that keeps as a text what it is shown, if memory is there for that.
 #[derive(Drop)]
 struct Recorder<B: Seen> {
     board: B,
@@ -78,7 +78,7 @@ impl<B: Seen> Seen for Recorder<B> {
     }
 }
 
-// What a board was told while a line ran, which watchers are left, and what was written.
+// What a board was shown while a line ran, which watchers are left, and what was written.
 #[derive(Drop)]
 struct Recorded {
     told: String,
@@ -86,7 +86,7 @@ struct Recorded {
     ran: Ran,
 }
 
-// Runs a line beside the fakes.
+// Runs a line over the fakes.
 fn run_recorded<R: Threads + Wait + Sync>(
     rt: &R,
     alloc: Global,

@@ -3,7 +3,7 @@ use super::rows::check_rows;
 use std::test::Fail;
 
 // As plain lines the sixth text has two items. Of two records the first decides, and within one its
-// number of fields. A field over the limit is told as a line, by the number of its record.
+// number of fields. A field over the limit is reported as a line, by the number of its record.
 const COLUMNS: &str = "\
 | count --csv 2 --k 4 | a,hello;b,\"hello, world\";c,hello; | 0 | estimate 2/1; |
 | count --csv 1 | a,hello;b,\"hello, world\";c,hello; | 0 | estimate 3/1; |

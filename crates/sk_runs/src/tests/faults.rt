@@ -11,7 +11,7 @@ const COUNT: &str = "count --raw --window 2 --propagator no | 1;2;3;4;";
 
 const DUE: &str = "at 2 estimate 2/1;at 4 estimate 4/1;estimate 4/1;";
 
-// Each read fails in turn, in pieces of one byte; the last place is behind the end.
+// Each read fails in turn, in pieces of one byte; the last place is after the end.
 const READS: &str = "\
 read=0 | count | a;b;c;d | 3 | | read fault;
 read=1 | count | a;b;c;d | 3 | | read fault;
@@ -66,7 +66,7 @@ fn windows_whose_read_fails(rt: HostRuntime) -> Result<(), Fail> {
     check_rows(&rt, rt.alloc(), WINDOWS, 10)
 }
 
-// Checks a count whose output fails at a place: so many bytes stand.
+// Checks a count whose output fails at a place: this many bytes stand.
 fn check_front<R: Threads + Wait + Abort + Sync>(
     rt: &R,
     alloc: Global,

@@ -4,7 +4,7 @@ use super::stage::{FINE, Streams, alarms, expect, run_beside, words_of};
 use sk_io::FileShelf;
 use std::test::Fail;
 
-// The faults of a file are its own. The input, whose first read fails, is not met beside it. A name
+// The faults of a file are its own. The input, whose first read fails, is not read then. A name
 // is a whole word, blanks and all.
 const FILES: &str = "\
 read=0 | count --file quick --k 2 | | 0 | estimate 9223372036854775808/7344337286506401153; |

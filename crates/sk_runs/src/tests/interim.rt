@@ -3,7 +3,7 @@ use super::rows::check_rows;
 use std::test::Fail;
 
 // With one updater and no propagator each interim estimate is fixed. A full window before a refused
-// line has its estimate, an unfinished one none. Alarms are told of interim estimates alone.
+// line has its estimate, an unfinished one none. Alarms are of interim estimates alone.
 const FIXED: &str = "\
 | count --raw --k 8 --b 2 --updaters 1 --window 5 --eager no --propagator no | 1;2;3;4;5; | 0 \
 | at 5 estimate 2/1;estimate 5/1; |

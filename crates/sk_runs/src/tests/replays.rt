@@ -35,7 +35,7 @@ estimate 9223372036854775808/2;put;returned 2;hint 2;filtered;kept; |
 | replay | machine 2 1 1;ask 0 ; | 7 | | line 2: bad event;
 | replay | machine 2 1 1;ask\t0; | 7 | | line 2: bad event;";
 
-// Each event where it is enabled, and where it is not.
+// Each event when it is enabled, and when it is not.
 const EVENTS: &str = "\
 | replay | machine 2 1 1;offer 0 5;offer 0 3; | 7 | kept; | line 3: bad event;
 | replay | machine 2 2 1;offer 0 9223372036854775807;offer 0 0; | 7 | kept; | line 3: bad event;

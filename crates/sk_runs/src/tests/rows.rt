@@ -174,7 +174,7 @@ fn check_row<R: Threads + Wait + Abort + Sync>(
     Ok(())
 }
 
-/// Runs each row of a table, which has so many.
+/// Runs each row of a table, which has this many.
 pub fn check_rows<R: Threads + Wait + Abort + Sync>(
     rt: &R,
     alloc: Global,

@@ -127,7 +127,7 @@ fn servers_listen_at_their_ports(rt: HostRuntime) -> Result<(), Fail> {
     Ok(())
 }
 
-// Two sessions, so many of them at once.
+// Two sessions, this many of them in parallel.
 fn two_sessions(wave: u32) -> ServePlan
     requires { 1 ≤ wave }
     ensures within { IsServable result }

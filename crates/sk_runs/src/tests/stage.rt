@@ -82,7 +82,7 @@ fn out_of(alloc: Global, streams: &Streams) -> Result<MemSink, Fail> {
     Ok(MemSink::new(alloc, streams.room as usize, taken, fails)?)
 }
 
-/// Runs the program over a text, beside a shelf and a board. No link comes.
+/// Runs the program over a text, with a shelf and a board. No link comes.
 pub fn run_beside<R: Threads + Wait + Sync, F: Shelf, B: Seen>(
     rt: &R,
     alloc: Global,
@@ -98,7 +98,7 @@ pub fn run_beside<R: Threads + Wait + Sync, F: Shelf, B: Seen>(
     run_at(rt, alloc, streams, line, text, shelf, &mut door, board)
 }
 
-/// Runs the program over a text, beside a shelf, a door and a board.
+/// Runs the program over a text, with a shelf, a door and a board.
 pub fn run_at<R: Threads + Wait + Sync, F: Shelf, D: Door, B: Seen>(
     rt: &R,
     alloc: Global,

@@ -190,9 +190,9 @@ const ACCEPTED: &str = "\
 | tenants --names 1,2,3,4,5,6,7,8,9,10,11,12,13,14,15,16,17,18,19,20,21,22,23,24,25,26,27,28,29,30,31,\
 32,33,34,35,36,37,38,39,40,41,42,43,44,45,46,47,48,49,50,51,52,53,54,55,56,57,58,59,60,61,62,63,64 \
 | x; | 14 | | line 1: bad line;
-| --version | | 0 | sketchd 0.2.0; |";
+| --version | | 0 | sketchd 0.2.0;proved and built with rattle-kit-13f logic dac8208d650f15bf; |";
 
-// Runs each line, of which there are so many, over a text that it does not read.
+// Runs each line, of which there are this many, over a text that it does not read.
 fn check_refused<R: Threads + Wait + Abort + Sync>(
     rt: &R,
     alloc: Global,
