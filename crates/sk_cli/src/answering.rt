@@ -17,7 +17,7 @@ use sk_model::OutOfMemory;
 use sk_read::LineReader;
 use std::alloc::Global;
 
-// Answers are written once they have so many bytes, and no later than before the next read.
+// Answers are written once they have this many bytes, and no later than before the next read.
 const FULL_LEN: usize = 65_536;
 
 // The answer that fills a text has room too, so that the text does not grow.
@@ -25,7 +25,7 @@ const ROOM_LEN: usize = FULL_LEN + 128;
 
 /// Who answers to lines, one after another.
 pub(crate) trait Answerer {
-    /// What a command does that goes on by these answers.
+    /// What a command does that gives these answers.
     ghost how: { Self → Behaviour };
 
     /// This text is due for these lines, of which none is refused. No answer changes that.
@@ -34,10 +34,10 @@ pub(crate) trait Answerer {
     /// These lines led here, and this text was answered to them.
     ghost led: { Self → List (List ℕ) → List ℕ → Type 0 };
 
-    /// Behind these lines this one is refused.
+    /// After these lines this one is refused.
     ghost refuses: { List (List ℕ) → List ℕ → Type 0 };
 
-    /// Puts the answer to a line behind a text, or answers `false` where it refuses the line.
+    /// Puts the answer to a line at the end of a text, or returns `false` if it refuses the line.
     fn answer(&mut self, line: &[u8], text: &mut Vec<u8>) -> Result<bool, OutOfMemory>
         ensures answers { result ≡ Ok true → Answers (led self.old) (led self.new) line.now text.old.items text.new.items }
         ensures refused { result ≡ Ok false → (lines : List (List ℕ)) (due : List ℕ) → led self.old lines due → refuses lines line.now }
@@ -78,7 +78,7 @@ fn answer_held<A: Answerer>(
     }
 }
 
-/// Answers to the further lines of a source. A fault is told once the answers to the lines before
+/// Answers to the further lines of a source. A fault is returned once the answers to the lines before
 /// it are written.
 pub(crate) fn answer_lines<A: Answerer, S: Source, O: Sink>(
     alloc: Global,

@@ -26,7 +26,7 @@ pub enum Command<'a> {
     Image(ImagePlan),
     /// Estimate how many distinct numbers there are in lines that the program makes.
     Make(MakePlan),
-    /// Tell the rank of a number among those of a text.
+    /// Estimate the rank of a number among those of a text.
     Quantile(sk_rank::Plan),
     /// Play a schedule and write the answer to each event.
     Replay,
@@ -58,7 +58,7 @@ pub enum Request<'a> {
 }
 
 impl<'a> Request<'a> {
-    /// What the words ask for, or `None` where they are no command with its options.
+    /// What the words ask for, or `None` if they are no command with its options.
     pub fn of(words: &'a [String]) -> Option<Request<'a>>
         ensures value { option_map asked_of result ≡ request_of (texts_of words.now) }
         ensures order { IfSome result (λ request. IsInOrder (asked_of request)) }
@@ -182,7 +182,7 @@ impl<'a> Request<'a> {
     }
 }
 
-// The command, where no word stands behind it.
+// The command, if no word follows it.
 fn alone<'a>(command: Command<'a>, behind: &[String]) -> Option<Request<'a>>
     ensures value { option_map asked_of result ≡ alone command.entry (texts_of behind.now) }
     ensures alone { IfSome result (λ request. asked_of request ≡ OfText (record { command = command.entry; file = None })) }
@@ -197,7 +197,7 @@ fn alone<'a>(command: Command<'a>, behind: &[String]) -> Option<Request<'a>>
     }
 }
 
-// The name of the file, if there is one. `None` where it is empty.
+// The name of the file, if there is one. `None` if it is empty.
 fn file_in<'a>(options: &Options<'a>) -> Option<Option<&'a str>>
     ensures { option_map option_copied result ≡ file_by options.now }
 {

@@ -34,7 +34,7 @@ ghost use Rattle.sk_cli.specs.Values.{Word};
 ghost use Rattle.sk_cli.specs.Statuses.{ShowsAt};
 ghost use Rattle.sk_cli.specs.declared.fault.Fault.{Fault};
 
-/// A line that does not go on with a schedule stands in none that was answered.
+/// A line that does not continue a schedule stands in none that was answered.
 pub fn no_more_is_last()
     ensures { (lines : List (List ℕ)) (line : List ℕ) (rest : List (List ℕ)) (due : List ℕ) → IsNoMore lines line → ¬ IsAnswered (lines ++ line ∷ rest) due }
 {}
@@ -64,7 +64,7 @@ pub fn image_decides()
 {}
 
 /// A text is fine or refused in one way. With one updater and no window one text is due: the line of the numbers in the
-/// order of the lines, as one thread tells it.
+/// order of the lines, as one thread writes it.
 pub fn quantile_decides()
     ensures decided { (plan : RankPlan) → IsDecided (ranking plan) }
     ensures one_text { (plan : RankPlan) → plan.updaters ≡ 1 → plan.window ≡ None → WritesOneText (ranking plan) }
@@ -72,8 +72,8 @@ pub fn quantile_decides()
         → (from to : Beside) (text due : List ℕ) → (ranking plan).IsDue from to text due → due ≡ rank_line plan (items_by Raw (lines_of text)) }
 {}
 
-/// However many updaters there are, the last line tells the number of all items, and how many of them are below the
-/// plan's, up to the error that it tells.
+/// However many updaters there are, the last line has the number of all items, and how many of them are below the
+/// plan's, up to the error that it gives.
 pub fn quantile_is_near()
     ensures { (plan : RankPlan) → 0 < plan.updaters → (from to : Beside) (text due : List ℕ) → (ranking plan).IsDue from to text due
         → TellsNear plan (items_by Raw (lines_of text)) due }

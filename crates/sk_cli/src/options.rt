@@ -1,4 +1,4 @@
-//! The options behind a command: names with a value, and flags, in any order, each at most once.
+//! The options of a command: names with a value, and flags, in any order, each at most once.
 
 ghost use Rattle.std.specs.Prelude.{◌+◌, ◌^◌, ◌≡◌, ◌↔◌, All, IsTrue, IfSome, IfNone, Some, None, ◌<◌, ◌≤◌, length, drop, option_copied, option_map, is_some, IsSome, ◌∷◌};
 ghost use Rattle.sk_model.specs.Limits.{IsFrom, least_k, most_k, most_size, most_updaters};
@@ -97,7 +97,7 @@ impl Name {
         }
     }
 
-    // Whether a value stands behind it.
+    // Whether a value follows it.
     fn takes_value(self) -> bool
         ensures { result ≡ takes_value self }
     {
@@ -211,7 +211,7 @@ impl Verb {
     }
 }
 
-// The first option of some words: its name, its value, empty for a flag, and the words behind it.
+// The first option of some words: its name, its value, empty for a flag, and the words after it.
 #[tactic(auto, unfolding(crate::specs::Options::options_of))]
 fn first_option<'a>(verb: Verb, words: &'a [String]) -> Option<(Name, &'a str, &'a [String])>
     requires { 0 < length words.now }
@@ -247,7 +247,7 @@ fn are_options(verb: Verb, words: &[String]) -> bool
     true
 }
 
-// The value behind a name, where it is given.
+// The value of an option, if it is given.
 fn find_value<'a>(verb: Verb, name: Name, words: &'a [String]) -> Option<&'a str>
     requires { IsSome (options_of verb (texts_of words.now)) }
     ensures { option_copied result ≡ value_behind name (given_in verb (texts_of words.now)) }
@@ -281,7 +281,7 @@ fn are_once(verb: Verb, words: &[String]) -> bool
     true
 }
 
-/// The options behind a command, no name twice. A flag's value is empty.
+/// The options of a command, no name twice. A flag's value is empty.
 #[derive(Drop)]
 pub struct Options<'a> {
     verb: Verb,
@@ -300,7 +300,7 @@ impl<'a> Model for Options<'a> {
 }
 
 impl<'a> Options<'a> {
-    /// The options that the words spell. `None` where a word is no name of the command's, a value is
+    /// The options that the words spell. `None` if a word is no name of the command's, a value is
     /// missing, or a name stands twice.
     pub fn new(verb: Verb, words: &'a [String]) -> Option<Self>
         ensures { result ≡ spelled_by verb (texts_of words.now) }
@@ -312,7 +312,7 @@ impl<'a> Options<'a> {
         }
     }
 
-    /// The value behind a name.
+    /// The value of an option.
     pub fn value(&self, name: Name) -> Option<&'a str>
         ensures { option_copied result ≡ value_behind name self.now }
     {
@@ -326,7 +326,7 @@ impl<'a> Options<'a> {
         self.value(name).is_some()
     }
 
-    /// The number behind a name, or its default where it is not given. `None` where the value is no
+    /// The number that an option has, or its default if it is not given. `None` if the value is no
     /// number from `low` to `high`.
     pub fn number(&self, name: Name, low: u64, high: u64, default: u64) -> Option<u64>
         requires below_end { high + 1 < 2 ^ 64 }
@@ -341,7 +341,7 @@ impl<'a> Options<'a> {
         }
     }
 
-    /// The number behind a name that has to be given. `None` where it is not, or the value is no number
+    /// The number of an option that has to be given. `None` if it is not, or the value is no number
     /// from `low` to `high`.
     pub fn required(&self, name: Name, low: u64, high: u64) -> Option<u64>
         requires { high + 1 < 2 ^ 64 }
@@ -351,7 +351,7 @@ impl<'a> Options<'a> {
         number_from(self.value(name)?.as_bytes(), low, high)
     }
 
-    /// The word after a name that has to be given. `None` if it is not, or is empty.
+    /// The word of an option that has to be given. `None` if it is not, or is empty.
     pub fn word(&self, name: Name) -> Option<&'a str>
         ensures { option_copied result ≡ word_in (value_behind name self.now) }
     {
@@ -359,7 +359,7 @@ impl<'a> Options<'a> {
         if word.is_empty() { None } else { Some(word) }
     }
 
-    /// The seed of the hash, 0 where it is not given. `None` where the value is out of its limits.
+    /// The seed of the hash, 0 if it is not given. `None` if the value is out of its limits.
     pub fn seed(&self) -> Option<u32>
         ensures { result ≡ seed_by self.now }
     {
@@ -393,7 +393,7 @@ impl<'a> Options<'a> {
         Some(self.number(Name::B, 1, u64::from(MOST_SIZE), 64)? as u32)
     }
 
-    /// How many updaters there are, 1 where that is not given.
+    /// How many updaters there are, 1 if that is not given.
     pub fn updaters(&self) -> Option<u32>
         ensures value { result ≡ updaters_by self.now }
         ensures within { IfSome result (IsFrom 1 most_updaters) }
@@ -401,7 +401,7 @@ impl<'a> Options<'a> {
         Some(self.number(Name::Updaters, 1, u64::from(MOST_UPDATERS), 1)? as u32)
     }
 
-    /// How many items the buffers of the updaters have room for, 64 where that is not given. The last
+    /// How many items the buffers of the updaters have room for, 64 if that is not given. The last
     /// stands for all further updaters.
     pub fn sizes(&self) -> Option<Numbers>
         ensures value { result ≡ sizes_by self.now }
@@ -418,7 +418,7 @@ impl<'a> Options<'a> {
         }
     }
 
-    /// After how many lines an estimate is written, where that is asked for.
+    /// After how many lines an estimate is written, if that is asked for.
     pub fn window(&self) -> Option<Option<u32>>
         ensures value { result ≡ window_by self.now }
         ensures within { IfSome result (λ window. IfSome window (IsFrom 1 most_lines)) }
@@ -437,7 +437,7 @@ impl<'a> Options<'a> {
         self.is_yes(Name::Eager)
     }
 
-    /// Whether one thread propagates beside the updaters.
+    /// Whether one thread propagates for the updaters.
     pub fn propagator(&self) -> Option<bool>
         ensures { result ≡ propagator_by self.now }
     {
@@ -455,7 +455,7 @@ impl<'a> Options<'a> {
         }
     }
 
-    // Whether the value behind a name is yes, as it is where it is not given.
+    // Whether an option is yes, as it is if it is not given.
     fn is_yes(&self, name: Name) -> Option<bool>
         ensures { result ≡ is_yes_in (value_behind name self.now) }
     {

@@ -1,4 +1,4 @@
-// What a run leaves behind.
+// What a run leaves.
 ghost use Rattle.std.specs.Prelude.{◌≡◌, None};
 ghost use Rattle.sk_cli.specs.Beside.{left_of, nothing_left};
 

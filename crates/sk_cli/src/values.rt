@@ -27,7 +27,7 @@ pub fn first_part(word: &str) -> (&str, Option<&str>)
     }
 }
 
-/// The numbers from `low` to `high` that a word spells, joined by commas. `None` where they are more than `most`.
+/// The numbers from `low` to `high` that a word spells, joined by commas. `None` if they are more than `most`.
 pub fn number_list(word: &str, most: usize, low: u64, high: u64) -> Option<Numbers>
     requires end { high + 1 < 2 ^ 64 }
     requires few { most ≤ most_numbers }

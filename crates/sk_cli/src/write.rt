@@ -6,7 +6,7 @@ ghost use Rattle.sk_model.specs.Causes.{HasCause, AppendsPart};
 use crate::fault::Fault;
 use sk_io::{Sink, write_all};
 
-/// Writes all of a text, or a part from its front that is not all, and then answers `WriteFault`.
+/// Writes all of a text, or a prefix of it that is not all, and then returns `WriteFault`.
 pub fn write_text<O: Sink>(out: &mut O, text: &[u8]) -> Result<(), Fault>
     ensures ok { OnOk result (Appends (O.written out.old) (O.written out.new) text.now) }
     ensures part { OnErr result (AppendsPart (O.written out.old) (O.written out.new) text.now) }

@@ -36,7 +36,7 @@ fn meet<C: Composable>(token: &mut Token<C>, u: &mut Updater<C>)
     ensures met { Meets token.old u.old token.new }
     ensures noted { u.new ≡ noted u.old }
 {
-    // It tells the proof that no more items lie in its buffer than that has room for.
+    // It shows the proof that no more items lie in its buffer than that has room for.
     let _number = u.number();
     token.meet(u.note());
 }

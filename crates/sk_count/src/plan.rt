@@ -3,7 +3,7 @@
 use sk_read::Kind;
 use sk_report::Numbers;
 
-/// What is counted, by how many hashes and by how many updaters at once.
+/// What is counted, by how many hashes and by how many updaters in parallel.
 #[derive(Clone, Copy)]
 pub struct Plan {
     /// How many hashes the sketch keeps.
@@ -20,7 +20,7 @@ pub struct Plan {
     pub window: Option<u32>,
     /// Whether a short stream is handed over item by item.
     pub eager: bool,
-    /// Whether a propagator of its own runs beside the updaters.
+    /// Whether a thread of its own propagates for the updaters.
     pub propagator: bool,
     /// The marks of the alarms at the first places of the board.
     pub alarms: Numbers,

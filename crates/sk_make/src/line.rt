@@ -57,7 +57,7 @@ impl Line {
         self.end = digits + 1;
     }
 
-    /// Moves as many bytes to the front of `buf` as are left and fit.
+    /// Moves as many bytes to the start of `buf` as are left and fit.
     pub fn give(&mut self, buf: &mut [u8]) -> usize
         ensures count { result ≡ min (length buf.old) (length self.old) }
         ensures bytes { self.old ≡ take result buf.new ++ self.new }

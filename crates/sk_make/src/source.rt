@@ -13,7 +13,7 @@ use sk_io::{Failed, Source};
 use sk_model::OutOfMemory;
 use std::marker::Model;
 
-/// A text is made of at most so many numbers.
+/// How many numbers a text is made of at most.
 pub const MOST_MADE: u64 = 10_000_000;
 
 /// A source that makes its text as it is read: numbers of a key, a line each. It never fails, and holds one line at
@@ -52,7 +52,7 @@ impl MakeSource {
         })
     }
 
-    // Gives a front of what is left, and none only at the end.
+    // Gives a prefix of what is left, and none only at the end.
     fn give(&mut self, buf: &mut [u8]) -> usize
         requires { 0 < length buf.old }
         ensures fits { result ≤ length buf.new }
@@ -64,7 +64,7 @@ impl MakeSource {
     }
 }
 
-// Makes the next line where nothing is left of the last one.
+// Makes the next line if nothing is left of the last one.
 fn refill(line: &mut Line, numbers: &mut Numbers, due: &mut u64)
     requires { numbers.old.next + due.old ≤ most_made }
     ensures text { line.new ++ text_of (numbers_from numbers.new.key numbers.new.next due.new)

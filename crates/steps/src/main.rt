@@ -1,9 +1,9 @@
-//! Takes so many steps of a table with one updater, or updates of a sketch and of a hub, for `bench/steps` to
-//! time. The words are a kind (`asks`, `turns` or `exchanges`, `sketch` or `hub`, and of Count-Min `tallies` or
+//! Takes n steps of a table with one updater, or updates of a sketch and of a hub, for `bench/steps` to time.
+//! The words are a kind (`asks`, `turns` or `exchanges`, `sketch` or `hub`, and of Count-Min `tallies` or
 //! `tallyhub`) and a number; without words nothing is done. `lines 0` and `numbers 0` count the lines of the standard
-//! input by the sketch alone, and `reads` reads so many ranks while four updaters run, and prints how many items these
-//! took. `scale THREADS DISTINCT N` takes N updates of a hub by so many threads, and prints what is published in the
-//! end.
+//! input by the sketch alone, and `reads N` reads N ranks while four updaters run, and prints how many items these
+//! took. `scale THREADS DISTINCT N` takes N updates of a hub by that many threads, and prints what is published in
+//! the end.
 #![tactic(auto)]
 
 mod direct;
@@ -36,14 +36,14 @@ fn table(alloc: Global) -> Result<Made<Theta>, OutOfMemory>
     make(alloc, 1, 1, global, parcels)
 }
 
-// So many loads of the published word.
+// Loads the published word `count` times.
 fn ask(token: &mut TokenSeat<Theta>, count: u64) {
     'ask: for _ in 0..count {
         let _ = token.ask();
     }
 }
 
-// So many turns that find 0, each a compare-exchange, and as many stores that yield it.
+// Takes the turn `count` times, each a compare-exchange that finds 0, and yields it by a store.
 fn turn(heart: &mut HeartSeat<Theta>, count: u64)
     requires free { leads heart.old.view.duty ≡ false }
 {
@@ -54,7 +54,7 @@ fn turn(heart: &mut HeartSeat<Theta>, count: u64)
     }
 }
 
-// So many exchanges of the trunk's slot, there and back.
+// Exchanges the trunk's slot `count` times, there and back.
 fn exchange(heart: &mut HeartSeat<Theta>, count: u64)
     requires free { leads heart.old.view.duty ≡ false }
 {
@@ -74,7 +74,7 @@ fn outcome(done: Result<(), OutOfMemory>) -> ExitCode {
     }
 }
 
-// How lines become items, where they are to be counted.
+// How lines become items, if they are to be counted.
 fn kind_of(word: &str) -> Option<Kind> {
     match word {
         "lines" => Some(Kind::Hash(0)),

@@ -20,7 +20,7 @@ const BUFFER: u32 = 64;
 
 const UPDATERS: u32 = 4;
 
-// Offers an item, and helps where both buffers are full. It answers whether the item was taken.
+// Offers an item, and helps if both buffers are full. It returns whether the item was taken.
 fn offer<W: Wait + Drop, R: Wait>(
     rt: &R,
     updater: &mut Updater<VersionedQuant<W>>,
@@ -54,7 +54,7 @@ fn keep_until<W: Wait + Drop, R: Wait>(
     unreachable!()
 }
 
-// Reads so many ranks.
+// Reads `count` ranks.
 fn read_all<R: Wait>(rt: &R, reader: QuantReader, count: u64, done: &AtomicBool) {
     let mut reader = reader;
     'read: for _ in 0..count {
@@ -63,7 +63,7 @@ fn read_all<R: Wait>(rt: &R, reader: QuantReader, count: u64, done: &AtomicBool)
     done.store(true, SeqCst);
 }
 
-/// Reads so many ranks in one thread while four updaters take items in others, and answers how many they took.
+/// Reads `count` ranks in one thread while four updaters take items in others, and returns how many they took.
 pub fn reads<R: Threads + Wait + Sync>(
     rt: &R,
     alloc: Global,

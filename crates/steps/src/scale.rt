@@ -19,7 +19,7 @@ use std::sync::atomic::Ordering::SeqCst;
 use std::thread;
 use std::thread::Threads;
 
-/// So many threads, and each has so many updates, with items of which so many are distinct.
+/// How many threads there are, how many updates each has, and how many distinct items.
 #[derive(Clone, Copy)]
 pub struct Load {
     pub threads: u32,
@@ -35,7 +35,7 @@ fn mixed_at(place: u64, distinct: u64) -> u64
     ((item ^ (item >> 24)).wrapping_mul(FACTOR) % ITEM_END).max(1)
 }
 
-// Offers an item once, and answers whether it was taken.
+// Offers an item once, and returns whether it was taken.
 #[inline(always)]
 fn offer(updater: &mut Updater<HeapTheta>, item: u64) -> bool
     requires item { IsItem item }
@@ -78,7 +78,7 @@ fn flush<R: Wait>(rt: &R, updater: &mut Updater<HeapTheta>) {
     unreachable!()
 }
 
-// Updates with so many items, from a place on.
+// Updates with `count` items, from a place on.
 fn update_each<R: Wait>(
     rt: &R,
     updater: &mut Updater<HeapTheta>,
@@ -127,7 +127,7 @@ fn propagate_until<R: Wait>(
     unreachable!()
 }
 
-/// Puts the load on a hub, and answers what is published once all of it was handed over.
+/// Puts the load on a hub, and returns what is published once all of it was handed over.
 #[tactic(auto, unfolding(sk_model::specs::Entries::items_of_entries))]
 pub fn updates<R: Threads + Wait + Sync>(
     rt: &R,

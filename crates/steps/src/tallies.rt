@@ -14,7 +14,7 @@ const ROWS: u32 = 4;
 
 const WIDTH: u32 = 65_536;
 
-/// So many updates of a sketch.
+/// Updates a sketch `count` times.
 pub fn sketch(alloc: Global, distinct: u64, count: u64) -> Result<(), OutOfMemory> {
     let mut sketch = CountMin::new(alloc, ROWS, WIDTH)?;
     'update: for place in 0..count {
@@ -25,7 +25,7 @@ pub fn sketch(alloc: Global, distinct: u64, count: u64) -> Result<(), OutOfMemor
     Ok(())
 }
 
-/// So many updates of a hub.
+/// Updates a hub `count` times.
 pub fn hub<R: Wait>(rt: &R, alloc: Global, distinct: u64, count: u64) -> Result<(), OutOfMemory> {
     let Ok(shape) = Shape::new(K, BUFFER, 1, 0, false) else {
         return Err(OutOfMemory);

@@ -20,7 +20,7 @@ pub const BUFFER: u32 = 64;
 /// By which items are mixed: 2^64 over the golden ratio.
 pub const FACTOR: u64 = 0x9E37_79B9_7F4A_7C15;
 
-/// The item at a place, of so many distinct ones, or of 0 where all are.
+/// The item at a place, of `distinct` ones, or of as many as there are places if that is 0.
 pub fn item_at(place: u64, distinct: u64) -> u64
     ensures { IsItem result }
 {
@@ -32,7 +32,7 @@ pub fn item_at(place: u64, distinct: u64) -> u64
     (number.wrapping_mul(FACTOR) % ITEM_END).max(1)
 }
 
-/// So many updates of a sketch.
+/// Updates a sketch `count` times.
 pub fn sketch(alloc: Global, distinct: u64, count: u64) -> Result<(), OutOfMemory> {
     let mut sketch = HeapTheta::new(alloc, K)?;
     'update: for place in 0..count {
@@ -41,7 +41,7 @@ pub fn sketch(alloc: Global, distinct: u64, count: u64) -> Result<(), OutOfMemor
     Ok(())
 }
 
-/// So many updates of a hub.
+/// Updates a hub `count` times.
 #[tactic(auto, unfolding(sk_model::specs::Entries::items_of_entries))]
 pub fn hub<R: Wait>(rt: &R, alloc: Global, distinct: u64, count: u64) -> Result<(), OutOfMemory> {
     let Ok(shape) = Shape::new(K, BUFFER, 1, 0, true) else {
@@ -55,7 +55,7 @@ pub fn hub<R: Wait>(rt: &R, alloc: Global, distinct: u64, count: u64) -> Result<
     Ok(())
 }
 
-/// So many updates of an updater.
+/// Updates `count` times by an updater.
 pub fn update_each<C: Composable, R: Wait>(
     rt: &R,
     updater: &mut Updater<C>,
@@ -69,7 +69,7 @@ pub fn update_each<C: Composable, R: Wait>(
     }
 }
 
-// Updates with an item, and helps where there is no room or each item is handed over.
+// Updates with an item, and helps if there is no room or each item is handed over.
 #[inline(always)]
 fn update<C: Composable, R: Wait>(rt: &R, updater: &mut Updater<C>, item: u64)
     requires item { IsItem item }
@@ -91,7 +91,7 @@ fn update<C: Composable, R: Wait>(rt: &R, updater: &mut Updater<C>, item: u64)
     }
 }
 
-// Propagates, and answers whether no other seat did.
+// Propagates, and returns whether no other seat did.
 fn help<C: Composable, R: Wait>(rt: &R, updater: &mut Updater<C>) -> bool
     ensures none { kept_of updater.new ≡ kept_of updater.old }
 {

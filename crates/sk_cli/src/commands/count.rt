@@ -30,25 +30,25 @@ pub struct What {
     pub column: u32,
 }
 
-/// By which updaters items are counted, and what is told on the way.
+/// By which updaters items are counted, and what is written meanwhile.
 #[derive(Clone, Copy)]
 pub struct How {
     /// How many updaters there are.
     pub updaters: u32,
     /// How many items a buffer of each updater holds, the last for all further updaters.
     pub sizes: Numbers,
-    /// After so many lines an estimate is written, where that is asked for.
+    /// After how many lines an estimate is written, if that is asked for.
     pub window: Option<u32>,
     /// Whether updaters propagate by themselves while the sketch is small.
     pub eager: bool,
-    /// Whether the heart propagates beside the updaters.
+    /// Whether the heart propagates for the updaters.
     pub propagator: bool,
     /// At which estimates an alarm is written.
     pub alarms: Numbers,
 }
 
 impl What {
-    /// What the options spell. `None` where a number is out of its limits.
+    /// What the options spell. `None` if a number is out of its limits.
     pub fn of(options: &Options<'_>) -> Option<What>
         ensures value { result ≡ what_by options.now }
         ensures limits { IfSome result IsWhat }
@@ -66,7 +66,7 @@ impl What {
 }
 
 impl How {
-    /// What the options spell. `None` where a value is out of its form or its limits.
+    /// What the options spell. `None` if a value is out of its form or its limits.
     pub fn of(options: &Options<'_>) -> Option<How>
         ensures value { result ≡ how_by options.now }
         ensures limits { IfSome result IsHow }
@@ -88,7 +88,7 @@ impl How {
     }
 }
 
-/// The plan that the options spell. `None` where a value is out of its form or its limits.
+/// The plan that the options spell. `None` if a value is out of its form or its limits.
 pub fn plan_of(options: &Options<'_>) -> Option<Plan>
     ensures value { result ≡ plan_by options.now }
     ensures limits { IfSome result IsWithin }
@@ -109,7 +109,7 @@ pub fn plan_of(options: &Options<'_>) -> Option<Plan>
     })
 }
 
-/// Counts the distinct items of a source by many updaters, and writes an estimate after each full window, where that
+/// Counts the distinct items of a source by many updaters, and writes an estimate after each full window, if that
 /// is asked for, and last one thread's estimate of all.
 pub fn count<R: Threads + Wait + Sync, S: Source, O: Sink, B: Seen, W: Wait + Drop>(
     rt: &R,

@@ -23,7 +23,7 @@ pub struct HashPlan {
 }
 
 impl HashPlan {
-    /// The plan that the options spell. `None` where the seed is out of its limits.
+    /// The plan that the options spell. `None` if the seed is out of its limits.
     pub fn of(options: &Options<'_>) -> Option<HashPlan>
         ensures { result ≡ plan_by options.now }
     {

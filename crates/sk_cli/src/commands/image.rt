@@ -31,7 +31,7 @@ pub struct ImagePlan {
 }
 
 impl ImagePlan {
-    /// The plan that the options spell. `None` where a number is out of its limits.
+    /// The plan that the options spell. `None` if a number is out of its limits.
     pub fn of(options: &Options<'_>) -> Option<ImagePlan>
         ensures value { result ≡ plan_by options.now }
         ensures limits { IfSome result IsWithin }

@@ -34,12 +34,12 @@ pub struct MakePlan {
     pub size: u64,
     /// How many updaters there are.
     pub updaters: u32,
-    /// Whether the heart propagates beside the updaters.
+    /// Whether the heart propagates for the updaters.
     pub propagator: bool,
 }
 
 impl MakePlan {
-    /// The plan that the options spell. `None` where a value is out of its form or its limits, or the number of
+    /// The plan that the options spell. `None` if a value is out of its form or its limits, or the number of
     /// lines is not given.
     pub fn of(options: &Options<'_>) -> Option<MakePlan>
         ensures value { result ≡ plan_by options.now }

@@ -1,4 +1,4 @@
-// The command that tells the rank of a number.
+// The command that estimates the rank of a number.
 ghost use Rattle.std.specs.Prelude.{◌≡◌, ◌≢◌, ◌≤◌, List, IfErr, IfSome, true};
 ghost use Rattle.sk_model.specs.Limits.{source_limit};
 ghost use Rattle.sk_rank.specs.Plans.{IsWithin};
@@ -18,35 +18,35 @@ use std::alloc::Global;
 use std::sync::Wait;
 use std::thread::Threads;
 
-// The greatest number whose rank is told.
+// The greatest number whose rank may be asked for.
 const MOST_AT: u64 = (1 << 48) - 1;
 
-/// Which number's rank is told, and by which sketch.
+/// Which number's rank is wanted, and by which sketch.
 #[derive(Clone, Copy, Debug, PartialEq, Eq)]
 pub struct What {
     /// How many items a level of the sketch has.
     pub k: u32,
     /// Whose coins it tosses.
     pub key: u64,
-    /// The number whose rank is told.
+    /// The number whose rank is wanted.
     pub at: u64,
 }
 
-/// By which updaters numbers are ranked, and what is told on the way.
+/// By which updaters numbers are ranked, and what is written meanwhile.
 #[derive(Clone, Copy, Debug, PartialEq, Eq)]
 pub struct How {
     /// How many items a buffer of each updater holds.
     pub size: u32,
     /// How many updaters there are.
     pub updaters: u32,
-    /// After so many lines a rank is written, where that is asked for.
+    /// After how many lines a rank is written, if that is asked for.
     pub window: Option<u32>,
-    /// Whether the heart propagates beside the updaters.
+    /// Whether the heart propagates for the updaters.
     pub propagator: bool,
 }
 
 impl What {
-    /// What the options spell. `None` where a number is out of its limits, or that whose rank is told is not given.
+    /// What the options spell. `None` if a number is out of its limits, or that whose rank is wanted is not given.
     pub fn of(options: &Options<'_>) -> Option<What>
         ensures value { result ≡ what_by options.now }
         ensures limits { IfSome result IsWhat }
@@ -60,7 +60,7 @@ impl What {
 }
 
 impl How {
-    /// What the options spell. `None` where a value is out of its form or its limits.
+    /// What the options spell. `None` if a value is out of its form or its limits.
     pub fn of(options: &Options<'_>) -> Option<How>
         ensures value { result ≡ how_by options.now }
         ensures limits { IfSome result IsHow }
@@ -78,7 +78,7 @@ impl How {
     }
 }
 
-/// The plan that the options spell, in which the number whose rank is told is an item: one more. `None` if a value is
+/// The plan that the options spell, in which the number whose rank is wanted is an item: one more. `None` if a value is
 /// out of its form or its limits, or the number is not given.
 pub fn plan_of(options: &Options<'_>) -> Option<Plan>
     ensures value { result ≡ plan_by options.now }

@@ -18,7 +18,7 @@ use std::alloc::Global;
 use std::sync::Wait;
 use std::thread::Threads;
 
-/// Which item's count is told, and by which sketch.
+/// Which item is counted, and by which sketch.
 #[derive(Clone, Copy, Debug, PartialEq, Eq)]
 pub struct What {
     /// How many rows the sketch has.
@@ -27,7 +27,7 @@ pub struct What {
     pub width: u32,
     /// The seed by which lines become items.
     pub seed: u32,
-    /// The item whose count is told.
+    /// The item that is counted.
     pub item: u64,
     /// The lines at 0, else the fields in this column, counted from 1, of the records.
     pub column: u32,
@@ -55,7 +55,7 @@ impl What {
     }
 }
 
-/// The plan that the options spell, in which the word whose count is told is an item, as a line of it would be. `None` if a
+/// The plan that the options spell, in which the word that is counted is an item, as a line of it would be. `None` if a
 /// value is out of its form or its limits, or one of those that have to be given is not.
 pub fn plan_of(options: &Options<'_>) -> Option<Plan>
     ensures value { result ≡ plan_by options.now }
