@@ -1,11 +1,9 @@
 -- What was due of a count for its first units.
-use Rattle.std.proofs.Common.{◌≡◌, ℕ, ◌+◌, ◌<◌, ◌≤◌, Bool, true, false, if◌then◌else◌, List, [], ◌∷◌, ◌++◌, length, take, get_or, All, Option, is_some, refl, sym, ap, subst, ◌∙◌, arith, append_assoc, append-nil, length-append, length-take-le}
-use Rattle.std.proofs.lemmas.List.{get_or-take, take-take, take-append-le}
+use Rattle.std.proofs.Common.{◌≡◌, ℕ, ◌+◌, ◌≤◌, if◌then◌else◌, List, [], ◌∷◌, ◌++◌, length, take, All, Option, is_some, refl, sym, ap, subst, ◌∙◌, append_assoc}
 use Rattle.sk_model.specs.Missing.{Begins}
 use Rattle.sk_model.proofs.Missing.{begins_front}
 use Rattle.sk_read.specs.Items.{IsGood}
 use Rattle.sk_watch.specs.Places.{Place}
-use Rattle.sk_fill.specs.Windows.{all_lines}
 use Rattle.sk_report.specs.Parts.{AppendsPartAfter}
 use Rattle.sk_report.proofs.Fronts.{part_after_less}
 use Rattle.sk_count.specs.declared.plan.Plan.{Plan}
@@ -15,19 +13,8 @@ use Rattle.sk_count.specs.Moments.{Moment, moments_due, IsMoment, Follows, AreMo
 use Rattle.sk_count.specs.Texts.{moment_text, places_behind, interim_text, interim_by, places_by, armed_by}
 use Rattle.sk_cli.specs.Beside.{Beside}
 use Rattle.sk_cli.specs.commands.Count.{IsInterim}
-use Rattle.sk_cli.proofs.WindowFronts.{FrontWindows, front_windows, fewer_windows}
-
-pub due_most : (b : Bool) (p : ℕ) → (if b then p else 0) ≤ p
-due_most true p = omega arith
-due_most false p = omega arith
-
-pub due_less : (b : Bool) (p q : ℕ) → p ≤ q → (if b then p else 0) ≤ (if b then q else 0)
-due_less true p q less = less
-due_less false p q less = omega arith
-
-pub due_fewer : (b : Bool) (p q n : ℕ) → p < q → n + 1 ≡ (if b then q else 0) → (if b then p else 0) ≤ n
-due_fewer true p q n less is = omega (arith, less, is)
-due_fewer false p q n less is = omega (arith, is)
+use Rattle.sk_cli.proofs.FirstMoments.{first_count, first_grows, first_each, first_earlier}
+use Rattle.sk_cli.proofs.WindowFronts.{FrontWindows, front_windows, windows_before_last}
 
 -- the text of the first moments
 text_begins : (k : ℕ) (places : List Place) (xs ys : List Moment) → (rest : List ℕ) × (interim_text k places (xs ++ ys) ≡ interim_text k places xs ++ rest)
@@ -45,29 +32,12 @@ module _ (plan : Plan) (units : List (List ℕ)) (course : Course plan units) wh
   abbrev first : ℕ → ℕ
   first many = moments_due plan (take many course.windows)
 
-  few : (many : ℕ) → many ≤ length course.windows → first many ≤ length course.moments
-  few many within =
-      let less = due_less (is_some plan.window) (length (take many course.windows)) (length course.windows) (omega (arith, length-take-le many course.windows within, within)) in
-      omega (arith, less, course.asks.count)
-
-  few_windows : (many : ℕ) → many ≤ length course.windows → first many ≤ many
-  few_windows many within = omega (arith, due_most (is_some plan.window) (length (take many course.windows)), length-take-le many course.windows within)
-
   first_moments : (many : ℕ) → many ≤ length course.windows → AreMoments plan (take many course.windows) (take (first many) course.moments)
-  first_moments many within =
-      let n = first many in
-      let size : length (take n course.moments) ≡ n = length-take-le n course.moments (few many within) in
-      record {
-        count = size;
-        grows = λ i j d less inside.
-            subst (λ (m : Moment). Follows plan.updaters m (get_or (take n course.moments) j d)) (sym (get_or-take n course.moments i d (omega (arith, less, inside, size))))
-            (subst (λ (m : Moment). Follows plan.updaters (get_or course.moments i d) m) (sym (get_or-take n course.moments j d (omega (arith, inside, size))))
-            (course.asks.grows i j d less (omega (arith, inside, size, few many within))));
-        each = λ j d inside.
-            subst (λ (m : Moment). IsMoment plan (take (j + 1) (take many course.windows)) m) (sym (get_or-take n course.moments j d (omega (arith, inside, size))))
-            (subst (λ (l : List (List (List ℕ))). IsMoment plan l (get_or course.moments j d)) (sym (take-take (j + 1) many course.windows (omega (arith, inside, size, few_windows many within))))
-            (course.asks.each j d (omega (arith, inside, size, few many within))));
-      }
+  first_moments many within = record {
+    count = first_count (is_some plan.window) course.windows course.moments course.asks.count many within;
+    grows = first_grows (is_some plan.window) course.windows course.moments course.asks.count (Follows plan.updaters) course.asks.grows many within;
+    each = first_each (is_some plan.window) course.windows course.moments course.asks.count (IsMoment plan) course.asks.each many within;
+  }
 
   module _ (front : List (List ℕ)) (good : All (IsGood plan.kind) front) (is : FrontWindows (lines_of_window plan) front course.windows) (from : Beside) (w w' : Option (List ℕ)) (due : List ℕ) where
     abbrev front_course : Course plan front
@@ -96,15 +66,7 @@ pub due_before_last : (plan : Plan) (old new : Setting) (from : Beside) (given f
     → AppendsPartAfter (interim_by plan old.places part.earlier) old.written new.written due → (text : List ℕ) × (beside : Beside) × IsInterim plan from beside front text × AppendsPartAfter text old.written new.written due
 due_before_last plan old new from given front unit same part begins good due written =
     let c = part.course in
-    let units : List (List ℕ) = given ++ unit ∷ [] in
-    let back : units ≡ front ++ (begins.0 ++ unit ∷ []) = ap (λ (l : List (List ℕ)). l ++ unit ∷ []) begins.1 ∙ append_assoc front begins.0 (unit ∷ []) in
-    let is = front_windows (lines_of_window plan) c.windows c.rest front (begins.0 ++ unit ∷ []) (sym c.cut.joined ∙ back) c.cut.full c.cut.unfilled in
-    let all : units ≡ all_lines c.windows = c.cut.joined ∙ ap (λ (l : List (List ℕ)). all_lines c.windows ++ l) part.full ∙ append-nil (all_lines c.windows) in
-    let fewer = fewer_windows (lines_of_window plan) front c.windows is (omega (arith, ap length all, ap length back, length-append front (begins.0 ++ unit ∷ []), length-append begins.0 (unit ∷ []))) in
-    let n = moments_due plan (take is.many c.windows) in
-    let least : n ≤ length part.earlier =
-    due_fewer (is_some plan.window) (length (take is.many c.windows)) (length c.windows) (length part.earlier) (omega (arith, fewer, length-take-le is.many c.windows is.within))
-    (sym (length-append part.earlier (part.last ∷ [])) ∙ sym (ap (λ (l : List Moment). length l) part.moments) ∙ c.asks.count) in
-    let first : take n c.moments ≡ take n part.earlier = ap (λ (l : List Moment). take n l) part.moments ∙ take-append-le n part.earlier (part.last ∷ []) least in
-    was_due plan units c front good is from old.written new.written due part.earlier (subst (λ (l : List Moment). Begins l part.earlier) (sym first) (begins_front n part.earlier))
+    let fewer = windows_before_last (lines_of_window plan) c.windows c.rest given front unit c.cut part.full begins in
+    let first = first_earlier (is_some plan.window) c.windows c.moments c.asks.count part.earlier part.last part.moments fewer.0.many fewer.1 in
+    was_due plan (given ++ unit ∷ []) c front good fewer.0 from old.written new.written due part.earlier (subst (λ (l : List Moment). Begins l part.earlier) (sym first) (begins_front (moments_due plan (take fewer.0.many c.windows)) part.earlier))
     (subst (λ (places : List Place). AppendsPartAfter (interim_by plan places part.earlier) old.written new.written due) same written)

@@ -9,6 +9,7 @@ pub mod Counting
 pub mod Deciding
 pub mod Endings
 pub mod Executing
+pub mod FirstMoments
 pub mod Fronts
 pub mod Hashing
 pub mod JoinDeciding

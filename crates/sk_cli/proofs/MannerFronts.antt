@@ -1,10 +1,8 @@
 -- What was due for the first units of a command that writes by a manner.
-use Rattle.std.proofs.Common.{◌≡◌, ℕ, ◌+◌, ◌≤◌, List, [], ◌∷◌, ◌++◌, length, take, get_or, All, Option, is_some, refl, sym, ap, subst, ◌∙◌, arith, append_assoc, append-nil, length-append, length-take-le}
-use Rattle.std.proofs.lemmas.List.{get_or-take, take-take, take-append-le}
+use Rattle.std.proofs.Common.{◌≡◌, ℕ, ◌+◌, ◌≤◌, List, [], ◌∷◌, ◌++◌, length, take, All, Option, is_some, refl, sym, ap, subst, ◌∙◌, append_assoc}
 use Rattle.sk_model.specs.Missing.{Begins}
 use Rattle.sk_model.proofs.Missing.{begins_front}
 use Rattle.sk_read.specs.Items.{IsGood}
-use Rattle.sk_fill.specs.Windows.{all_lines}
 use Rattle.sk_report.specs.Parts.{AppendsPartAfter}
 use Rattle.sk_report.proofs.Fronts.{part_after_less}
 use Rattle.sk_tell.specs.Manners.{Manner, lines_of_window}
@@ -14,8 +12,8 @@ use Rattle.sk_tell.specs.Moments.{Moment, moments_due, IsMoment, Follows, AreMom
 use Rattle.sk_tell.specs.Texts.{moment_text, interim_text}
 use Rattle.sk_cli.specs.Beside.{Beside}
 use Rattle.sk_cli.specs.ByManner.{IsInterimText}
-use Rattle.sk_cli.proofs.CountFronts.{due_most, due_less, due_fewer}
-use Rattle.sk_cli.proofs.WindowFronts.{FrontWindows, front_windows, fewer_windows}
+use Rattle.sk_cli.proofs.FirstMoments.{first_count, first_grows, first_each, first_earlier}
+use Rattle.sk_cli.proofs.WindowFronts.{FrontWindows, front_windows, windows_before_last}
 
 -- the text of the first moments
 text_begins : (manner : Manner) (xs ys : List Moment) → (rest : List ℕ) × (interim_text manner (xs ++ ys) ≡ interim_text manner xs ++ rest)
@@ -33,29 +31,12 @@ module _ (manner : Manner) (units : List (List ℕ)) (course : Course manner uni
   abbrev first : ℕ → ℕ
   first many = moments_due manner (take many course.windows)
 
-  few : (many : ℕ) → many ≤ length course.windows → first many ≤ length course.moments
-  few many within =
-      let less = due_less (is_some manner.window) (length (take many course.windows)) (length course.windows) (omega (arith, length-take-le many course.windows within, within)) in
-      omega (arith, less, course.asks.count)
-
-  few_windows : (many : ℕ) → many ≤ length course.windows → first many ≤ many
-  few_windows many within = omega (arith, due_most (is_some manner.window) (length (take many course.windows)), length-take-le many course.windows within)
-
   first_moments : (many : ℕ) → many ≤ length course.windows → AreMoments manner (take many course.windows) (take (first many) course.moments)
-  first_moments many within =
-      let n = first many in
-      let size : length (take n course.moments) ≡ n = length-take-le n course.moments (few many within) in
-      record {
-        count = size;
-        grows = λ i j d less inside.
-            subst (λ (m : Moment). Follows m (get_or (take n course.moments) j d)) (sym (get_or-take n course.moments i d (omega (arith, less, inside, size))))
-            (subst (λ (m : Moment). Follows (get_or course.moments i d) m) (sym (get_or-take n course.moments j d (omega (arith, inside, size))))
-            (course.asks.grows i j d less (omega (arith, inside, size, few many within))));
-        each = λ j d inside.
-            subst (λ (m : Moment). IsMoment manner (take (j + 1) (take many course.windows)) m) (sym (get_or-take n course.moments j d (omega (arith, inside, size))))
-            (subst (λ (l : List (List (List ℕ))). IsMoment manner l (get_or course.moments j d)) (sym (take-take (j + 1) many course.windows (omega (arith, inside, size, few_windows many within))))
-            (course.asks.each j d (omega (arith, inside, size, few many within))));
-      }
+  first_moments many within = record {
+    count = first_count (is_some manner.window) course.windows course.moments course.asks.count many within;
+    grows = first_grows (is_some manner.window) course.windows course.moments course.asks.count Follows course.asks.grows many within;
+    each = first_each (is_some manner.window) course.windows course.moments course.asks.count (IsMoment manner) course.asks.each many within;
+  }
 
   module _ (front : List (List ℕ)) (good : All (IsGood manner.kind) front) (is : FrontWindows (lines_of_window manner) front course.windows) (from : Beside) (w w' : Option (List ℕ)) (due : List ℕ) where
     abbrev front_course : Course manner front
@@ -83,14 +64,6 @@ pub due_before_last : (manner : Manner) (old new : Setting) (from : Beside) (giv
     → AppendsPartAfter (interim_text manner part.earlier) old.written new.written due → (text : List ℕ) × (beside : Beside) × IsInterimText manner from beside front text × AppendsPartAfter text old.written new.written due
 due_before_last manner old new from given front unit part begins good due written =
     let c = part.course in
-    let units : List (List ℕ) = given ++ unit ∷ [] in
-    let back : units ≡ front ++ (begins.0 ++ unit ∷ []) = ap (λ (l : List (List ℕ)). l ++ unit ∷ []) begins.1 ∙ append_assoc front begins.0 (unit ∷ []) in
-    let is = front_windows (lines_of_window manner) c.windows c.rest front (begins.0 ++ unit ∷ []) (sym c.cut.joined ∙ back) c.cut.full c.cut.unfilled in
-    let all : units ≡ all_lines c.windows = c.cut.joined ∙ ap (λ (l : List (List ℕ)). all_lines c.windows ++ l) part.full ∙ append-nil (all_lines c.windows) in
-    let fewer = fewer_windows (lines_of_window manner) front c.windows is (omega (arith, ap length all, ap length back, length-append front (begins.0 ++ unit ∷ []), length-append begins.0 (unit ∷ []))) in
-    let n = moments_due manner (take is.many c.windows) in
-    let least : n ≤ length part.earlier =
-    due_fewer (is_some manner.window) (length (take is.many c.windows)) (length c.windows) (length part.earlier) (omega (arith, fewer, length-take-le is.many c.windows is.within))
-    (sym (length-append part.earlier (part.last ∷ [])) ∙ sym (ap (λ (l : List Moment). length l) part.moments) ∙ c.asks.count) in
-    let first : take n c.moments ≡ take n part.earlier = ap (λ (l : List Moment). take n l) part.moments ∙ take-append-le n part.earlier (part.last ∷ []) least in
-    was_due manner units c front good is from old.written new.written due part.earlier (subst (λ (l : List Moment). Begins l part.earlier) (sym first) (begins_front n part.earlier)) written
+    let fewer = windows_before_last (lines_of_window manner) c.windows c.rest given front unit c.cut part.full begins in
+    let first = first_earlier (is_some manner.window) c.windows c.moments c.asks.count part.earlier part.last part.moments fewer.0.many fewer.1 in
+    was_due manner (given ++ unit ∷ []) c front good fewer.0 from old.written new.written due part.earlier (subst (λ (l : List Moment). Begins l part.earlier) (sym first) (begins_front (moments_due manner (take fewer.0.many c.windows)) part.earlier)) written

@@ -1,8 +1,9 @@
 -- The first of some units, cut into windows as all of them are.
-use Rattle.std.proofs.Common.{◌≡◌, ◌⊎◌, inl, inr, ℕ, suc, ◌<◌, ◌≤◌, false, List, [], ◌∷◌, ◌++◌, length, take, All, refl, sym, ap, ◌∙◌, arith, append_assoc, length-append}
+use Rattle.std.proofs.Common.{◌≡◌, ◌⊎◌, inl, inr, ℕ, suc, ◌<◌, ◌≤◌, false, List, [], ◌∷◌, ◌++◌, length, take, All, refl, sym, ap, ◌∙◌, arith, append_assoc, append-nil, length-append}
 use Rattle.std.proofs.lemmas.Bool.{cases_lt}
 use Rattle.std.proofs.lemmas.List.{take-append-le, take_all}
 use Rattle.std.proofs.lemmas.List.Elements.{All-nil, All-cons}
+use Rattle.sk_model.specs.Missing.{Begins}
 use Rattle.sk_fill.specs.Windows.{fills, FillsNone, IsFullWindow, all_lines, AreWindows}
 
 -- the first units, as the first windows and a rest
@@ -68,3 +69,13 @@ fewer_windows most front windows is less = by (cases_lt is.many (length windows)
     by (inr all) =
         let same : take is.many windows ≡ windows = take_all is.many windows all in
         absurd (omega (arith, less, ap length is.cut.joined, ap (λ (l : List (List (List ℕ))). length (all_lines l)) same, length-append (all_lines (take is.many windows)) is.rest))
+
+-- a unit fills the last window: the first of those before it fill fewer
+pub windows_before_last : (most : ℕ) (windows : List (List (List ℕ))) (rest given front : List (List ℕ)) (unit : List ℕ) → AreWindows most (given ++ unit ∷ []) windows rest → rest ≡ [] → Begins front given
+    → (is : FrontWindows most front windows) × (is.many < length windows)
+windows_before_last most windows rest given front unit cut none begins =
+    let units : List (List ℕ) = given ++ unit ∷ [] in
+    let back : units ≡ front ++ (begins.0 ++ unit ∷ []) = ap (λ (l : List (List ℕ)). l ++ unit ∷ []) begins.1 ∙ append_assoc front begins.0 (unit ∷ []) in
+    let is = front_windows most windows rest front (begins.0 ++ unit ∷ []) (sym cut.joined ∙ back) cut.full cut.unfilled in
+    let all : units ≡ all_lines windows = cut.joined ∙ ap (λ (l : List (List ℕ)). all_lines windows ++ l) none ∙ append-nil (all_lines windows) in
+    (is, fewer_windows most front windows is (omega (arith, ap length all, ap length back, length-append front (begins.0 ++ unit ∷ []), length-append begins.0 (unit ∷ []))))
