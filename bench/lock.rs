@@ -1,4 +1,4 @@
-// Locks and unlocks a Mutex that nobody else has, so many times.
+// Locks and unlocks a Mutex that nobody else has, n times.
 use std::hint::black_box;
 use std::sync::Mutex;
 

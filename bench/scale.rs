@@ -1,4 +1,4 @@
-// Updates by threads, over std alone: of one sketch behind a Mutex, or of a sketch for each thread, merged at the end. The
+// Updates by threads, over std alone: of one sketch in a Mutex, or of a sketch for each thread, merged at the end. The
 // sketch is that of the k smallest distinct items, which `steps scale` updates through a hub, and so are the items.
 //
 //     scale lock THREADS DISTINCT N            scale own THREADS DISTINCT N
@@ -79,7 +79,7 @@ fn item_at(place: u64, distinct: u64) -> u64 {
     ((item ^ (item >> 24)).wrapping_mul(FACTOR) % ITEM_END).max(1)
 }
 
-/// What each of the threads takes, of so many distinct items.
+/// What each of the threads takes, of this many distinct items.
 #[derive(Clone, Copy)]
 struct Load {
     threads: u64,

@@ -3,7 +3,7 @@
 
     with_dask.py FILE [WORKERS | SCHEDULER]
 
-With a number it starts so many processes on this machine; with an address, as in tcp://10.0.0.1:8786, it uses the
+With a number N it starts N processes on this machine; with an address, as in tcp://10.0.0.1:8786, it uses the
 workers there, which need sketchd on their path and see the file under the same name. Each worker makes the images of
 its parts of the file, and the images are joined two by two. OPTIONS has the options of `image`."""
 import os, subprocess, sys, tempfile
