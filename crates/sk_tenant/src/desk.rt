@@ -39,6 +39,7 @@ impl Model for Desk {
 
 impl Desk {
     /// The place of the tenant with this name.
+    #[inline(always)]
     pub fn place(&self, name: &[u8]) -> Option<u32>
         ensures value { result ≡ place_of self.now.names name.now }
         ensures found { IfSome result (λ t. slice_get self.now.names t ≡ Some name.now) }

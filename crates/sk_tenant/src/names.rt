@@ -64,6 +64,7 @@ impl Names {
     }
 
     /// The place of the tenant with this name.
+    #[inline(always)]
     pub fn place(&self, name: &[u8]) -> Option<u32>
         ensures value { result ≡ place_of self.now name.now }
         ensures found { IfSome result (λ t. slice_get self.now t ≡ Some name.now) }
@@ -108,7 +109,8 @@ fn is_at(names: &IndexSet<Vec<u8>>, t: u32, name: &[u8]) -> bool
     }
 }
 
-// The place of a name, by its hash.
+// The place of a name, by its hash: seldom, so that `place` is short where it is called.
+#[inline(never)]
 fn sought(names: &IndexSet<Vec<u8>>, name: &[u8]) -> Option<u32>
     requires few { length names.now.keys ≤ most_tenants }
     ensures { result ≡ place_of (map (λ own. own.items) names.now.keys) name.now }
