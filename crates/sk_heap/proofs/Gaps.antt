@@ -1,9 +1,13 @@
 -- An empty place that is closed: what stands after it moves back.
-use Rattle.std.proofs.Common.{◌≡◌, ◌≢◌, ℕ, ◌+◌, ◌-◌, ◌%◌, ◌<◌, ◌≤◌, List, length, set, get_or, ⊎_elim, refl, sym, ap, subst, ◌∙◌, arith, length-set}
-use Rattle.std.proofs.lemmas.Bool.{cases_eq, cases_order}
+use Rattle.std.proofs.Common.{◌≡◌, ◌≢◌, ℕ, ◌+◌, ◌-◌, ◌%◌, ◌<◌, ◌≤◌, List, length, set, get_or, ⊎_elim, refl, sym, ap, subst, ◌∙◌, arith, length-set, Bool, true, false, cond, true≢false}
+use Rattle.std.proofs.lemmas.Bool.{cases_eq, cases_lt, cases_order}
+use Rattle.std.proofs.lemmas.List.{set-get_or}
 use Rattle.std.proofs.Math.Nat.{mod-eq_of_lt}
+use Rattle.sk_heap.specs.Heap.{times, HasSame}
+use Rattle.sk_heap.specs.Runs.{IsHole, IsRun}
 use Rattle.sk_heap.specs.Table.{home, going_round, IsProbedOver, IsProbedButGap, IsGap}
 use Rattle.sk_heap.proofs.Round.{steps_on, steps_back, one_round, steps_reach}
+use Rattle.sk_heap.proofs.Counts.{same_moved}
 use Rattle.sk_heap.proofs.Probes.{round_at, round_off}
 
 -- an entry is taken out
@@ -153,8 +157,115 @@ module _ (t : List ℕ) (start gap step : ℕ) (within : step < length t) (g : I
           ahead = (a.0, later, a.2, round_off len filled at 0 (start + a.0) off ∙ round_off len t hole (y + 1) (start + a.0) off' ∙ a.3);
         }
 
+    nothing_shifts : set (set t ((start + gap) % length t) 0) ((start + step) % length t) (y + 1) ≡ t
+    nothing_shifts =
+        let hole : ℕ = (start + gap) % length t in
+        let at : ℕ = (start + step) % length t in
+        ap (λ (l : List ℕ). set l at (y + 1)) (subst (λ (w : ℕ). set t hole w ≡ t) (g.empty) (set-get_or t hole 0)) ∙ subst (λ (w : ℕ). set t at w ≡ t) entry (set-get_or t at 0)
+
+    -- the entry moves or stays
+    pub gap_shifts : (moves : Bool) → (moves ≡ true → step - gap ≤ d) → (moves ≡ false → d < step - gap)
+        → IsGap (length t) (set (set t ((start + gap) % length t) (cond moves (y + 1) 0)) ((start + step) % length t) (cond moves 0 (y + 1))) start (cond moves step gap) (step + 1)
+    gap_shifts true far short = gap_goes_on (far refl)
+    gap_shifts false far short = subst (λ (l : List ℕ). IsGap (length t) l start gap (step + 1)) (sym nothing_shifts) (gap_rests (short refl))
+
     pub apart_from_gap : (start + gap) % length t ≢ (start + step) % length t
     apart_from_gap same = let behind : gap < step = g.behind in let e : gap ≡ step = one_round (length t) start gap step (omega arith) within same in absurd (omega arith)
+
+-- ---- two places that are written, whether an entry moves or not
+
+module _ (t : List ℕ) (start gap step : ℕ) (within : step < length t) (h : IsHole (length t) t start gap step) where
+  abbrev pub hole_at : ℕ
+  hole_at = (start + gap) % length t
+
+  abbrev pub entry_at : ℕ
+  entry_at = (start + step) % length t
+
+  abbrev pub written : Bool → List ℕ
+  written moves = set (set t hole_at (cond moves (get_or t entry_at 0) 0)) entry_at (cond moves 0 (get_or t entry_at 0))
+
+  written_stays : (moves : Bool) → moves ≡ false → (written moves ≡ t) × (cond moves step gap ≡ gap)
+  written_stays true is = absurd (true≢false is)
+  written_stays false is = (ap (λ (l : List ℕ). set l entry_at (get_or t entry_at 0)) (subst (λ (w : ℕ). set t hole_at w ≡ t) (h.empty) (set-get_or t hole_at 0)) ∙ set-get_or t entry_at 0, refl)
+
+  pub written_after : (last : ℕ) (moves : Bool) → (moves ≡ true → step ≤ last) → last < step → (written moves ≡ t) × (cond moves step gap ≡ gap)
+  written_after last true near past = let no : step ≤ last = near refl in absurd (omega arith)
+  written_after last false near past = written_stays false refl
+
+  pub written_later : (moves : Bool) (c : ℕ) → step < c → c < length t → going_round (length t) (written moves) (start + c) ≡ going_round (length t) t (start + c)
+  written_later moves c above below =
+      let len : ℕ = length t in
+      let before : gap < step = h.behind in
+      let v : ℕ = cond moves (get_or t entry_at 0) 0 in
+      let off : (start + c) % len ≢ entry_at = λ same. let e : c ≡ step = one_round len start c step below within same in absurd (omega arith) in
+      let off' : (start + c) % len ≢ hole_at = λ same. let e : c ≡ gap = one_round len start c gap below (omega arith) same in absurd (omega arith) in
+      round_off len (set t hole_at v) entry_at (cond moves 0 (get_or t entry_at 0)) (start + c) off ∙ round_off len t hole_at v (start + c) off'
+
+  pub written_same : (moves : Bool) → HasSame (written moves) t
+  written_same true =
+      let before : gap < step = h.behind in
+      let apart : hole_at ≢ entry_at = λ same. let e : gap ≡ step = one_round (length t) start gap step (omega arith) within same in absurd (omega arith) in
+      same_moved t hole_at entry_at (get_or t entry_at 0) 0 (omega arith) (omega arith) apart (h.empty) refl
+  written_same false = λ x. ap (λ (l : List ℕ). times x l) ((written_stays false refl).0)
+
+-- ---- a run that is passed over in a fixed number of steps: those after its last entry change nothing
+
+pub record IsShifted (len : ℕ) (old table : List ℕ) (start last gap step : ℕ) : Type 0 where
+  pub hole : IsHole len table start gap step
+  pub near : step ≤ last + 1 → IsGap len table start gap step
+  pub done : last + 1 ≤ step → IsGap len table start gap (last + 1)
+  pub end : going_round len table (start + (last + 1)) ≡ 0
+  pub later : (c : ℕ) → step ≤ c → c < len → going_round len table (start + c) ≡ going_round len old (start + c)
+
+pub shift_begins : (len : ℕ) (t : List ℕ) (start last : ℕ) → IsGap len t start 0 1 → IsRun len t start last → IsShifted len t t start last 0 1
+shift_begins len t start last g run =
+    record {
+      hole = record { behind = g.behind; empty = g.empty };
+      near = λ _. g;
+      done = λ over. let one : 1 ≡ last + 1 = omega arith in subst (λ (n : ℕ). IsGap len t start 0 n) one g;
+      end = run.end;
+      later = λ c from less. refl;
+    }
+
+module _ (len : ℕ) (old t new : List ℕ) (start last gap gap' step : ℕ) (one : 1 ≤ step) (within : step < len) (run : IsRun len old start last) (s : IsShifted len old t start last gap step)
+    (shifts : step ≤ last → going_round len t (start + step) ≢ 0 → IsGap len t start gap step → IsGap len new start gap' (step + 1))
+    (stays : last < step → (new ≡ t) × (gap' ≡ gap))
+    (keeps : (c : ℕ) → step < c → c < len → going_round len new (start + c) ≡ going_round len t (start + c)) where
+  later' : (c : ℕ) → step + 1 ≤ c → c < len → going_round len new (start + c) ≡ going_round len old (start + c)
+  later' c from less = keeps c (omega arith) less ∙ s.later c (omega arith) less
+
+  step_near : step ≤ last → IsShifted len old new start last gap' (step + 1)
+  step_near near =
+      let full : going_round len t (start + step) ≢ 0 = λ is. run.full step one near (sym (s.later step (omega arith) within) ∙ is) in
+      let g : IsGap len new start gap' (step + 1) = shifts near full (s.near (omega arith)) in
+      let inside : last + 1 < len = run.within in
+      record {
+        hole = record { behind = g.behind; empty = g.empty };
+        near = λ _. g;
+        done = λ over. let one_more : step + 1 ≡ last + 1 = omega arith in subst (λ (n : ℕ). IsGap len new start gap' n) one_more g;
+        end = keeps (last + 1) (omega arith) inside ∙ s.end;
+        later = later';
+      }
+
+  step_past : last < step → IsShifted len old new start last gap' (step + 1)
+  step_past past =
+      let same = stays past in
+      let g : IsGap len new start gap' (last + 1) =
+      subst (λ (l : List ℕ). IsGap len l start gap' (last + 1)) (sym same.0) (subst (λ (n : ℕ). IsGap len t start n (last + 1)) (sym same.1) (s.done (omega arith))) in
+      let before : gap' < last + 1 = g.behind in
+      record {
+        hole = record { behind = omega arith; empty = g.empty };
+        near = λ under. absurd (omega arith);
+        done = λ _. g;
+        end = subst (λ (l : List ℕ). going_round len l (start + (last + 1)) ≡ 0) (sym same.0) (s.end);
+        later = later';
+      }
+
+  pub shift_steps : IsShifted len old new start last gap' (step + 1)
+  shift_steps = ⊎_elim step_past step_near (cases_lt last step)
+
+pub shift_ends : (old t : List ℕ) (start last gap step : ℕ) → last < step → last + 1 < length t → IsShifted (length t) old t start last gap step → IsProbedOver (length t) t
+shift_ends old t start last gap step past within s = gap_ends t start gap (last + 1) within (s.done (omega arith)) (s.end)
 
 -- the last entry before an empty place moves into the gap
 module _ (t : List ℕ) (start last : ℕ) (inside : start < length t) (within : last + 1 < length t) (g : IsGap (length t) t start 0 1) (ends : going_round (length t) t (start + (last + 1)) ≡ 0) (y d : ℕ) (under : d < length t) (reaches : (home (length t) y + d) % length t ≡ (start + last) % length t) (entry : going_round (length t) t (start + last) ≡ y + 1) where

@@ -1,10 +1,12 @@
 -- What a walk along the table meets, if it looks at several places together.
-use Rattle.std.proofs.Common.{◌≡◌, ◌≢◌, ◌⊎◌, ℕ, ◌+◌, ◌-◌, ◌*◌, ◌%◌, ◌^◌, ◌<◌, ◌≤◌, List, length, map, get_or, slice_index, Contains, ⊎_elim, cond, eqb, nat_eq, true, true≢false, eqb-true, eq-eqb, replicate, sym, ap, ◌∙◌, arith, w64}
+use Rattle.std.proofs.Common.{◌≡◌, ◌≢◌, ◌⊎◌, ℕ, ◌+◌, ◌-◌, ◌*◌, ◌%◌, ◌^◌, ◌<◌, ◌≤◌, List, length, map, get_or, slice_index, Contains, ⊎_elim, cond, eqb, nat_eq, true, not, true≢false, eqb-true, eq-eqb, replicate, sym, ap, ◌∙◌, arith, w64}
+use Rattle.std.specs.List.{prefix_len}
 use Rattle.std.specs.Simd.Lanes.{mask_l, top, zip2, chunk}
 use Rattle.std.proofs.lemmas.Bool.{cases_lt}
-use Rattle.std.proofs.lemmas.Simd.{bitmask_splat, length-chunk, none_from_empty_mask}
+use Rattle.std.proofs.lemmas.Simd.{bitmask_splat, length-chunk, none_from_empty_mask, run_in_chunk_le, run_in_chunk_fails, run_in_chunk_stops}
 use Rattle.std.proofs.Math.Nat.{mod-add-mod, add-mul-mod_self_right, mod-eq_of_lt}
-use Rattle.sk_heap.specs.Table.{going_round, IsGap, IsFirstFrom, HasNone}
+use Rattle.sk_heap.specs.Runs.{IsRun}
+use Rattle.sk_heap.specs.Table.{home, going_round, IsGap, IsFirstEmpty, IsFirstFrom, HasNone}
 use Rattle.sk_heap.proofs.Round.{one_round}
 
 -- ---- several places together
@@ -15,6 +17,17 @@ none_of_block t at x within empty k above below is =
     let mask : mask_l (map (λ y. eqb y x) (chunk at 8 t)) ≡ 0 =
     sym (bitmask_splat w64 eqb (chunk at 8 t) 8 x (length-chunk at 8 t within) (omega arith)) ∙ eqb-true _ 0 empty in
     true≢false (sym (eq-eqb (get_or t k 0) x is) ∙ none_from_empty_mask (λ y. eqb y x) t at 8 0 within mask k above below)
+
+-- the first of eight places that has a number
+module _ (t : List ℕ) (at x r : ℕ) (within : at + 8 ≤ length t) (counted : r ≡ prefix_len (λ y. not (eqb y x)) (chunk at 8 t)) where
+  pub near_within : r ≤ 8
+  near_within = run_in_chunk_le (λ y. eqb y x) t at 8 r 0 within counted
+
+  pub near_passed : HasNone x t at (at + r)
+  near_passed k above below is = true≢false (sym (eq-eqb (get_or t k 0) x is) ∙ run_in_chunk_fails (λ y. eqb y x) t at 8 r 0 within counted k above below)
+
+  pub near_stops : r < 8 → get_or t (at + r) 0 ≡ x
+  near_stops less = eqb-true _ x (run_in_chunk_stops (λ y. eqb y x) t at 8 r 0 within counted less)
 
 -- ---- going round
 
@@ -88,7 +101,46 @@ module _ (t : List ℕ) (start end d : ℕ) (g : IsGap (length t) t start 0 1) (
       (λ (more : f.steps ≤ a.0 - 1). omega (arith, steps_are, a.1, a.2))
       (cases_lt (a.0 - 1) f.steps)
 
-  pub run_is_full : d ≢ 0 → going_round (length t) t (start + d) ≢ 0
-  run_is_full some empty =
-      let before : start + 1 + (d - 1) ≡ start + d = omega arith in
-      f.full (d - 1) (omega (arith, steps_are)) (ap (λ (p : ℕ). going_round (length t) t p) before ∙ empty)
+  pub run_is_full : (c : ℕ) → 1 ≤ c → c ≤ d → going_round (length t) t (start + c) ≢ 0
+  run_is_full c some under_end empty =
+      let before : start + 1 + (c - 1) ≡ start + c = omega arith in
+      f.full (c - 1) (omega (arith, steps_are)) (ap (λ (p : ℕ). going_round (length t) t p) before ∙ empty)
+
+  pub run_is : IsRun (length t) t start d
+  run_is =
+      let next : start + (d + 1) ≡ start + 1 + d = omega arith in
+      record {
+        within = run_is_within;
+        full = run_is_full;
+        end = ap (λ (p : ℕ). going_round (length t) t p) next ∙ ap (λ (p : ℕ). get_or t p 0) reaches ∙ ⊎_elim (λ is. is) (λ is. is) (f.stops);
+      }
+
+-- ---- what the first eight places show
+
+module _ (t : List ℕ) where
+  flat : (n : ℕ) → n < length t → going_round (length t) t n ≡ get_or t n 0
+  flat n inside = ap (λ (p : ℕ). get_or t p 0) (mod-eq_of_lt inside)
+
+  pub run_near : (start r : ℕ) → start + 1 + 8 ≤ length t → r < 8 → HasNone 0 t (start + 1) (start + 1 + r) → get_or t (start + 1 + r) 0 ≡ 0 → IsRun (length t) t start r
+  run_near start r within less passed stops =
+      let next : start + (r + 1) ≡ start + 1 + r = omega arith in
+      record {
+        within = omega arith;
+        full = λ c some under is. passed (start + c) (omega arith) (omega arith) (sym (flat (start + c) (omega arith)) ∙ is);
+        end = flat (start + (r + 1)) (omega arith) ∙ ap (λ (p : ℕ). get_or t p 0) next ∙ stops;
+      }
+
+  pub first_empty : (hash start same empty : ℕ) → start ≡ home (length t) hash → start + 8 ≤ length t → empty < 8 → empty ≤ same
+      → HasNone 0 t start (start + empty) → HasNone (hash + 1) t start (start + same) → get_or t (start + empty) 0 ≡ 0 → IsFirstEmpty hash t (start + empty)
+  first_empty hash start same empty is within less order full other stops =
+      let from : (e : ℕ) → home (length t) hash + e ≡ start + e = λ e. ap (λ (n : ℕ). n + e) (sym is) in
+      let there : (e : ℕ) → start + e < length t → going_round (length t) t (home (length t) hash + e) ≡ get_or t (start + e) 0 =
+      λ e inside. ap (λ (n : ℕ). going_round (length t) t n) (from e) ∙ flat (start + e) inside in
+      record {
+        steps = empty;
+        within = omega arith;
+        is = sym (ap (λ (n : ℕ). n % length t) (from empty) ∙ mod-eq_of_lt (omega arith));
+        empty = stops;
+        passed = λ e under zero. full (start + e) (omega arith) (omega arith) (sym (there e (omega arith)) ∙ zero);
+        other = λ e under found. other (start + e) (omega arith) (omega arith) (sym (there e (omega arith)) ∙ found);
+      }

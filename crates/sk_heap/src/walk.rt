@@ -1,13 +1,39 @@
 //! The walk along a table to an entry or an empty place, several places together.
-ghost use Rattle.std.specs.Prelude.{◌≡◌, ◌≢◌, ◌⊎◌, ◌+◌, ◌^◌, ◌<◌, ◌≤◌, ℕ, length, slice_index, Contains, true};
+ghost use Rattle.std.specs.Prelude.{◌≡◌, ◌≢◌, ◌⊎◌, ◌+◌, ◌^◌, ◌<◌, ◌≤◌, ℕ, length, slice_index, Contains, not, ◌==◌, true};
 ghost use Rattle.std.specs.Int.{IsPowerOfTwo};
+ghost use Rattle.std.specs.List.{prefix_len};
+ghost use Rattle.std.specs.Simd.Lanes.{chunk};
 ghost use Rattle.sk_heap.specs.Table.{IsFirstFrom, HasNone};
 
 use crate::table::place;
 use std::simd::prelude::*;
 
 // How many places are looked at together.
-const WIDE: usize = 8;
+pub const WIDE: usize = 8;
+
+// How many of eight places from one on come before the first that has a number.
+#[inline(always)]
+fn count_before(table: &[u64], at: usize, number: u64) -> u32
+    requires { at + 8 ≤ length table.now }
+    ensures { result ≡ prefix_len (λ x. not (x == number)) (chunk at 8 table.now) }
+{
+    let hits = u64x8::from_slice(&table[at..])
+        .simd_eq(u64x8::splat(number))
+        .to_bitmask();
+    if hits == 0 { 8 } else { hits.trailing_zeros() }
+}
+
+// How far the first place that has a number is from one on, of the eight that are looked at together. If none
+// of them has it, 8.
+#[inline(always)]
+pub fn steps_near(table: &[u64], at: usize, number: u64) -> usize
+    requires { at + 8 ≤ length table.now }
+    ensures within { result ≤ 8 }
+    ensures passed { HasNone number table.now at (at + result) }
+    ensures stops { result < 8 → slice_index table.now (at + result) ≡ number }
+{
+    count_before(table, at, number) as usize
+}
 
 // Whether none of eight places from one on has a number.
 #[inline(always)]

@@ -1,14 +1,10 @@
-use Rattle.std.proofs.Common.{length}
-use Rattle.sk_heap.specs.Table.{home}
-use Rattle.sk_heap.proofs.Probes.{steps_are_few}
+use Rattle.std.proofs.Common.{arith}
+use Rattle.sk_heap.proofs.Walks.{first_empty}
 use Rattle.sk_heap.proofs.table.find.Goals as goal
 
-pub returns-then-entry-eq0-clause-empty : goal.returns-then-entry-eq0-clause-empty
-returns-then-entry-eq0-clause-empty c = record {
-  steps = c.probe.steps;
-  within = steps_are_few c.args.table.now (home (length c.args.table.now) c.args.hash) c.probe.steps c.requires.room c.probe.invariant.passed;
-  is = rw (← c.home-start.ensures.value) c.place-at.ensures;
-  empty = c.if-entry-eq0.true;
-  passed = c.probe.invariant.passed;
-  other = c.probe.invariant.other;
-}
+pub returns-then-empty-lt-WIDE-clause-empty : goal.returns-then-empty-lt-WIDE-clause-empty
+returns-then-empty-lt-WIDE-clause-empty c =
+    let same = c.steps_near-same in
+    let empty = c.steps_near-empty in
+    first_empty c.args.table.now c.args.hash c.home-start.result same.result empty.result c.home-start.ensures.value (omega arith) c.if-empty-lt-WIDE.true (omega arith)
+    empty.ensures.passed same.ensures.passed (empty.ensures.stops c.if-empty-lt-WIDE.true)
