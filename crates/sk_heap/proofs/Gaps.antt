@@ -172,6 +172,13 @@ module _ (t : List ℕ) (start gap step : ℕ) (within : step < length t) (g : I
     pub apart_from_gap : (start + gap) % length t ≢ (start + step) % length t
     apart_from_gap same = let behind : gap < step = g.behind in let e : gap ≡ step = one_round (length t) start gap step (omega arith) within same in absurd (omega arith)
 
+-- no entry stands after the gap
+pub run_ends : (t : List ℕ) (start last : ℕ) → IsGap (length t) t start 0 1 → IsRun (length t) t start last → last ≡ 0 → IsProbedOver (length t) t
+run_ends t start last g run none =
+    let next : last + 1 ≡ 1 = omega arith in
+    let ends : going_round (length t) t (start + 1) ≡ 0 = ap (λ (n : ℕ). going_round (length t) t (start + n)) (sym next) ∙ run.end in
+    gap_ends t start 0 1 (omega (arith, run.within)) g ends
+
 -- ---- two places that are written, whether an entry moves or not
 
 module _ (t : List ℕ) (start gap step : ℕ) (within : step < length t) (h : IsHole (length t) t start gap step) where

@@ -1,16 +1,16 @@
 -- What one more hash makes of the kept ones, as a heap has them.
-use Rattle.std.proofs.Common.{◌≡◌, ◌≢◌, ℕ, ◌-◌, ◌<◌, ◌≤◌, Bool, true, false, cond, ltb, nat_eq, List, [], ◌∷◌, ◌++◌, length, take, get_or, All, Contains, ◌⊎◌, inl, inr, ⊎_elim, refl, sym, ap, ◌∙◌, subst, arith, take_all}
+use Rattle.std.proofs.Common.{◌≡◌, ◌≢◌, ℕ, ◌+◌, ◌-◌, ◌<◌, ◌≤◌, Bool, true, false, cond, ltb, nat_eq, List, [], ◌∷◌, ◌++◌, length, take, drop, reverse, get_or, All, Contains, ◌⊎◌, inl, inr, ⊎_elim, refl, sym, ap, ◌∙◌, subst, arith, take_all}
 use Rattle.std.specs.List.{IsDistinct}
 use Rattle.std.specs.List.Sorted.{IsPermutation, IsStrictlyIncreasing}
 use Rattle.std.proofs.lemmas.Bool.{cases_order}
 use Rattle.std.proofs.lemmas.Bool.Decides.{nat_tests}
 use Rattle.std.proofs.lemmas.List.Elements.{All-contains, Contains-append_left, Contains-push, Contains-push_cases, Contains-get_or}
 use Rattle.std.proofs.lemmas.List.Kept.{AllPairs-from_increasing}
-use Rattle.std.proofs.lemmas.List.Sorted.{length_permutation, IsPermutation-sym}
-use Rattle.std.proofs.lemmas.List.{get_or_default}
+use Rattle.std.proofs.lemmas.List.Sorted.{length_permutation, Contains-permutation, IsPermutation-sym, IsPermutation-reverse}
+use Rattle.std.proofs.lemmas.List.{get_or_default, drop_more, reverse-append}
 use Rattle.sk_model.specs.Sketch.{placed, rising, k_smallest}
 use Rattle.sk_model.proofs.Rising.{Has, Has-from_Contains, Contains-from_Has, increasing_from_RisesFrom}
-use Rattle.sk_model.proofs.Sketch.{RisesFrom-rising, Has-rising, rising-has, k_smallest_is, k_smallest_append, one_more}
+use Rattle.sk_model.proofs.Sketch.{RisesFrom-rising, Has-rising, rising-has, rising_is, k_smallest_is, k_smallest_append, one_more}
 use Rattle.sk_theta.specs.Kept.{theta_kept}
 use Rattle.sk_heap.specs.Held.{IsExchanged}
 use Rattle.sk_heap.proofs.Distinct.{Has-permutation, All-from_Has, head_once, distinct_moved, rising_moves}
@@ -50,6 +50,22 @@ pub kept_there : (k h : ℕ) (xs : List ℕ) → IsDistinct nat_eq xs → length
 kept_there k h xs distinct within there =
     let few : length (rising xs) ≤ k = omega (arith, length_rising xs distinct) in
     kept_more k h xs xs few few (λ z g. inr g) (λ z g. inl (⊎_elim (λ same. rw (← same) there) (λ g'. g') g))
+
+-- a list from the last member to the first has the same distinct ones
+pub rising_reverse : (xs : List ℕ) → rising (reverse xs) ≡ rising xs
+rising_reverse xs =
+    let moved = IsPermutation-reverse xs in
+    sym (rising_is (rising (reverse xs)) xs (rises (reverse xs))
+    (λ z c. Contains-permutation (reverse xs) xs z (IsPermutation-sym xs (reverse xs) moved) (Contains-from_Has (reverse xs) z (Has-rising (reverse xs) z (Has-from_Contains (rising (reverse xs)) z c))))
+    (λ z c. Contains-from_Has (rising (reverse xs)) z (rising-has (reverse xs) z (Has-from_Contains (reverse xs) z (Contains-permutation xs (reverse xs) z moved c)))))
+
+pub joined_back : (k : ℕ) (heap hashes more : List ℕ) → length (rising heap) ≤ k → rising heap ≡ k_smallest k more → k_smallest k (hashes ++ reverse heap) ≡ k_smallest k (hashes ++ more)
+joined_back k heap hashes more within stands =
+    let same : rising (reverse heap) ≡ rising heap = rising_reverse heap in
+    joined_stands k (reverse heap) hashes more (omega (arith, ap length same)) (same ∙ stands)
+
+pub reverse_more : (xs : List ℕ) (i : ℕ) → i < length xs → reverse (drop i xs) ≡ reverse (drop (i + 1) xs) ++ get_or xs i 0 ∷ []
+reverse_more xs i inside = ap (λ (l : List ℕ). reverse l) (drop_more xs i 0 inside) ∙ reverse-append (get_or xs i 0 ∷ []) (drop (i + 1) xs)
 
 -- one more than fewer than k
 pub kept_added : (k h : ℕ) (xs ys : List ℕ) → IsDistinct nat_eq xs → IsDistinct nat_eq ys → length ys ≤ k → IsPermutation (h ∷ xs) ys → rising ys ≡ take k (placed h (rising xs))

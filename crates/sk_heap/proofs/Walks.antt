@@ -18,16 +18,16 @@ none_of_block t at x within empty k above below is =
     sym (bitmask_splat w64 eqb (chunk at 8 t) 8 x (length-chunk at 8 t within) (omega arith)) ∙ eqb-true _ 0 empty in
     true≢false (sym (eq-eqb (get_or t k 0) x is) ∙ none_from_empty_mask (λ y. eqb y x) t at 8 0 within mask k above below)
 
--- the first of eight places that has a number
-module _ (t : List ℕ) (at x r : ℕ) (within : at + 8 ≤ length t) (counted : r ≡ prefix_len (λ y. not (eqb y x)) (chunk at 8 t)) where
-  pub near_within : r ≤ 8
-  near_within = run_in_chunk_le (λ y. eqb y x) t at 8 r 0 within counted
+-- the first of n places that has a number
+module _ (n : ℕ) (t : List ℕ) (at x r : ℕ) (within : at + n ≤ length t) (counted : r ≡ prefix_len (λ y. not (eqb y x)) (chunk at n t)) where
+  pub near_within : r ≤ n
+  near_within = run_in_chunk_le (λ y. eqb y x) t at n r 0 within counted
 
   pub near_passed : HasNone x t at (at + r)
-  near_passed k above below is = true≢false (sym (eq-eqb (get_or t k 0) x is) ∙ run_in_chunk_fails (λ y. eqb y x) t at 8 r 0 within counted k above below)
+  near_passed k above below is = true≢false (sym (eq-eqb (get_or t k 0) x is) ∙ run_in_chunk_fails (λ y. eqb y x) t at n r 0 within counted k above below)
 
-  pub near_stops : r < 8 → get_or t (at + r) 0 ≡ x
-  near_stops less = eqb-true _ x (run_in_chunk_stops (λ y. eqb y x) t at 8 r 0 within counted less)
+  pub near_stops : r < n → get_or t (at + r) 0 ≡ x
+  near_stops less = eqb-true _ x (run_in_chunk_stops (λ y. eqb y x) t at n r 0 within counted less)
 
 -- ---- going round
 
@@ -121,7 +121,7 @@ module _ (t : List ℕ) where
   flat : (n : ℕ) → n < length t → going_round (length t) t n ≡ get_or t n 0
   flat n inside = ap (λ (p : ℕ). get_or t p 0) (mod-eq_of_lt inside)
 
-  pub run_near : (start r : ℕ) → start + 1 + 8 ≤ length t → r < 8 → HasNone 0 t (start + 1) (start + 1 + r) → get_or t (start + 1 + r) 0 ≡ 0 → IsRun (length t) t start r
+  pub run_near : (start r : ℕ) → start + 1 + 4 ≤ length t → r < 4 → HasNone 0 t (start + 1) (start + 1 + r) → get_or t (start + 1 + r) 0 ≡ 0 → IsRun (length t) t start r
   run_near start r within less passed stops =
       let next : start + (r + 1) ≡ start + 1 + r = omega arith in
       record {
@@ -130,10 +130,10 @@ module _ (t : List ℕ) where
         end = flat (start + (r + 1)) (omega arith) ∙ ap (λ (p : ℕ). get_or t p 0) next ∙ stops;
       }
 
-  pub first_empty : (hash start same empty : ℕ) → start ≡ home (length t) hash → start + 8 ≤ length t → empty < 8 → empty ≤ same
+  pub first_empty : (n hash start same empty : ℕ) → start ≡ home (length t) hash → start + n ≤ length t → empty < n → empty ≤ same
       → HasNone 0 t start (start + empty) → HasNone (hash + 1) t start (start + same) → get_or t (start + empty) 0 ≡ 0 → IsFirstEmpty hash t (start + empty)
-  first_empty hash start same empty is within less order full other stops =
-      let from : (e : ℕ) → home (length t) hash + e ≡ start + e = λ e. ap (λ (n : ℕ). n + e) (sym is) in
+  first_empty n hash start same empty is within less order full other stops =
+      let from : (e : ℕ) → home (length t) hash + e ≡ start + e = λ e. ap (λ (h : ℕ). h + e) (sym is) in
       let there : (e : ℕ) → start + e < length t → going_round (length t) t (home (length t) hash + e) ≡ get_or t (start + e) 0 =
       λ e inside. ap (λ (n : ℕ). going_round (length t) t n) (from e) ∙ flat (start + e) inside in
       record {

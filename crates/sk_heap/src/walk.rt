@@ -11,6 +11,9 @@ use std::simd::prelude::*;
 // How many places are looked at together.
 pub const WIDE: usize = 8;
 
+// How many are looked at first, since nearly all ways are shorter.
+pub const FEW: usize = 4;
+
 // How many of eight places from one on come before the first that has a number.
 #[inline(always)]
 fn count_before(table: &[u64], at: usize, number: u64) -> u32
@@ -33,6 +36,29 @@ pub fn steps_near(table: &[u64], at: usize, number: u64) -> usize
     ensures stops { result < 8 → slice_index table.now (at + result) ≡ number }
 {
     count_before(table, at, number) as usize
+}
+
+// The same of four places, which mostly lie in one line of the cache.
+#[inline(always)]
+fn count_before_4(table: &[u64], at: usize, number: u64) -> u32
+    requires { at + 4 ≤ length table.now }
+    ensures { result ≡ prefix_len (λ x. not (x == number)) (chunk at 4 table.now) }
+{
+    let hits = u64x4::from_slice(&table[at..])
+        .simd_eq(u64x4::splat(number))
+        .to_bitmask();
+    if hits == 0 { 4 } else { hits.trailing_zeros() }
+}
+
+// How far the first place that has a number is from one on, of four. If none of them has it, 4.
+#[inline(always)]
+pub fn steps_next(table: &[u64], at: usize, number: u64) -> usize
+    requires { at + 4 ≤ length table.now }
+    ensures within { result ≤ 4 }
+    ensures passed { HasNone number table.now at (at + result) }
+    ensures stops { result < 4 → slice_index table.now (at + result) ≡ number }
+{
+    count_before_4(table, at, number) as usize
 }
 
 // Whether none of eight places from one on has a number.
