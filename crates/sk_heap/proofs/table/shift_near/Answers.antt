@@ -1,4 +1,4 @@
-use Rattle.std.proofs.Common.{◌≡◌, ℕ, ◌+◌, List, length, ◌∙◌, sym, subst, arith}
+use Rattle.std.proofs.Common.{◌≡◌, ℕ, ◌+◌, List, length, ◌∙◌, subst, arith}
 use Rattle.sk_heap.specs.Runs.{IsRun}
 use Rattle.sk_heap.proofs.Gaps.{IsShifted, shift_steps, shift_ends}
 use Rattle.sk_heap.proofs.table.shift_near.Goals as goal
