@@ -1,5 +1,5 @@
 // The label of a line, kept to be compared with the next one's.
-ghost use Rattle.std.specs.Prelude.{◌≡◌, ◌≤◌, [], length, true};
+ghost use Rattle.std.specs.Prelude.{◌≡◌, ◌+◌, ◌<◌, ◌≤◌, [], length, take, drop, slice_index, IfSome};
 
 use std::marker::Model;
 
@@ -34,12 +34,21 @@ impl Label {
         }
     }
 
-    // Whether it is this one.
+    // What comes after it and a space in a line that begins with both, if it has a byte and something comes.
     #[inline(always)]
-    pub(crate) fn is(&self, label: &[u8]) -> bool
-        ensures { result ≡ true → label.now ≡ self.now }
+    pub(crate) fn rest_of<'a>(&self, line: &'a [u8]) -> Option<&'a [u8]>
+        ensures label { IfSome result (λ _. take (length self.now) line.now ≡ self.now) }
+        ensures space { IfSome result (λ _. slice_index line.now (length self.now) ≡ 32) }
+        ensures rest { IfSome result (λ rest. rest.now ≡ drop (length self.now + 1) line.now) }
+        ensures some { IfSome result (λ rest. (0 < length self.now) × (0 < length rest.now)) }
     {
-        label == &self.bytes[..self.len]
+        if self.len == 0 || line.len() <= self.len + 1 || line[self.len] != b' ' {
+            return None;
+        }
+        if line[..self.len] != self.bytes[..self.len] {
+            return None;
+        }
+        Some(&line[self.len + 1..])
     }
 
     // Keeps this one.

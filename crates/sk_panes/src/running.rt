@@ -65,26 +65,7 @@ impl<'r, R: Wait> Running<'r, R> {
     }
 
     // Comes to the moment that a label spells, and returns the pane of the interval that has ended, if one has.
-    #[inline(always)]
     pub(crate) fn come_to(&mut self, label: &[u8]) -> Result<Option<Pane>, LineStop>
-        requires some { 0 < length label.now }
-        requires stands { (lines : List (List ℕ)) × StandsAfter self.old.plan lines self.old.panes self.old.updaters.items self.old.candidates self.old.label }
-        ensures taken { IfOk result (λ pane. (lines : List (List ℕ)) → StandsAfter self.old.plan lines self.old.panes self.old.updaters.items self.old.candidates self.old.label
-            → TakesLabel self.old.plan lines label.now pane self.new.panes self.new.updaters.items self.new.candidates self.new.label) }
-        ensures refused { IfErr result (λ why. (lines : List (List ℕ)) → StandsAfter self.old.plan lines self.old.panes self.old.updaters.items self.old.candidates self.old.label
-            → RefusesLabel self.old.plan lines label.now why) }
-        ensures plan { self.new.plan ≡ self.old.plan }
-    {
-        // A moment that was read need not be read again.
-        if self.label.is(label) {
-            return Ok(None);
-        }
-        self.come_to_other(label)
-    }
-
-    // The same, for a label that is not that of the last line.
-    #[inline(never)]
-    fn come_to_other(&mut self, label: &[u8]) -> Result<Option<Pane>, LineStop>
         requires stands { (lines : List (List ℕ)) × StandsAfter self.old.plan lines self.old.panes self.old.updaters.items self.old.candidates self.old.label }
         ensures taken { IfOk result (λ pane. (lines : List (List ℕ)) → StandsAfter self.old.plan lines self.old.panes self.old.updaters.items self.old.candidates self.old.label
             → TakesLabel self.old.plan lines label.now pane self.new.panes self.new.updaters.items self.new.candidates self.new.label) }

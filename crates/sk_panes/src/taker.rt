@@ -1,9 +1,11 @@
 // Who takes the lines.
-ghost use Rattle.std.specs.Prelude.{◌≡◌, ◌∷◌, [], ℕ, OnOk, OnErr, IfErr, IfSome};
+ghost use Rattle.std.specs.Prelude.{◌≡◌, ◌<◌, ◌∷◌, [], ℕ, List, length, OnOk, OnErr, IfErr, IfSome};
 ghost use Rattle.std.specs.Io.KnownBytes.{Appends};
 ghost use Rattle.sk_model.specs.Causes.{AppendsPart, HasCauseIn};
 ghost use Rattle.sk_model.specs.Limits.{least_k, most_k, IsFrom};
-ghost use Rattle.sk_panes.specs.Running.{HasReply, due_text};
+ghost use Rattle.sk_label.specs.Stops.{Takes, StopsBy};
+ghost use Rattle.sk_panes.specs.Panes.{pane_rules};
+ghost use Rattle.sk_panes.specs.Running.{StandsAfter, HasReply, due_text};
 
 use crate::running::{Pane, Running};
 use crate::text::write_reply;
@@ -39,6 +41,31 @@ impl<O: Sink, R: Wait> LineTaker for Taker<'_, '_, '_, O, R> {
         if line.is_empty() {
             return Ok(());
         }
+        // A moment that was read need not be looked for and read again.
+        if let Some(item_text) = self.running.label.rest_of(line) {
+            self.running.feed(item_text);
+            return Ok(());
+        }
+        self.take_other(line)
+    }
+}
+
+impl<O: Sink, R: Wait> Taker<'_, '_, '_, O, R> {
+    // Takes a line that does not begin with the last label, or has not the form.
+    #[inline(never)]
+    fn take_other(&mut self, line: &[u8]) -> Result<(), LineStop>
+        requires some { 0 < length line.now }
+        requires stands { (lines : List (List ℕ)) × StandsAfter self.old.running.now.plan lines self.old.running.now.panes self.old.running.now.updaters.items self.old.running.now.candidates self.old.running.now.label }
+        ensures takes { OnOk result ((lines : List (List ℕ)) → StandsAfter self.old.running.now.plan lines self.old.running.now.panes self.old.running.now.updaters.items self.old.running.now.candidates self.old.running.now.label
+            → Takes (pane_rules self.old.running.now.plan) (λ ls. StandsAfter self.new.running.now.plan ls self.new.running.now.panes self.new.running.now.updaters.items self.new.running.now.candidates self.new.running.now.label)
+            (O.written self.old.out.now) (O.written self.new.out.now) lines line.now) }
+        ensures stopped { IfErr result (λ why. (lines : List (List ℕ)) → StandsAfter self.old.running.now.plan lines self.old.running.now.panes self.old.running.now.updaters.items self.old.running.now.candidates self.old.running.now.label
+            → StopsBy (pane_rules self.old.running.now.plan) (O.written self.old.out.now) (O.written self.new.out.now) lines line.now why) }
+        ensures cause { HasCauseIn LineStop.WriteFault (O.faults self.old.out.now) (O.faults self.new.out.now) result }
+        ensures plan { self.new.running.now.plan ≡ self.old.running.now.plan }
+        ensures running { self.new.running.ghost_name ≡ self.old.running.ghost_name }
+        ensures out { self.new.out.ghost_name ≡ self.old.out.ghost_name }
+    {
         let Some(Parts { label, item_text }) = split(line) else {
             return Err(LineStop::BadLine);
         };
