@@ -24,5 +24,5 @@ pub use feeders::Feeders;
 pub use lane::{Lane, MOST_GIVEN};
 pub use propagation::{Propagation, propagate};
 pub use settle::settle_all;
-pub use taking::{TakesStretches, are_eager};
+pub use taking::{TakesStretches, are_eager, take_turns};
 pub use turns::feed_in_turn;

@@ -71,7 +71,7 @@ impl<C: Composable> TakesStretches for Updater<C> {
     }
 }
 
-// All updaters of a hub take theirs, one after another, as long as they are eager.
+// All updaters of a hub take theirs, one after another, as long as threads would only wait for one another.
 impl<C: Composable> TakesStretches for Vec<Updater<C>> {
     ghost use Rattle.std.specs.Prelude.{◌≤◌, [], length};
     ghost use Rattle.sk_feed.specs.Rounds.{HaveFew};
@@ -93,11 +93,17 @@ impl<C: Composable> TakesStretches for Vec<Updater<C>> {
         _n: usize,
     ) -> Result<bool, OutOfMemory> {
         feed_windows_in_turn(rt, self, windows, kind)?;
-        Ok(are_eager(self.as_slice()))
+        Ok(take_turns(self.as_slice()))
     }
 }
 
-/// Whether each item that updaters keep is handed over: in threads they would only wait for one another.
+/// Whether updaters are fed one after another: in threads they would only wait for one another. So it is while each item
+/// that they keep is handed over, and with a sketch by versions, of which most of the work is its merge, by one at a time.
+pub fn take_turns<C: Composable>(updaters: &[Updater<C>]) -> bool {
+    C::TAKES_MEMORY || are_eager(updaters)
+}
+
+/// Whether each item that updaters keep is handed over.
 pub fn are_eager<C: Composable>(updaters: &[Updater<C>]) -> bool {
     match updaters.first() {
         Some(updater) => updater.is_eager(),

@@ -32,7 +32,7 @@ struct Crewed<T: TakesStretches> {
 }
 
 // Feeds a stretch to all updaters one after another in one thread, and those that are read meanwhile, as long as they
-// are eager. The last that was read is not fed: it takes the place of the first.
+// take turns. The last that was read is not fed: it takes the place of the first.
 pub(crate) fn feed_in_one_lane<S: Source, C: Composable + Send, R: Threads + Wait + Sync>(
     rt: &R,
     alloc: Global,

@@ -15,7 +15,7 @@ use crate::lanes::{feed_in_lanes, feed_in_one_lane};
 use crate::supply::ENOUGH;
 use crate::ways::{feed_stretch, is_short};
 use sk_compose::Composable;
-use sk_feed::are_eager;
+use sk_feed::take_turns;
 use sk_fill::{Stretch, fill_stretch};
 use sk_hub::Opened;
 use sk_io::Source;
@@ -87,7 +87,7 @@ where
     // It shows the proof how many updaters a hub has at most.
     let _admitted = opened.heart.admitted();
     let updaters = &mut opened.updaters;
-    if are_eager(updaters.as_slice()) {
+    if take_turns(updaters.as_slice()) {
         return feed_in_one_lane(rt, alloc, plan.kind, updaters, reader, source, stretch);
     }
     feed_in_lanes(rt, alloc, plan.kind, updaters, reader, source, stretch)

@@ -21,8 +21,8 @@ returns-then-is_short-clause-goes g c =
     next_read _ c.args.plan.now.kind c.args.stretch.now.most c.args.stretch.now c.fill_stretch.new.stretch c.args.reader.now c.fill_stretch.new.reader (g.S.Source.left c.args.source.now) (g.S.Source.left c.fill_stretch.new.source) c.fill_stretch.result
     c.fill_stretch.ensures.reads c.in_ok-feed_stretch.ensures.fed c.fill_stretch.ensures.first
 
-pub returns-then-are_eager-clause-goes : goal.returns-then-are_eager-clause-goes
-returns-then-are_eager-clause-goes g c =
+pub returns-then-take_turns-clause-goes : goal.returns-then-take_turns-clause-goes
+returns-then-take_turns-clause-goes g c =
     told_otherwise _ _ c.args.plan.now.kind c.args.stretch.now.most c.args.stretch.now c.feed_in_one_lane.new.stretch c.args.reader.now c.feed_in_one_lane.new.reader (g.S.Source.left c.args.source.now) (g.S.Source.left c.feed_in_one_lane.new.source) c.feed_in_one_lane.result
     (λ windows taken. record { heart = heart_waits c.args.opened.now.heart; updaters = taken; token = refl }) c.feed_in_one_lane.ensures.goes
 
