@@ -1,12 +1,11 @@
 -- One more in the cells of items, at their places.
-use Rattle.std.proofs.Common.{◌≡◌, ℕ, zero, suc, inl, inr, ◌+◌, ◌*◌, ◌<◌, ◌≤◌, List, [], ◌∷◌, ◌++◌, length, take, fold, get_or, Vec, Global, refl, sym, ap, subst, ◌∙◌, arith, All, length-append, flat_map}
+use Rattle.std.proofs.Common.{◌≡◌, ℕ, zero, suc, inl, inr, ◌+◌, ◌*◌, ◌<◌, ◌≤◌, List, [], ◌∷◌, ◌++◌, length, take, fold, get_or, Vec, Global, refl, sym, ap, subst, ◌∙◌, arith, All, flat_map}
 use Rattle.std.specs.Vec.{with_items}
 use Rattle.std.proofs.lemmas.Bool.{cases_lt}
 use Rattle.std.proofs.lemmas.List.{length-set, get_or_past, take_more}
 use Rattle.std.proofs.lemmas.List.Elements.{All-nil, All-append, All-get_or, All-set, All-from_get_or}
 use Rattle.std.proofs.lemmas.List.Sums.{fold-append}
 use Rattle.std.proofs.lemmas.Grind.{flat_map-append}
-use Rattle.std.proofs.Math.Nat.{mul-le-mul_right}
 use Rattle.sk_cms.specs.Cells.{cell_below}
 use Rattle.sk_cms.specs.Counting.{whole_counted}
 use Rattle.sk_cms.specs.Counts.{Counts, counted, joined, raised, shown_by, IsWholeCounts}
@@ -26,17 +25,6 @@ pub places-suc : (r width x : ℕ) → places_of (suc r) width x ≡ places_of r
 unfolding places_of
 places-suc r width x = refl
 
--- an item has one in each row
-pub length-places : (rows width x : ℕ) → length (places_of rows width x) ≡ rows
-unfolding places_of
-length-places zero width x = refl
-length-places (suc r) width x = omega (arith, length-append (places_of r width x) ((r * width + cell_of width r x) ∷ []), length-places r width x)
-
-pub length-all_places : (rows width : ℕ) (items : List ℕ) → length (flat_map (places_of rows width) items) ≡ length items * rows
-length-all_places rows width [] = omega arith
-length-all_places rows width (x ∷ items) =
-    omega (arith, length-append (places_of rows width x) (flat_map (places_of rows width) items), length-places rows width x, length-all_places rows width items)
-
 one_all : (P : ℕ → Type 0) (x : ℕ) → P x → All P (x ∷ [])
 one_all P x holds = All-from_get_or P (x ∷ []) 0 (λ i inside. let is : 0 ≡ i = omega arith in subst (λ (k : ℕ). P (get_or (x ∷ []) k 0)) is holds)
 
@@ -52,11 +40,6 @@ pub all_places_below : (rows width most : ℕ) (items : List ℕ) → 1 ≤ widt
 all_places_below rows width most [] some fits = All-nil (λ at. at < most)
 all_places_below rows width most (x ∷ items) some fits =
     All-append (λ at. at < most) (places_of rows width x) (flat_map (places_of rows width) items) (places_below rows width x most some fits) (all_places_below rows width most items some fits)
-
--- there is room for those of one more item
-pub room_for_one : (rows width n i : ℕ) (items : List ℕ) → length items ≡ i → i < n → length (flat_map (places_of rows width) items) + rows ≤ n * rows
-room_for_one rows width n i items is below =
-    omega (arith, length-all_places rows width items, ap (λ (k : ℕ). k * rows) is, mul-le-mul_right {m = suc i} {n = n} rows (omega arith))
 
 -- those of one more item
 pub places_more : (rows width : ℕ) (items : List ℕ) (i : ℕ) → i < length items

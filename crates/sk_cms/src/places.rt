@@ -1,5 +1,5 @@
 //! Where the cells of items lie, which is the same in all sketches of a shape.
-ghost use Rattle.std.specs.Prelude.{◌≡◌, ◌+◌, ◌≤◌, ◌++◌, length, flat_map, vec_capacity, IfOk};
+ghost use Rattle.std.specs.Prelude.{◌≡◌, ◌++◌, flat_map, IfOk, OnOk};
 ghost use Rattle.sk_cms.specs.Counts.{IsMaskOf};
 ghost use Rattle.sk_cms.specs.Limits.{IsShape};
 ghost use Rattle.sk_cms.specs.Places.{places_of, ArePlacesOf};
@@ -33,21 +33,27 @@ pub(crate) fn find_places(
     };
     let mut places = Vec::with_capacity(alloc, count)?;
     'item: for x in items {
-        push_places(&mut places, rows, width, mask, *x);
+        push_places(&mut places, rows, width, mask, *x)?;
     }
     Ok(places)
 }
 
-// Puts the places of an item to the end of others.
+// Puts the places of an item to the end of others. There is room, but a push that cannot fail would let LLVM hash four
+// rows at a time, by products of halves, which takes longer.
 #[inline(always)]
-fn push_places(places: &mut Vec<u32>, rows: u32, width: u64, mask: u64, x: u64)
+fn push_places(
+    places: &mut Vec<u32>,
+    rows: u32,
+    width: u64,
+    mask: u64,
+    x: u64,
+) -> Result<(), OutOfMemory>
     requires shape { IsShape rows width }
     requires mask { IsMaskOf width mask }
-    requires room { length places.old.items + rows ≤ vec_capacity places.old }
-    ensures found { places.new.items ≡ places.old.items ++ places_of rows width x }
-    ensures room { vec_capacity places.new ≡ vec_capacity places.old }
+    ensures { OnOk result (places.new.items ≡ places.old.items ++ places_of rows width x) }
 {
     'row: for r in 0..rows {
-        places.push_reserved(place(width, mask, r, x) as u32);
+        places.push(place(width, mask, r, x) as u32)?;
     }
+    Ok(())
 }

@@ -1,9 +1,6 @@
-use Rattle.std.proofs.Common.{◌≡◌, ◌*◌, ◌≤◌, flat_map, length, take, vec_capacity}
+use Rattle.std.proofs.Common.{◌≡◌, flat_map, take}
 use Rattle.sk_cms.specs.Places.{places_of}
 use Rattle.sk_cms.proofs.places.find_places.Given as goal
 
 abbrev pub invariant-item : goal.invariant-item
-invariant-item l = record {
-  found : l.places.items ≡ flat_map (places_of l.rows l.width) (take l.x-index l.items);
-  room : length l.items * l.rows ≤ vec_capacity l.places;
-}
+invariant-item l = l.places.items ≡ flat_map (places_of l.rows l.width) (take l.x-index l.items)

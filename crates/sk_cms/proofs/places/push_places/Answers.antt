@@ -1,16 +1,13 @@
-use Rattle.std.proofs.Common.{◌++◌, ◌∷◌, [], ℕ, List, length, refl, sym, ap, ◌∙◌, arith, append_assoc, length-append, add-one}
+use Rattle.std.proofs.Common.{◌++◌, ◌∷◌, [], ℕ, List, sym, ap, ◌∙◌, arith, append_assoc, add-one}
 use Rattle.std.proofs.Math.Nat.{mul-le-mul_right}
 use Rattle.std.proofs.lemmas.List.{append-nil}
 use Rattle.sk_cms.specs.Cells.{place_within}
 use Rattle.sk_cms.specs.Places.{places_of}
-use Rattle.sk_cms.proofs.Placing.{places-zero, places-suc, length-places}
+use Rattle.sk_cms.proofs.Placing.{places-zero, places-suc}
 use Rattle.sk_cms.proofs.places.push_places.Goals as goal
 
 pub row-init : goal.row-init
-row-init c = record {
-  found = sym (ap (λ (l : List ℕ). c.args.places.now.items ++ l) (places-zero c.args.width c.args.x) ∙ append-nil c.args.places.now.items);
-  room = refl;
-}
+row-init c = sym (ap (λ (l : List ℕ). c.args.places.now.items ++ l) (places-zero c.args.width c.args.x) ∙ append-nil c.args.places.now.items)
 
 pub overflow_cast-place : goal.overflow_cast-place
 overflow_cast-place c =
@@ -23,25 +20,12 @@ overflow_cast-place c =
       shape.few_width,
     )
 
-pub push_reserved-requires : goal.push_reserved-requires
-push_reserved-requires c =
-    omega (
-      arith,
-      ap length c.row.invariant.found,
-      length-append c.args.places.now.items (places_of c.row.r c.args.width c.args.x),
-      length-places c.row.r c.args.width c.args.x,
-      c.requires.room,
-      c.row.invariant.room,
-    )
-
 pub row-preserved : goal.row-preserved
 row-preserved c =
     let before = c.args.places.now.items in
-    let found = places_of c.row.r c.args.width c.args.x in record {
-      found = c.push_reserved.ensures.items
-          ∙ ap (λ (l : List ℕ). l ++ c.place.result ∷ []) c.row.invariant.found
-          ∙ append_assoc before found (c.place.result ∷ [])
-          ∙ ap (λ (at : ℕ). before ++ (found ++ at ∷ [])) c.place.ensures
-          ∙ ap (λ (l : List ℕ). before ++ l) (sym (rw add-one (places-suc c.row.r c.args.width c.args.x)));
-      room = c.push_reserved.ensures.capacity ∙ c.row.invariant.room;
-    }
+    let found = places_of c.row.r c.args.width c.args.x in
+    c.in_ok-push.ensures.items
+    ∙ ap (λ (l : List ℕ). l ++ c.place.result ∷ []) c.row.invariant
+    ∙ append_assoc before found (c.place.result ∷ [])
+    ∙ ap (λ (at : ℕ). before ++ (found ++ at ∷ [])) c.place.ensures
+    ∙ ap (λ (l : List ℕ). before ++ l) (sym (rw add-one (places-suc c.row.r c.args.width c.args.x)))

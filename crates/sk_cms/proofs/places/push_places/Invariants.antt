@@ -1,9 +1,6 @@
-use Rattle.std.proofs.Common.{◌≡◌, ◌++◌, vec_capacity}
+use Rattle.std.proofs.Common.{◌≡◌, ◌++◌}
 use Rattle.sk_cms.specs.Places.{places_of}
 use Rattle.sk_cms.proofs.places.push_places.Given as goal
 
 abbrev pub invariant-row : goal.invariant-row
-invariant-row l = record {
-  found : l.places.items ≡ l.initial.places.items ++ places_of l.r l.width l.x;
-  room : vec_capacity l.places ≡ vec_capacity l.initial.places;
-}
+invariant-row l = l.places.items ≡ l.initial.places.items ++ places_of l.r l.width l.x
