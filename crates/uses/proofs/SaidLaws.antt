@@ -1,5 +1,5 @@
 -- How a reading of labelled lines ended, as an operator would say it.
-use Rattle.std.proofs.Common.{◌≡◌, ◌<◌, ◌≤◌, ◌+◌, ℕ, suc, List, [], ◌∷◌, ◌++◌, length, drop, slice_index_or, Option, None, Some, IfSome, Result, Ok, Err, inl, inr, sym, ap, ◌∙◌, arith, length-append, append_assoc}
+use Rattle.std.proofs.Common.{◌≡◌, ◌<◌, ◌≤◌, ◌+◌, ℕ, suc, List, [], ◌∷◌, ◌++◌, length, drop, slice_index_or, Option, None, Some, IfSome, IfOk, Result, Ok, Err, inl, inr, sym, ap, ◌∙◌, arith, length-append, append_assoc}
 use Rattle.std.specs.Bool.{⊤}
 use Rattle.std.proofs.Math.Seq.{split_at}
 use Rattle.sk_model.specs.Limits.{line_limit}
@@ -10,7 +10,7 @@ use Rattle.sk_read.specs.Units.{IsSoundUpTo, IsLongBehind}
 use Rattle.sk_read.specs.declared.units.Units.TheVariants.{Lines}
 use Rattle.sk_read.proofs.ItemLaws.{front_is}
 use Rattle.sk_read.proofs.LineEnds.{settled_so, settled_told}
-use Rattle.sk_label.specs.Goes.{Setting, WroteSoFar, EndsBefore, ReadsTaken}
+use Rattle.sk_label.specs.Goes.{Setting, CountsLines, WroteSoFar, EndsBefore, ReadsTaken}
 use Rattle.sk_label.specs.Rules.{Rules, IsBad, IsRefused, AreFine}
 use Rattle.sk_label.specs.declared.fault.LabelFault.{LabelFault}
 use Rattle.sk_label.specs.declared.fault.LabelFault.TheVariants.{OutOfMemory, ReadFault, WriteFault, LongLine, TooMuch, BadLine, Refused}
@@ -20,6 +20,10 @@ use Rattle.uses.specs.Said.{IsFirst, Blames, Says}
 silent : (known : Option (List ℕ)) → IfSome known (λ text. ⊤)
 silent None = tt
 silent (Some text) = tt
+
+both : (P Q : List ℕ → Type 0) (known : Option (List ℕ)) → IfSome known P → IfSome known Q → IfSome known (λ text. P text × Q text)
+both P Q None p q = tt
+both P Q (Some text) p q = (p, q)
 
 -- a line that is too long stands after those before it
 long_stands : (given lines : List (List ℕ)) → Begins given lines → length given < length lines → Begins (given ++ slice_index_or lines (length given) [] ∷ []) lines
@@ -67,8 +71,10 @@ module _ (rules : Rules) (most : ℕ) (old new : Setting) where
       }) off.comes)
 
   -- whatever it returns
-  pub says : (Went : List (List ℕ) → Type 0) (result : Result ℕ LabelFault) → ReadsTaken rules most Went old new result → IfSome old.left (λ text. Says rules most text result)
-  says Went (Ok n) reads =
+  pub says : (Went : List (List ℕ) → Type 0) (result : Result ℕ LabelFault) → ReadsTaken rules most Went old new result → IfOk result (CountsLines most old.left new.left) → IfSome old.left (λ text. Says rules most text result)
+  says Went (Ok n) reads counts =
       let all = reads.1 in
-      settled_told (λ text. AreFine rules (lines_of text)) old.left new.left all.taken all.consumed (inr (all.end, all.gave.0.fine))
-  says Went (Err f) ends = blames f ends
+      both (λ text. n ≡ length (lines_of text)) (λ text. AreFine rules (lines_of text)) old.left
+      (settled_told (λ text. n ≡ length (lines_of text)) old.left new.left counts.taken counts.consumed (inr (counts.end, counts.number)))
+      (settled_told (λ text. AreFine rules (lines_of text)) old.left new.left all.taken all.consumed (inr (all.end, all.gave.0.fine)))
+  says Went (Err f) ends counts = blames f ends

@@ -26,5 +26,5 @@ Blames rules most text other = ⊤
 
 -- what is so of a text whose reading, of fewer than this many bytes, ended so
 abbrev pub Says : Rules → ℕ → List ℕ → Result ℕ LabelFault → Type 0
-Says rules most text (Ok n) = AreFine rules (lines_of text)
+Says rules most text (Ok n) = (n ≡ length (lines_of text)) × AreFine rules (lines_of text)
 Says rules most text (Err fault) = Blames rules most text fault
