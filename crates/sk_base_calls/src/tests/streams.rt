@@ -9,9 +9,10 @@ use sk_io::{
     read_within, write_all,
 };
 use std::alloc::Global;
-use std::fs;
 use std::fs::File;
+use std::io::{ErrorKind, Write};
 use std::test::Fail;
+use std::{fs, io};
 
 // All that a source gives, by pieces of up to four bytes. A read that fails is tried again.
 pub fn drained<S: Source>(alloc: Global, source: &mut S) -> Result<Vec<u8>, Fail> {
@@ -136,5 +137,27 @@ fn errors_of_std_are_faults(rt: HostRuntime) -> Result<(), Fail> {
     let mut source = StdSource::new(File::create(&rt, "closed.txt")?);
     assert_eq!(rt; source.read(&mut [0; 1]), Err(Failed));
     fs::remove_file(&rt, "closed.txt")?;
+    Ok(())
+}
+
+// A writer that takes all, and can't hand it on.
+#[derive(Drop)]
+struct Clogged;
+
+impl Write for Clogged {
+    fn write(&mut self, bytes: &[u8]) -> io::Result<usize> {
+        Ok(bytes.len())
+    }
+
+    fn flush(&mut self) -> io::Result<()> {
+        Err(io::Error::from(ErrorKind::BrokenPipe))
+    }
+}
+
+#[test]
+fn a_flush_that_fails_is_a_fault(rt: HostRuntime) -> Result<(), Fail> {
+    let mut sink = StdSink::new(Clogged);
+    assert_eq!(rt; sink.write(b"estimate"), Err(Failed));
+    assert_eq!(rt; write_all(&mut sink, b"estimate"), Err(Failed));
     Ok(())
 }

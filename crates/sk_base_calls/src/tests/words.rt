@@ -4,9 +4,10 @@ use std::env::FillError;
 use std::rt::Env;
 use std::test::Fail;
 
-// A command line of the program's name and one word of that many bytes.
+// A command line of the program's name and one word, of that many times a byte.
 #[derive(Drop)]
 struct OneWord {
+    byte: u8,
     len: usize,
 }
 
@@ -18,7 +19,7 @@ impl Env for OneWord {
         if buf.len() < self.len {
             return Err(FillError::TooLong);
         }
-        buf[..self.len].fill(b'x');
+        buf[..self.len].fill(self.byte);
         Ok(self.len)
     }
 
@@ -36,9 +37,20 @@ impl Env for OneWord {
 fn words_of_any_length(rt: HostRuntime) -> Result<(), Fail> {
     let alloc = rt.alloc();
     for len in [0usize, 1, 256, 257, 512, 5_000] {
-        let words = words_of(&OneWord { len }, alloc)?;
+        let words = words_of(&OneWord { byte: b'x', len }, alloc)?;
         assert_eq!(rt; words.len(), 1);
         assert!(rt; words.first().is_some_and(|word| word.len() == len));
+    }
+    Ok(())
+}
+
+#[test]
+fn a_word_that_is_no_text_is_empty(rt: HostRuntime) -> Result<(), Fail> {
+    let alloc = rt.alloc();
+    for len in [1usize, 257] {
+        let words = words_of(&OneWord { byte: 0xff, len }, alloc)?;
+        assert_eq!(rt; words.len(), 1);
+        assert!(rt; words.first().is_some_and(|word| word.is_empty()));
     }
     Ok(())
 }
