@@ -3,4 +3,5 @@ pub mod Files
 pub mod Memory
 pub mod Opening
 pub mod Standard
+pub mod Texts
 pub mod Traffic

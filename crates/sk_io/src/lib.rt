@@ -37,4 +37,4 @@ pub use standard::{StdSink, StdSource};
 pub use steps::{count_fault, read_some, write_some};
 pub use stream::{Failed, Sink, Source, write_all};
 pub use sure_source::SureSource;
-pub use words::words_of;
+pub use words::{text_or_empty, words_of};

@@ -1,20 +1,40 @@
 // The words of a command line.
+ghost use Rattle.std.specs.Prelude.{◌≤◌, IfOk, length, take};
+ghost use Rattle.std.specs.String.{string_bytes};
+ghost use Rattle.sk_io.specs.Texts.{IsTextOf};
+
 use sk_model::OutOfMemory;
 use std::alloc::Global;
 use std::env::FillError;
 use std::rt::Env;
+use std::str;
 
-// The word at a place of the command line, if there is one. A word that is no text is empty.
+/// These bytes as a text. Bytes that are not UTF-8 are no text, and give the empty one.
+pub fn text_or_empty(alloc: Global, bytes: &[u8]) -> Result<String, OutOfMemory>
+    ensures { IfOk result (λ text. IsTextOf bytes.now (string_bytes text)) }
+{
+    match str::from_utf8(bytes) {
+        Ok(text) => Ok(String::from_str(alloc, text)?),
+        Err(_) => Ok(String::new(alloc)),
+    }
+}
+
+// The word that the first `len` bytes of a buffer are.
+fn word_in(alloc: Global, buffer: &[u8], len: usize) -> Result<String, OutOfMemory>
+    requires { len ≤ length buffer.now }
+    ensures { IfOk result (λ word. IsTextOf (take len buffer.now) (string_bytes word)) }
+{
+    text_or_empty(alloc, &buffer[..len])
+}
+
+// The word at a place of the command line, if there is one.
 fn word_at(rt: &impl Env, alloc: Global, place: usize) -> Result<Option<String>, OutOfMemory> {
-    let mut bytes = Vec::new(alloc);
+    let mut buffer = Vec::new(alloc);
     let mut room: usize = 256;
     'grow: for _ in 0..usize::BITS {
-        bytes.resize(room, 0u8)?;
-        match rt.arg(place, &mut bytes) {
-            Ok(len) => {
-                bytes.truncate(len);
-                return Ok(Some(String::from_utf8(bytes).unwrap_or(String::new(alloc))));
-            }
+        buffer.resize(room, 0u8)?;
+        match rt.arg(place, &mut buffer) {
+            Ok(len) => return Ok(Some(word_in(alloc, &buffer, len)?)),
             Err(FillError::NotPresent) => return Ok(None),
             Err(FillError::TooLong) => room = room.saturating_mul(2),
         }
