@@ -38,10 +38,31 @@ pub(crate) fn find_places(
     Ok(places)
 }
 
-// Puts the places of an item to the end of others. There is room, but a push that cannot fail would let LLVM hash four
-// rows at a time, by products of halves, which takes longer.
+// Puts the places of an item to the end of others. Four rows are common, and as a fixed number of turns they take a
+// third less time than as any number.
 #[inline(always)]
 fn push_places(
+    places: &mut Vec<u32>,
+    rows: u32,
+    width: u64,
+    mask: u64,
+    x: u64,
+) -> Result<(), OutOfMemory>
+    requires shape { IsShape rows width }
+    requires mask { IsMaskOf width mask }
+    ensures { OnOk result (places.new.items ≡ places.old.items ++ places_of rows width x) }
+{
+    if rows == 4 {
+        push_rows(places, 4, width, mask, x)
+    } else {
+        push_rows(places, rows, width, mask, x)
+    }
+}
+
+// The same by a loop over the rows. There is room, but pushes that cannot fail would let LLVM hash several rows at a
+// time, by products of halves, which takes longer.
+#[inline(always)]
+fn push_rows(
     places: &mut Vec<u32>,
     rows: u32,
     width: u64,

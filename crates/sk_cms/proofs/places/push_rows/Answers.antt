@@ -4,7 +4,7 @@ use Rattle.std.proofs.lemmas.List.{append-nil}
 use Rattle.sk_cms.specs.Cells.{place_within}
 use Rattle.sk_cms.specs.Places.{places_of}
 use Rattle.sk_cms.proofs.Placing.{places-zero, places-suc}
-use Rattle.sk_cms.proofs.places.push_places.Goals as goal
+use Rattle.sk_cms.proofs.places.push_rows.Goals as goal
 
 pub row-init : goal.row-init
 row-init c = sym (ap (λ (l : List ℕ). c.args.places.now.items ++ l) (places-zero c.args.width c.args.x) ∙ append-nil c.args.places.now.items)
