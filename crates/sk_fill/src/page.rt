@@ -17,6 +17,13 @@ const STRIDE: usize = 512;
 
 const LINE_END: &[u8] = b"\r\n";
 
+// Once its lines have this many bytes, memory is taken for all lines that may come: a buffer that only doubles is
+// copied each time, and touches twice the memory.
+const LEAST_KNOWN: usize = 65_536;
+
+// A text has fewer bytes.
+const MOST_BYTES: usize = 67_108_864;
+
 // Where a line begins, which is counted from 0.
 #[derive(Clone, Copy)]
 struct Place {
@@ -66,29 +73,39 @@ impl Page {
         })
     }
 
-    // Appends the `count` lines of a run, each with what ended it.
-    pub(crate) fn push_run(&mut self, run: &[u8], count: usize) -> Result<(), OutOfMemory>
+    // Appends the `count` lines of a run, each with what ended it. There may be `most` lines in all.
+    pub(crate) fn push_run(
+        &mut self,
+        run: &[u8],
+        count: usize,
+        most: u32,
+    ) -> Result<(), OutOfMemory>
         requires run { IsRun count run.now }
         ensures lines { OnOk result (self.new.lines ≡ self.old.lines ++ lines_of run.now) }
         ensures size { OnOk result (self.new.size ≡ self.old.size + length run.now) }
         ensures refused { OnErr result (self.new ≡ self.old) }
     {
         self.note()?;
-        self.buffer.reserve(run.len())?;
+        reserve(&mut self.buffer, run.len(), self.count, most)?;
         append(&mut self.buffer, run, &[]);
         self.count += count;
         Ok(())
     }
 
-    // Appends a line, with two bytes more that end it.
-    pub(crate) fn push(&mut self, line: &[u8]) -> Result<(), OutOfMemory>
+    // Appends a line, with two bytes more that end it. There may be `most` lines in all.
+    pub(crate) fn push(&mut self, line: &[u8], most: u32) -> Result<(), OutOfMemory>
         requires { HasNoLf line.now }
         ensures lines { OnOk result (self.new.lines ≡ self.old.lines ++ line.now ∷ []) }
         ensures size { OnOk result (self.new.size ≡ self.old.size + length line.now + 2) }
         ensures refused { OnErr result (self.new ≡ self.old) }
     {
         self.note()?;
-        self.buffer.reserve(line.len() + LINE_END.len())?;
+        reserve(
+            &mut self.buffer,
+            line.len() + LINE_END.len(),
+            self.count,
+            most,
+        )?;
         append(&mut self.buffer, line, LINE_END);
         self.count += 1;
         Ok(())
@@ -187,6 +204,33 @@ fn last_place(places: &[Place], line: usize) -> Place
         .find(|place| place.line <= line)
         .copied()
         .unwrap_or(Place::START)
+}
+
+// Finds memory for more bytes after those of `count` lines, and if it can for `most` lines in all.
+fn reserve(buffer: &mut Vec<u8>, more: usize, count: usize, most: u32) -> Result<(), OutOfMemory>
+    ensures items { buffer.new.items ≡ buffer.old.items }
+    ensures room { OnOk result (vec_len buffer.old + more ≤ vec_capacity buffer.new) }
+{
+    if buffer.len().saturating_add(more) <= buffer.capacity() {
+        return Ok(());
+    }
+    let later = bytes_to_come(buffer.len(), count, most as usize);
+    if buffer.reserve(more.saturating_add(later)).is_err() {
+        buffer.reserve(more)?;
+    }
+    Ok(())
+}
+
+// How many bytes the lines to come have, about, if `count` of `most` lines have these; 0 if that is not known yet.
+fn bytes_to_come(bytes: usize, count: usize, most: usize) -> usize {
+    if bytes < LEAST_KNOWN || count == 0 {
+        return 0;
+    }
+    let line = bytes / count;
+    // They may be longer by an eighth.
+    let each = line.saturating_add(line / 8 + 1);
+    let all = each.saturating_mul(most.saturating_sub(count));
+    all.min(MOST_BYTES.saturating_sub(bytes))
 }
 
 // Appends bytes and more bytes to the text that a buffer holds.

@@ -91,7 +91,7 @@ impl Window {
         ensures most { self.new.most ≡ self.old.most }
     {
         if self.has_room_for(line.len() + 2) {
-            return self.page.push(line);
+            return self.page.push(line, self.most);
         }
         self.push(line)
     }
@@ -118,7 +118,7 @@ impl Window {
         ensures most { self.new.most ≡ self.old.most }
         ensures apart { self.new.apart ≡ 0 }
     {
-        self.page.push_run(run, count)
+        self.page.push_run(run, count, self.most)
     }
 
     // Keeps the first `count` lines.

@@ -14,7 +14,7 @@ invariant_of-self-2 c =
     let a = c.self.inside in
     let new : List ℕ = c.append.new.buffer.items in
     let line : List ℕ = c.args.line.now in
-    let is = pages.appended new _ a.buffer.items (line ++ 13 ∷ 10 ∷ []) _ c.append.ensures c.reserve.new.self.ok.0 c.reserve.ensures.items in
+    let is = pages.appended new _ a.buffer.items (line ++ 13 ∷ 10 ∷ []) _ c.append.ensures c.reserve.new.buffer.ok.0 c.reserve.ensures.items in
     pages.page_more a.buffer.items new (line ++ 13 ∷ 10 ∷ []) a.places.items a.count 1 is c.self.invariant (pages.run_of_one line c.requires)
 
 pub returns-clause-lines : goal.returns-clause-lines
@@ -22,7 +22,7 @@ returns-clause-lines c =
     let a = c.self.inside in
     let new : List ℕ = c.append.new.buffer.items in
     let line : List ℕ = c.args.line.now in
-    let is = pages.appended new _ a.buffer.items (line ++ 13 ∷ 10 ∷ []) _ c.append.ensures c.reserve.new.self.ok.0 c.reserve.ensures.items in
+    let is = pages.appended new _ a.buffer.items (line ++ 13 ∷ 10 ∷ []) _ c.append.ensures c.reserve.new.buffer.ok.0 c.reserve.ensures.items in
     pages.lines_more a.buffer.items new (line ++ 13 ∷ 10 ∷ []) a.places.items a.count is c.self.invariant
     ∙ ap (λ (ls : List (List ℕ)). lines_of (text_in a.buffer.items) ++ ls) (pages.one_line line c.requires)
     ∙ ap (λ page. page.lines ++ line ∷ []) (c.self.view_is ∙ c.note.ensures)

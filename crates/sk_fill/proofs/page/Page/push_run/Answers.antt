@@ -16,7 +16,7 @@ invariant_of-self-2 c =
     let a = c.self.inside in
     let new : List ℕ = c.append.new.buffer.items in
     let run : List ℕ = c.args.run.now in
-    let is = pages.appended new _ a.buffer.items (run ++ []) _ c.append.ensures c.reserve.new.self.ok.0 c.reserve.ensures.items in
+    let is = pages.appended new _ a.buffer.items (run ++ []) _ c.append.ensures c.reserve.new.buffer.ok.0 c.reserve.ensures.items in
     pages.page_more a.buffer.items new (run ++ []) a.places.items a.count c.args.count is c.self.invariant (subst (IsRun c.args.count) (sym (append-nil run)) c.requires.run)
 
 pub returns-clause-lines : goal.returns-clause-lines
@@ -24,7 +24,7 @@ returns-clause-lines c =
     let a = c.self.inside in
     let new : List ℕ = c.append.new.buffer.items in
     let run : List ℕ = c.args.run.now in
-    let is = pages.appended new _ a.buffer.items (run ++ []) _ c.append.ensures c.reserve.new.self.ok.0 c.reserve.ensures.items in
+    let is = pages.appended new _ a.buffer.items (run ++ []) _ c.append.ensures c.reserve.new.buffer.ok.0 c.reserve.ensures.items in
     pages.lines_more a.buffer.items new (run ++ []) a.places.items a.count is c.self.invariant
     ∙ ap (λ (l : List ℕ). lines_of (text_in a.buffer.items) ++ lines_of l) (append-nil run)
     ∙ ap (λ page. page.lines ++ lines_of run) (c.self.view_is ∙ c.note.ensures)
