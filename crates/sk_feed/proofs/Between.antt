@@ -35,7 +35,7 @@ unfolding AreKept
 all_kept keeps hint base [] = refl
 all_kept keeps hint base (item ∷ items) = inr (items, refl, all_kept keeps hint base items)
 
--- an updater that holds so many items more, and goes by this list
+-- an updater that holds this many items more, and goes by this list
 held_more : UpdaterState → List Entry → List ℕ → UpdaterState
 held_more u base more = record u { view = record u.view { post = Updater u.number (record (mine_of u.view) { base = base }) }; fill = u.fill ++ more }
 

@@ -1,4 +1,4 @@
--- Calls that feed an updater, one behind another.
+-- Calls that feed an updater, one after another.
 use Rattle.std.proofs.Common.{◌≡◌, ◌≢◌, ◌↔◌, ◌⊎◌, inl, inr, ℕ, zero, suc, ◌+◌, ◌<◌, ◌≤◌, List, [], ◌∷◌, ◌++◌, length, get_or, slice_range, Bool, true, false, Option, Some, None, refl, subst, sym, ap, ◌∙◌, append-nil, append_assoc}
 use Rattle.sk_read.specs.declared.kind.Kind.{Kind}
 use Rattle.sk_hub.specs.declared.answers.Update.{Update}

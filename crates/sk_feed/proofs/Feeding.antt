@@ -30,7 +30,7 @@ pub line_passed : (keeps : ℕ → ℕ → Bool) (hint_of : List ℕ → List En
     → Takes keeps hint_of u (items_in kind (slice_range lines from at)) v → Takes keeps hint_of u (items_in kind (slice_range lines from (at + 1))) v
 line_passed keeps hint_of u v kind lines from at le within is a = subst (λ l. Takes keeps hint_of u l v) (sym (next_empty kind lines from at le within is)) a
 
--- a line at which memory was wanting
+-- a line at which memory ran out
 pub line_refused : (keeps : ℕ → ℕ → Bool) (hint_of : List ℕ → List Entry → ℕ) (u v w : UpdaterState) (kind : Kind) (lines : List (List ℕ)) (from at to item : ℕ) → from ≤ at → at < to → to ≤ length lines → item_in kind (get_or lines at []) ≡ Some item
     → Takes keeps hint_of u (items_in kind (slice_range lines from at)) v → KeepsNone v w ⊎ Takes keeps hint_of v (item ∷ []) w → (place : ℕ) × (from ≤ place) × (place ≤ to) × Takes keeps hint_of u (items_in kind (slice_range lines from place)) w
 line_refused keeps hint_of u v w kind lines from at to item le below within is a (inl none) = (at, le, omega arith, takes_then_none keeps hint_of u v w (items_in kind (slice_range lines from at)) a none)

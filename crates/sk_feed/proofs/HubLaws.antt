@@ -114,7 +114,7 @@ no_window keeps hint_of kind b = record {
   token = refl;
 }
 
--- ---- a report that is not told
+-- ---- a report that is not made
 
 pub leaves_same : (a : Hub) → LeavesHub a a
 leaves_same a = record {

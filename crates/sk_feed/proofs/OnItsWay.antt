@@ -17,7 +17,7 @@ use Rattle.sk_hub.proofs.Calls.{none_refl, takes_none, takes_trans}
 
 -- ---- parts of lists
 
--- what is left of a range behind its front
+-- what is left of a range after its first part
 pub range_less : {A : Type 0} (xs : List A) (at end n : ℕ) → at + n ≤ end → slice_range xs (at + n) end ≡ drop n (slice_range xs at end)
 range_less xs at end n inside =
     let parts : end - at ≡ n + (end - (at + n)) = omega arith in

@@ -77,7 +77,7 @@ still_good kind lines lines' line good one added = subst (All (IsGood kind)) (sy
 
 -- ---- the lines that a reader held
 
--- the reader behind one that it held
+-- the reader after one that it held
 pub held_line : (r : Reading) (left : Option (List ℕ)) (given : List (List ℕ)) (taken : List ℕ) (result : Result Bool LineFault) → result ≡ Ok true → GoesHeld r left given taken result → HasRead r left (given ++ r.cutter.line ∷ []) taken
 held_line r left given taken result is goes = subst (GoesHeld r left given taken) is goes
 
@@ -92,7 +92,7 @@ in_time_on given more taken is = record {
   earlier = begins_more (complete_units_of Lines is.front) given more is.earlier;
 }
 
--- the last of the lines that went on, where their reader stands behind it
+-- the last of the lines that went on, if their reader stands after it
 pub held_last : (r : Reading) (old new : Option (List ℕ)) (given lines lines' : List (List ℕ)) (taken more : List ℕ) → Consumes old new more → EndsWithLine lines lines' → IsInTime Lines (given ++ lines) (taken ++ more) → HasRead r new (given ++ lines') (taken ++ more)
     → (front : List (List ℕ)) × (line : List ℕ) × (lines' ≡ front ++ line ∷ []) × ReadsLine r old new (given ++ front) line taken
 held_last r old new given lines lines' taken more consumed ends in_time read =

@@ -61,7 +61,7 @@ module _ (kind : Kind) (most : ℕ) (lines_before lines_found : List (List ℕ))
     stopped = tt;
   }
 
-  -- a fault came behind them
+  -- a fault came after them
   fault_held : (why : Fault) → ((first left : Option (List ℕ)) (given : List (List ℕ)) (taken : List ℕ) → Consumes first left taken → HasRead r0 left (given ++ lines_before) taken
       → Ends Lines r0.most (λ lines. lines ≡ given ++ lines_found) (RefusesLine kind (given ++ lines_found)) first left why) → TakesHeld kind most lines_before lines_found r0 r' (Err why)
   fault_held why ends = record {

@@ -106,7 +106,7 @@ no_room_among kind most old line group r r' why is bound unfilled good gave = su
     not_ok : (b : Bool) → oom ≡ Ok b → ⊥
     not_ok b other = cc
 
--- what was taken then, behind lines that were taken
+-- what was taken then, after lines that were taken
 pub held_behind : (kind : Kind) (most : ℕ) (a b c : List (List ℕ)) (r s t : Reading) (result : Result Bool Fault) → s.most ≡ r.most → TakesMore kind most a b r s → TakesHeld kind most b c s t result → TakesHeld kind most a c r t result
 held_behind kind most a b c r s t result bound one two = record {
   full = two.full;
@@ -142,7 +142,7 @@ no_room_some kind most old (line ∷ group) new r r' (Err why) some same is boun
 
 -- ---- lines that may be refused
 
--- of lines that come behind so many, the first went to the end of a window's, and the next was refused
+-- of lines that come after this many, the first went to the end of a window's, and the next was refused
 record RefusesAmong (kind : Kind) (before : ℕ) (why : Fault) (old lines new : List (List ℕ)) : Type 0 where
   pub front : List (List ℕ)
   pub line : List ℕ
@@ -213,7 +213,7 @@ refused_among kind most before old group new r r' why bound refuses unfilled goo
     not_ok : (b : Bool) → err ≡ Ok b → ⊥
     not_ok b other = cc
 
--- a reader gave lines, of which one was taken out again with those behind it
+-- a reader gave lines, of which one was taken out again with those after it
 pub refused_held : (kind : Kind) (most before : ℕ) (old group new : List (List ℕ)) (r r' : Reading) (why : Fault) → r'.most ≡ r.most → RefusesFrom kind before why (length old) (old ++ group) new
     → length old + length group ≤ most → length (concat old) + length (concat group) < full_bytes → All (IsGood kind) old
     → ((left : Option (List ℕ)) (given : List (List ℕ)) (taken : List ℕ) → HasRead r left (given ++ old) taken → length (given ++ old) ≡ before)

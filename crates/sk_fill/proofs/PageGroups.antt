@@ -78,7 +78,7 @@ lines_passed bytes limit from at (span ∷ spans) padded fits whole (end, line, 
           (All-head (λ (s : Span). (0 ≤ s.from) × (s.from ≤ s.to) × (s.to ≤ length bytes)) span [] first.behind) later.behind;
     }
 
--- behind them
+-- after them
 pub way_behind : (bytes : List ℕ) (from at : ℕ) (spans : List Span) → IsPadded bytes → Passed bytes from at spans → AreOnTheWay bytes at at 0
 way_behind bytes from at spans padded passed = record {
   padded = padded;

@@ -20,7 +20,7 @@ use Rattle.sk_lines.proofs.WholeLines.{no_lines, run_more}
 
 -- ---- whole lines
 
--- what lies behind a place of whole lines ends as they do
+-- what lies after a place of whole lines ends as they do
 pub whole_behind : (n : ℕ) (text : List ℕ) → n ≤ length text → IsOfWholeLines text → IsOfWholeLines (drop n text)
 whole_behind n text within (inl none) = inl (drop_all n text (omega (arith, ap length none)))
 whole_behind n text within (inr ends) = ⊎_elim
@@ -100,7 +100,7 @@ pub lines_more : (old new more : List ℕ) (noted : List Place) (count : ℕ) �
 lines_more old new more noted count is page =
     ap lines_of (text_of new (text_in old ++ more) is) ∙ after_whole_lines (text_in old) more page.run.whole
 
--- what was put behind the text of a page
+-- what was put after the text of a page
 pub appended : (new kept old more : List ℕ) (n : ℕ) → new ≡ (take (n - 64) kept ++ more) ++ replicate 64 0 → n ≡ length kept → kept ≡ old
     → new ≡ (text_in old ++ more) ++ replicate 64 0
 appended new kept old more n is size same =
@@ -115,7 +115,7 @@ line_before text count line at run b =
     let split = ap lines_of (sym (take-append-drop at text)) ∙ after_whole_lines (take at text) (drop at text) b.before.whole in
     omega (arith, ap length split, length-append (lines_of (take at text)) (lines_of (drop at text)), run.count, b.before.count)
 
--- no place is behind the last line
+-- no place is after the last line
 pub noted_before : (bytes : List ℕ) (noted : List Place) (count i : ℕ) (d : Place) → IsPage bytes noted count → i < length noted → (get_or noted i d).line ≤ count
 noted_before bytes noted count i d page below =
     line_before (text_in bytes) count (get_or noted i d).line (get_or noted i d).at page.run (page.noted i d below)
@@ -169,7 +169,7 @@ pub next_found : (bytes : List ℕ) (at scanned marks far more end left : ℕ) �
 next_found bytes at scanned marks far more end left way known takes =
     steps.found_line bytes at (length bytes) end far left way.within refl way.padded.zeros (takes bytes at known)
 
--- behind the next line
+-- after the next line
 pub way_on : (bytes : List ℕ) (at scanned marks far end left : ℕ) → AreOnTheWay bytes at scanned marks → FoundLine bytes at (length bytes) end far left
     → far ≤ length bytes → 64 ≤ far → AreOnTheWay bytes (end + 1) far left
 way_on bytes at scanned marks far end left way f bound block = record {
@@ -204,7 +204,7 @@ last_begins test noted text each =
     found_has (λ place. Begins text place.line place.at) test (reverse noted) (record { line = 0; at = 0 })
     (all_reversed (λ place. Begins text place.line place.at) noted each) (record { within = omega arith; before = no_lines })
 
--- the text behind a place of it
+-- the text after a place of it
 behind : (bytes : List ℕ) (at : ℕ) → at + 64 ≤ length bytes → drop at (text_in bytes) ≡ text_from at bytes
 behind bytes at within =
     let size : length bytes - 64 ≡ at + (length bytes - 64 - at) = omega arith in

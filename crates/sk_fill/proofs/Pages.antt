@@ -1,4 +1,4 @@
--- The lines of a window: those of its page, and those behind that lie in its text.
+-- The lines of a window: those of its page, and those after them that lie in its text.
 use Rattle.std.proofs.Common.{◌≡◌, ◌≢◌, ℕ, suc, ◌+◌, ◌-◌, ◌<◌, ◌≤◌, ◌==◌, nat_le, false, List, [], ◌∷◌, ◌++◌, length, take, drop, slice_range, refl, sym, ap, ◌∙◌, subst, arith, length-append, length-take, length-drop, append-nil, append_assoc, take-append-drop, take_at}
 use Rattle.std.specs.List.{concat}
 use Rattle.std.proofs.lemmas.Bool.{eqb-false, or_parts}
@@ -46,7 +46,7 @@ lines_stay (span ∷ spans) text more within =
     ap (λ l. l ∷ lines_at spans (text ++ more)) (range_stays text more span.from span.to here.1 here.2)
     ∙ ap (λ ls. slice_range text span.from span.to ∷ ls) (lines_stay spans text more (λ k d below. within (suc k) d (omega arith)))
 
--- the line that lies behind a text
+-- the line that lies after a text
 line_behind : (text line : List ℕ) → slice_range (text ++ line) (length text) (length text + length line) ≡ line
 line_behind text line =
     let count : length text + length line - length text ≡ length line = omega arith in
@@ -56,7 +56,7 @@ line_behind text line =
 pub count_at : (spans : List Span) (text : List ℕ) → length (lines_at spans text) ≡ length spans
 count_at spans text = length-map spans (λ (span : Span). slice_range text span.from span.to)
 
--- the lines from a place on that lies behind those of the page
+-- the lines from a place on that lies after those of the page
 pub lines_behind : (page : PageState) (spans all : List Span) (text bytes : List ℕ) (first : List (List ℕ)) (lines place : ℕ) → lines ≡ length page.lines → first ≡ drop lines page.lines → all ≡ spans → bytes ≡ text → lines ≤ place
     → first ++ lines_at (take (length all - (place - lines)) (drop (place - lines) all)) bytes ≡ drop place (page.lines ++ lines_at spans text)
 lines_behind page spans all text bytes first lines place count rest same_spans same_text behind =
@@ -69,7 +69,7 @@ lines_behind page spans all text bytes first lines place count rest same_spans s
     ∙ sym (drop-append-add page.lines (lines_at spans text) n)
     ∙ ap (λ k. drop k (page.lines ++ lines_at spans text)) sum
 
--- the first of lines that lie in a text, behind a page that is at its end
+-- the first of lines that lie in a text, after a page that is at its end
 pub lines_apart : (page : List (List ℕ)) (spans front back : List Span) (text : List ℕ) (n : ℕ) → length page ≡ 0 → front ≡ take n spans → n ≤ length spans
     → page ++ lines_at spans text ≡ lines_at (take n (front ++ back)) text ++ (page ++ lines_at (take (length spans - n) (drop n spans)) text)
 lines_apart [] spans front back text n end is few =
@@ -95,7 +95,7 @@ module _ (page : PageState) (page_bytes most : ℕ) (spans : List Span) (text : 
   pub bytes_of_page : length spans ≡ 0 → length (concat (page.lines ++ lines_at spans text)) ≡ length (concat page.lines)
   bytes_of_page none = omega (arith, all_bytes, no_text none)
 
--- ---- one line more behind a text
+-- ---- one line more after a text
 
 module _ (page : PageState) (page_bytes most : ℕ) (spans spans' : List Span) (text line : List ℕ) (window : IsWindow page page_bytes spans most text) (one : spans' ≡ spans ++ record { from = length text; to = length text + length line } ∷ []) where
   texts_more : lines_at spans' (text ++ line) ≡ lines_at spans text ++ line ∷ []

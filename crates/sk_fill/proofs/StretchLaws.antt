@@ -41,7 +41,7 @@ ok_is more to is = ap answer is
 
 -- ---- a window
 
--- the reader behind a window that was filled, or not
+-- the reader after a window that was filled, or not
 pub window_read : (full : Bool) (r r' : Reading) (old new : Option (List ℕ)) (given lines : List (List ℕ)) (taken : List ℕ)
     → (full ≡ true → (front : List (List ℕ)) × (line : List ℕ) × (lines ≡ front ++ line ∷ []) × ReadsLine r' old new (given ++ front) line taken)
     → (full ≡ false → (more : List ℕ) × Consumes old new more × HasRead r' new (given ++ lines) (taken ++ more))
@@ -213,7 +213,7 @@ pub nothing_read : (kind : Kind) (most : ℕ) (r : Reading) (left : Option (List
 nothing_read kind most r left (Ok full) is least = absurd is
 nothing_read kind most r left (Err e) is least = stretch_failed kind most [] [] r r r left left left (stretch_starts kind most [] r left refl) [] e (Err e) (Err e) (no_window_read kind most r left (Err e) is least) refl refl
 
--- where memory is found wanting behind a stretch, the reading ends behind it
+-- if memory runs out after a stretch, the reading ends after it
 pub read_then_none : (kind : Kind) (most : ℕ) (windows : List (List (List ℕ))) (r r' : Reading) (old new : Option (List ℕ)) (full : Bool) (read result : Result Bool Fault) → 1 ≤ most → ReadsStretch kind most windows r r' old new read → read ≡ Ok full → IsErrAnd result (λ x. x ≡ fault.OutOfMemory) → ReadsStretch kind most windows r r' old new result
 read_then_none kind most windows r r' old new full read (Ok more) least stretch was is = absurd is
 read_then_none kind most windows r r' old new full read (Err e) least stretch was is = record {

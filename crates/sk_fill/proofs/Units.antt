@@ -13,11 +13,11 @@ pub empty_is : (kind : Kind) (unit : List ℕ) → length unit ≡ 0 → item_in
 empty_is kind [] none = refl
 empty_is kind (byte ∷ rest) none = let no : ⊥ = omega arith in absurd no
 
--- a unit that is told not to be empty
+-- a unit that is known not to be empty
 pub filled : (unit : List ℕ) (tells : Bool) → tells ≡ (length unit == 0) → tells ≡ false → 0 < length unit
 filled unit tells told not_empty = let some : length unit ≢ 0 = eqb-false (length unit) 0 (sym told ∙ not_empty) in omega arith
 
--- one that is told to be empty
+-- one that is known to be empty
 pub empty : (unit : List ℕ) (tells : Bool) → tells ≡ (length unit == 0) → tells ≡ true → length unit ≡ 0
 empty unit tells told is = eqb-true (length unit) 0 (sym told ∙ is)
 

@@ -12,13 +12,13 @@ use Rattle.sk_read.specs.declared.kind.Kind.{Kind}
 use Rattle.sk_read.specs.declared.fault.Fault.{Fault}
 use Rattle.sk_read.specs.declared.fault.Fault.TheVariants.{OutOfMemory, BadItem}
 
--- behind these lines comes one that is no item, or for which no memory was found
+-- after these lines comes one that is no item, or for which no memory was found
 abbrev pub RefusesLine : Kind → List (List ℕ) → Fault → List (List ℕ) → List ℕ → Type 0
 RefusesLine kind lines (BadItem n) given line = (given ≡ lines) × (0 < length line) × IsNone (item_of kind line)
 RefusesLine kind lines OutOfMemory given line = given ≡ lines
 RefusesLine kind lines _ given line = ⊥
 
--- behind these lines of these bytes one more was given, of as many bytes more
+-- after these lines of these bytes one more was given, of as many bytes more
 pub record ReadsLine (r : Reading) (old new : Option (List ℕ)) (given : List (List ℕ)) (line taken : List ℕ) : Type 0 where
   pub more : List ℕ
   pub consumed : Consumes old new more
@@ -55,7 +55,7 @@ pub record TakesSome (kind : Kind) (most : ℕ) (old new : List (List ℕ)) (r r
   pub good : All (IsGood kind) new
   pub read : (left : Option (List ℕ)) (given : List (List ℕ)) (taken : List ℕ) → HasRead r left (given ++ old) taken → HasRead r' left (given ++ new) taken
 
--- of lines that come from a place on behind so many, those before the first that is no item stay
+-- of lines that come from a place on after this many, those before the first that is no item stay
 pub record RefusesFrom (kind : Kind) (before : ℕ) (why : Fault) (first : ℕ) (old new : List (List ℕ)) : Type 0 where
   pub place : ℕ
   pub after : first ≤ place

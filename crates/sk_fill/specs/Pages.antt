@@ -26,7 +26,7 @@ text_from at bytes = take (length bytes - 64 - at) (drop at bytes)
 abbrev pub text_in : List ℕ → List ℕ
 text_in bytes = take (length bytes - 64) bytes
 
--- a block of zeros lies behind the text
+-- a block of zeros lies after the text
 pub record IsPadded (bytes : List ℕ) : Type 0 where
   pub long : 64 ≤ length bytes
   pub zeros : (i : ℕ) → length bytes ≤ i + 64 → slice_index bytes i ≡ 0

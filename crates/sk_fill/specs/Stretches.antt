@@ -27,7 +27,7 @@ pub record EndUnfilled (most : ℕ) (windows : List (List (List ℕ))) : Type 0 
   pub full : All (IsFullWindow most) before
   pub unfilled : FillsNone most last
 
--- behind these units came others, each empty or an item, that are windows and a rest
+-- after these units came others, each empty or an item, that are windows and a rest
 pub record GoOnInWindows (kind : Kind) (most : ℕ) (given units : List (List ℕ)) : Type 0 where
   pub more : List (List ℕ)
   pub joined : units ≡ given ++ more

@@ -19,7 +19,7 @@ pub record WindowState : Type 0 where
 pub record WindowLinesState : Type 0 where
   pub rest : List (List ℕ)
 
--- a window is of at most so many lines
+-- a window is of at most this many lines
 abbrev pub most_lines : ℕ
 most_lines = 1000000
 
@@ -27,7 +27,7 @@ most_lines = 1000000
 abbrev pub full_bytes : ℕ
 full_bytes = 67108864
 
--- there are as many lines as a window takes, or they have so many bytes or more in all
+-- there are as many lines as a window takes, or they have as many bytes as make it full, or more
 abbrev pub fills : ℕ → List (List ℕ) → Bool
 fills most lines = (length lines == most) || nat_le full_bytes (length (concat lines))
 
@@ -72,7 +72,7 @@ IsBad kind line = (0 < length line) × IsNone (item_of kind line)
 
 -- ---- its fields
 
--- a window: a page of lines, and others behind it that lie in a text
+-- a window: a page of lines, and others after it that lie in a text
 pub record IsWindow (page : PageState) (page_bytes : ℕ) (spans : List Span) (most : ℕ) (text : List ℕ) : Type 0 where
   pub within : AreBehind 0 spans text
   pub joined : length text ≡ length (concat (lines_at spans text))

@@ -34,7 +34,7 @@ pub(crate) fn take_held(
     take_lines(window, reader, kind)
 }
 
-// Takes many lines at once as long as they can lie beside the others, and returns whether the window is full.
+// Takes many lines at once as long as they can lie with the others, and returns whether the window is full.
 fn take_runs(window: &mut Window, reader: &mut LineReader, kind: Kind) -> Result<bool, Fault>
     requires unfilled { FillsNone window.old.most window.old.lines }
     requires good { All (IsGood kind) window.old.lines }

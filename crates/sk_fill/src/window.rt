@@ -81,7 +81,7 @@ impl Window {
         Ok(())
     }
 
-    // Puts a line to the end that was read, beside the others if it can lie there.
+    // Puts a line to the end that was read, with the others if it can lie there.
     pub(crate) fn push_line(&mut self, line: &[u8]) -> Result<(), OutOfMemory>
         requires room { is_full self.old ≡ false }
         requires short { length line.now ≤ LINE_LIMIT }

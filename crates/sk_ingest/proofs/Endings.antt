@@ -1,4 +1,4 @@
--- Ends of a reading, told by what follows from what was known.
+-- Ends of a reading, said by what follows from what was known.
 use Rattle.std.proofs.Common.{◌≡◌, inl, inr, ℕ, ◌+◌, ◌<◌, List, length, Option}
 use Rattle.sk_read.specs.Reads.{BreaksOff, StopsAt, ReadsSome, ReadsAll, Ends}
 use Rattle.sk_read.specs.declared.units.Units.{Units}

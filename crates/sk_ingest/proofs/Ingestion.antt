@@ -71,7 +71,7 @@ unit_waits t units unit a b r s rest went small good still = record {
   few = subst (λ n. HaveFew n (rest ++ unit ∷ []) b.updaters) (sym (one_unit_more units unit)) (few_left (length units) rest unit b.updaters went.few);
 }
 
--- where a unit fills a window, that window ends behind it
+-- if a unit fills a window, that window ends after it
 pub place_is : (most : ℕ) (units : List (List ℕ)) (unit : List ℕ) (windows : List (List (List ℕ))) (rest : List (List ℕ)) → AreWindows most units windows rest → length (units ++ unit ∷ []) ≡ 0 + (length (all_lines windows) + length (rest ++ unit ∷ []))
 place_is most units unit windows rest cut =
     omega (arith, ap length cut.joined, length-append units (unit ∷ []), length-append (all_lines windows) rest, length-append rest (unit ∷ []))

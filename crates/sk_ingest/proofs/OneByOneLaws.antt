@@ -223,7 +223,7 @@ lines_taken keeps hint_of plan units lines kept hint a b heart u u' went alone g
     lines_one_by_one (unreported keeps hint_of plan) units lines a b (record { heart = heart; updaters = set b.updaters 0 u'; token = b.token }) tt tt u went good alone.least alone.unreported alone.one goes refl (length-set b.updaters 0 u')
     (lone_took keeps hint_of (items_in plan.kind lines) b.updaters u u' alone.one read (takes_all keeps hint_of u u' hint (items_in plan.kind lines) is (subst (λ l. Takes keeps hint_of u l u') those taken)))
 
--- a line behind those before it
+-- a line after those before it
 line_begins : (lines : List (List ℕ)) (n : ℕ) → n < length lines → Begins (take n lines ++ get_or lines n [] ∷ []) lines
 line_begins lines n within = (drop (n + 1) lines, sym (take-append-drop (n + 1) lines) ∙ ap (λ l. l ++ drop (n + 1) lines) (take_more lines n [] within))
 
@@ -248,7 +248,7 @@ stops_for_memory t units lines a b r s some went = record {
   fault = tt;
 }
 
--- ---- a run whose report is not told is one without a report
+-- ---- a run that makes no report is one without a report
 
 reported_quietly : {R : Type 0} (t : Terms R) (before : ℕ) (windows : List (List (List ℕ))) (a b : Hub) (x y : Unit {0}) (r : R) → t.plan.interim ≡ false → Reported (unreported t.keeps t.hint_of t.plan) before windows a x b y → Reported t before windows a r b r
 unfolding Reported

@@ -89,7 +89,7 @@ module _ (keeps : ℕ → ℕ → Bool) (hint_of : List ℕ → List Entry → �
         most = stretch.bound ∙ went.most;
       }
 
-  -- further ones are read behind them
+  -- further ones are read after them
   pub stretches_wait : (further : List (List (List ℕ))) (q : Reading) (new : Option (List ℕ)) → more ≡ true → StretchGoes plan.kind plan.window further r q mid new → StretchesWent keeps hint_of plan (waiting ++ further) before true a b q old new
   stretches_wait further q new is goes =
       let given = all_lines went.fed ++ all_lines waiting in
@@ -193,7 +193,7 @@ module _ (keeps : ℕ → ℕ → Bool) (hint_of : List ℕ → List Entry → �
         ),
       )
 
--- ---- a stretch and those behind it were fed, and one more was read
+-- ---- a stretch and those after it were fed, and one more was read
 
 module _ (keeps : ℕ → ℕ → Bool) (hint_of : List ℕ → List Entry → ℕ) (plan : Intake) (s next : StretchState) (a b c : Hub) (r r' : Reading) (old mid new : Option (List ℕ)) (result : Result Bool Fault) (went : StretchesWent keeps hint_of plan s.windows s.first true a b r old mid) (on : FeedsAndReads (λ windows. FeedsWindows keeps hint_of plan.kind windows b c) plan.kind plan.window s next r r' mid new result) where
   waited : StretchesWent keeps hint_of plan (s.windows ++ on.more) s.first true a b on.between old on.mid
@@ -208,7 +208,7 @@ module _ (keeps : ℕ → ℕ → Bool) (hint_of : List ℕ → List Entry → �
   pub feeds_fail : (why : Fault) → 1 ≤ plan.window → plan.interim ≡ false → result ≡ Err why → EndsEarly (unreported keeps hint_of plan) Lines old new a tt tt why
   feeds_fail why least off was = stretches_fail keeps hint_of plan (s.windows ++ on.more) s.first true a b on.between old on.mid waited on.last why result r' new least off refl on.reads was
 
--- ---- what a call tells of the count of faults
+-- ---- what a call says of the count of faults
 
 err_is : (A : Type 0) (e f : Fault) → IsErrOf {T = A} (Err e) f → e ≡ f
 err_is A e f is = cc
@@ -227,7 +227,7 @@ cause_passed {T} before start now why read (Err e) cause was is same =
       failed = λ of. subst (λ x. Rose x now) same (so.failed (is_err Bool e fault.ReadFault (err_is T e fault.ReadFault of)));
     }
 
--- where memory was wanting no read failed
+-- if memory ran out no read failed
 pub none_caused : {T : Type 0} (before now : ℕ) (result : Result T Fault) → now ≡ before → IsErrAnd result (λ x. x ≡ fault.OutOfMemory) → HasCauseIn fault.ReadFault before now result
 none_caused before now (Ok n) same is = absurd is
 none_caused {T} before now (Err e) same is = record { steady = λ other. same; failed = λ of. absurd (no_read_fault e is (err_is T e fault.ReadFault of)) }

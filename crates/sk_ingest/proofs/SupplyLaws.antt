@@ -67,7 +67,7 @@ pub record SupplyGoes {A P : Type 0} (kind : Kind) (most : ℕ) (os os' : List (
 pub supply_starts : {A P : Type 0} (kind : Kind) (most : ℕ) (os : List (Producer StretchState A P)) (r : Reading) (old : Option (List ℕ)) → SupplyGoes kind most os os r r old old
 supply_starts kind most os r old = record { given = []; gave = gave_none os; goes = stretch_starts kind most [] r old refl }
 
--- windows that were read behind others
+-- windows that were read after others
 pub goes_both : (kind : Kind) (most : ℕ) (xs ys : List (List (List ℕ))) (r q s : Reading) (old mid new : Option (List ℕ)) → StretchGoes kind most xs r q old mid → StretchGoes kind most ys q s mid new → StretchGoes kind most (xs ++ ys) r s old new
 goes_both kind most xs ys r q s old mid new a b = record {
   full = All-append (IsFullWindow most) xs ys a.full b.full;
@@ -94,7 +94,7 @@ goes_full kind most windows r r' old new result reads was = record {
   progress = let later = reads.progress was in omega (arith, later);
 }
 
--- a stretch that is given to all, behind those that were
+-- a stretch that is given to all, after those that were
 pub supply_goes : {A P : Type 0} (kind : Kind) (most : ℕ) (os ms ns : List (Producer StretchState A P)) (r q s : Reading) (old mid new : Option (List ℕ)) (next : StretchState) (result : Result Bool Fault) → SupplyGoes kind most os ms r q old mid → ReadsStretch kind most next.windows q s mid new result → result ≡ Ok true → GaveEach ms ns (next ∷ [])
     → SupplyGoes kind most os ns r s old new
 supply_goes kind most os ms ns r q s old mid new next result before reads was gave = record {
@@ -119,7 +119,7 @@ supply_ends kind most os ms next r q s old mid new result before reads first = r
   first = on_ok result first;
 }
 
--- or where a fault came behind it
+-- or if a fault came after it
 pub supply_fails : {A P : Type 0} (kind : Kind) (most : ℕ) (os ms ns : List (Producer StretchState A P)) (next : StretchState) (last : List (List (List ℕ))) (r q s : Reading) (old mid new : Option (List ℕ)) (why : Fault) (result : Result Bool Fault) → SupplyGoes kind most os ms r q old mid → ReadsStretch kind most last q s mid new result → IsErrAnd result (λ e. e ≡ why)
     → Supplies kind most os ns next r s old new result
 supply_fails kind most os ms ns next last r q s old mid new why result before reads is = record {
@@ -166,7 +166,7 @@ module _ (Fed : List (List (List ℕ)) → Type 0) (kind : Kind) (most : ℕ) (s
       first = none_on_err _ result (λ e. e ≡ why) is;
     }
 
-    -- no memory was found behind it
+    -- no memory was found after it
     pub supplies_then_none : (full : Bool) (result : Result Bool Fault) → read ≡ Ok full → IsErrAnd result (λ e. e ≡ fault.OutOfMemory) → 1 ≤ most → FeedsAndReads Fed kind most s next r r' old new result
     supplies_then_none full result was is least = record {
       more = windows_of supplies.given;
@@ -193,12 +193,12 @@ module _ (Fed : List (List (List ℕ)) → Type 0) (kind : Kind) (most : ℕ) (s
       first = on_ok_at read full _ was supplies.first;
     }
 
--- where windows take at most so many lines
+-- if windows take at most this many lines
 pub supplies_at_most : (Fed : List (List (List ℕ)) → Type 0) (kind : Kind) (m most : ℕ) (s next : StretchState) (r : Reading) (old : Option (List ℕ)) {A P : Type 0} (os os' : List (Producer StretchState A P)) (r' : Reading) (new : Option (List ℕ)) (read : Result Bool Fault) (supplies : Supplies kind m os os' next r r' old new read) → m ≡ most → (full : Bool) → read ≡ Ok full
     → Fed (s.windows ++ windows_of supplies.given) → FeedsAndReads Fed kind most s next r r' old new (Ok full)
 supplies_at_most Fed kind m most s next r old os os' r' new read supplies same full was fed = subst (λ n. FeedsAndReads Fed kind n s next r r' old new (Ok full)) same (supplies_fed Fed kind m s next r old os os' r' new read supplies full was fed)
 
--- what was fed is told otherwise
+-- what was fed is said otherwise
 pub told_otherwise : (Fed Fed' : List (List (List ℕ)) → Type 0) (kind : Kind) (most : ℕ) (s next : StretchState) (r r' : Reading) (old new : Option (List ℕ)) (result : Result Bool Fault) → ((windows : List (List (List ℕ))) → Fed windows → Fed' windows) → FeedsAndReads Fed kind most s next r r' old new result → FeedsAndReads Fed' kind most s next r r' old new result
 told_otherwise Fed Fed' kind most s next r r' old new result f a = record {
   more = a.more;

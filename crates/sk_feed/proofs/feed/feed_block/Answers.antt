@@ -18,7 +18,7 @@ found_is kind lines rest place found at value =
     let here : place + 0 ≡ place = omega arith in
     value ∙ ap (λ l. item_in kind (get_or l 0 [])) at ∙ ap (item_in kind) (get_or-drop place lines 0 [] ∙ ap (λ n. get_or lines n []) here)
 
--- behind it come those from the next place on
+-- after it come those from the next place on
 rest_is : (lines rest rest' : List (List ℕ)) (place : ℕ) → rest ≡ drop place lines → rest' ≡ drop 1 rest → rest' ≡ drop (place + 1) lines
 rest_is lines rest rest' place at moved = moved ∙ ap (drop 1) at ∙ drop-drop 1 place lines
 

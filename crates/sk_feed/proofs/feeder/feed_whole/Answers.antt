@@ -27,7 +27,7 @@ returns-then-feed-clause-taken g c =
     subst (λ kind. Takes k.keeps_of k.hint_of c.args.u.now (items_in kind block) fed.new.u) (fed.ensures.kind ∙ inv.kind)
     (arrives k.keeps_of k.hint_of block c.args.u.now fed.new.u fed.new.self (fed.ensures.way block c.args.u.now inv.way) (fed.ensures.none_waits c.if-feed.true) (fed.ensures.none_is_left c.if-feed.true))
 
--- what was taken before memory was wanting
+-- what was taken before memory ran out
 pub returns-in_err-wait_or_help-clause-refused : goal.returns-in_err-wait_or_help-clause-refused
 returns-in_err-wait_or_help-clause-refused g c =
     let k = g.C.Composable in let inv = c.again.invariant in let fed = c.feed in let lines = c.args.window.now.lines in let from = c.args.block.from in let to = c.args.block.to in let block = slice_range lines from to in let u' = c.wait_or_help.new.u in

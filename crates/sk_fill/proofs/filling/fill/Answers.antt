@@ -15,7 +15,7 @@ use Rattle.sk_fill.proofs.filling.fill.Given.{Over}
 use Rattle.sk_fill.proofs.filling.fill.Goals.{In_ok-next}
 use Rattle.sk_fill.proofs.filling.fill.Goals as goal
 
--- the reader behind a line
+-- the reader after a line
 next_line : (g : Over) (c : In_ok-next g) → c.in_ok-next.field-0 ≡ true → (given : List (List ℕ)) (taken : List ℕ) → HasRead c.args.reader.now (g.S.Source.left c.args.source.now) given taken
     → ReadsLine c.next.new.self (g.S.Source.left c.args.source.now) (g.S.Source.left c.next.new.source) (given ++ c.piece.window.lines) c.next.new.self.cutter.line taken
 next_line g c is given taken has =
@@ -94,7 +94,7 @@ returns-then-is_full-clause-last g c = λ _. λ given taken has.
       subst (λ l. ReadsLine c.next.new.self (g.S.Source.left c.args.source.now) (g.S.Source.left c.next.new.source) (given ++ lines) l taken) (sym c.line-line.ensures) one,
     )
 
--- the reader behind the line that was put into the window
+-- the reader after the line that was put into the window
 at_line : (g : Over) (c : In_ok-next g) → c.in_ok-next.field-0 ≡ true → (own : List ℕ) (lines : List (List ℕ)) → own ≡ c.next.new.self.cutter.line → lines ≡ c.piece.window.lines ++ own ∷ [] → (given : List (List ℕ)) (taken : List ℕ) → HasRead c.args.reader.now (g.S.Source.left c.args.source.now) given taken
     → (more : List ℕ) × Consumes (g.S.Source.left c.args.source.now) (g.S.Source.left c.next.new.source) more × HasRead c.next.new.self (g.S.Source.left c.next.new.source) (given ++ lines) (taken ++ more)
 at_line g c is own lines same added given taken has =

@@ -15,7 +15,7 @@ line-init c = record {
   bound = refl;
 }
 
--- the reader behind a line
+-- the reader after a line
 gave : (c : In_ok-next_held) → c.in_ok-next_held.field-0 ≡ true → (left : Option (List ℕ)) (given : List (List ℕ)) (taken : List ℕ) → HasRead c.line.reader left given taken → HasRead c.next_held.new.self left (given ++ c.next_held.new.self.cutter.line ∷ []) taken
 gave c is left given taken has =
     held_line c.next_held.new.self left given taken c.next_held.result (c.in_ok-next_held.was ∙ ap (λ (b : Bool). Ok b) is) (c.next_held.ensures.goes left given taken has)

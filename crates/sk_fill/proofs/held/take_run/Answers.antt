@@ -15,7 +15,7 @@ use Rattle.sk_fill.proofs.ManyLines.{none_taken, some_taken, no_room_some, refus
 use Rattle.sk_fill.proofs.held.take_run.Goals.{After-next_run-count}
 use Rattle.sk_fill.proofs.held.take_run.Goals as goal
 
--- the bytes behind what was in front
+-- the bytes after those that were given
 slice_is : (front front' a b : List ℕ) → a ≡ front → b ≡ front' → take (length b - length a) (drop (length a) b) ≡ drop (length front) front'
 slice_is front front' a b p q =
     take_all (length b - length a) (drop (length a) b) (omega (arith, length-drop (length a) b)) ∙ ap (λ (l : List ℕ). drop (length l) b) p ∙ ap (drop (length front)) q
