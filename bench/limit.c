@@ -1,8 +1,8 @@
 /* A plain program of the same algorithm in C, on one thread and over the C library alone: the sketch of the k smallest
-   MurmurHash3_x64_128 hashes of the distinct lines of standard input, or of the numbers that they spell. Its line is that
-   of `sketchd count`; it refuses nothing.
+   MurmurHash3_x64_128 hashes of the distinct lines of standard input, of the numbers that they spell, or of the fields of
+   a column. Its line is that of `sketchd count`; it refuses nothing.
 
-       limit [--k K] [--raw] */
+       limit [--k K] [--raw] [--csv COLUMN] */
 #include <stdint.h>
 #include <stdio.h>
 #include <stdlib.h>
@@ -123,6 +123,28 @@ static inline void take(const uint8_t *text, size_t length, int raw) {
     if (item < theta) keep(item);
 }
 
+/* Comma-separated values, a byte at a time: the fields of the column gather, without the quotes in which they may stand;
+   two quotes in quotes are one. */
+static size_t column;
+
+static void take_records(const uint8_t *at, const uint8_t *end) {
+    enum { BARE, QUOTED, CLOSED };
+    static uint8_t field[1 << 16];
+    static size_t held, number = 1;
+    static int state = BARE;
+    for (; at < end; at++) {
+        if (*at == '"' && state != CLOSED) {
+            state = state == BARE ? QUOTED : CLOSED;
+        } else if (state != QUOTED && (*at == ',' || *at == '\n')) {
+            if (number == column) take(field, held - (*at == '\n' && held && field[held - 1] == '\r'), 0);
+            number = *at == ',' ? number + 1 : 1, held = 0, state = BARE;
+        } else {
+            if (number == column && held < sizeof field) field[held++] = *at;
+            state = state == CLOSED ? QUOTED : state;
+        }
+    }
+}
+
 static void print_fraction(u128 over, uint64_t under) {
     char digits[48], *at = digits + sizeof digits - 1;
     *at = 0;
@@ -137,10 +159,15 @@ int main(int argc, char **words) {
     for (int i = 1; i < argc; i++) {
         if (!strcmp(words[i], "--raw")) raw = 1;
         if (!strcmp(words[i], "--k") && i + 1 < argc) k = strtoul(words[++i], 0, 10);
+        if (!strcmp(words[i], "--csv") && i + 1 < argc) column = strtoul(words[++i], 0, 10);
     }
     make_sketch();
     size_t held = 0;
     for (ssize_t got; (got = read(0, piece + held, ROOM - held)) > 0;) {
+        if (column) {
+            take_records(piece, piece + got);
+            continue;
+        }
         uint8_t *line = piece, *end = piece + held + got, *stop;
         while ((stop = memchr(line, '\n', end - line))) {
             size_t length = stop - line;
