@@ -7,3 +7,4 @@ pub mod Distinct
 pub mod Kept
 pub mod Both
 pub mod Shown
+pub mod AtHome

@@ -1,6 +1,7 @@
 //! The sequential sketch of the k smallest hashes, as a heap with a probing table.
 #![tactic(auto)]
 
+mod at_home;
 mod heap_theta;
 mod held;
 mod kind;
