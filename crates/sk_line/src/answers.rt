@@ -35,7 +35,7 @@ pub(crate) fn send_reply<L: Link>(link: &mut L, answer: Answer) -> Result<(), Fa
     send_all(link, &reply[..len])
 }
 
-// Writes the reply to the front of `into`, and answers its length.
+// Writes the reply to the start of `into`, and returns its length.
 #[tactic(auto, unfolding(crate::specs::Replies::reply_line))]
 fn put_reply(into: &mut [u8; ESTIMATE_LINE_LEN], answer: Answer) -> usize
     ensures text { take result into.new ≡ reply_line answer }

@@ -1,4 +1,4 @@
-//! Sessions at once, each over a link of its own.
+//! Sessions in parallel, each over a link of its own.
 ghost use Rattle.std.specs.Prelude.{◌≡◌, ◌+◌, ◌<◌, ◌≤◌, ℕ, All, length, slice_index_or};
 ghost use Rattle.sk_compose.specs.Numbers.{k_of};
 ghost use Rattle.sk_hub.specs.Updaters.{kept_of};
@@ -49,7 +49,7 @@ impl<C: ThetaWord, L: Link + Drop, P: Pump<C> + Drop> Job<C, L, P> {
     }
 }
 
-/// Runs the sessions of all jobs at once, each in a thread of its own. Each is as `session` says.
+/// Runs the sessions of all jobs in parallel, each in a thread of its own. Each is as `session` says.
 pub fn serve_links<
     C: ThetaWord + Send,
     L: Link + Drop + Send,

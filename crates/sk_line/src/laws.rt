@@ -9,8 +9,8 @@ ghost use Rattle.sk_line.specs.Serving.{Answered, AnswersLine, AnswersEach, item
 ghost use Rattle.sk_line.specs.declared.answers.Answer.TheVariants as answer;
 ghost use Rattle.sk_line.specs.declared.requests.Request.TheVariants as request;
 
-/// Behind answered lines an updater has kept exactly the items of the adds that were answered so, in
-/// order, and it has seen at each line what it had seen before.
+/// After the answers to some lines an updater has also kept exactly the items of the adds that were answered
+/// `kept`, in order, and it has seen at each line what it had seen before.
 pub fn answers_keep_items()
     ensures kept { (shape : Sizes) (u : UpdaterState) (answered : List Answered) (v : UpdaterState) → AnswersEach shape u answered v
         → kept_of v ≡ kept_of u ++ items_kept shape.seed answered }
@@ -30,8 +30,8 @@ pub fn answers_take_items()
         → TakesOffered u (items_offered shape.seed answered) v }
 {}
 
-/// Counted since the last `synced`, an add is `busy` only where more items were kept than a buffer
-/// holds, and a sync only where one was.
+/// Counted since the last `synced`, an add is `busy` only if more items were kept than a buffer
+/// holds, and a sync only if one was.
 pub fn busy_is_bounded()
     ensures { (shape : Sizes) (u v w : UpdaterState) (answered : List Answered) (line : List ℕ) → AnswersEach shape u answered v → AnswersLine shape v (answered_busy line) w
         → (client_request line ≡ request.Add → u.size + 1 ≤ kept_since (length (kept_of u)) answered)

@@ -6,7 +6,7 @@ ghost use Rattle.sk_line.specs.Requests.{client_request, is_add};
 /// What a line of a client asks for.
 #[derive(Clone, Copy, Debug, PartialEq, Eq)]
 pub enum Request {
-    /// To count the item behind the word.
+    /// To count the item after the word.
     Add,
     /// For an estimate.
     Ask,

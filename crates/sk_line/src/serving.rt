@@ -50,7 +50,7 @@ fn add<C: ThetaWord>(u: &mut Updater<C>, seed: u32, bytes: &[u8], k: u32) -> Ans
     requires room { length (kept_of u.old) < most_kept }
     ensures { AnswersAdd k (hash_of seed bytes.now) result u.old u.new }
 {
-    // It tells the proof what is true of every updater.
+    // Its clause says what is true of every updater.
     let _number = u.number();
     match u.update(hash63(seed, bytes)) {
         Update::Filtered => Answer::Filtered,
@@ -70,7 +70,7 @@ fn ask<C: ThetaWord>(u: &mut Updater<C>, k: u32) -> Answer
     Answer::Estimate(n, d)
 }
 
-// Sees to it that all that was kept is published, if it can be at once.
+// Sees to it that all that was kept is published, if that needs no wait.
 fn sync<P: Pump<C>, C: ThetaWord, R: Wait>(rt: &R, u: &mut Updater<C>, pump: &mut P) -> Answer
     ensures synced { AnswersSync result u.old u.new }
     ensures pumps { HasRisen 0 (P.pumps pump.old) (P.pumps pump.new) }

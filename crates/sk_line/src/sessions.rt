@@ -69,7 +69,7 @@ pub fn session<L: Link, P: Pump<C>, C: ThetaWord, R: Wait>(
     finish(link, due)
 }
 
-// Serves requests until the session comes to an end, and answers that.
+// Serves requests until the session comes to an end, and returns that end.
 fn serve_each<L: Link, P: Pump<C>, C: ThetaWord, R: Wait>(
     rt: &R,
     link: &mut L,
@@ -147,7 +147,7 @@ fn serve_next<L: Link, P: Pump<C>, C: ThetaWord, R: Wait>(
     }
 }
 
-// Moves on to the link's next line, and answers `false` where there is none.
+// Moves on to the link's next line, and returns `false` if there is none.
 fn next_line<L: Link>(link: &mut L, reader: &mut LineReader) -> Result<bool, LineFault>
     ensures comes { Comes reader.old reader.new (L.traffic link.old) (L.traffic link.new) result }
     ensures holds { result ≡ Ok true → reader.new.cutter.last ≡ next.Line }

@@ -1,5 +1,5 @@
 //! What commands that count have in common: rows of numbers, the alarms of a board, the lines of estimates, and the
-//! handles that are left behind.
+//! handles that are left.
 #![tactic(auto)]
 
 mod alarms;

@@ -1,4 +1,4 @@
-//! What a run of a counting hub leaves behind.
+//! What is left of a run of a counting hub.
 
 use sk_heap::HeapTheta;
 use sk_hub::{Heart, Token};

@@ -26,8 +26,8 @@ pub trait Seen {
     fn mask(&self) -> u64
         ensures { result ≡ mask_of (map is_some (places self.now)) };
 
-    /// Shows a reply to each watcher, in order. Those that answer true are let go, and their places are the
-    /// answer, as the bits of a number.
+    /// Shows a reply to each watcher, in order. Those that return true are let go, and their places are
+    /// returned, as the bits of a number.
     fn show(&mut self, reply: Reply) -> u64
         ensures mask { result ≡ mask_of (map (answers_at reply) (places self.old)) }
         ensures places { places self.new ≡ map (told reply) (places self.old) };
@@ -98,8 +98,8 @@ impl Board {
         live
     }
 
-    /// Shows a reply to each watcher, in order. Those that answer true are let go, and their places are the
-    /// answer, as the bits of a number.
+    /// Shows a reply to each watcher, in order. Those that return true are let go, and their places are
+    /// returned, as the bits of a number.
     pub fn tell(&mut self, reply: Reply) -> u64
         ensures mask { result
             ≡ mask_of (map (answers_at reply) (⟦<Board as Seen>⟧.places self.old)) }
