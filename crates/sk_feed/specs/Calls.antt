@@ -1,9 +1,12 @@
 -- What an updater did with items that it was fed, call by call.
-use Rattle.std.specs.Prelude.{◌≡◌, ◌⊎◌, ℕ, zero, suc, ◌&&◌, List, [], ◌∷◌, length, Bool, true, false, Option, Some}
+use Rattle.std.specs.Prelude.{◌≡◌, ◌⊎◌, ℕ, zero, suc, ◌<◌, ◌≤◌, ◌&&◌, List, [], ◌∷◌, length, slice_range, slice_index_or, Bool, true, false, Option, Some, IsTrue}
 use Rattle.std.specs.Bool.{MatchBool}
 use Rattle.sk_model.specs.Entries.{Entry}
 use Rattle.sk_hub.specs.Updaters.{UpdaterState, LooksInVain, Keeps, HandsWith}
 use Rattle.sk_hub.specs.Rounds.{Sweeps, IsElsewhere}
+use Rattle.sk_hub.specs.Calls.{Takes}
+use Rattle.sk_read.specs.declared.kind.Kind.{Kind}
+use Rattle.sk_fill.specs.Windows.{item_in, items_in}
 
 -- how a kind of sketch filters: whether a hint keeps an item, whether it is early, and the hint of a list
 pub record Filter : Type 0 where
@@ -82,3 +85,24 @@ pub record IsStopped (f : Filter) (u : UpdaterState) (items : List ℕ) (next : 
   pub item : ℕ
   pub is_next : next ≡ Some item
   pub busy : IsBusyWith f before item u'
+
+-- ---- the lines from one place up to another
+
+-- it was fed the items of those before a place, and took them; with help all. A place before the end is that of the
+-- line whose item it was busy with
+pub record FeedsLines (f : Filter) (help : Bool) (kind : Kind) (lines : List (List ℕ)) (from to : ℕ) (u u' : UpdaterState) (place : ℕ) : Type 0 where
+  pub after : from ≤ place
+  pub before : place ≤ to
+  pub taken : Takes f.keeps f.hint_of u (items_in kind (slice_range lines from place)) u'
+  pub all : help ≡ true → place ≡ to
+  pub fed : place ≡ to → IsFedEach f help u (items_in kind (slice_range lines from to)) u'
+  pub busy : place < to → IsStopped f u (items_in kind (slice_range lines from place)) (item_in kind (slice_index_or lines place [])) u'
+
+-- it took the items of those before a place, and then memory ran out while it helped
+pub record RunsOutHelping (f : Filter) (takes_memory help : Bool) (kind : Kind) (lines : List (List ℕ)) (from to : ℕ) (u u' : UpdaterState) : Type 0 where
+  pub place : ℕ
+  pub after : from ≤ place
+  pub before : place ≤ to
+  pub taken : Takes f.keeps f.hint_of u (items_in kind (slice_range lines from place)) u'
+  pub helping : IsTrue help
+  pub cause : IsTrue takes_memory

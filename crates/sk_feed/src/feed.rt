@@ -1,9 +1,8 @@
 //! How the items of a window's lines are fed to an updater.
-ghost use Rattle.std.specs.Prelude.{◌≡◌, ◌≢◌, ◌⊎◌, ℕ, ◌+◌, ◌-◌, ◌<◌, ◌≤◌, [], ◌∷◌, length, slice_index_or, slice_range, true, false, Ok, OnOk, OnErr, IfOk, IsTrue};
+ghost use Rattle.std.specs.Prelude.{◌≡◌, ◌≢◌, ◌⊎◌, ℕ, ◌+◌, ◌-◌, ◌<◌, ◌≤◌, [], ◌∷◌, length, true, false, Ok, OnOk, OnErr, IfOk, IsTrue};
 ghost use Rattle.sk_hub.specs.Updaters.{kept_of};
-ghost use Rattle.sk_fill.specs.Windows.{item_in, items_in};
 ghost use Rattle.sk_hub.specs.Calls.{KeepsNone, Takes};
-ghost use Rattle.sk_feed.specs.Calls.{filter_of, IsFed, IsFedEach, IsStopped, IsBusyWith, Filters, Accepts, InsistsAfter, HelpsIfEager, ServesAfter, ServesAll, FindsElsewhere};
+ghost use Rattle.sk_feed.specs.Calls.{filter_of, IsFed, IsBusyWith, FeedsLines, RunsOutHelping, Filters, Accepts, InsistsAfter, HelpsIfEager, ServesAfter, ServesAll, FindsElsewhere};
 ghost use Rattle.sk_model.specs.Width.{IsItem};
 ghost use Rattle.sk_model.specs.Limits.{most_kept};
 
@@ -30,20 +29,8 @@ pub fn feed_block<C: Composable, R: Wait>(
     requires order { from ≤ to }
     requires within { to ≤ length w.now.lines }
     requires room { length (kept_of u.old) + (to - from) ≤ most_kept }
-    ensures place { IfOk result (λ place. (from ≤ place) × (place ≤ to)) }
-    ensures taken { IfOk result (λ place. Takes C.keeps_of C.hint_of u.old (items_in kind (slice_range w.now.lines from place)) u.new) }
-    ensures all { IfOk result (λ place. help ≡ true → place ≡ to) }
-
-    // A place below `to` is that of the line whose item the updater was busy with.
-    ensures fed { IfOk result (λ place. place ≡ to
-        → IsFedEach (filter_of C.keeps_of C.early_of C.hint_of) help u.old (items_in kind (slice_range w.now.lines from to)) u.new) }
-    ensures busy { IfOk result (λ place. place < to
-        → IsStopped (filter_of C.keeps_of C.early_of C.hint_of) u.old (items_in kind (slice_range w.now.lines from place))
-        (item_in kind (slice_index_or w.now.lines place [])) u.new) }
-    ensures refused { OnErr result ((place : ℕ) × (from ≤ place) × (place ≤ to)
-        × Takes C.keeps_of C.hint_of u.old (items_in kind (slice_range w.now.lines from place)) u.new) }
-    ensures helping { OnErr result (IsTrue help) }
-    ensures cause { OnErr result (IsTrue C.TAKES_MEMORY) }
+    ensures fed { IfOk result (FeedsLines (filter_of C.keeps_of C.early_of C.hint_of) help kind w.now.lines from to u.old u.new) }
+    ensures refused { OnErr result (RunsOutHelping (filter_of C.keeps_of C.early_of C.hint_of) C.TAKES_MEMORY help kind w.now.lines from to u.old u.new) }
 {
     let mut lines = w.lines_from(from);
     'line: for place in from..to {

@@ -1,4 +1,4 @@
-use Rattle.std.proofs.Common.{◌≡◌, ℕ, List, [], ◌<◌, ◌≤◌, ◌+◌, ◌-◌, ◌++◌, length, get_or, drop, Option, Ok, sym, subst, ap, ◌∙◌, arith, slice_range}
+use Rattle.std.proofs.Common.{◌≡◌, ℕ, List, [], ◌<◌, ◌≤◌, ◌+◌, ◌-◌, ◌++◌, length, get_or, drop, Option, Ok, false, refl, sym, subst, ap, ◌∙◌, arith, slice_range}
 use Rattle.std.proofs.lemmas.List.{get_or-drop, drop-drop}
 use Rattle.sk_hub.specs.Updaters.{UpdaterState, kept_of}
 use Rattle.sk_fill.specs.Windows.{item_in, items_in}
@@ -34,15 +34,16 @@ pub returns-in_err-feed_item-clause-refused : goal.returns-in_err-feed_item-clau
 returns-in_err-feed_item-clause-refused g c =
     let value = found_is c.args.kind c.args.w.now.lines c.line.lines.rest c.line.place c.next_item.result c.line.invariant.rest c.next_item.ensures.value in
     let k = g.C.Composable in
-    on_err c.from_residual.result
-    (line_refused k.keeps_of k.hint_of c.args.u.now c.line.u c.feed_item.new.u c.args.kind c.args.w.now.lines c.args.from c.line.place c.args.to c.in-Some.item c.line.auto.place c.line-test.true c.requires.within
-    (sym value ∙ c.in-Some.is) c.line.invariant.taken c.in_err-feed_item.ensures.refused)
-
-pub returns-then-not-branch-clause-taken : goal.returns-then-not-branch-clause-taken
-returns-then-not-branch-clause-taken g c =
-    let k = g.C.Composable in
-    takes_then_none k.keeps_of k.hint_of c.args.u.now c.line.u c.feed_item.new.u (items_in c.args.kind (slice_range c.args.w.now.lines c.args.from c.line.place)) c.line.invariant.taken
-    (c.in_ok-feed_item.ensures.none (ap Ok c.if-not-branch.true))
+    let front = line_refused k.keeps_of k.hint_of c.args.u.now c.line.u c.feed_item.new.u c.args.kind c.args.w.now.lines c.args.from c.line.place c.args.to c.in-Some.item c.line.auto.place c.line-test.true c.requires.within
+    (sym value ∙ c.in-Some.is) c.line.invariant.taken c.in_err-feed_item.ensures.refused in
+    on_err c.from_residual.result record {
+      place = front.0;
+      after = front.1;
+      before = front.2;
+      taken = front.3;
+      helping = c.in_err-feed_item.ensures.helping;
+      cause = c.in_err-feed_item.ensures.cause;
+    }
 
 pub line-preserved : goal.line-preserved
 line-preserved g c =
@@ -72,16 +73,31 @@ line-preserved g c =
       }
     ]
 
-pub returns-then-not-branch-clause-busy : goal.returns-then-not-branch-clause-busy
-returns-then-not-branch-clause-busy g c =
+pub returns-then-not-branch-clause-fed : goal.returns-then-not-branch-clause-fed
+returns-then-not-branch-clause-fed g c =
     let value = found_is c.args.kind c.args.w.now.lines c.line.lines.rest c.line.place c.next_item.result c.line.invariant.rest c.next_item.ensures.value in
     let k = g.C.Composable in let f = filter_of k.keeps_of k.early_of k.hint_of in
-    λ below. stopped f c.args.help c.args.u.now c.line.u c.feed_item.new.u (items_in c.args.kind (slice_range c.args.w.now.lines c.args.from c.line.place)) _ c.in-Some.item (c.in_ok-feed_item.ensures.alone (ap Ok c.if-not-branch.true))
-    (lines_fed f c.args.help c.args.u.now c.args.kind c.args.w.now.lines c.args.from c.line.u c.line.place c.line.invariant.leads)
-    (sym value ∙ c.in-Some.is) (c.in_ok-feed_item.ensures.busy (ap Ok c.if-not-branch.true))
+    let alone : c.args.help ≡ false = c.in_ok-feed_item.ensures.alone (ap Ok c.if-not-branch.true) in record {
+      after = c.line.auto.place;
+      before = omega (arith, c.line-test.true);
+      taken = takes_then_none k.keeps_of k.hint_of c.args.u.now c.line.u c.feed_item.new.u (items_in c.args.kind (slice_range c.args.w.now.lines c.args.from c.line.place)) c.line.invariant.taken
+          (c.in_ok-feed_item.ensures.none (ap Ok c.if-not-branch.true));
+      all = λ helps. absurd (let is = alone in cc);
+      fed = λ end. absurd (omega (arith, end, c.line-test.true));
+      busy = λ below. stopped f c.args.help c.args.u.now c.line.u c.feed_item.new.u (items_in c.args.kind (slice_range c.args.w.now.lines c.args.from c.line.place)) _ c.in-Some.item alone
+          (lines_fed f c.args.help c.args.u.now c.args.kind c.args.w.now.lines c.args.from c.line.u c.line.place c.line.invariant.leads)
+          (sym value ∙ c.in-Some.is) (c.in_ok-feed_item.ensures.busy (ap Ok c.if-not-branch.true));
+    }
 
 pub returns-clause-fed : goal.returns-clause-fed
 returns-clause-fed g c =
     let k = g.C.Composable in let f = filter_of k.keeps_of k.early_of k.hint_of in
-    λ end. subst (λ p. IsFedEach f c.args.help c.args.u.now (items_in c.args.kind (slice_range c.args.w.now.lines c.args.from p)) c.line.u) (omega (arith, c.line-test.false, c.line.auto.place-end))
-    (lines_fed f c.args.help c.args.u.now c.args.kind c.args.w.now.lines c.args.from c.line.u c.line.place c.line.invariant.leads)
+    let at_end : c.line.place ≡ c.args.to = omega (arith, c.line-test.false, c.line.auto.place-end) in record {
+      after = c.requires.order;
+      before = omega arith;
+      taken = subst (λ p. Takes k.keeps_of k.hint_of c.args.u.now (items_in c.args.kind (slice_range c.args.w.now.lines c.args.from p)) c.line.u) at_end c.line.invariant.taken;
+      all = λ helps. refl;
+      fed = λ end. subst (λ p. IsFedEach f c.args.help c.args.u.now (items_in c.args.kind (slice_range c.args.w.now.lines c.args.from p)) c.line.u) at_end
+          (lines_fed f c.args.help c.args.u.now c.args.kind c.args.w.now.lines c.args.from c.line.u c.line.place c.line.invariant.leads);
+      busy = λ below. absurd (omega (arith, below));
+    }

@@ -1,7 +1,9 @@
-use Rattle.std.proofs.Common.{◌-◌, length, drop, slice_range, ap, ◌∙◌, subst, arith, length-take, ℕ, ◌≤◌, refl}
+use Rattle.std.proofs.Common.{◌≡◌, ◌-◌, length, drop, slice_range, ap, ◌∙◌, subst, arith, length-take, ℕ, ◌≤◌, true, refl}
+use Rattle.std.proofs.lemmas.Result.{IfOk-weaker, on_err_weaker}
 use Rattle.sk_fill.specs.Windows.{items_in}
 use Rattle.sk_hub.specs.Calls.{Takes}
 use Rattle.sk_hub.proofs.Calls.{on_err}
+use Rattle.sk_feed.specs.Calls.{filter_of, FeedsLines}
 use Rattle.sk_feed.proofs.OnItsWay.{sets_out, waits_on, arrives, front_taken}
 use Rattle.sk_feed.proofs.feeder.feed_whole.Goals as goal
 
@@ -35,3 +37,28 @@ returns-in_err-wait_or_help-clause-refused g c =
     on_err c.from_residual.result
     (subst (λ kind. (place : ℕ) × (from ≤ place) × (place ≤ to) × Takes k.keeps_of k.hint_of c.args.u.now (items_in kind (slice_range lines from place)) u') (fed.ensures.kind ∙ inv.kind)
     (front_taken k.keeps_of k.hint_of block c.args.u.now u' fed.new.self way lines from to c.requires.order refl))
+
+-- what was fed with help
+pub returns-then-helps-clause-place : goal.returns-then-helps-clause-place
+returns-then-helps-clause-place g c =
+    let k = g.C.Composable in let block = c.args.block in let u' = c.feed_block.new.u in
+    IfOk-weaker c.feed_block.result (FeedsLines (filter_of k.keeps_of k.early_of k.hint_of) true c.args.kind c.args.window.now.lines block.from block.to c.args.u.now u') (λ place. (block.from ≤ place) × (place ≤ block.to))
+    (λ place fed. (fed.after, fed.before)) c.feed_block.ensures.fed
+
+pub returns-then-helps-clause-taken : goal.returns-then-helps-clause-taken
+returns-then-helps-clause-taken g c =
+    let k = g.C.Composable in let block = c.args.block in let lines = c.args.window.now.lines in let u' = c.feed_block.new.u in
+    IfOk-weaker c.feed_block.result (FeedsLines (filter_of k.keeps_of k.early_of k.hint_of) true c.args.kind lines block.from block.to c.args.u.now u') (λ place. Takes k.keeps_of k.hint_of c.args.u.now (items_in c.args.kind (slice_range lines block.from place)) u')
+    (λ place fed. fed.taken) c.feed_block.ensures.fed
+
+pub returns-then-helps-clause-all : goal.returns-then-helps-clause-all
+returns-then-helps-clause-all g c =
+    let k = g.C.Composable in let block = c.args.block in let u' = c.feed_block.new.u in
+    IfOk-weaker c.feed_block.result (FeedsLines (filter_of k.keeps_of k.early_of k.hint_of) true c.args.kind c.args.window.now.lines block.from block.to c.args.u.now u') (λ place. place ≡ block.to)
+    (λ place fed. fed.all refl) c.feed_block.ensures.fed
+
+pub returns-then-helps-clause-refused : goal.returns-then-helps-clause-refused
+returns-then-helps-clause-refused g c = on_err_weaker c.feed_block.result (λ stops. (stops.place, stops.after, stops.before, stops.taken)) c.feed_block.ensures.refused
+
+pub returns-then-helps-clause-cause : goal.returns-then-helps-clause-cause
+returns-then-helps-clause-cause g c = on_err_weaker c.feed_block.result (λ stops. stops.cause) c.feed_block.ensures.refused
