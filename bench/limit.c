@@ -123,25 +123,34 @@ static inline void take(const uint8_t *text, size_t length, int raw) {
     if (item < theta) keep(item);
 }
 
-/* Comma-separated values, a byte at a time: the fields of the column gather, without the quotes in which they may stand;
-   two quotes in quotes are one. */
+/* Comma-separated values: the fields of the column, without the quotes in which they may stand; two quotes in quotes are
+   one. A field that stands whole in the piece and has no quotes is taken where it is, of any other the bytes gather. */
 static size_t column;
 
 static void take_records(const uint8_t *at, const uint8_t *end) {
-    enum { BARE, QUOTED, CLOSED };
+    static enum { BARE, QUOTED, CLOSED } state = BARE;
     static uint8_t field[1 << 16];
     static size_t held, number = 1;
-    static int state = BARE;
-    for (; at < end; at++) {
-        if (*at == '"' && state != CLOSED) {
-            state = state == BARE ? QUOTED : CLOSED;
-        } else if (state != QUOTED && (*at == ',' || *at == '\n')) {
-            if (number == column) take(field, held - (*at == '\n' && held && field[held - 1] == '\r'), 0);
-            number = *at == ',' ? number + 1 : 1, held = 0, state = BARE;
-        } else {
-            if (number == column && held < sizeof field) field[held++] = *at;
-            state = state == CLOSED ? QUOTED : state;
+    while (at < end) {
+        const uint8_t *stop = at;
+        if (state == QUOTED) while (stop < end && *stop != '"') stop++;
+        else while (stop < end && *stop != ',' && *stop != '\n' && *stop != '"') stop++;
+        const uint8_t *text = at;
+        size_t length = stop - at;
+        if (number == column && (held || stop == end || *stop == '"')) {
+            length = length < sizeof field - held ? length : sizeof field - held;
+            memcpy(field + held, at, length);
+            text = field, length = held += length;
         }
+        if (stop == end) return;
+        if (*stop == '"') {
+            if (state == CLOSED && number == column && stop == at && held < sizeof field) field[held++] = '"';
+            state = state == QUOTED ? CLOSED : QUOTED;
+        } else {
+            if (number == column) take(text, length - (*stop == '\n' && length && text[length - 1] == '\r'), 0);
+            number = *stop == ',' ? number + 1 : 1, held = 0, state = BARE;
+        }
+        at = stop + 1;
     }
 }
 
