@@ -9,7 +9,7 @@ use Rattle.std.proofs.lemmas.List.Elements.{All-nil, All-cons}
 use Rattle.std.proofs.lemmas.List.Sorted.{IsNonDecreasingBy-short}
 use Rattle.std.proofs.lemmas.List.Sums.{fold_push, count_by-le-length}
 use Rattle.std.proofs.lemmas.Nat.{div-mul-add, mod-mul-add}
-use Rattle.sk_quant.specs.Held.{Held, nothing_held, halved, carried, held_with, held_after, layers_of}
+use Rattle.sk_quant.specs.Held.{Held, nothing_held, halved, carried, held_with, held_with_all, held_after, layers_of}
 use Rattle.sk_quant.specs.Limits.{most_items, level_count}
 use Rattle.sk_quant.specs.Order.{in_order}
 use Rattle.sk_quant.specs.Quantiles.{AreFilled, IsFilled}
@@ -350,3 +350,27 @@ weights_add_up coins k items some few = weight_of_layers k (length items) (held_
 pub held_after_push : (coins : ℕ → ℕ) (k x : ℕ) (items : List ℕ) → held_after coins k (items ++ x ∷ []) ≡ held_with coins k (held_after coins k items) x
 unfolding held_after
 held_after_push coins k x items = fold_push (λ h y. held_with coins k h y) nothing_held items x
+
+-- ---- items that at most fill the base
+
+-- the base has room for all of them
+pub all_with_room : (coins : ℕ → ℕ) (k : ℕ) (held : Held) (items : List ℕ) → length held.base + length items < 2 * k → held_with_all coins k held items ≡ record held { base = held.base ++ items }
+all_with_room coins k held [] room = ap (λ (l : List ℕ). record held { base = l }) (sym (append-nil held.base))
+all_with_room coins k held (x ∷ items) room =
+    ap (λ (h : Held). held_with_all coins k h items) (held_with_room coins k x held (omega arith))
+    ∙ all_with_room coins k (with_room held x) items (omega (arith, length-append held.base (x ∷ [])))
+    ∙ ap (λ (l : List ℕ). record held { base = l }) (append_assoc held.base (x ∷ []) items)
+
+-- a base of these items goes up
+abbrev pub gone_up : (ℕ → ℕ) → Held → List ℕ → Held
+gone_up coins held base =
+    let up = carried coins held.place (in_order base) held.levels in record { base = []; levels = up.0; place = up.1 }
+
+-- they fill the base, which goes up
+pub all_with_compaction : (coins : ℕ → ℕ) (k : ℕ) (held : Held) (items : List ℕ) → 1 ≤ length items → length held.base + length items ≡ 2 * k → held_with_all coins k held items ≡ gone_up coins held (held.base ++ items)
+all_with_compaction coins k held [] some full = absurd (omega (arith, some))
+all_with_compaction coins k held (x ∷ []) some full = held_with_compaction coins k x held (omega (arith, full))
+all_with_compaction coins k held (x ∷ y ∷ items) some full =
+    ap (λ (h : Held). held_with_all coins k h (y ∷ items)) (held_with_room coins k x held (omega (arith, full)))
+    ∙ all_with_compaction coins k (with_room held x) (y ∷ items) (omega arith) (omega (arith, full, length-append held.base (x ∷ [])))
+    ∙ ap (λ (l : List ℕ). gone_up coins held l) (append_assoc held.base (x ∷ []) (y ∷ items))

@@ -1,13 +1,15 @@
 -- Lemmas on a sketch as contracts see it.
-use Rattle.std.proofs.Common.{◌≡◌, ℕ, Vec, Global, All, vec_capacity, ◌+◌, ◌*◌, ◌/◌, ◌<◌, ◌≤◌, List, [], ◌∷◌, ◌++◌, length, replicate, refl, sym, ap, subst, ◌∙◌, arith, length-append, mod-lt}
+use Rattle.std.proofs.Common.{◌≡◌, ℕ, Vec, Global, All, vec_capacity, ◌+◌, ◌*◌, ◌/◌, ◌<◌, ◌≤◌, List, [], ◌∷◌, ◌++◌, length, take, drop, replicate, refl, sym, ap, subst, ◌∙◌, arith, length-append, mod-lt}
 use Rattle.std.specs.Int.{abs_diff}
 use Rattle.std.specs.List.Sorted.{IsNonDecreasing}
 use Rattle.std.specs.Vec.{with_items}
+use Rattle.std.proofs.Math.Seq.{take-add}
 use Rattle.std.proofs.lemmas.List.{with_items_is}
+use Rattle.std.proofs.lemmas.List.Sums.{fold-append}
 use Rattle.sk_quant.specs.Coins.{Coins, coin_of}
-use Rattle.sk_quant.specs.Held.{Held, nothing_held, held_with, held_after, layers_of, ranked}
+use Rattle.sk_quant.specs.Held.{Held, nothing_held, held_with, held_with_all, held_after, layers_of, ranked}
 use Rattle.sk_quant.specs.Limits.{least_quantile_k, most_quantile_k, key_end, most_items, level_count}
-use Rattle.sk_quant.specs.Quantiles.{Quantiles, updated, IsSketchOf, IsWholeQuantiles}
+use Rattle.sk_quant.specs.Quantiles.{Quantiles, updated, updated_all, IsSketchOf, IsWholeQuantiles}
 use Rattle.sk_quant.specs.Ranks.{rank_of, weighted_rank, weight_of, rank_error}
 use Rattle.sk_quant.specs.Stored.{lists_of, held_in, shown_by, AreStored}
 use Rattle.sk_quant.proofs.Bounds.{levels_are_short, after_none, one_more_filled, held_after_push, ranks_are_near, weight_of_layers}
@@ -93,3 +95,47 @@ shown_empty k key base levels coins none no_levels none_taken =
     ap (λ (c : Coins). shown_by k 0 base levels c) none_taken
     ∙ ap (λ (items : List ℕ). record { k = k; key = key; count = 0; held = record { base = items; levels = lists_of levels.items; place = 0 } }) none
     ∙ ap (λ (ls : List (List ℕ)). record { k = k; key = key; count = 0; held = record { base = []; levels = ls; place = 0 } }) no_levels
+
+-- ---- many items
+
+-- all of them, one after another
+pub updated_all_is : (sketch : Quantiles) (items : List ℕ) → updated_all sketch items ≡ record sketch {
+  count = sketch.count + length items;
+  held = held_with_all (coin_of sketch.key) sketch.k sketch.held items;
+}
+updated_all_is sketch [] = ap (λ (n : ℕ). record sketch { count = n }) (omega arith)
+updated_all_is sketch (x ∷ items) =
+    updated_all_is (updated sketch x) items
+    ∙ ap (λ (n : ℕ). record sketch { count = n; held = held_with_all (coin_of sketch.key) sketch.k sketch.held (x ∷ items) }) (omega arith)
+
+pub whole_updated_all : (sketch : Quantiles) (items : List ℕ) → IsWholeQuantiles sketch → sketch.count + length items ≤ most_items → IsWholeQuantiles (updated_all sketch items)
+whole_updated_all sketch [] whole few = whole
+whole_updated_all sketch (x ∷ items) whole few =
+    whole_updated_all (updated sketch x) items (whole_updated sketch x whole (omega arith)) (omega arith)
+
+pub count_updated_all : (sketch : Quantiles) (items : List ℕ) → (updated_all sketch items).count ≡ sketch.count + length items
+count_updated_all sketch items = ap (λ (s : Quantiles). s.count) (updated_all_is sketch items)
+
+-- some more of the items
+pub updated_more : (sketch : Quantiles) (items : List ℕ) (at n : ℕ) → updated_all (updated_all sketch (take at items)) (take n (drop at items)) ≡ updated_all sketch (take (at + n) items)
+updated_more sketch items at n =
+    sym (fold-append updated sketch (take at items) (take n (drop at items))) ∙ ap (λ (l : List ℕ). updated_all sketch l) (sym (take-add at n items))
+
+-- what is put into base, levels and coins is what these n items leave, where the levels are lent and come back
+pub shown_updated_all : (k count n : ℕ) (items : List ℕ) (base base' : Vec ℕ Global) (levels : Vec (Vec ℕ Global) Global) (lent now : List (Vec ℕ Global)) (coins coins' : Coins) → length items ≡ n → lent ≡ levels.items → length now ≡ length lent → coins'.key ≡ coins.key
+    → held_in base' now coins' ≡ held_with_all (coin_of coins.key) k (held_in base lent coins) items → shown_by k (count + n) base' (with_items levels now) coins' ≡ updated_all (shown_by k count base levels coins) items
+shown_updated_all k count n items base base' levels lent now coins coins' many is_lent long same held =
+    ap (λ (ls : List (Vec ℕ Global)). record { k = k; key = coins'.key; count = count + n; held = held_in base' ls coins' }) (items_back levels lent now is_lent long)
+    ∙ ap (λ (key : ℕ). record { k = k; key = key; count = count + n; held = held_in base' now coins' }) same
+    ∙ ap (λ (h : Held). record { k = k; key = coins.key; count = count + n; held = h }) held
+    ∙ ap (λ (ls : List (Vec ℕ Global)). record { k = k; key = coins.key; count = count + n; held = held_with_all (coin_of coins.key) k (held_in base ls coins) items }) is_lent
+    ∙ ap (λ (m : ℕ). record { k = k; key = coins.key; count = count + m; held = held_with_all (coin_of coins.key) k (held_in base levels.items coins) items }) (sym many)
+    ∙ sym (updated_all_is (shown_by k count base levels coins) items)
+
+pub stored_updated_all : (k count n : ℕ) (items : List ℕ) (base base' : Vec ℕ Global) (levels levels' : Vec (Vec ℕ Global) Global) (coins coins' : Coins) → length items ≡ n → shown_by k (count + n) base' levels' coins' ≡ updated_all (shown_by k count base levels coins) items
+    → AreStored k count base levels coins → count + n ≤ most_items → 2 * k ≤ vec_capacity base' → All (λ level. k ≤ vec_capacity level) levels'.items → AreStored k (count + n) base' levels' coins'
+stored_updated_all k count n items base base' levels levels' coins coins' many is stored few room rooms = record {
+  whole = subst (λ (s : Quantiles). IsWholeQuantiles s) (sym is) (whole_updated_all (shown_by k count base levels coins) items stored.whole (omega (arith, many, few)));
+  base_room = room;
+  level_rooms = rooms;
+}

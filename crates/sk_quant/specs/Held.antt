@@ -42,6 +42,10 @@ held_with coins k held x =
     if nat_lt (length base) (2 * k) then record held { base = base }
     else record { base = []; levels = up.0; place = up.1 }
 
+-- the same of items, one after another
+abbrev pub held_with_all : (ℕ → ℕ) → ℕ → Held → List ℕ → Held
+held_with_all coins k held items = fold (λ kept x. held_with coins k kept x) held items
+
 -- what a list of items leaves
 unfoldable pub held_after : (ℕ → ℕ) → ℕ → List ℕ → Held
 held_after coins k items = fold (λ held x. held_with coins k held x) nothing_held items

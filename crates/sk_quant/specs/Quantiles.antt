@@ -1,5 +1,5 @@
 -- What contracts see of a sketch.
-use Rattle.std.specs.Prelude.{◌≡◌, ℕ, ◌+◌, ◌*◌, ◌/◌, ◌%◌, ◌<◌, ◌≤◌, List, [], ◌∷◌, length}
+use Rattle.std.specs.Prelude.{◌≡◌, ℕ, ◌+◌, ◌*◌, ◌/◌, ◌%◌, ◌<◌, ◌≤◌, List, [], ◌∷◌, length, fold}
 use Rattle.std.specs.List.Sorted.{IsNonDecreasing}
 use Rattle.sk_quant.specs.Coins.{coin_of}
 use Rattle.sk_quant.specs.Held.{Held, held_with, held_after}
@@ -19,6 +19,10 @@ updated sketch x = record sketch {
   count = sketch.count + 1;
   held = held_with (coin_of sketch.key) sketch.k sketch.held x;
 }
+
+-- what `update_all` leaves
+abbrev pub updated_all : Quantiles → List ℕ → Quantiles
+updated_all sketch items = fold updated sketch items
 
 -- a sketch stores no list of items: it is of each list that leaves what it holds
 pub record IsSketchOf (sketch : Quantiles) (items : List ℕ) : Type 0 where

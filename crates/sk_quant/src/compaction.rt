@@ -3,11 +3,12 @@ ghost use Rattle.std.specs.Prelude.{◌≡◌, ◌+◌, ◌*◌, ◌<◌, ◌≤
 ghost use Rattle.std.specs.Prelude.{vec_len, vec_capacity};
 ghost use Rattle.std.specs.List.Sorted.{IsNonDecreasing};
 ghost use Rattle.sk_quant.specs.Coins.{coin_of};
-ghost use Rattle.sk_quant.specs.Held.{halved, carried, held_with};
+ghost use Rattle.sk_quant.specs.Held.{halved, carried, held_with, held_with_all};
 ghost use Rattle.sk_quant.specs.Order.{in_order};
 ghost use Rattle.sk_quant.specs.Stored.{lists_of, held_in, CanCarry};
 
 use crate::coins::Coins;
+use crate::ordered::{Ordered, put_in_order};
 
 // Keeps of each two items the first, by coin 0, or the second.
 fn halve(items: &mut Vec<u64>, coin: usize)
@@ -71,7 +72,13 @@ fn carry(k: usize, items: &mut Vec<u64>, levels: &mut [Vec<u64>], coins: &mut Co
 
 // Takes the items of a full base up, in order, and leaves it empty.
 #[inline(never)]
-fn compact(k: usize, base: &mut Vec<u64>, levels: &mut [Vec<u64>], coins: &mut Coins)
+fn compact(
+    k: usize,
+    base: &mut Vec<u64>,
+    levels: &mut [Vec<u64>],
+    coins: &mut Coins,
+    ordered: Option<&Ordered>,
+)
     requires few { vec_len base.old ≤ 2 * k }
     requires room { 2 * k ≤ vec_capacity base.old }
     requires levels { CanCarry k levels.old coins.old }
@@ -83,7 +90,7 @@ fn compact(k: usize, base: &mut Vec<u64>, levels: &mut [Vec<u64>], coins: &mut C
     ensures room { vec_capacity base.old ≤ vec_capacity base.new }
     ensures rooms { All (λ level. k ≤ vec_capacity level) levels.new }
 {
-    base.sort_unstable();
+    put_in_order(base, ordered);
     carry(k, base, levels, coins);
     base.clear();
 }
@@ -102,6 +109,30 @@ pub fn put(k: usize, base: &mut Vec<u64>, levels: &mut [Vec<u64>], coins: &mut C
 {
     base.push_reserved(x);
     if base.len() == 2 * k {
-        compact(k, base, levels, coins);
+        compact(k, base, levels, coins, None);
+    }
+}
+
+/// Puts items that at most fill the base into it, and takes a full base up.
+pub fn put_all(
+    k: usize,
+    base: &mut Vec<u64>,
+    levels: &mut [Vec<u64>],
+    coins: &mut Coins,
+    items: &[u64],
+    ordered: Option<&Ordered>,
+)
+    requires few { (1 ≤ length items.now) × (vec_len base.old + length items.now ≤ 2 * k) }
+    requires room { 2 * k ≤ vec_capacity base.old }
+    requires levels { CanCarry k levels.old coins.old }
+    ensures key { coins.new.key ≡ coins.old.key }
+    ensures held { held_in base.new levels.new coins.new
+        ≡ held_with_all (coin_of coins.old.key) k (held_in base.old levels.old coins.old) items.now }
+    ensures room { 2 * k ≤ vec_capacity base.new }
+    ensures rooms { All (λ level. k ≤ vec_capacity level) levels.new }
+{
+    base.extend_from_slice(items).unwrap();
+    if base.len() == 2 * k {
+        compact(k, base, levels, coins, ordered);
     }
 }

@@ -5,9 +5,11 @@ mod coins;
 mod compaction;
 pub mod laws;
 pub mod limits;
+mod ordered;
 mod ranks;
 mod sketch;
 
 pub use coins::words_of;
+pub use ordered::Ordered;
 pub use sk_model::OutOfMemory;
 pub use sketch::Quant;

@@ -1,16 +1,17 @@
 //! The sketch.
-ghost use Rattle.std.specs.Prelude.{◌≡◌, ◌<◌, ◌≤◌, ℕ, List, [], ◌∷◌, ◌++◌, length, replicate};
+ghost use Rattle.std.specs.Prelude.{◌≡◌, ◌<◌, ◌≤◌, ◌+◌, ℕ, List, [], ◌∷◌, ◌++◌, length, replicate, take};
 ghost use Rattle.std.specs.Prelude.{All, IfOk, vec_capacity};
 ghost use Rattle.std.specs.Int.{abs_diff};
 ghost use Rattle.sk_quant.specs.Held.{layers_of, ranked};
 ghost use Rattle.sk_quant.specs.Limits.{least_quantile_k, most_quantile_k, key_end, most_items, level_count};
-ghost use Rattle.sk_quant.specs.Quantiles.{Quantiles, updated, IsSketchOf, IsWholeQuantiles};
+ghost use Rattle.sk_quant.specs.Quantiles.{Quantiles, updated, updated_all, IsSketchOf, IsWholeQuantiles};
 ghost use Rattle.sk_quant.specs.Ranks.{rank_of, weighted_rank, rank_error};
 ghost use Rattle.sk_quant.specs.Stored.{lists_of};
 
 use crate::coins::Coins;
-use crate::compaction::put;
+use crate::compaction::{put, put_all};
 use crate::limits::LEVEL_COUNT;
+use crate::ordered::Ordered;
 use crate::ranks::{error_of, rank, rank_in_levels};
 use sk_model::OutOfMemory;
 use std::alloc::Global;
@@ -73,6 +74,49 @@ impl Quant {
             x,
         );
         self.count += 1;
+    }
+
+    /// Puts the base that these items fill in order, for all sketches that hold what this one does: each then
+    /// takes them without a sort of its own. It returns nothing if they fill none.
+    pub fn prepare(&self, alloc: Global, items: &[u64]) -> Result<Option<Ordered>, OutOfMemory> {
+        let room = 2 * self.k as usize - self.base.len();
+        if items.len() < room {
+            return Ok(None);
+        }
+        let ordered = Ordered::of(alloc, self.base.as_slice(), &items[..room])?;
+        Ok(Some(ordered))
+    }
+
+    /// Puts items to the end of the list. What was prepared only saves time.
+    pub fn update_all(&mut self, items: &[u64], prepared: Option<&Ordered>)
+        requires { self.old.count + length items.now ≤ most_items }
+        ensures left { self.new ≡ updated_all self.old items.now }
+    {
+        let mut at = 0;
+        'fill: while at < items.len() {
+            at += self.fill(&items[at..], prepared);
+        }
+    }
+
+    // Puts items to the end of the list until the base is full, or else all of them, and returns how many.
+    fn fill(&mut self, items: &[u64], prepared: Option<&Ordered>) -> usize
+        requires some { 1 ≤ length items.now }
+        requires room { self.old.count + length items.now ≤ most_items }
+        ensures left { self.new ≡ updated_all self.old (take result items.now) }
+        ensures some { 1 ≤ result }
+        ensures most { result ≤ length items.now }
+    {
+        let taken = items.len().min(2 * self.k as usize - self.base.len());
+        put_all(
+            self.k as usize,
+            &mut self.base,
+            &mut self.levels,
+            &mut self.coins,
+            &items[..taken],
+            prepared,
+        );
+        self.count += taken as u64;
+        taken
     }
 
     /// By the items held and their weights, how many of the list are below x.

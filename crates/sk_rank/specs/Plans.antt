@@ -1,4 +1,4 @@
--- What a ranking is asked, within which limits, and how it is told.
+-- What a ranking is asked, within which limits, and how it is written.
 use Rattle.std.specs.Prelude.{ℕ, ◌<◌, List, length}
 use Rattle.sk_model.specs.Limits.{most_size, most_updaters, IsFrom}
 use Rattle.sk_quant.specs.Limits.{least_quantile_k, most_quantile_k, key_end}

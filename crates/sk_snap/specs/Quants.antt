@@ -1,12 +1,12 @@
 -- The quantiles sketch as one that takes items: what they leave, and the laws of that.
-use Rattle.std.proofs.Common.{◌≡◌, ℕ, ◌+◌, ◌<◌, ◌≤◌, Bool, true, false, nat_lt, if◌then◌else◌, List, [], ◌∷◌, ◌++◌, length, slice_index, fold, refl, sym, ap, subst, ◌∙◌, arith, append_assoc, length-append}
+use Rattle.std.proofs.Common.{◌≡◌, ℕ, zero, suc, ◌+◌, ◌<◌, ◌≤◌, Bool, true, false, nat_lt, if◌then◌else◌, List, [], ◌∷◌, ◌++◌, length, slice_index, take, fold, refl, sym, ap, subst, ◌∙◌, arith, append_assoc, length-append}
 use Rattle.std.proofs.lemmas.List.{append-nil}
 use Rattle.std.proofs.lemmas.Bool.Decides.{nat_tests}
 use Rattle.std.specs.Int.{abs_diff}
 use Rattle.sk_quant.specs.Coins.{coin_of}
 use Rattle.sk_quant.specs.Held.{ranked, held_after}
 use Rattle.sk_quant.specs.Limits.{most_items}
-use Rattle.sk_quant.specs.Quantiles.{Quantiles, updated, IsSketchOf}
+use Rattle.sk_quant.specs.Quantiles.{Quantiles, updated, updated_all, IsSketchOf}
 use Rattle.sk_quant.specs.Ranks.{rank_of, rank_error}
 use Rattle.sk_quant.proofs.Sketches.{updated_is_of}
 
@@ -71,6 +71,25 @@ put_all_is_of s list (x ∷ items) is few =
     let next : IsSketchOf (put s x) (list ++ x ∷ []) = subst (λ (t : Quantiles). IsSketchOf t (list ++ x ∷ [])) (sym (put_here s x (omega (arith, is.count, few)))) (updated_is_of s x list is) in
     subst (λ (l : List ℕ). IsSketchOf (put_all (put s x) items) l) (append_assoc list (x ∷ []) items)
     (put_all_is_of (put s x) (list ++ x ∷ []) items next (omega (arith, length-append list (x ∷ []))))
+
+put_full : (s : Quantiles) (x : ℕ) → most_items ≤ s.count → put s x ≡ s
+put_full s x full = let is : nat_lt s.count most_items ≡ false = grind (arith, nat_tests) in rw is refl
+
+put_all_full : (s : Quantiles) (items : List ℕ) → most_items ≤ s.count → put_all s items ≡ s
+put_all_full s [] full = refl
+put_all_full s (x ∷ items) full = ap (λ (t : Quantiles). put_all t items) (put_full s x full) ∙ put_all_full s items full
+
+-- what is put of them is as many as the count has room for
+pub put_all_is : (s : Quantiles) (items : List ℕ) (n : ℕ) → n ≤ length items → s.count + n ≤ most_items → (n < length items → most_items ≤ s.count + n) → updated_all s (take n items) ≡ put_all s items
+put_all_is s items zero within few full = go items full
+  where
+    go : (rest : List ℕ) → (zero < length rest → most_items ≤ s.count + zero) → updated_all s (take zero rest) ≡ put_all s rest
+    go [] full = refl
+    go (x ∷ rest) full = sym (put_all_full s (x ∷ rest) (omega (arith, full (omega arith))))
+put_all_is s [] (suc n) within few full = absurd (omega (arith, within))
+put_all_is s (x ∷ items) (suc n) within few full =
+    put_all_is (updated s x) items n (omega (arith, within)) (omega (arith, few)) (λ more. omega (arith, full (omega (arith, more))))
+    ∙ sym (ap (λ (t : Quantiles). put_all t items) (put_here s x (omega (arith, few))))
 
 pub same_numbers : (s : Quantiles) (items : List ℕ) → quant_numbers (put_all s items).k (put_all s items).key ≡ quant_numbers s.k s.key
 same_numbers s items =

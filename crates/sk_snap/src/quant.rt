@@ -1,15 +1,15 @@
 //! The quantiles sketch by versions.
 ghost use Rattle.std.specs.Prelude.{◌≡◌, ◌≤◌, ◌<◌, ℕ, List, length};
 ghost use Rattle.sk_quant.specs.Quantiles.{IsSketchOf};
-ghost use Rattle.sk_snap.specs.Quants.{put, put_all};
+ghost use Rattle.sk_snap.specs.Quants.{put_all};
 
 use crate::query::Query;
 use crate::reader::VersionReader;
 use crate::sequential::Sequential;
 use crate::versioned::Versioned;
 use sk_model::OutOfMemory;
-use sk_quant::Quant;
 use sk_quant::limits::MOST_ITEMS;
+use sk_quant::{Ordered, Quant};
 use std::alloc::Global;
 
 /// The quantiles sketch that readers see by versions.
@@ -66,7 +66,7 @@ impl Sequential for Quant {
 
     ghost early_of = { λ _. false };
 
-    type Prepared = ();
+    type Prepared = Option<Ordered>;
 
     ghost is_prepared = { λ _ _. ⊤ };
 
@@ -74,12 +74,12 @@ impl Sequential for Quant {
         Ok(Quant::new(alloc, setup.k, setup.key)?)
     }
 
-    fn prepare(&self, _alloc: Global, _items: &[u64]) -> Result<(), OutOfMemory> {
-        Ok(())
+    fn prepare(&self, alloc: Global, items: &[u64]) -> Result<Option<Ordered>, OutOfMemory> {
+        Quant::prepare(self, alloc, items)
     }
 
-    fn take(&mut self, items: &[u64], _prepared: &()) {
-        put_items(self, items);
+    fn take(&mut self, items: &[u64], prepared: &Option<Ordered>) {
+        put_items(self, items, prepared.as_ref());
     }
 
     fn hint(&self) -> u64 {
@@ -129,18 +129,10 @@ impl Query<Quant> for Below {
 }
 
 // Puts items to the end of the list, as long as its count has room.
-fn put_items(quant: &mut Quant, items: &[u64])
-    ensures left { quant.new ≡ put_all quant.old items.now }
+fn put_items(quant: &mut Quant, items: &[u64], prepared: Option<&Ordered>)
+    ensures { quant.new ≡ put_all quant.old items.now }
 {
-    'put: for x in items {
-        put_item(quant, *x);
-    }
-}
-
-fn put_item(quant: &mut Quant, x: u64)
-    ensures left { quant.new ≡ put quant.old x }
-{
-    if quant.len() < MOST_ITEMS {
-        quant.update(x);
-    }
+    let room = (MOST_ITEMS - quant.len()) as usize;
+    let taken = items.len().min(room);
+    quant.update_all(&items[..taken], prepared);
 }
