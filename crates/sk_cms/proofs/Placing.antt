@@ -1,8 +1,11 @@
 -- One more in the cells of items, at their places.
-use Rattle.std.proofs.Common.{◌≡◌, ℕ, zero, suc, inl, inr, ◌+◌, ◌*◌, ◌<◌, ◌≤◌, List, [], ◌∷◌, ◌++◌, length, take, fold, get_or, Vec, Global, refl, sym, ap, subst, ◌∙◌, arith, All, flat_map}
+use Rattle.std.proofs.Common.{◌≡◌, ℕ, zero, suc, inl, inr, ◌+◌, ◌*◌, ◌<◌, ◌≤◌, ◌^◌, List, [], ◌∷◌, ◌++◌, length, take, drop, fold, get_or, get_or-set_same, get_or-set_other, Vec, Global, refl, sym, ap, subst, ◌∙◌, arith, All, flat_map}
+use Rattle.std.specs.Prelude.{slice_set}
+use Rattle.std.specs.Simd.{first_chunks}
 use Rattle.std.specs.Vec.{with_items}
-use Rattle.std.proofs.lemmas.Bool.{cases_lt}
-use Rattle.std.proofs.lemmas.List.{length-set, get_or_past, take_more}
+use Rattle.std.proofs.lemmas.Bool.{cases_eq, cases_lt}
+use Rattle.std.proofs.Math.Seq.{take-add}
+use Rattle.std.proofs.lemmas.List.{length-set, length-take, get_or_past, take_more, take-append-drop, drop-drop}
 use Rattle.std.proofs.lemmas.List.Elements.{All-nil, All-append, All-get_or, All-set, All-from_get_or}
 use Rattle.std.proofs.lemmas.List.Sums.{fold-append}
 use Rattle.std.proofs.lemmas.Grind.{flat_map-append}
@@ -76,6 +79,62 @@ raised_at_small cells (at ∷ ats) most small =
     ] in
     let one : All P (raised_once cells at) = All-set P cells at (get_or cells at 0 + 1) (omega (arith, here)) weak in
     subst (λ (n : ℕ). All (λ cell. cell ≤ n) (fold raised_once (raised_once cells at) ats)) (omega arith) (raised_at_small (raised_once cells at) ats (most + 1) one)
+
+raised_once_most : (cells : List ℕ) (at i : ℕ) → get_or (raised_once cells at) i 0 ≤ get_or cells i 0 + 1
+raised_once_most cells at i =
+    let v = get_or cells at 0 + 1 in
+    elim (cases_eq i at) [
+      | inl same ↦
+          elim (cases_lt at (length cells)) [
+            | inl inside ↦
+                let now : get_or (slice_set cells at v) i 0 ≡ v = ap (λ (k : ℕ). get_or (slice_set cells at v) k 0) same ∙ get_or-set_same cells at v 0 inside in
+                let before : get_or cells at 0 ≡ get_or cells i 0 = ap (λ (k : ℕ). get_or cells k 0) (sym same) in
+                omega (arith, now, before)
+            | inr past ↦ omega (arith, get_or_past (slice_set cells at v) i 0 (omega (arith, length-set cells at v)))
+          ]
+      | inr other ↦ omega (arith, get_or-set_other cells at i v 0 other)
+    ]
+
+-- a cell has at most one more for each place
+pub raised_at_most : (cells ats : List ℕ) (i : ℕ) → get_or (fold raised_once cells ats) i 0 ≤ get_or cells i 0 + length ats
+raised_at_most cells [] i = omega arith
+raised_at_most cells (at ∷ ats) i = omega (arith, raised_at_most (raised_once cells at) ats i, raised_once_most cells at i)
+
+-- cells are not too great after any of the places
+pub some_raised_small : (cells ats : List ℕ) (n : ℕ) → All (λ cell. cell ≤ most_counted) cells → length ats < 2 ^ 62 → All (λ cell. cell ≤ most_counted + 2 ^ 62) (fold raised_once cells (take n ats))
+some_raised_small cells ats n small few = λ k d inside. omega (arith, raised_at_small cells (take n ats) most_counted small k d inside, length-take n ats, few)
+
+-- ---- by fours
+
+pub list_of_four : (xs : List ℕ) → length xs ≡ 4 → xs ≡ get_or xs 0 0 ∷ get_or xs 1 0 ∷ get_or xs 2 0 ∷ get_or xs 3 0 ∷ []
+list_of_four [] four = absurd (omega arith)
+list_of_four (a ∷ []) four = absurd (omega arith)
+list_of_four (a ∷ b ∷ []) four = absurd (omega arith)
+list_of_four (a ∷ b ∷ c ∷ []) four = absurd (omega arith)
+list_of_four (a ∷ b ∷ c ∷ d ∷ []) four = refl
+list_of_four (a ∷ b ∷ c ∷ d ∷ e ∷ more) four = absurd (omega arith)
+
+-- the places of each four
+pub four_at : (k i : ℕ) (ats : List ℕ) → i < k → get_or (first_chunks 4 k ats) i [] ≡ take 4 (drop (4 * i) ats)
+four_at zero i ats below = absurd (omega arith)
+four_at (suc k) zero ats below = refl
+four_at (suc k) (suc i) ats below =
+    four_at k i (drop 4 ats) (omega arith)
+    ∙ ap (λ (l : List ℕ). take 4 l) (drop-drop (4 * i) 4 ats ∙ ap (λ (n : ℕ). drop n ats) (omega arith))
+
+pub four_more : (cells ats : List ℕ) (i : ℕ) → fold raised_once cells (take (4 * (i + 1)) ats) ≡ fold raised_once (fold raised_once cells (take (4 * i) ats)) (take 4 (drop (4 * i) ats))
+four_more cells ats i =
+    let next : 4 * (i + 1) ≡ 4 * i + 4 = omega arith in
+    ap (λ (n : ℕ). fold raised_once cells (take n ats)) next
+    ∙ ap (λ (l : List ℕ). fold raised_once cells l) (take-add (4 * i) 4 ats)
+    ∙ fold-append raised_once cells (take (4 * i) ats) (take 4 (drop (4 * i) ats))
+
+-- those that are left
+pub rest_more : (cells ats : List ℕ) (n : ℕ) → fold raised_once (fold raised_once cells (take n ats)) (drop n ats) ≡ fold raised_once cells ats
+rest_more cells ats n =
+    sym (fold-append raised_once cells (take n ats) (drop n ats)) ∙ ap (λ (l : List ℕ). fold raised_once cells l) (take-append-drop n ats)
+
+-- ---- what an item adds
 
 -- at the places of an item that is what `update` leaves in the cells
 raised_is : (rows width x : ℕ) (cells : List ℕ) → fold raised_once cells (places_of rows width x) ≡ raised rows width x cells
