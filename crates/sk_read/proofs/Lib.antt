@@ -4,6 +4,7 @@ pub mod Cuts
 pub mod Dense
 pub mod DelimiterLaws
 pub mod FaultLaws
+pub mod FieldGroups
 pub mod GroupLaws
 pub mod ItemLaws
 pub mod Lanes

@@ -3,6 +3,7 @@ pub use Rattle.sk_model.specs.Lines
 pub mod Columns
 pub mod Delimiters
 pub mod Faults
+pub mod Groups
 pub mod Inside
 pub mod Items
 pub mod Parts

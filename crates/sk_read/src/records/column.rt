@@ -1,20 +1,23 @@
 // The records of a text, their lengths, and the fields in a column of them.
-ghost use Rattle.std.specs.Prelude.{◌≡◌, ◌≢◌, ◌↔◌, ◌≤◌, ◌<◌, ◌+◌, ℕ, List, [], ◌∷◌, ◌++◌, Ok, Some, None, IfErr, MatchResult, All, length, true, false};
+ghost use Rattle.std.specs.Prelude.{◌≡◌, ◌≢◌, ◌↔◌, ◌≤◌, ◌<◌, ◌+◌, ℕ, List, [], ◌∷◌, ◌++◌, Ok, Some, None, OnOk, IfErr, MatchResult, All, length, take, drop, true, false};
 ghost use Rattle.csv.specs.Machine.{Read, next_record};
 ghost use Rattle.csv.specs.Reading.{default_config, records, strip_bom};
 ghost use Rattle.csv.specs.Records.{fields_of};
 ghost use Rattle.csv.specs.declared.parser.State.{State};
 ghost use Rattle.csv.specs.declared.parser.State.TheVariants as st;
-ghost use Rattle.sk_model.specs.Limits.{most_kept};
+ghost use Rattle.sk_model.specs.Limits.{most_kept, line_limit};
 ghost use Rattle.sk_read.specs.Records.{Row, field_of, width_of};
 ghost use Rattle.sk_read.specs.Rows.{StandsAt};
 ghost use Rattle.sk_read.specs.Columns.{first_width, HasRows, IsFieldOf, Refuses, Breaks};
+ghost use Rattle.sk_read.specs.Groups.{HasSeen, RefusesRow, KnowsAfter, CutsGroup};
+ghost use Rattle.sk_lines.specs.Spans.{AreBehind};
 
 use crate::fault::Fault;
 use crate::records::delimiters::Ahead;
 use crate::records::plain::{cut_line, is_plain};
 use crate::units::UnitTaker;
 use csv::{ByteRecord, Reader, ReaderBuilder};
+use sk_lines::{GROUP, Span};
 use sk_model::limits::LINE_LIMIT;
 use std::alloc::Global;
 
@@ -24,6 +27,29 @@ pub(crate) struct ColumnReader {
     column: usize,
     width: Option<usize>,
     number: u64,
+}
+
+// Where a line of a text without quotes begins, and what is known of the text after that.
+#[derive(Clone, Copy)]
+struct Place {
+    start: usize,
+    ahead: Ahead,
+}
+
+impl Place {
+    const FIRST: Place = Place {
+        start: 0,
+        ahead: Ahead::NONE,
+    };
+}
+
+// Records that were cut together: how many, where the next line begins, and why the record there is refused, if it
+// is.
+#[derive(Clone, Copy)]
+struct Group {
+    count: usize,
+    next: Place,
+    refused: Option<Fault>,
 }
 
 impl ColumnReader {
@@ -77,22 +103,58 @@ impl ColumnReader {
         ensures column { self.new.column ≡ self.old.column }
         ensures taker { T.stands_on taker.new ≡ T.stands_on taker.old }
     {
-        let mut start = 0;
-        let mut ahead = Ahead::NONE;
-        'line: while start < text.len() {
-            let line = cut_line(text, start, self.column, ahead);
-            if line.end > start {
-                let fields = line.fields;
-                self.give_field(
-                    &text[fields.field.from..fields.field.to],
-                    fields.width,
-                    taker,
-                )?;
+        let mut place = Place::FIRST;
+        let mut spans = [Span::EMPTY; GROUP];
+        'group: while place.start < text.len() {
+            let before = self.number;
+            let group = self.cut_group(text, place, &mut spans);
+            taker.take_all(text, &spans[..group.count], before)?;
+            if let Some(fault) = group.refused {
+                return Err(fault);
             }
-            start = line.end + 1;
-            ahead = line.ahead;
+            place = group.next;
         }
         Ok(())
+    }
+
+    // Cuts the next records, until there is no room for the place of one more field, one is refused, or the text ends.
+    fn cut_group(&mut self, text: &[u8], place: Place, spans: &mut [Span; GROUP]) -> Group
+        requires plain { All (λ byte. byte ≢ 34) text.now }
+        requires known { KnowsAfter text.now place }
+        requires room { (rows : List Row) × (length rows + length (records default_config (drop place.start text.now)) ≤ most_kept) × HasSeen self.old rows }
+        ensures few { result.count ≤ GROUP }
+        ensures within { AreBehind 0 (take result.count spans.new) text.now }
+        ensures cuts { CutsGroup self.old self.new text.now place.start result.next.start (take result.count spans.new) result.refused }
+        ensures known { KnowsAfter text.now result.next }
+        ensures progress { result.refused ≡ None → place.start < length text.now → place.start < result.next.start }
+        ensures column { self.new.column ≡ self.old.column }
+    {
+        let mut next = place;
+        let mut count = 0;
+        'line: while next.start < text.len() && count < GROUP {
+            let line = cut_line(text, next.start, self.column, next.ahead);
+            if line.end > next.start {
+                let field = line.fields.field;
+                if let Err(fault) = self.admit(line.fields.width, field.to - field.from) {
+                    return Group {
+                        count,
+                        next,
+                        refused: Some(fault),
+                    };
+                }
+                spans[count] = field;
+                count += 1;
+            }
+            next = Place {
+                start: line.end + 1,
+                ahead: line.ahead,
+            };
+        }
+        Group {
+            count,
+            next,
+            refused: None,
+        }
     }
 
     // The same, by a reader of records.
@@ -144,14 +206,28 @@ impl ColumnReader {
         ensures column { self.new.column ≡ self.old.column }
         ensures taker { T.stands_on taker.new ≡ T.stands_on taker.old }
     {
+        self.admit(width, field.len())?;
+        taker.take(field, self.number)
+    }
+
+    // Takes the next record, of `width` fields, of which that in the column has `len` bytes, unless it is refused.
+    #[inline(always)]
+    fn admit(&mut self, width: usize, len: usize) -> Result<(), Fault>
+        requires room { (rows : List Row) × (length rows < most_kept) × HasSeen self.old rows }
+        ensures goes { (rows : List Row) (row : Row) (field : List ℕ) → length rows < most_kept → HasSeen self.old rows → IsFieldOf self.old.column row width field → length field ≡ len
+            → MatchResult result (λ _. HasSeen self.new (rows ++ row ∷ []) × (field ≡ field_of self.old.column row)) (RefusesRow self.old.column rows row) }
+        ensures short { OnOk result (len ≤ line_limit) }
+        ensures number { self.new.number ≡ self.old.number + 1 }
+        ensures column { self.new.column ≡ self.old.column }
+    {
         self.number += 1;
         if !fits(&mut self.width, self.column, width) {
             return Err(Fault::BadCsv(self.number));
         }
-        if field.len() > LINE_LIMIT {
+        if len > LINE_LIMIT {
             return Err(Fault::LongLine(self.number));
         }
-        taker.take(field, self.number)
+        Ok(())
     }
 }
 

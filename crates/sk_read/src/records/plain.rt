@@ -57,6 +57,7 @@ pub(crate) fn is_plain(text: &[u8]) -> bool
 }
 
 // The line at a place, and its field in a column.
+#[inline(always)]
 pub(crate) fn cut_line(text: &[u8], start: usize, column: usize, ahead: Ahead) -> Line
     requires plain { All (λ byte. byte ≢ 34) text.now }
     requires known { Knows text.now start ahead }

@@ -1,95 +1,136 @@
-use Rattle.std.proofs.Common.{◌≡◌, ◌+◌, ℕ, List, [], ◌∷◌, ◌++◌, drop, refl, sym, ap, ◌∙◌, subst, arith, append-nil, append_assoc}
+use Rattle.std.proofs.Common.{◌≡◌, ◌+◌, ℕ, List, [], ◌∷◌, ◌++◌, length, take, drop, Some, slice_range, sym, ap, ◌∙◌, subst, arith, length-append, append-nil, append_assoc}
+use Rattle.std.proofs.lemmas.List.{length-map}
 use Rattle.csv.specs.Reading.{default_config, records}
+use Rattle.sk_lines.specs.Spans.{lines_at}
+use Rattle.sk_lines.specs.declared.spans.Span.{Span}
 use Rattle.sk_model.specs.Limits.{most_kept}
 use Rattle.sk_read.specs.declared.fault.Fault.{Fault}
-use Rattle.sk_read.specs.Records.{Row, AreSoundRows}
-use Rattle.sk_read.specs.Columns.{HasRows, Refuses, Breaks}
+use Rattle.sk_read.specs.Records.{Row, fields_in, AreSoundRows}
+use Rattle.sk_read.specs.Columns.{HasRows, Breaks}
+use Rattle.sk_read.specs.Groups.{HasSeen, RefusesRow, HasSeenOrRefused}
+use Rattle.sk_read.specs.Reads.{StopsAmong}
+use Rattle.sk_read.proofs.ColumnLaws.{length_fields}
+use Rattle.sk_read.proofs.FieldGroups.{seen, has_seen, stopped_among, cut_room, cut_sound, cut_short, cut_gave, refused_after}
 use Rattle.sk_read.proofs.PartLaws.{at_err}
-use Rattle.sk_read.proofs.ColumnLaws.{ends_at}
-use Rattle.sk_read.proofs.DelimiterLaws.{knows_none}
-use Rattle.sk_read.proofs.PlainLaws.{one_more_line, empty_records, room_more, none_behind, field_of_line}
-use Rattle.sk_read.proofs.records.column.ColumnReader.give_lines.Goals.{then-line-start+in_ok-give_field, else-line-start}
+use Rattle.sk_read.proofs.PlainLaws.{none_behind}
 use Rattle.sk_read.proofs.records.column.ColumnReader.give_lines.Goals as goal
 
-pub line-init : goal.line-init
-line-init g c = record {
-  given = [];
-  split = refl;
-  known = λ some. knows_none c.args.text.now 0 (omega arith);
-  has = λ start rows few has. subst (HasRows c.args.self.now (g.T.UnitTaker.went start c.args.taker.now)) (sym (append-nil rows)) has;
-  column = refl;
-  standing = refl;
-}
-
-pub give_field-requires : goal.give_field-requires
-give_field-requires g c =
-    let inv = c.line.invariant in
+pub take_all-requires-clause-short : goal.take_all-requires-clause-short
+take_all-requires-clause-short g c =
+    let inv = c.group.invariant in
     let text = c.args.text.now in
-    let line = c.cut_line-line.result in
-    let is = c.cut_line-line.ensures.line in
+    let group = c.cut_group-group in
+    let cuts = group.ensures.cuts in
+    let spans = take group.result.count group.new.spans in
     let before = c.requires.room in
-    let more = one_more_line text c.requires.plain c.line.self.column c.line.start line inv.given is c.if-line-start.true inv.split in
-    let room = room_more most_kept before.1 (records default_config text) inv.given (records default_config (drop (line.end + 1) text)) is.row before.2 more in
-    record { room = (before.0, before.1 ++ inv.given, room, inv.has before.0 before.1 before.2 before.3) }
+    let rows = before.1 ++ inv.given in
+    let now = seen c.group.self (g.T.UnitTaker.went before.0 c.group.taker) rows (inv.has before.0 before.1 before.2 before.3) in
+    let room = cut_room before.1 inv.given (records default_config text) (records default_config (drop c.group.place.start text)) before.2 inv.split in
+    cut_short c.group.self.column rows cuts.some (lines_at spans text) cuts.fields
+    (cut_sound c.group.self group.new.self text c.group.place.start group.result.next.start spans group.result.refused cuts rows group.ensures.column room now)
 
-pub returns-in_err-give_field-clause-goes : goal.returns-in_err-give_field-clause-goes
-returns-in_err-give_field-clause-goes g c = λ start rows few has.
-    let inv = c.line.invariant in
+pub take_all-requires-clause-room : goal.take_all-requires-clause-room
+take_all-requires-clause-room g c =
+    let inv = c.group.invariant in
     let text = c.args.text.now in
-    let line = c.cut_line-line.result in
-    let is = c.cut_line-line.ensures.line in
-    let column = c.args.self.now.column in
+    let group = c.cut_group-group in
+    let cuts = group.ensures.cuts in
+    let spans = take group.result.count group.new.spans in
+    let before = c.requires.room in
+    let now = inv.has before.0 before.1 before.2 before.3 in
+    let rest = records default_config (drop c.group.place.start text) in
+    let room = cut_room before.1 inv.given (records default_config text) rest before.2 inv.split in
+    omega (
+      arith,
+      now.number,
+      room,
+      ap length cuts.split,
+      length-append cuts.some (records default_config (drop group.result.next.start text)),
+      ap length cuts.fields,
+      length-map spans (λ (s : Span). slice_range text s.from s.to),
+      length_fields c.group.self.column cuts.some,
+    )
+
+pub returns-in_err-take_all-clause-goes : goal.returns-in_err-take_all-clause-goes
+returns-in_err-take_all-clause-goes g c = λ start rows few has.
+    let inv = c.group.invariant in
+    let text = c.args.text.now in
+    let group = c.cut_group-group in
+    let cuts = group.ensures.cuts in
+    let spans = take group.result.count group.new.spans in
     let all = records default_config text in
-    let rest = records default_config (drop (line.end + 1) text) in
-    let P = g.T.UnitTaker.went start c.give_field.new.taker in
-    let Q = g.T.UnitTaker.stopped start c.give_field.new.taker in
-    let f = c.in_err-give_field.field-0.0 in
+    let column = c.args.self.now.column in
+    let own = c.group.self.column in
+    let P = g.T.UnitTaker.went start c.take_all.new.self in
+    let Q = g.T.UnitTaker.stopped start c.take_all.new.self in
+    let f = c.in_err-take_all.field-0.0 in
     let now = inv.has start rows few has in
-    let more = one_more_line text c.requires.plain c.line.self.column c.line.start line inv.given is c.if-line-start.true inv.split in
-    let room = room_more most_kept rows all inv.given rest is.row few more in
-    let field = field_of_line c.line.self.column text is.row line.fields is.fields in
-    let sound : AreSoundRows column (rows ++ inv.given) = subst (λ (n : ℕ). AreSoundRows n (rows ++ inv.given)) inv.column now.sound in
-    let refused : Refuses column P Q (rows ++ inv.given) is.row f =
-    subst (λ (n : ℕ). Refuses n P Q (rows ++ inv.given) is.row f) inv.column
-    (c.in_err-give_field.ensures.goes start (rows ++ inv.given) is.row room now field) in
+    let given = rows ++ inv.given in
+    let room = cut_room rows inv.given all (records default_config (drop c.group.place.start text)) few inv.split in
+    let sound = cut_sound c.group.self group.new.self text c.group.place.start group.result.next.start spans group.result.refused cuts given group.ensures.column room
+    (seen c.group.self (g.T.UnitTaker.went start c.group.taker) given now) in
+    let number : length (fields_in own given) ≡ c.group.self.number = omega (arith, now.number, length_fields own given) in
+    let stops = c.in_err-take_all.ensures.stopped start (fields_in own given) number now.gave in
     at_err c.from_residual.result f _ (λ (x : Fault). Breaks column P Q rows all x) c.from_residual.ensures.1
-    (ends_at P Q column rows all inv.given is.row f (rest, more) sound refused)
+    (stopped_among column P Q rows inv.given cuts.some (records default_config (drop group.result.next.start text)) all (lines_at spans text) f (inv.split ∙ ap (λ (l : List Row). inv.given ++ l) cuts.split)
+    (cuts.fields ∙ ap (λ (n : ℕ). fields_in n cuts.some) inv.column) (subst (λ (n : ℕ). AreSoundRows n (given ++ cuts.some)) inv.column sound)
+    (subst (λ (n : ℕ). StopsAmong Q f (fields_in n given) (lines_at spans text)) inv.column stops))
 
-pub line-preserved : goal.line-preserved
-line-preserved g c =
-    let inv = c.line.invariant in
+pub returns-in-Some-clause-goes : goal.returns-in-Some-clause-goes
+returns-in-Some-clause-goes g c = λ start rows few has.
+    let inv = c.group.invariant in
     let text = c.args.text.now in
-    let line = c.cut_line-line.result in
-    let is = c.cut_line-line.ensures.line in
-    elim c.if-line-start.branch [
-      | then-line-start+in_ok-give_field w ↦
-          let more = one_more_line text c.requires.plain c.line.self.column c.line.start line inv.given is w.if-line-start.true inv.split in
-          record {
-            given = inv.given ++ is.row ∷ [];
-            split = more;
-            known = λ more. c.cut_line-line.ensures.known (omega (arith, more));
-            has = λ start rows few has.
-                let room = room_more most_kept rows (records default_config text) inv.given (records default_config (drop (line.end + 1) text)) is.row few more in
-                let field = field_of_line c.line.self.column text is.row line.fields is.fields in
-                rw (w.self-is, w.taker-is) (
-                subst (HasRows w.give_field.new.self (g.T.UnitTaker.went start w.give_field.new.taker)) (append_assoc rows inv.given (is.row ∷ []))
-                (w.in_ok-give_field.ensures.goes start (rows ++ inv.given) is.row room (inv.has start rows few has) field));
-            column = rw w.self-is (w.give_field.ensures.column ∙ inv.column);
-            standing = rw w.taker-is (w.give_field.ensures.taker ∙ inv.standing);
-          }
-      | else-line-start w ↦ record {
-        given = inv.given;
-        split = inv.split ∙ ap (λ (l : List Row). inv.given ++ l) (empty_records text c.requires.plain c.line.self.column c.line.start line is c.line-test.true w.if-line-start.false);
-        known = λ more. c.cut_line-line.ensures.known (omega (arith, more));
-        has = λ start rows few has. rw (w.self-is, w.taker-is) (inv.has start rows few has);
-        column = rw w.self-is inv.column;
-        standing = rw w.taker-is inv.standing;
-      }
-    ]
+    let group = c.cut_group-group in
+    let cuts = group.ensures.cuts in
+    let spans = take group.result.count group.new.spans in
+    let all = records default_config text in
+    let rest = records default_config (drop group.result.next.start text) in
+    let column = c.args.self.now.column in
+    let own = c.group.self.column in
+    let P = g.T.UnitTaker.went start c.take_all.new.self in
+    let Q = g.T.UnitTaker.stopped start c.take_all.new.self in
+    let f = c.in-Some.fault in
+    let now = inv.has start rows few has in
+    let given = rows ++ inv.given in
+    let room = cut_room rows inv.given all (records default_config (drop c.group.place.start text)) few inv.split in
+    let ends = subst (HasSeenOrRefused group.new.self (given ++ cuts.some) rest) c.in-Some.is (cuts.has given room (seen c.group.self (g.T.UnitTaker.went start c.group.taker) given now)) in
+    let same = group.ensures.column ∙ inv.column in
+    let number : length (fields_in own given) ≡ c.group.self.number = omega (arith, now.number, length_fields own given) in
+    let gave = cut_gave own P given cuts.some (lines_at spans text) cuts.fields (c.in_ok-take_all.ensures.went start (fields_in own given) number now.gave) in
+    refused_after column P Q rows inv.given cuts.some rest all ends.1.0 f (inv.split ∙ ap (λ (l : List Row). inv.given ++ l) cuts.split) ends.1.1 (subst (λ (n : ℕ). AreSoundRows n (given ++ cuts.some)) same ends.0)
+    (subst (λ (n : ℕ). RefusesRow n (given ++ cuts.some) ends.1.0 f) same ends.1.2) (subst (λ (n : ℕ). P (fields_in n (given ++ cuts.some))) inv.column gave)
+
+pub group-preserved : goal.group-preserved
+group-preserved g c =
+    let inv = c.group.invariant in
+    let text = c.args.text.now in
+    let group = c.cut_group-group in
+    let cuts = group.ensures.cuts in
+    let spans = take group.result.count group.new.spans in
+    let all = records default_config text in
+    let rest = records default_config (drop group.result.next.start text) in
+    let own = c.group.self.column in
+    record {
+      given = inv.given ++ cuts.some;
+      split = inv.split ∙ ap (λ (l : List Row). inv.given ++ l) cuts.split ∙ sym (append_assoc inv.given cuts.some rest);
+      known = group.ensures.known;
+      has = λ start rows few has.
+          let P = g.T.UnitTaker.went start c.take_all.new.self in
+          let now = inv.has start rows few has in
+          let given = rows ++ inv.given in
+          let room = cut_room rows inv.given all (records default_config (drop c.group.place.start text)) few inv.split in
+          let ends : HasSeen group.new.self (given ++ cuts.some) = subst (HasSeenOrRefused group.new.self (given ++ cuts.some) rest) c.in_default.is (cuts.has given room (seen c.group.self (g.T.UnitTaker.went start c.group.taker) given now)) in
+          let number : length (fields_in own given) ≡ c.group.self.number = omega (arith, now.number, length_fields own given) in
+          let gave = cut_gave own P given cuts.some (lines_at spans text) cuts.fields (c.in_ok-take_all.ensures.went start (fields_in own given) number now.gave) in
+          subst (HasRows group.new.self P) (append_assoc rows inv.given cuts.some)
+          (has_seen group.new.self P (given ++ cuts.some) ends (subst (λ (n : ℕ). P (fields_in n (given ++ cuts.some))) (sym group.ensures.column) gave));
+      column = group.ensures.column ∙ inv.column;
+      standing = c.in_ok-take_all.ensures.stays ∙ inv.standing;
+    }
 
 pub returns-clause-goes : goal.returns-clause-goes
 returns-clause-goes g c = λ start rows few has.
-    let inv = c.line.invariant in
+    let inv = c.group.invariant in
     let whole : inv.given ≡ records default_config c.args.text.now =
-    sym (inv.split ∙ ap (λ (l : List Row). inv.given ++ l) (none_behind c.args.text.now c.line.start c.line-test.false) ∙ append-nil inv.given) in
-    subst (λ (l : List Row). HasRows c.line.self (g.T.UnitTaker.went start c.line.taker) (rows ++ l)) whole (inv.has start rows few has)
+    sym (inv.split ∙ ap (λ (l : List Row). inv.given ++ l) (none_behind c.args.text.now c.group.place.start c.group-test.false) ∙ append-nil inv.given) in
+    subst (λ (l : List Row). HasRows c.group.self (g.T.UnitTaker.went start c.group.taker) (rows ++ l)) whole (inv.has start rows few has)
