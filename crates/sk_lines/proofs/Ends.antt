@@ -1,8 +1,8 @@
 -- How the ends of lines are found, and lines made of them.
-use Rattle.std.proofs.Common.{◌≡◌, ◌≢◌, ℕ, ◌+◌, ◌-◌, ◌<◌, ◌≤◌, List, [], ◌∷◌, ◌++◌, length, take, drop, map, length-take, set, get_or, refl, sym, ap, ◌∙◌, subst, arith, Bool, true, false, eqb, eqb-true, eq-eqb, true≢false, w64, ◌^◌, ⊎_elim}
+use Rattle.std.proofs.Common.{◌≡◌, ◌≢◌, ℕ, zero, suc, ◌+◌, ◌-◌, ◌<◌, ◌≤◌, List, [], ◌∷◌, ◌++◌, length, take, drop, map, length-take, take-take, set, get_or, refl, sym, ap, ◌∙◌, subst, arith, Bool, true, false, eqb, eqb-true, eq-eqb, true≢false, w64, ◌^◌, ⊎_elim}
 use Rattle.std.specs.Int.{bit_at}
 use Rattle.std.specs.Int.Count.{count_trailing_zeros}
-use Rattle.std.proofs.lemmas.List.{take_more_set, take-set, get_or_past, drop_more, get_or-take, drop-set-lt}
+use Rattle.std.proofs.lemmas.List.{take_more_set, take-set, take-map, get_or_past, drop_more, get_or-take, drop-set-lt}
 use Rattle.std.proofs.Math.Seq.{take-set-lt}
 use Rattle.std.proofs.lemmas.Bool.{cases_lt}
 use Rattle.std.proofs.lemmas.Nat.Bits.{bit_at-trailing_zeros}
@@ -91,6 +91,18 @@ lowest_beside marks fits all p same small is none = (set_there, below)
 -- what four notes and those that follow come to
 pub none_known : (bytes : List ℕ) (from scanned marks : ℕ) (ends : List ℕ) → marks ≡ 0 → HoldsEnds bytes from ends scanned marks → HoldsEnds bytes from ends scanned 0
 none_known bytes from scanned marks ends none h = subst (HoldsEnds bytes from ends scanned) none h
+
+ends_in_front : (bytes : List ℕ) (from at m : ℕ) (ends : List ℕ) → FollowLfs bytes from ends at → AreEnds bytes from (take m ends)
+unfolding FollowLfs
+ends_in_front bytes from at zero ends follow = (from, refl)
+ends_in_front bytes from at (suc m) [] follow = (from, refl)
+ends_in_front bytes from at (suc m) (end ∷ ends) follow = let later = ends_in_front bytes (end + 1) at m ends follow.1 in (later.0, (follow.0, later.1))
+
+-- the first of some ends
+pub fewer_ends : (bytes : List ℕ) (from m n : ℕ) (spans : List Span) → m ≤ n → AreEnds bytes from (ends_of n spans) → AreEnds bytes from (ends_of m spans)
+fewer_ends bytes from m n spans few ends =
+    let same : take m (ends_of n spans) ≡ ends_of m spans = take-map (λ (s : Span). s.to) m (take n spans) ∙ ap (map (λ (s : Span). s.to)) (take-take m n spans few) in
+    subst (AreEnds bytes from) same (ends_in_front bytes from ends.0 m (ends_of n spans) ends.1)
 
 -- ---- lines
 

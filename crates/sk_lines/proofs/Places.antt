@@ -5,38 +5,39 @@ use Rattle.std.specs.Simd.Lanes.{zip2, mask_l, top, chunk}
 use Rattle.std.proofs.lemmas.Simd.{bit_mask_l, bitmask_splat, length-chunk, get_or-chunk}
 use Rattle.std.proofs.Math.ListN.{get_or-map}
 use Rattle.std.proofs.lemmas.List.{get_or_past, get_or-replicate, length-replicate, get_or-append_right, get_or_append_left}
-use Rattle.std.proofs.lemmas.Bool.{cases_lt}
+use Rattle.std.proofs.lemmas.Bool.{cases_lt, ne_eqb}
 use Rattle.std.proofs.lemmas.Nat.Bits.{bit_at-zero}
 use Rattle.sk_lines.specs.Marks.{KnowsLfs, IsFirstLf, TakesLf}
 
-told : (x : ℕ) (b : Bool) → eqb x 10 ≡ b → (cond {A = ℕ} b 1 0 ≡ 1) ↔ (x ≡ 10)
-told x true e = (λ h. eqb-true x 10 e, λ h. refl)
-told x false e = (λ h. absurd (omega arith), λ h. absurd (cc (e, eq-eqb x 10 h)))
+told : (byte x : ℕ) (b : Bool) → eqb x byte ≡ b → (cond {A = ℕ} b 1 0 ≡ 1) ↔ (x ≡ byte)
+told byte x true e = (λ h. eqb-true x byte e, λ h. refl)
+told byte x false e = (λ h. absurd (omega arith), λ h. absurd (cc (e, eq-eqb x byte h)))
 
--- a bit of the mask of a block's LFs
-lf_bit : (bytes : List ℕ) (at k : ℕ) → at + 64 ≤ length bytes
-    → (bit_at (mask_l (map (λ x. eqb x 10) (chunk at 64 bytes))) k ≡ 1) ↔ ((k < 64) × (slice_index bytes (at + k) ≡ 10))
-lf_bit bytes at k within =
-    let block : List ℕ = chunk at 64 bytes in
-    let long : length block ≡ 64 = length-chunk at 64 bytes within in
-    let bit : bit_at (mask_l (map (λ x. eqb x 10) block)) k ≡ cond (eqb (get_or block k 0) 10) 1 0 =
-    bit_mask_l (map (λ x. eqb x 10) block) k ∙ ap (λ b. cond b 1 0) (get_or-map (λ x. eqb x 10) block k 0) in
-    let t = told (get_or block k 0) _ refl in (
+-- a bit of the mask of the lanes of a block that are a byte
+byte_bit : (n byte : ℕ) (bytes : List ℕ) (at k : ℕ) → 0 < byte → at + n ≤ length bytes
+    → (bit_at (mask_l (map (λ x. eqb x byte) (chunk at n bytes))) k ≡ 1) ↔ ((k < n) × (slice_index bytes (at + k) ≡ byte))
+byte_bit n byte bytes at k some within =
+    let block : List ℕ = chunk at n bytes in
+    let long : length block ≡ n = length-chunk at n bytes within in
+    let bit : bit_at (mask_l (map (λ x. eqb x byte) block)) k ≡ cond (eqb (get_or block k 0) byte) 1 0 =
+    bit_mask_l (map (λ x. eqb x byte) block) k ∙ ap (λ (b : Bool). cond {A = ℕ} b 1 0) (ap (get_or (map (λ x. eqb x byte) block) k) (sym (ne_eqb 0 byte (λ e. omega (arith, some, e)))) ∙ get_or-map (λ x. eqb x byte) block k 0) in
+    let t = told byte (get_or block k 0) _ refl in (
       λ set.
-          let lf : get_or block k 0 ≡ 10 = t.0 (sym bit ∙ set) in
+          let is : get_or block k 0 ≡ byte = t.0 (sym bit ∙ set) in
           ⊎_elim
-          (λ (inside : k < 64). (inside, sym (get_or-chunk at 64 bytes k 0 inside) ∙ lf))
-          (λ (past : 64 ≤ k). absurd (omega (arith, lf, get_or_past block k 0 (omega arith))))
-          (cases_lt k 64),
-      λ at_place. bit ∙ t.1 (get_or-chunk at 64 bytes k 0 at_place.0 ∙ at_place.1),
+          (λ (inside : k < n). (inside, sym (get_or-chunk at n bytes k 0 inside) ∙ is))
+          (λ (past : n ≤ k). absurd (omega (arith, some, is, get_or_past block k 0 (omega (arith, long, past)))))
+          (cases_lt k n),
+      λ at_place. bit ∙ t.1 (get_or-chunk at n bytes k 0 at_place.0 ∙ at_place.1),
     )
 
-pub lfs_of_block : (bytes : List ℕ) (at k : ℕ) → at + 64 ≤ length bytes
-    → (bit_at (mask_l (map (top 7) (zip2 (λ a b. cond (eqb a b) 255 0) (chunk at 64 bytes) (replicate 64 10))) % 2 ^ 64) k ≡ 1) ↔ ((k < 64) × (slice_index bytes (at + k) ≡ 10))
-lfs_of_block bytes at k within =
-    subst (λ (m : ℕ). (bit_at m k ≡ 1) ↔ ((k < 64) × (slice_index bytes (at + k) ≡ 10)))
-    (sym (bitmask_splat w8 eqb (chunk at 64 bytes) 64 10 (length-chunk at 64 bytes within) (omega arith)))
-    (lf_bit bytes at k within)
+-- a bit of the mask of a block of at most 64 bytes in which one byte is sought
+pub marks_of_block : (n byte : ℕ) (bytes : List ℕ) (at k : ℕ) → n ≤ 64 → 0 < byte → at + n ≤ length bytes
+    → (bit_at (mask_l (map (top 7) (zip2 (λ a b. cond (eqb a b) 255 0) (chunk at n bytes) (replicate n byte))) % 2 ^ 64) k ≡ 1) ↔ ((k < n) × (slice_index bytes (at + k) ≡ byte))
+marks_of_block n byte bytes at k few some within =
+    subst (λ (m : ℕ). (bit_at m k ≡ 1) ↔ ((k < n) × (slice_index bytes (at + k) ≡ byte)))
+    (sym (bitmask_splat w8 eqb (chunk at n bytes) n byte (length-chunk at n bytes within) few))
+    (byte_bit n byte bytes at k some within)
 
 none_marked : (k : ℕ) → bit_at 0 k ≡ 1 → ⊥
 none_marked k set = omega (arith, bit_at-zero k)

@@ -3,6 +3,7 @@ pub use Rattle.sk_model.specs.Lines
 pub use Rattle.sk_model.specs.Numbers
 pub use Rattle.sk_model.specs.Width
 pub mod Cutter
+pub mod Even
 pub mod Fractions
 pub mod Hashes
 pub mod Inside

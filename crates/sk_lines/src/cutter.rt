@@ -7,10 +7,11 @@ ghost use Rattle.sk_lines.specs.Runs.{GivesRun, GivesNone};
 ghost use Rattle.sk_lines.specs.Spans.{GivesLines, HasNoShortLine};
 ghost use Rattle.sk_lines.specs.Cutter.{Follows, IsRead, TakesPiece, GivesLine, GivesLast, Waits, IsLongAfter, HasNoLf, counted, is_long};
 
+use crate::group::cut_group;
 use crate::marks::{BLOCK, seek, take_lf};
 use crate::padded::Padded;
 use crate::runs::skip_lfs;
-use crate::spans::{GROUP, Span, cut_lines, find_ends};
+use crate::spans::{GROUP, Span};
 use sk_io::{BoundFault, Source};
 use sk_model::OutOfMemory;
 use std::alloc::Global;
@@ -233,8 +234,7 @@ impl Lines {
         if self.ended || self.hungry || matches!(self.last, Next::Long(_)) {
             return 0;
         }
-        let found = find_ends(self.buffer.bytes(), self.at, spans);
-        let (count, at) = cut_lines(self.buffer.bytes(), self.at, self.limit, spans, found);
+        let (count, at) = cut_group(self.buffer.bytes(), self.at, self.limit, GROUP, spans);
         self.at = at;
         self.scanned = at;
         self.marks = 0;

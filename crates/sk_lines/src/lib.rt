@@ -3,6 +3,7 @@
 
 mod cutter;
 mod decimals;
+mod group;
 mod hashes;
 pub mod laws;
 mod marks;
@@ -15,6 +16,7 @@ pub use decimals::{
     ESTIMATE_LINE_LEN, are_digits, decimal_len, push_fraction, put_decimal, put_estimate,
     put_estimate_line, put_fraction, put_text, read_number,
 };
+pub use group::cut_group;
 pub use hashes::{HASH_LINE_LEN, hash_line, read_hash};
 pub use marks::{BLOCK, lfs_of_block, seek, take_lf};
 pub use runs::skip_lfs;

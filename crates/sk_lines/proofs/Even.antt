@@ -1,0 +1,99 @@
+-- Lines of one length.
+use Rattle.std.proofs.Common.{◌≡◌, ◌≢◌, ℕ, ◌+◌, ◌-◌, ◌<◌, ◌≤◌, ◌%◌, ◌^◌, ◌==◌, Bool, true, false, cond, List, [], ◌∷◌, ◌++◌, length, map, take, drop, get_or, set, slice_index, slice_range, replicate, refl, sym, ap, ◌∙◌, subst, arith, eqb-true, nat_lt, lt-ltb, ⊎_elim, w8}
+use Rattle.std.specs.Int.{bit_at}
+use Rattle.std.specs.Str.Lines.{strip_carriage_return}
+use Rattle.std.specs.Simd.Lanes.{zip2, mask_l, top, chunk}
+use Rattle.std.proofs.lemmas.Simd.{tops_compared, bit_mask_l, mask_l-mod, length-zip2, get_or-zip2, length-chunk, get_or-chunk}
+use Rattle.std.proofs.lemmas.List.{get_or_past, get_or-replicate, length-replicate, get_or_append_left, take_more_set}
+use Rattle.std.proofs.lemmas.Bool.{cases_lt}
+use Rattle.std.proofs.lemmas.Nat.Bits.{bit_at-zero}
+use Rattle.sk_lines.specs.Even.{IsPlain, AreFloors}
+use Rattle.sk_lines.specs.Spans.{AreLines, IsLine}
+use Rattle.sk_lines.specs.declared.spans.Span.{Span}
+use Rattle.sk_lines.proofs.Ends.{lines_more}
+
+-- ---- the bytes of a block, and their floors
+
+abbrev floors_at : List ℕ
+floors_at = replicate 16 14 ++ replicate 16 0
+
+pub floors : (len : ℕ) → len ≤ 16 → AreFloors len (chunk 0 16 (chunk (16 - len) (32 - (16 - len)) floors_at))
+floors len few =
+    let n : ℕ = 16 - len in
+    let rest : List ℕ = chunk n (32 - n) floors_at in
+    let long : length rest ≡ 32 - n = length-chunk n (32 - n) floors_at (omega arith) in
+    record {
+      wide = length-chunk 0 16 rest (omega (arith, long));
+      line = λ k below.
+          let same : 0 + k ≡ k = omega arith in
+          get_or-chunk 0 16 rest k 0 (omega arith) ∙ ap (λ (i : ℕ). get_or rest i 0) same ∙ get_or-chunk n (32 - n) floors_at k 0 (omega arith)
+          ∙ get_or_append_left (replicate 16 14) (replicate 16 0) 0 (n + k) (omega (arith, length-replicate {A = ℕ} 16 14)) ∙ get_or-replicate 16 (n + k) 14 0 (omega arith);
+    }
+
+-- where no lane is marked as below another, none is
+none_below : (xs ys : List ℕ) → length xs ≡ 16 → length ys ≡ 16 → mask_l (map (top 7) (zip2 (λ a b. cond (nat_lt a b) 255 0) xs ys)) % 2 ^ 64 ≡ 0 → (k : ℕ) → k < 16 → slice_index ys k ≤ slice_index xs k
+none_below xs ys sx sy none k inside =
+    let marked : List Bool = zip2 nat_lt xs ys in
+    let long : length marked ≡ 16 = length-zip2 nat_lt xs ys (sx ∙ sym sy) ∙ sx in
+    let same : map (top 7) (zip2 (λ a b. cond (nat_lt a b) 255 0) xs ys) ≡ marked = tops_compared w8 nat_lt xs ys in
+    let mask : mask_l marked ≡ 0 = sym (mask_l-mod marked 64 (omega (arith, long))) ∙ ap (λ (l : List Bool). mask_l l % 2 ^ 64) (sym same) ∙ none in
+    let bit : bit_at 0 k ≡ cond {A = ℕ} (get_or marked k false) 1 0 = ap (λ (m : ℕ). bit_at m k) (sym mask) ∙ bit_mask_l marked k in
+    let lane : get_or marked k false ≡ nat_lt (get_or xs k 0) (get_or ys k 0) = get_or-zip2 nat_lt xs ys k 0 0 false (omega (arith, sx)) (omega (arith, sy)) in
+    ⊎_elim
+    (λ (less : get_or xs k 0 < get_or ys k 0).
+    let one : cond {A = ℕ} (get_or marked k false) 1 0 ≡ 1 = ap (λ (b : Bool). cond {A = ℕ} b 1 0) (lane ∙ lt-ltb (get_or xs k 0) (get_or ys k 0) less) in
+    absurd (omega (arith, one, bit, bit_at-zero k)))
+    (λ (most : get_or ys k 0 ≤ get_or xs k 0). most)
+    (cases_lt (get_or xs k 0) (get_or ys k 0))
+
+pub plain_block : (bytes floors : List ℕ) (at len : ℕ) → at + 16 ≤ length bytes → len ≤ 16 → AreFloors len floors → slice_index bytes (at + len) ≡ 10
+    → mask_l (map (top 7) (zip2 (λ a b. cond (nat_lt a b) 255 0) (chunk at 16 bytes) floors)) % 2 ^ 64 ≡ 0 → IsPlain bytes at len
+plain_block bytes floors at len within few are lf none = record {
+  lf = lf;
+  plain = λ k below.
+      let inside : k < 16 = omega arith in
+      omega (arith, none_below (chunk at 16 bytes) floors (length-chunk at 16 bytes within) are.wide none k inside, are.line k below, get_or-chunk at 16 bytes k 0 inside);
+}
+
+-- ---- a line
+
+without_cr : (piece : List ℕ) (b : Bool) → (slice_index piece (length piece - 1) == 13) ≡ b → slice_index piece (length piece - 1) ≢ 13 → cond b (take (length piece - 1) piece) piece ≡ piece
+without_cr piece false is other = refl
+without_cr piece true is other = absurd (other (eqb-true _ 13 is))
+
+pub plain_line : (bytes : List ℕ) (limit at len : ℕ) → at + len < length bytes → len ≤ limit → IsPlain bytes at len → IsLine bytes limit at (at + len) (record { from = at; to = at + len })
+plain_line bytes limit at len within short plain =
+    let piece : List ℕ = slice_range bytes at (at + len) in
+    let size : length piece ≡ at + len - at = length-chunk at (at + len - at) bytes (omega arith) in
+    let last : ℕ = length piece - 1 in
+    let other : slice_index piece last ≢ 13 = λ cr. ⊎_elim
+    (λ (some : last < length piece).
+    let below : last < len = omega (arith, size) in
+    let here : last < at + len - at = omega arith in
+    absurd (omega (arith, cr, get_or-chunk at (at + len - at) bytes last 0 here, plain.plain last below)))
+    (λ (past : length piece ≤ last). absurd (omega (arith, cr, get_or_past piece last 0 past)))
+    (cases_lt last (length piece)) in
+    let whole : strip_carriage_return piece ≡ piece = without_cr piece (slice_index piece last == 13) refl other in
+    record {
+      lf = record {
+        from = omega arith;
+        lf = plain.lf;
+        before = λ i from before lf.
+            let place : at + (i - at) ≡ i = omega arith in
+            let byte : slice_index bytes (at + (i - at)) ≡ slice_index bytes i = ap (slice_index bytes) place in
+            absurd (omega (arith, plain.plain (i - at) (omega arith), lf, byte));
+      };
+      start = refl;
+      size = let n : at + len ≡ at + length piece = omega (arith, size) in n ∙ ap (λ (l : List ℕ). at + length l) (sym whole);
+      short = omega arith;
+    }
+
+-- one line more
+pub even_more : (bytes : List ℕ) (limit from at len count : ℕ) (spans : List Span) → AreLines bytes limit from (take count spans) at → count < length spans → at + len < length bytes → len ≤ limit → IsPlain bytes at len
+    → AreLines bytes limit from (take (count + 1) (set spans count (record { from = at; to = at + len }))) (at + (len + 1))
+even_more bytes limit from at len count spans lines inside within short plain =
+    let span : Span = record { from = at; to = at + len } in
+    let behind : at + len + 1 ≡ at + (len + 1) = omega arith in
+    subst (λ (n : ℕ). AreLines bytes limit from (take (count + 1) (set spans count span)) n) behind
+    (subst (λ (ss : List Span). AreLines bytes limit from ss (at + len + 1)) (sym (take_more_set spans count span inside))
+    (lines_more bytes limit from at (at + len) (take count spans) span lines (plain_line bytes limit at len within short plain)))

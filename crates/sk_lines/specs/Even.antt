@@ -1,0 +1,12 @@
+-- Lines that are known by their length.
+use Rattle.std.specs.Prelude.{◌≡◌, ℕ, ◌+◌, ◌<◌, ◌≤◌, List, length, slice_index}
+
+-- LF comes after this many bytes, none of which is LF or CR
+pub record IsPlain (bytes : List ℕ) (at len : ℕ) : Type 0 where
+  pub lf : slice_index bytes (at + len) ≡ 10
+  pub plain : (k : ℕ) → k < len → 14 ≤ slice_index bytes (at + k)
+
+-- what the bytes of such a line are not below
+pub record AreFloors (len : ℕ) (floors : List ℕ) : Type 0 where
+  pub wide : length floors ≡ 16
+  pub line : (k : ℕ) → k < len → slice_index floors k ≡ 14
