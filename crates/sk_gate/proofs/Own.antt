@@ -167,7 +167,7 @@ module _ {C T : Type 0} (g : Sketching C) (k : Telling T) where
   leads_sizes v w n (Leads Idle left) first second seen numbers name long sizes t = (t.0, tt, ⊎_elim inl (λ e. inr (e.0, e.1, laid e.0 e.2)) t.2)
     where
       laid : (q : Trunk C T) → IsTrunkOf g v.numbers v.name v.seen Idle (size_of v) q → IsTrunkOf g w.numbers w.name w.seen Idle (size_of w) q
-      laid q x = record { of_it = subst (g.is_of q.global) (sym seen) x.of_it; numbers_are = x.numbers_are ∙ sym numbers; name_is = x.name_is ∙ sym name; held_is = x.held_is }
+      laid q x = record { of_it = subst (g.is_of q.global.value) (sym seen) x.of_it; numbers_are = x.numbers_are ∙ sym numbers; name_is = x.name_is ∙ sym name; held_is = x.held_is }
   leads_sizes v w n (Leads (Busy i batch) left) first second seen numbers name long sizes t = let known = t.1 in let same : size_of w i ≡ size_of v i = sizes i known.1 in (
     slot left t.0,
     (
@@ -185,7 +185,7 @@ module _ {C T : Type 0} (g : Sketching C) (k : Telling T) where
 
       laid : (q : Trunk C T) → IsTrunkOf g v.numbers v.name v.seen (Busy i batch) (size_of v) q → IsTrunkOf g w.numbers w.name w.seen (Busy i batch) (size_of w) q
       laid q x = let h = x.held_is in
-          record { of_it = subst (g.is_of q.global) (sym seen) x.of_it; numbers_are = x.numbers_are ∙ sym numbers; name_is = x.name_is ∙ sym name; held_is = (h.0, h.1, h.2, h.3 ∙ ap (λ z. contents batch z) (sym (sizes i t.1.1))) }
+          record { of_it = subst (g.is_of q.global.value) (sym seen) x.of_it; numbers_are = x.numbers_are ∙ sym numbers; name_is = x.name_is ∙ sym name; held_is = (h.0, h.1, h.2, h.3 ∙ ap (λ z. contents batch z) (sym (sizes i t.1.1))) }
   leads_sizes v w n (Leads (Published i) left) first second seen numbers name long sizes t = let known = t.1 in let same : size_of w i ≡ size_of v i = sizes i known.1 in (
     ⊎_elim inl (λ e. inr (e.0, e.1, e.2, e.3 ∙ ap (λ z. contents [] z) (sym same), e.4, subst (λ (y : List ℕ × List Entry). TellsList k y.0 e.1 y.1) (λ a. (sym name a, sym seen a)) e.5)) t.0,
     (subst (λ z. i < z) (sym long) known.0, (λ z. known.1 (sym same ∙ z)), known.2),

@@ -215,13 +215,13 @@ module _ {C T : Type 0} (hint packed : List ℕ → List Entry → ℕ) (g : Ske
   abbrev Rule : State (Slot C T) View → Type 0
   Rule = KeepsRule hint packed g k
 
-  pub starts : (words : List ℕ) (parcels : List (Parcel T)) (admitted : ℕ) (t : Trunk C T) → length words ≡ length parcels + 2 → get_or words 0 0 ≡ packed (g.numbers t.global) [] → get_or words (length parcels + 1) 0 ≡ 0
-      → hint (g.numbers t.global) [] ≢ 0 → ((i : ℕ) → i < length parcels → get_or words (i + 1) 0 ≡ hint (g.numbers t.global) [])
+  pub starts : (words : List ℕ) (parcels : List (Parcel T)) (admitted : ℕ) (t : Trunk C T) → length words ≡ length parcels + 2 → get_or words 0 0 ≡ packed (g.numbers t.global.value) [] → get_or words (length parcels + 1) 0 ≡ 0
+      → hint (g.numbers t.global.value) [] ≢ 0 → ((i : ℕ) → i < length parcels → get_or words (i + 1) 0 ≡ hint (g.numbers t.global.value) [])
       → ((i : ℕ) (p : Parcel T) → get_elem? parcels i ≡ some p → (p.buffer.items ≡ []) × (p.told ≡ None) × (1 ≤ p.buffer.capacity) × (admitted ≤ i → p.buffer.capacity ≡ 1))
-      → g.is_of t.global [] → t.held ≡ None
-      → Rule (opening words (Rattle.std.specs.Prelude.map (λ p. full p) parcels ++ trunk t ∷ []) (first_view (admitted_sizes admitted parcels) (g.numbers t.global) (g.name t.global)))
+      → g.is_of t.global.value [] → t.held ≡ None
+      → Rule (opening words (Rattle.std.specs.Prelude.map (λ p. full p) parcels ++ trunk t ∷ []) (first_view (admitted_sizes admitted parcels) (g.numbers t.global.value) (g.name t.global.value)))
   starts words parcels count t long first turn positive hints empty fresh nothing =
-      let numbers = g.numbers t.global in let name = g.name t.global in let sizes : List ℕ = admitted_sizes count parcels in
+      let numbers = g.numbers t.global.value in let name = g.name t.global.value in let sizes : List ℕ = admitted_sizes count parcels in
       let m : Coarse = coarse_start (hint numbers) (λ i. get_or sizes i 0) 0 in let v : View = first_view sizes numbers name in
       let f : Parcel T → Slot C T = λ p. full p in let last : Slot C T = trunk t in
       let many : length (map f parcels) ≡ length parcels = length-map parcels f in

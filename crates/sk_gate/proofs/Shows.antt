@@ -185,7 +185,7 @@ module _ {C T : Type 0} (hint packed : List ℕ → List Entry → ℕ) (g : Ske
             t.0,
             t.1,
             record {
-              of_it = subst (g.is_of t.0.global) (sym x.published) t.2.of_it;
+              of_it = subst (g.is_of t.0.global.value) (sym x.published) t.2.of_it;
               numbers_are = t.2.numbers_are;
               name_is = t.2.name_is;
               held_is = subst (λ stage. IsHeld stage (λ i. (f.updaters i).size) t.0.held) (sym x.stage) (held_sizes m.stage m.sizes (λ i. (f.updaters i).size) t.0.held (λ i at. (x.updaters i (r.meets.stage_at i at)).size) t.2.held_is);

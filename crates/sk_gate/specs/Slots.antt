@@ -69,7 +69,7 @@ IsHeld (Published i) sizes held = ⊥
 
 -- a trunk that has been laid, with a sketch of this list
 pub record IsTrunkOf {C T : Type 0} (g : Sketching C) (numbers name : List ℕ) (list : List Entry) (stage : Stage) (sizes : ℕ → ℕ) (t : Trunk C T) : Type 0 where
-  pub of_it : g.is_of t.global list
-  pub numbers_are : g.numbers t.global ≡ numbers
-  pub name_is : g.name t.global ≡ name
+  pub of_it : g.is_of t.global.value list
+  pub numbers_are : g.numbers t.global.value ≡ numbers
+  pub name_is : g.name t.global.value ≡ name
   pub held_is : IsHeld stage sizes t.held

@@ -12,10 +12,11 @@ pub struct Held<T: Drop> {
     pub parcel: Parcel<T>,
 }
 
-/// What whoever propagates needs: the sketch, and a batch that the last one left.
+/// What whoever propagates needs: the sketch, and a batch that the last one left. The sketch is boxed, since its slot
+/// is exchanged twice each time that somebody propagates, which moves all that lies in it.
 #[derive(Drop)]
 pub struct Trunk<C: Composable> {
-    pub global: C,
+    pub global: Box<C>,
     pub held: Option<Held<C::Told>>,
 }
 

@@ -47,7 +47,7 @@ fn first_words<C: Composable>(alloc: Global, n: u32, global: &C) -> Result<Vec<u
 fn first_slots<C: Composable>(
     alloc: Global,
     parcels: Vec<Parcel<C::Told>>,
-    global: C,
+    global: Box<C>,
 ) -> Result<Vec<Slot<C>>, OutOfMemory>
     requires few { length parcels.items ≤ most_updaters }
     ensures { IfOk result (λ slots. slots.items
@@ -88,6 +88,7 @@ fn new_table<C: Composable>(
         parcels: Snapshot::of(&parcels),
         admitted,
     };
+    let global = Box::new(alloc, global)?;
     let slots = first_slots(alloc, parcels, global)?;
     match Table::new(alloc, words.as_slice(), slots, &about) {
         Ok((table, seat)) => Ok((Arc::new(alloc, table)?, seat)),

@@ -170,7 +170,7 @@ fn publish_one<R: Wait>(
     let mut parcel = heart.take(0);
     let mut items = Vec::new(alloc);
     items.extend_from_slice(parcel.buffer.items())?;
-    Composable::merge(&mut trunk.global, rt, 0, &parcel.buffer)?;
+    Composable::merge(&mut *trunk.global, rt, 0, &parcel.buffer)?;
     heart.publish(0, &trunk.global);
     parcel.buffer.clear();
     parcel.told = Some(trunk.global.told());
