@@ -3,6 +3,7 @@
 
 mod listening;
 mod replies;
+mod sends;
 mod tcp_door;
 mod tcp_link;
 

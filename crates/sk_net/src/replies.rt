@@ -3,7 +3,8 @@ ghost use Rattle.std.specs.Prelude.{◌≡◌, ◌<◌, ◌≤◌, ◌↔◌, []
 ghost use Rattle.std.specs.Io.{WritesAtMost};
 ghost use Rattle.std.specs.Io.KnownBytes.{Keeps, WriteAppends, append_known};
 
-use sk_io::{Failed, write_some};
+use crate::sends::send_some;
+use sk_io::Failed;
 use std::alloc::{AllocError, Global};
 use std::io::Write;
 use std::marker::Model;
@@ -57,7 +58,7 @@ impl Replies {
         self.most = 0;
     }
 
-    /// Writes at least one byte from the start of `bytes`, after those that wait: they wait too where
+    /// Writes at least one byte from the start of `bytes`, after those that wait: they wait too if
     /// there is room.
     pub fn write<W: Write>(&mut self, out: &mut W, bytes: &[u8]) -> Result<usize, Failed>
         requires { 0 < length bytes.now }
@@ -70,12 +71,12 @@ impl Replies {
             self.send(out)?;
         }
         if self.is_full() {
-            return write_some(out, bytes);
+            return send_some(out, bytes);
         }
         Ok(self.keep(bytes))
     }
 
-    /// Sends all that waits. Where it fails, what was not sent waits on.
+    /// Sends all that waits. If it fails, what was not sent waits on.
     pub fn send<W: Write>(&mut self, out: &mut W) -> Result<(), Failed>
         ensures all { OnOk result (self.new.bytes ≡ []) }
         ensures bytes { Keeps (append_known (W.contents out.old) self.old.bytes)
@@ -122,7 +123,7 @@ fn send_from<W: Write>(out: &mut W, bytes: &[u8], place: &mut usize) -> Result<(
         (append_known (W.contents out.new) (drop place.new bytes.now)) }
 {
     'send: while *place < bytes.len() {
-        *place += write_some(out, &bytes[*place..])?;
+        *place += send_some(out, &bytes[*place..])?;
     }
     Ok(())
 }

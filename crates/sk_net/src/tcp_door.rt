@@ -20,9 +20,9 @@ use std::time::Duration;
 // How many bytes may wait on a link before they are sent.
 const WAITING: usize = 16_384;
 
-// How long one send may wait for a peer that does not read, in seconds. A send that has moved some bytes
-// by then succeeds, and the next one fails: a peer that stops reading is a fault within twice as long.
-const SEND_WAIT: u64 = 30;
+// How long one wait of a send lasts, in seconds. A send that has moved some bytes by then succeeds: the last one
+// or two before a peer stopped reading do, and then one waits as often as it may, which is half a minute.
+const SEND_WAIT: u64 = 5;
 
 /// A link that was closed.
 #[derive(Clone, Copy, Debug, PartialEq, Eq)]
@@ -46,7 +46,7 @@ pub struct TcpDoor<R: Net> {
     accepted: u64,
     room: u32,
     faults: u64,
-    // How long one send on a link may wait.
+    // How long one wait of a send on a link lasts.
     pub(crate) send_wait: Duration,
     ghost reserved: { vec_len closed + room ≤ vec_capacity closed },
     ghost unused: { All IsUnused spare.items },
@@ -169,7 +169,7 @@ fn spare_replies(alloc: Global, links: u32) -> Result<Vec<Replies>, AllocError>
     Ok(spare)
 }
 
-// Waits for the next connection that its peer has not broken off yet. Each of its sends waits this long at most.
+// Waits for the next connection that its peer has not broken off yet. Each wait of its sends lasts this long at most.
 fn next_stream<L: OpenListener>(listener: &L, send_wait: Duration) -> Result<L::Stream, Failed>
 where
     L::Stream: OpenStream + Drop,
@@ -184,7 +184,7 @@ where
     Err(Failed)
 }
 
-// A stream that sends without delay, and no longer than this. A peer that is gone already refuses neither.
+// A stream that sends without delay, and ends each wait after this long. A peer that is gone refuses neither.
 fn prepared<S: OpenStream + Drop>(stream: S, send_wait: Duration) -> Result<S, Failed> {
     // Without it replies come later, and nothing else changes.
     let _ = stream.set_nodelay(true);

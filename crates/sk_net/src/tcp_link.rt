@@ -12,12 +12,12 @@ use std::io::{Read, Write};
 use std::net::{OpenStream, Shutdown, TcpStream};
 use std::time::Duration;
 
-// How long closing a link waits for a peer that does not read, in seconds.
-const CLOSE_WAIT: u64 = 2;
+// How long one wait lasts at the close of a link, in milliseconds. As often as a send may wait it is two seconds.
+const CLOSE_WAIT: u64 = 333;
 
 /// A connection over a stream. What is written waits until the next read, or until much waits, and is
 /// sent then: a fault of sending is one of that call. After the end of what comes it is sent immediately, and
-/// after `finish` nothing can be sent.
+/// after `finish` nothing can be sent. The close of a link on which a call has failed sends nothing.
 #[derive(Drop)]
 pub struct TcpLink<S = TcpStream> {
     stream: S,
@@ -67,11 +67,16 @@ impl<S: Read + Write + OpenStream> TcpLink<S> {
 }
 
 impl<S: Read + Write + OpenStream> TcpLink<S> {
-    // Sends what waits, for the last time, but waits for no peer that does not read.
+    // Sends what waits, for the last time, and waits little for a peer that does not read. A broken link gives
+    // nothing more to the system: its peer has had its time.
     pub(crate) fn send_last(&mut self)
-        ensures { let faults = ⟦<TcpLink<S> as Link>⟧.faults in faults self.new ≡ faults self.old }
+        ensures faults { let faults = ⟦<TcpLink<S> as Link>⟧.faults in faults self.new ≡ faults self.old }
+        ensures broken { 0 < ⟦<TcpLink<S> as Link>⟧.faults self.old → self.new ≡ self.old }
     {
-        let wait = Duration::from_secs(CLOSE_WAIT);
+        if self.faults > 0 {
+            return;
+        }
+        let wait = Duration::from_millis(CLOSE_WAIT);
         if self.stream.set_write_timeout(Some(wait)).is_ok() {
             let _ = self.replies.send(&mut self.stream);
         }
@@ -126,7 +131,7 @@ impl<S: Read + Write + OpenStream> Link for TcpLink<S> {
             (append_known (S.contents (stream_of self.new)) (waiting_of self.new)) }
     {
         self.send()?;
-        // Where the peer is gone already, nobody waits for it.
+        // If the peer is gone already, nobody waits for it.
         let _ = self.stream.shutdown(Shutdown::Write);
         Ok(())
     }

@@ -20,8 +20,10 @@ struct Wire<'a> {
     writes: u32,
     // Whether each other call is interrupted.
     interrupts: bool,
-    // The number of the call that fails, from 0.
+    // The number of the first call that fails, from 0, how many fail, and how.
     fails: u32,
+    failures: u32,
+    kind: ErrorKind,
 }
 
 impl<'a> Wire<'a> {
@@ -35,6 +37,8 @@ impl<'a> Wire<'a> {
             writes: 0,
             interrupts: false,
             fails: u32::MAX,
+            failures: 1,
+            kind: ErrorKind::ConnectionReset,
         }
     }
 
@@ -45,8 +49,8 @@ impl<'a> Wire<'a> {
         if self.interrupts && number % 2 == 0 {
             return Err(io::Error::from(ErrorKind::Interrupted));
         }
-        if number == self.fails {
-            return Err(io::Error::from(ErrorKind::ConnectionReset));
+        if number >= self.fails && number - self.fails < self.failures {
+            return Err(io::Error::from(self.kind));
         }
         Ok(())
     }
@@ -72,8 +76,12 @@ impl Write for Wire<'_> {
     }
 }
 
-// It has no other end.
-impl OpenStream for Wire<'_> {}
+// It has no other end, and no clock.
+impl OpenStream for Wire<'_> {
+    fn set_write_timeout(&self, _limit: Option<Duration>) -> io::Result<()> {
+        Ok(())
+    }
+}
 
 #[test]
 fn interrupted_calls_are_taken_up_again(rt: HostRuntime) -> Result<(), Fail> {
@@ -111,6 +119,44 @@ fn a_send_that_fails_is_a_fault_and_goes_on_where_it_stopped(rt: HostRuntime) ->
             "at call {call}"
         );
         expect(&rt, link.stream.output.as_slice(), b"one\ntwo\n");
+    }
+    Ok(())
+}
+
+#[test]
+fn a_send_that_waits_in_vain_is_tried_again(rt: HostRuntime) -> Result<(), Fail> {
+    let alloc = rt.alloc();
+    // The waits in succession, what the read that sends gives, and how many bytes the peer has then.
+    for (waits, read, sent) in [
+        (1, Ok(4), 5),
+        (5, Ok(4), 5),
+        (6, Err(Failed), 0),
+        (7, Err(Failed), 0),
+    ] {
+        let mut wire = Wire::new(alloc, b"ask\n");
+        (wire.fails, wire.failures) = (0, waits);
+        wire.kind = ErrorKind::WouldBlock;
+        let mut link = TcpLink::new(wire, Replies::new(alloc, 64)?);
+        expect(&rt, link.write(b"kept\n"), Ok(5));
+        let got = (link.read(&mut [0; 8]), link.stream.output.len());
+        assert_eq!(rt; got, (read, sent), "{waits} waits");
+    }
+    Ok(())
+}
+
+#[test]
+fn a_broken_link_sends_nothing_at_its_close(rt: HostRuntime) -> Result<(), Fail> {
+    let alloc = rt.alloc();
+    for fails in [0, u32::MAX] {
+        let mut wire = Wire::new(alloc, b"ask\n");
+        wire.fails = fails;
+        let mut link = TcpLink::new(wire, Replies::new(alloc, 64)?);
+        expect(&rt, link.write(b"kept\n"), Ok(5));
+        let is_broken = link.read(&mut [0; 8]).is_err();
+        expect(&rt, link.write(b"kept\n"), Ok(5));
+        let before = link.stream.calls;
+        link.send_last();
+        expect(&rt, link.stream.calls > before, !is_broken);
     }
     Ok(())
 }
@@ -165,14 +211,15 @@ fn closing_does_not_wait_for_a_peer_that_stopped_reading(rt: HostRuntime) -> Res
     // The system takes more a while after a send that failed, until its buffers are full.
     let mut fails = 0;
     'fill: for _ in 0..1_000_000 {
-        if fails < 10 && link.write(&[b'x'; 1024]).is_err() {
+        if fails < 10 && link.stream.write(&[b'x'; 1024]).is_err() {
             fails += 1;
         }
     }
-    expect(&rt, link.faults(), 10);
+    expect(&rt, fails, 10);
+    expect(&rt, link.write(&[b'x'; 1024]), Ok(1024));
     link.stream.set_write_timeout(None)?;
     link.send_last();
-    expect(&rt, link.faults(), 10);
+    expect(&rt, link.faults(), 0);
     drop(client);
     Ok(())
 }
