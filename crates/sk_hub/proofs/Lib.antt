@@ -11,3 +11,4 @@ pub mod Calls
 pub mod Leaves
 pub mod TakenIn
 pub mod Taking
+pub mod Each

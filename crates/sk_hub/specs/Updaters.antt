@@ -163,6 +163,9 @@ pub record HandsOver (hint_of : List ℕ → List Entry → ℕ) (u : UpdaterSta
 abbrev pub with_item : UpdaterState → ℕ → UpdaterState
 with_item u item = record u { fill = u.fill ++ item ∷ [] }
 
+abbrev pub with_items : UpdaterState → List ℕ → UpdaterState
+with_items u items = record u { fill = u.fill ++ items }
+
 -- after an item was put into the buffer it is handed over where it is full, or where few items are published yet
 abbrev pub is_due : (ℕ → Bool) → UpdaterState → Bool
 is_due early u = (length u.fill == u.size) || (u.eager && early u.hint)

@@ -1,13 +1,15 @@
 //! An updater: it keeps items, hands them over a buffer at a time, asks, and may propagate itself.
 ghost use Rattle.sk_gate.specs.Slots.{telling};
-ghost use Rattle.sk_gate.specs.Views.{known_of, size_of, after_split, copy_of, is_open};
+ghost use Rattle.sk_gate.specs.Views.{known_of, size_of, mine_of, after_split, copy_of, is_open};
+ghost use Rattle.sk_hub.specs.Calls.{Takes};
 ghost use Rattle.sk_hub.specs.Replies.{IsOwnReply};
 ghost use Rattle.sk_hub.specs.Rounds.{Sweeps, Refuses, IsElsewhere, KnowsAsMuch, TriesTheTurn};
-ghost use Rattle.sk_hub.specs.Updaters.{handed_of, base_of, kept_of, with_item, LooksInVain, Renews, HandsOver, Keeps, HandsWith, earlier_of, TellsItems, IsWholeUpdater};
+ghost use Rattle.sk_hub.specs.Updaters.{handed_of, base_of, kept_of, with_item, with_items, LooksInVain, Renews, HandsOver, Keeps, HandsWith, earlier_of, TellsItems, IsWholeUpdater};
 ghost use Rattle.sk_model.specs.Limits.{most_kept, most_size};
-ghost use Rattle.sk_model.specs.Width.{IsItem};
+ghost use Rattle.sk_model.specs.Width.{IsItem, AreItems};
 ghost use Rattle.std.specs.Bool.{OnTrue, OnFalse};
-ghost use Rattle.std.specs.Prelude.{◌≡◌, ◌≢◌, ◌↔◌, ◌⊎◌, ◌<◌, ◌++◌, ◌∷◌, [], length, true, false, ◌≤◌, ◌&&◌, is_some, Some, ℕ, IsTrue};
+ghost use Rattle.std.specs.List.{filter};
+ghost use Rattle.std.specs.Prelude.{◌≡◌, ◌≢◌, ◌↔◌, ◌⊎◌, ◌+◌, ◌<◌, ◌++◌, ◌∷◌, [], length, take, true, false, ◌≤◌, ◌&&◌, is_some, Some, ℕ, IsTrue};
 
 use crate::answers::{Flush, Help, Settle, Update};
 use crate::round::{Done, Stopped, propagate};
@@ -16,6 +18,24 @@ use sk_compose::{Buffer, Composable, Parcel};
 use sk_gate::UpdaterSeat;
 use std::marker::Model;
 use std::sync::Wait;
+
+// Puts those of some items that a hint keeps to the end of a buffer, and returns how many they are.
+fn put_kept<C: Composable>(fill: &mut Buffer, hint: u64, items: &[u64]) -> u64
+    requires items { AreItems items.now }
+    requires room { length fill.old.items + length items.now ≤ fill.old.capacity }
+    ensures value { result ≡ length (filter (C.keeps_of hint) items.now) }
+    ensures items { fill.new.items ≡ fill.old.items ++ filter (C.keeps_of hint) items.now }
+    ensures capacity { fill.new.capacity ≡ fill.old.capacity }
+{
+    let mut count = 0;
+    'item: for item in items {
+        if C::keeps(hint, *item) {
+            fill.push(*item);
+            count += 1;
+        }
+    }
+    count
+}
 
 /// An updater of a hub. Updaters are numbered from 0, and a number belongs to one updater for the hub's life.
 #[derive(Drop)]
@@ -96,6 +116,67 @@ impl<C: Composable> Updater<C> {
         Update::Kept
     }
 
+    /// Updates by items, in order, until the updater is busy with one, and returns how many came before that one.
+    /// It looks as often as `update` would.
+    pub fn update_each(&mut self, items: &[u64]) -> usize
+        requires items { AreItems items.now }
+        requires room { length (kept_of self.old) + length items.now ≤ most_kept }
+        ensures within { result ≤ length items.now }
+        ensures taken { Takes C.keeps_of C.hint_of self.old (take result items.now) self.new }
+        ensures full { result < length items.now → length self.new.fill ≡ self.new.size }
+        ensures busy { result < length items.now → (mine_of self.new.view).ready ≡ false }
+    {
+        let mut at = 0;
+        'items: while at < items.len() {
+            let taken = self.take_some(&items[at..]);
+            if taken == 0 {
+                return at;
+            }
+            at += taken;
+        }
+        at
+    }
+
+    // Takes some of the items, or none if it is busy with the first. Before the last that the buffer has room for none
+    // needs a look.
+    fn take_some(&mut self, items: &[u64]) -> usize
+        requires some { 0 < length items.now }
+        requires items { AreItems items.now }
+        requires room { length (kept_of self.old) + length items.now ≤ most_kept }
+        ensures within { result ≤ length items.now }
+        ensures taken { Takes C.keeps_of C.hint_of self.old (take result items.now) self.new }
+        ensures full { result ≡ 0 → length self.new.fill ≡ self.new.size }
+        ensures busy { result ≡ 0 → (mine_of self.new.view).ready ≡ false }
+    {
+        let room = (self.size() - self.len()) as usize;
+        if room < 2 || self.is_eager() {
+            return self.take_first(items[0]);
+        }
+        // It shows the proof which list the hint is of.
+        let _hint = self.hint();
+        let count = items.len().min(room - 1);
+        self.put_each(&items[..count]);
+        count
+    }
+
+    // Takes an item, or none if it is busy.
+    fn take_first(&mut self, item: u64) -> usize
+        requires item { IsItem item }
+        requires room { length (kept_of self.old) < most_kept }
+        ensures within { result ≤ 1 }
+        ensures taken { result ≡ 1 → Takes C.keeps_of C.hint_of self.old (item ∷ []) self.new }
+        ensures none { result ≡ 0 → Takes C.keeps_of C.hint_of self.old [] self.new }
+        ensures full { result ≡ 0 → length self.new.fill ≡ self.new.size }
+        ensures busy { result ≡ 0 → (mine_of self.new.view).ready ≡ false }
+    {
+        // It shows the proof which list the hint is of.
+        let _hint = self.hint();
+        match self.update(item) {
+            Update::Busy => 0,
+            _ => 1,
+        }
+    }
+
     /// Hands over what the fill buffer has.
     pub fn flush(&mut self) -> Flush
         ensures empty { (result ≡ Flush.Empty) ↔ (self.old.fill ≡ []) }
@@ -139,6 +220,19 @@ impl<C: Composable> Updater<C> {
             fill.push(item);
         }
         self.taken += 1;
+    }
+
+    // Puts those of some items that the hint keeps into the fill buffer.
+    fn put_each(&mut self, items: &[u64])
+        requires items { AreItems items.now }
+        requires room { length self.old.fill + length items.now ≤ self.old.size }
+        requires few { length (kept_of self.old) + length items.now ≤ most_kept }
+        ensures { self.new ≡ with_items self.old (filter (C.keeps_of self.old.hint) items.now) }
+    {
+        let hint = self.hint;
+        if let Some(fill) = &mut self.fill {
+            self.taken += put_kept::<C>(fill, hint, items);
+        }
     }
 
     // One look. If it gives a number other than 0, the fill buffer is handed over.
