@@ -3,11 +3,13 @@ use Rattle.std.proofs.Common.{◌≡◌, ℕ, ◌+◌, ◌<◌, ◌≤◌, Bool,
 use Rattle.std.specs.List.{filter}
 use Rattle.std.specs.Int.{from_bool}
 use Rattle.std.proofs.lemmas.List.{take_more, take_more_set, take-set}
-use Rattle.std.proofs.lemmas.List.Elements.{filter-append, All-filter}
+use Rattle.std.proofs.lemmas.List.Elements.{filter-append, All-filter, All-nil}
 use Rattle.sk_model.specs.Width.{IsItem, AreItems}
 use Rattle.sk_read.specs.declared.kind.Kind.{Kind}
+use Rattle.sk_read.specs.Items.{IsGood}
+use Rattle.sk_fill.specs.Gathers.{HasGathered}
 use Rattle.sk_fill.specs.Windows.{item_in, items_in}
-use Rattle.sk_fill.proofs.Items.{items_append, one_item, no_item, items_below}
+use Rattle.sk_fill.proofs.Items.{no_items, items_append, one_item, no_item, items_below}
 
 -- an item was written behind those kept, and counts where it is kept
 one_counted : (p : ℕ → Bool) (xs kept : List ℕ) (n item : ℕ) (b : Bool) → p item ≡ b → n < length kept → take n kept ≡ filter p xs → take (n + from_bool b) (set kept n item) ≡ filter p (xs ++ item ∷ [])
@@ -35,3 +37,12 @@ none_gathered p kind lines at n kept within is was =
 
 pub filtered_below : (p : ℕ → Bool) (kind : Kind) (lines : List (List ℕ)) → AreItems (filter p (items_in kind lines))
 filtered_below p kind lines = All-filter p IsItem (items_in kind lines) (items_below kind lines)
+
+-- of no line
+pub nothing_gathered : (p : ℕ → Bool) (kind : Kind) (lines : List (List ℕ)) (kept : List ℕ) → HasGathered p kind lines kept 0 0
+nothing_gathered p kind lines kept = record {
+  within = omega arith;
+  few = omega arith;
+  good = All-nil (IsGood kind);
+  kept = sym (ap (filter p) (no_items kind));
+}

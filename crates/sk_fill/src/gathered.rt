@@ -5,11 +5,15 @@ ghost use Rattle.sk_model.specs.Width.{AreItems};
 ghost use Rattle.sk_lines.specs.Spans.{AreBehind, lines_at};
 ghost use Rattle.sk_read.specs.Items.{IsGood};
 ghost use Rattle.sk_fill.specs.Windows.{items_in, IsBad};
+ghost use Rattle.sk_fill.specs.Gathers.{HasGathered};
 
 use crate::window_lines::item_at;
 use sk_compose::Composable;
 use sk_lines::{GROUP, Span};
 use sk_read::Kind;
+
+// How many bytes a line has whose hash is of one block.
+const ONE_BLOCK: usize = 16;
 
 /// What was found among lines.
 #[derive(Clone, Copy)]
@@ -39,8 +43,9 @@ pub fn gather<C: Composable>(
     ensures kept { take result.items kept.new ≡ filter (C.keeps_of hint) (items_in kind (take result.lines (lines_at spans.now text.now))) }
     ensures below { AreItems (take result.items kept.new) }
 {
-    let mut items = 0;
-    'line: for at in 0..spans.len() {
+    let first = gather_first::<C>(kind, hint, text, spans, kept);
+    let mut items = first.items;
+    'line: for at in first.lines..spans.len() {
         let line = &text[spans[at].from..spans[at].to];
         if !line.is_empty() {
             match kind.item_at(text, spans[at]) {
@@ -55,6 +60,63 @@ pub fn gather<C: Composable>(
     Gathered {
         lines: spans.len(),
         items,
+    }
+}
+
+// The same of the first lines, as far as there is a shorter way for them.
+#[inline(always)]
+fn gather_first<C: Composable>(
+    kind: Kind,
+    hint: u64,
+    text: &[u8],
+    spans: &[Span],
+    kept: &mut [u64; GROUP],
+) -> Gathered
+    requires few { length spans.now ≤ GROUP }
+    requires within { AreBehind 0 spans.now text.now }
+    ensures { HasGathered (C.keeps_of hint) kind (lines_at spans.now text.now) kept.new result.lines result.items }
+{
+    match kind {
+        Kind::Hash(_) => gather_blocks::<C>(kind, hint, text, spans, kept),
+        Kind::Raw => Gathered { lines: 0, items: 0 },
+    }
+}
+
+// The same of the first lines that have one block: a loop over lines of one length has no branch on it, and keeps
+// the numbers of the hash in registers.
+#[inline(always)]
+fn gather_blocks<C: Composable>(
+    kind: Kind,
+    hint: u64,
+    text: &[u8],
+    spans: &[Span],
+    kept: &mut [u64; GROUP],
+) -> Gathered
+    requires few { length spans.now ≤ GROUP }
+    requires within { AreBehind 0 spans.now text.now }
+    ensures { HasGathered (C.keeps_of hint) kind (lines_at spans.now text.now) kept.new result.lines result.items }
+{
+    let mut count = 0;
+    'line: for at in 0..spans.len() {
+        let span = spans[at];
+        if span.to - span.from != ONE_BLOCK {
+            return Gathered {
+                lines: at,
+                items: count,
+            };
+        }
+        let Some(item) = kind.item_at(text, span) else {
+            return Gathered {
+                lines: at,
+                items: count,
+            };
+        };
+        kept[count] = item;
+        count += usize::from(C::keeps(hint, item));
+    }
+    Gathered {
+        lines: spans.len(),
+        items: count,
     }
 }
 

@@ -8,7 +8,6 @@ use Rattle.sk_lines.specs.Spans.{lines_at}
 use Rattle.sk_lines.specs.declared.spans.Span.{Span}
 use Rattle.sk_read.specs.Items.{item_of, IsGood}
 use Rattle.sk_fill.specs.Windows.{item_in}
-use Rattle.sk_fill.proofs.Items.{no_items}
 use Rattle.sk_fill.proofs.Gathering.{few_counted, item_gathered, none_gathered, filtered_below}
 use Rattle.sk_fill.proofs.Units.{item_is, empty_is, filled, empty, good_item, good_empty}
 use Rattle.sk_fill.proofs.gathered.gather.Goals as goal
@@ -16,9 +15,6 @@ use Rattle.sk_fill.proofs.gathered.gather.Goals.{then-not-is_empty+in-Some, else
 
 abbrev no_bytes : Span
 no_bytes = record { from = 0; to = 0 }
-
-pub line-init : goal.line-init
-line-init g c = record { few = omega arith; good = All-nil (IsGood c.args.kind); kept = sym (ap (filter (g.C.Composable.keeps_of c.args.hint)) (no_items c.args.kind)) }
 
 pub returns-in-None-clause-below : goal.returns-in-None-clause-below
 returns-in-None-clause-below g c = subst AreItems (sym c.line.invariant.kept) (filtered_below (g.C.Composable.keeps_of c.args.hint) c.args.kind (take c.line.at (lines_at c.args.spans.now c.args.text.now)))
@@ -37,6 +33,7 @@ line-preserved g c =
           let counts : w.from-items.result ≡ from_bool (g.C.Composable.keeps_of c.args.hint item) = w.from-items.ensures ∙ ap from_bool w.keeps.ensures.value in
           let next : c.if-not-is_empty.items ≡ c.line.items + from_bool (g.C.Composable.keeps_of c.args.hint item) = w.items-is ∙ ap (λ n. c.line.items + n) counts in
           let room : c.line.items < length c.line.kept = omega (arith, c.line.invariant.few, c.line-test.true, c.requires.few, ap length w.kept-is, length-set c.line.kept c.line.items item, c.if-not-is_empty.array_long) in record {
+            within = omega (arith, inside);
             few = omega (arith, next, c.line.invariant.few, few_counted (g.C.Composable.keeps_of c.args.hint item));
             good = All-more (IsGood kind) lines at [] inside c.line.invariant.good (subst (IsGood kind) (sym is) (good_item kind line item value));
             kept = ap (λ n. take n c.if-not-is_empty.kept) next ∙ ap (λ l. take (c.line.items + from_bool (g.C.Composable.keeps_of c.args.hint item)) l) w.kept-is
@@ -44,6 +41,7 @@ line-preserved g c =
           }
       | else-not-is_empty w ↦
           let none : length line ≡ 0 = empty line c.is_empty.result c.is_empty.ensures w.if-not-is_empty.false in record {
+            within = omega (arith, inside);
             few = omega (arith, w.items-is, c.line.invariant.few);
             good = All-more (IsGood kind) lines at [] inside c.line.invariant.good (subst (IsGood kind) (sym is) (good_empty kind line none));
             kept = ap (λ n. take n c.if-not-is_empty.kept) w.items-is ∙ ap (λ l. take c.line.items l) w.kept-is
