@@ -11,7 +11,6 @@ use Rattle.memchr.specs.Find.{is_byte3, Passes, Nowhere, NoneBefore}
 use Rattle.std.proofs.lemmas.Bool.{cases_lt, cases_Bool, ne_eqb}
 use Rattle.std.proofs.lemmas.Nat.Bits.{bit_at-zero, bit_at-lt, bit_at_or}
 use Rattle.sk_read.specs.declared.records.delimiters.Ahead.{Ahead}
-use Rattle.sk_read.specs.Scan.{IsEnd}
 use Rattle.sk_read.specs.Delimiters.{IsDelimiter, IsNextDelimiter, Knows}
 
 -- bit k of a mask says so of the byte at a place of a block
@@ -48,14 +47,14 @@ bytes_of_block bytes at byte within some small =
     (sym (bitmask_splat w8 eqb (chunk at 64 bytes) 64 byte (length-chunk at 64 bytes within) (omega arith)))
     (byte_bit bytes at byte within some)
 
-max_is : (a b : ℕ) → max a b ≡ 1 → (a ≡ 1) ⊎ (b ≡ 1)
+pub max_is : (a b : ℕ) → max a b ≡ 1 → (a ≡ 1) ⊎ (b ≡ 1)
 max_is a b is = elim (cases_lt a b) [
   | inl less ↦ inr (omega (arith, is, less))
   | inr most ↦ inl (omega (arith, is, most))
 ]
 
 -- two masks in one
-both_masks : (P Q : ℕ → Type 0) (bytes : List ℕ) (at a b : ℕ) → IsMaskOf P bytes at a → IsMaskOf Q bytes at b → IsMaskOf (λ (x : ℕ). P x ⊎ Q x) bytes at (bit_or a b)
+pub both_masks : (P Q : ℕ → Type 0) (bytes : List ℕ) (at a b : ℕ) → IsMaskOf P bytes at a → IsMaskOf Q bytes at b → IsMaskOf (λ (x : ℕ). P x ⊎ Q x) bytes at (bit_or a b)
 both_masks P Q bytes at a b p q k = (
   λ set. elim (max_is (bit_at a k) (bit_at b k) (sym (bit_at_or a b k) ∙ set)) [
     | inl one ↦ let here = (p k).0 one in (here.0, inl here.1)
@@ -66,11 +65,6 @@ both_masks P Q bytes at a b p q k = (
     | inr is ↦ omega (arith, bit_at_or a b k, (q k).1 (here.0, is), bit_at-lt a k)
   ],
 )
-
-pub all_masks : (bytes : List ℕ) (at lfs crs commas : ℕ) → IsMaskOf (λ (x : ℕ). x ≡ 10) bytes at lfs → IsMaskOf (λ (x : ℕ). x ≡ 13) bytes at crs → IsMaskOf (λ (x : ℕ). x ≡ 44) bytes at commas →
-    IsMaskOf IsDelimiter bytes at (bit_or (bit_or lfs crs) commas)
-all_masks bytes at lfs crs commas lf cr comma =
-    both_masks IsEnd (λ (x : ℕ). x ≡ 44) bytes at (bit_or lfs crs) commas (both_masks (λ (x : ℕ). x ≡ 10) (λ (x : ℕ). x ≡ 13) bytes at lfs crs lf cr) comma
 
 none_marked : (k : ℕ) → bit_at 0 k ≡ 1 → ⊥
 none_marked k set = omega (arith, bit_at-zero k)

@@ -1,7 +1,7 @@
 -- Fields of a column that are given many together.
 use Rattle.std.proofs.Common.{◌≡◌, ℕ, ◌+◌, ◌<◌, ◌≤◌, List, [], ◌∷◌, ◌++◌, length, take, drop, map, slice_range, set, Option, Some, None, Result, Ok, Err, refl, sym, ap, ◌∙◌, subst, arith, append_assoc, length-append}
 use Rattle.std.specs.Prelude.{MatchResult}
-use Rattle.std.proofs.lemmas.List.{length-map, map-append, take_more_set}
+use Rattle.std.proofs.lemmas.List.{map-append, take_more_set}
 use Rattle.std.proofs.lemmas.List.Elements.{All-push, All-drop}
 use Rattle.std.proofs.Math.Seq.{drop-append_seam}
 use Rattle.csv.specs.Reading.{default_config, records}

@@ -25,15 +25,15 @@ is_unquoted _ = false
 abbrev pub IsNoQuote : ℕ → Type 0
 IsNoQuote c = c ≢ 34
 
-unquoted_settled : (s : State) → is_unquoted (settled s) ≡ is_unquoted s
+pub unquoted_settled : (s : State) → is_unquoted (settled s) ≡ is_unquoted s
 unquoted_settled st.AfterCr = refl
 unquoted_settled s = refl
 
 -- a byte that is no quote does outside quotes what it does in a field
-abbrev GoesPlain : State → ℕ → Type 0
+abbrev pub GoesPlain : State → ℕ → Type 0
 GoesPlain s c = (settled (step default_config s c).0 ≡ settled (step default_config st.InField c).0) × (is_unquoted (step default_config s c).0 ≡ true)
 
-field_plain : (c : ℕ) → is_unquoted (step default_config st.InField c).0 ≡ true
+pub field_plain : (c : ℕ) → is_unquoted (step default_config st.InField c).0 ≡ true
 field_plain c = elim (cases_Bool (c == 44)) [
   | inl comma ↦ rw comma refl
   | inr no_comma ↦ elim (cases_Bool (c == 13)) [
@@ -57,7 +57,7 @@ record_plain c no_quote = elim (cases_Bool (c == 13)) [
   ]
 ]
 
-step_plain : (s : State) (c : ℕ) → is_unquoted s ≡ true → (c == 34) ≡ false → GoesPlain s c
+pub step_plain : (s : State) (c : ℕ) → is_unquoted s ≡ true → (c == 34) ≡ false → GoesPlain s c
 step_plain st.StartRecord c plain no_quote = record_plain c no_quote
 step_plain st.AfterCr c plain no_quote = rw (after_cr c) (record_plain c no_quote)
 step_plain st.StartField c plain no_quote = rw no_quote (refl, field_plain c)
@@ -77,7 +77,7 @@ plain_last : (s : State) (xs : List ℕ) (c : ℕ) → is_unquoted s ≡ true �
 plain_last s xs c plain none other =
     after_append s xs (c ∷ []) ∙ after_byte (state_after s xs) c ∙ (step_plain (state_after s xs) c (plain_after s xs plain none) (ne_eqb c 34 other)).0
 
-inside_plain : (c : ℕ) → ¬ IsEnd c → is_inside (settled (step default_config st.InField c).0) ≡ true
+pub inside_plain : (c : ℕ) → ¬ IsEnd c → is_inside (settled (step default_config st.InField c).0) ≡ true
 inside_plain c other = elim (in_field c) [
   | inl ends ↦ absurd (other ends.0)
   | inr stays ↦ inside_settled (step default_config st.InField c).0 ∙ stays.1
@@ -94,7 +94,7 @@ plain_stays s (c ∷ rest) plain none going =
       plain_stays (step default_config s c).0 rest goes.1 (All-tail IsNoQuote c rest none) (All-tail (λ (x : ℕ). ¬ IsEnd x) c rest going),
     )
 
-quoted_goes : (c : ℕ) → c ≢ 34 → (step default_config st.InQuoted c).0 ≡ st.InQuoted
+pub quoted_goes : (c : ℕ) → c ≢ 34 → (step default_config st.InQuoted c).0 ≡ st.InQuoted
 quoted_goes c other = rw (ne_eqb c 34 other) refl
 
 quoted_after : (xs : List ℕ) → All IsNoQuote xs → state_after st.InQuoted xs ≡ st.InQuoted
@@ -122,7 +122,7 @@ cut_quoted xs none = record {
   ends = sym (quoted_after xs none);
 }
 
-end_between : (c : ℕ) → IsEnd c → settled (step default_config st.InField c).0 ≡ st.StartRecord
+pub end_between : (c : ℕ) → IsEnd c → settled (step default_config st.InField c).0 ≡ st.StartRecord
 end_between c (inl lf) = subst (λ (b : ℕ). settled (step default_config st.InField b).0 ≡ st.StartRecord) (sym lf) refl
 end_between c (inr cr) = subst (λ (b : ℕ). settled (step default_config st.InField b).0 ≡ st.StartRecord) (sym cr) refl
 

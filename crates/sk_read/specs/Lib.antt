@@ -8,6 +8,7 @@ pub mod Inside
 pub mod Items
 pub mod Parts
 pub mod PlainLines
+pub mod Quotes
 pub mod Reading
 pub mod Reads
 pub mod Records

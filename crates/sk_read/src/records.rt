@@ -9,6 +9,7 @@ mod column;
 mod delimiters;
 mod parts;
 mod plain;
+mod quotes;
 mod scan;
 
 use crate::fault::Fault;

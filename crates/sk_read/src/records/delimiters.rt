@@ -2,12 +2,13 @@
 ghost use Rattle.std.specs.Prelude.{◌≡◌, ◌≢◌, ◌↔◌, ◌⊎◌, ℕ, List, ◌+◌, ◌-◌, ◌<◌, ◌≤◌, length, slice_index};
 ghost use Rattle.std.specs.Int.{bit_at};
 ghost use Rattle.sk_read.specs.Delimiters.{IsDelimiter, IsNextDelimiter, Knows};
+ghost use Rattle.sk_read.specs.Scan.{IsEnd};
 
 use memchr::memchr3;
 use std::simd::prelude::*;
 
 // How many places a mask has.
-const BLOCK: usize = 64;
+pub(crate) const BLOCK: usize = 64;
 
 // The delimiters before a place that are still to be taken: bit k stands for the k-th of the 64 places there.
 #[derive(Clone, Copy)]
@@ -93,17 +94,25 @@ fn take_mark(text: &[u8], at: usize, ahead: Ahead) -> (usize, Ahead)
 
 // Bit k says whether the byte at place `at + k` is LF, CR or a comma.
 #[inline(always)]
-fn delimiters_of_block(bytes: &[u8], at: usize) -> u64
+pub(crate) fn delimiters_of_block(bytes: &[u8], at: usize) -> u64
     requires { at + 64 ≤ length bytes.now }
     ensures { (k : ℕ) → (bit_at result k ≡ 1) ↔ ((k < 64) × IsDelimiter (slice_index bytes.now (at + k))) }
 {
-    let ends = marks_of_block(bytes, at, b'\n') | marks_of_block(bytes, at, b'\r');
-    ends | marks_of_block(bytes, at, b',')
+    ends_of_block(bytes, at) | marks_of_block(bytes, at, b',')
+}
+
+// Bit k says whether the byte at place `at + k` is LF or CR.
+#[inline(always)]
+pub(crate) fn ends_of_block(bytes: &[u8], at: usize) -> u64
+    requires { at + 64 ≤ length bytes.now }
+    ensures { (k : ℕ) → (bit_at result k ≡ 1) ↔ ((k < 64) × IsEnd (slice_index bytes.now (at + k))) }
+{
+    marks_of_block(bytes, at, b'\n') | marks_of_block(bytes, at, b'\r')
 }
 
 // Bit k says whether the byte at place `at + k` is this one.
 #[inline(always)]
-fn marks_of_block(bytes: &[u8], at: usize, byte: u8) -> u64
+pub(crate) fn marks_of_block(bytes: &[u8], at: usize, byte: u8) -> u64
     requires within { at + 64 ≤ length bytes.now }
     requires some { 0 < byte }
     ensures { (k : ℕ) → (bit_at result k ≡ 1) ↔ ((k < 64) × (slice_index bytes.now (at + k) ≡ byte)) }

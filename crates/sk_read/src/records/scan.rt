@@ -1,9 +1,11 @@
 // Where a text of records stands, byte by byte.
-ghost use Rattle.std.specs.Prelude.{◌≡◌, ◌≢◌, ◌≤◌, ◌<◌, ◌-◌, All, length, take, drop, slice_index};
+ghost use Rattle.std.specs.Prelude.{◌≡◌, ◌≢◌, ◌≤◌, ◌<◌, ◌+◌, ◌-◌, All, length, take, drop, slice_index};
 ghost use Rattle.csv.specs.Machine.{step};
 ghost use Rattle.csv.specs.Reading.{default_config};
 ghost use Rattle.sk_read.specs.Scan.{state_of, settled, IsEnd, IsCut};
 
+use crate::records::delimiters::BLOCK;
+use crate::records::quotes::scan_block;
 use memchr::{memchr, memrchr2};
 
 // A place of a text of records.
@@ -43,7 +45,7 @@ fn behind(place: ScanState, byte: u8) -> ScanState
 
 // The place after a byte that is no quote, or stands in a field without quotes.
 #[inline(always)]
-fn unquoted(byte: u8) -> ScanState
+pub(crate) fn unquoted(byte: u8) -> ScanState
     ensures { state_of result ≡ settled (step default_config (state_of ScanState.InField) byte).0 }
 {
     match byte {
@@ -109,6 +111,23 @@ fn scan_run(start: ScanState, bytes: &[u8]) -> (ScanState, usize, usize)
     (behind(place, bytes[len]), cut, len + 1)
 }
 
+// What `scan` returns for some bytes from a place on, and how many these are: a block that has quotes, or all up to the
+// next quote.
+fn scan_next(start: ScanState, bytes: &[u8], at: usize) -> (ScanState, usize, usize)
+    requires { at < length bytes.now }
+    ensures cut { IsCut (state_of start) (take result.2 (drop at bytes.now)) (state_of result.0) result.1 }
+    ensures within { result.1 ≤ result.2 }
+    ensures some { 0 < result.2 }
+    ensures len { at + result.2 ≤ length bytes.now }
+{
+    if bytes.len() - at >= BLOCK {
+        if let Some(found) = scan_block(start, bytes, at) {
+            return (found.0, found.1, BLOCK);
+        }
+    }
+    scan_run(start, &bytes[at..])
+}
+
 // The place after a piece, and how many bytes of it lie before the last place between two records
 // that it has after its start.
 pub(crate) fn scan(start: ScanState, piece: &[u8]) -> (ScanState, usize)
@@ -119,7 +138,7 @@ pub(crate) fn scan(start: ScanState, piece: &[u8]) -> (ScanState, usize)
     let mut cut = 0;
     let mut at = 0;
     'run: while at < piece.len() {
-        let (next, found, len) = scan_run(place, &piece[at..]);
+        let (next, found, len) = scan_next(place, piece, at);
         if found > 0 {
             cut = at + found;
         }

@@ -1,4 +1,4 @@
-use Rattle.std.proofs.Common.{◌≡◌, ◌+◌, ◌-◌, ◌≤◌, ◌++◌, ℕ, List, length, take, drop, sym, ap, subst, arith, length-drop, take-add}
+use Rattle.std.proofs.Common.{◌≡◌, ◌+◌, ◌≤◌, ◌++◌, ℕ, List, length, take, drop, sym, subst, arith, take-add}
 use Rattle.std.proofs.lemmas.List.{take_all, length-take-le}
 use Rattle.sk_read.specs.Scan.{state_of, IsCut}
 use Rattle.sk_read.proofs.Cuts.{cut_none, cut_later, cut_stays}
@@ -13,14 +13,13 @@ run-preserved c =
     let inv = c.run.invariant in
     let piece = c.args.piece.now in
     let at = c.run.at in
-    let found = c.scan_run-next.result.1 in
-    let len = c.scan_run-next.result.2 in
-    let rest : take (length piece - at) (drop at piece) ≡ drop at piece = take_all (length piece - at) (drop at piece) (omega (arith, length-drop at piece)) in
-    let fits : at + len ≤ length piece = omega (arith, c.scan_run-next.ensures.len, ap length rest, length-drop at piece, inv.at) in
+    let found = c.scan_next-next.result.1 in
+    let len = c.scan_next-next.result.2 in
+    let fits : at + len ≤ length piece = c.scan_next-next.ensures.len in
     let longer : take (at + len) piece ≡ take at piece ++ take len (drop at piece) = take-add at len piece in
     let start = state_of c.args.start in
-    let next = state_of c.scan_run-next.result.0 in
-    let run : IsCut (state_of c.run.place) (take len (drop at piece)) next found = subst (λ (l : List ℕ). IsCut (state_of c.run.place) (take len l) next found) rest c.scan_run-next.ensures.cut in
+    let next = state_of c.scan_next-next.result.0 in
+    let run : IsCut (state_of c.run.place) (take len (drop at piece)) next found = c.scan_next-next.ensures.cut in
     elim c.if-found-gt0.branch [
       | then-found-gt0 w ↦
           let cut : IsCut start (take at piece ++ take len (drop at piece)) next (length (take at piece) + found) =
@@ -28,7 +27,7 @@ run-preserved c =
           let place : length (take at piece) + found ≡ c.if-found-gt0.cut = omega (arith, w.cut-is, length-take-le at piece inv.at) in
           record {
             cut = subst (λ (n : ℕ). IsCut start (take (at + len) piece) next n) place (subst (λ (l : List ℕ). IsCut start l next (length (take at piece) + found)) (sym longer) cut);
-            within = omega (arith, w.cut-is, c.scan_run-next.ensures.within);
+            within = omega (arith, w.cut-is, c.scan_next-next.ensures.within);
             at = fits;
           }
       | else-found-gt0 w ↦

@@ -1,4 +1,4 @@
-use Rattle.std.proofs.Common.{◌≡◌, ◌<◌, ◌≤◌, ◌+◌, ◌++◌, ◌∷◌, [], ℕ, List, length, sym, ◌∙◌, subst, arith, length-append}
+use Rattle.std.proofs.Common.{◌<◌, ◌≤◌, ◌++◌, ◌∷◌, [], ℕ, List, length, sym, ◌∙◌, subst, arith, length-append}
 use Rattle.sk_model.specs.Limits.{line_limit}
 use Rattle.sk_read.specs.Records.{field_of, AreEven}
 use Rattle.sk_read.proofs.ColumnLaws.{even_more, sound_more}
