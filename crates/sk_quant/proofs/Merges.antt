@@ -1,6 +1,7 @@
 -- Lemmas on the loop that puts rising items among others, from the greatest down.
-use Rattle.std.proofs.Common.{◌≡◌, ℕ, zero, suc, ◌+◌, ◌-◌, ◌<◌, ◌≤◌, List, [], ◌∷◌, ◌++◌, length, get_or, take, drop, set, All, refl, sym, ap, ◌∙◌, append_assoc, append-nil, arith, length-append, length-take, length-set, take-append-drop, take_at, take_all, get_or-take, take-take}
+use Rattle.std.proofs.Common.{◌≡◌, ℕ, zero, suc, ◌+◌, ◌-◌, ◌<◌, ◌≤◌, List, [], ◌∷◌, ◌++◌, length, get_or, take, drop, set, All, ⊎_elim, refl, sym, ap, subst, ◌∙◌, append_assoc, append-nil, arith, length-append, length-take, length-set, take-append-drop, take_at, take_all, get_or-take, take-take}
 use Rattle.std.specs.List.Sorted.{IsNonDecreasing}
+use Rattle.std.proofs.lemmas.Bool.{cases_lt}
 use Rattle.std.proofs.lemmas.List.{take_more, drop-set, drop_all, take-set-le}
 use Rattle.std.proofs.lemmas.List.Elements.{All-from_get_or, All-append}
 use Rattle.std.proofs.lemmas.List.Sorted.{IsNonDecreasingBy-take}
@@ -134,6 +135,34 @@ merging_takes_another others items now left right rest at z up_others up_items i
         (first_at_most others rest z up_others (omega (arith, so_far.others_wait)) (λ more. omega (arith, up_others (rest - 1) rest 0 (omega arith) (omega (arith, so_far.others_wait)))))
         (first_at_most items left z up_items (so_far.items_wait) le)
 
+-- the greater of the last that wait goes after what waits
+pub merging_goes_on : (others items now : List ℕ) (left right item other : ℕ) (last : ℕ × ℕ) → IsNonDecreasing others → IsNonDecreasing items
+    → 0 < left → 0 < right → item ≡ get_or items (left - 1) 0 → other ≡ get_or others (right - 1) 0
+    → (other < item → last ≡ (item, 1)) → (item ≤ other → last ≡ (other, 0))
+    → IsMerging others items now left right → IsMerging others items (set now (left + right - 1) last.0) (left - last.1) (right - (1 - last.1))
+merging_goes_on others items now left right item other last up_others up_items some some' is_item is_other more less so_far =
+    ⊎_elim by_item by_other (cases_lt other item)
+  where
+    by_item : other < item → IsMerging others items (set now (left + right - 1) last.0) (left - last.1) (right - (1 - last.1))
+    by_item lt =
+        let z : last.0 ≡ item = ap (λ (p : ℕ × ℕ). p.0) (more lt) in
+        let one : last.1 ≡ 1 = ap (λ (p : ℕ × ℕ). p.1) (more lt) in
+        let left_is : left - last.1 ≡ left - 1 = omega (arith, one) in
+        let right_is : right - (1 - last.1) ≡ right = omega (arith, one) in
+        rw left_is (rw right_is
+        (merging_takes_an_item others items now left right (left - 1) (left + right - 1) last.0 up_others up_items
+        (omega arith) (omega arith) (z ∙ is_item) some' (omega (arith, z, is_other, lt)) so_far))
+
+    by_other : item ≤ other → IsMerging others items (set now (left + right - 1) last.0) (left - last.1) (right - (1 - last.1))
+    by_other le =
+        let z : last.0 ≡ other = ap (λ (p : ℕ × ℕ). p.0) (less le) in
+        let none : last.1 ≡ 0 = ap (λ (p : ℕ × ℕ). p.1) (less le) in
+        let left_is : left - last.1 ≡ left = omega (arith, none) in
+        let right_is : right - (1 - last.1) ≡ right - 1 = omega (arith, none) in
+        rw left_is (rw right_is
+        (merging_takes_another others items now left right (right - 1) (left + right - 1) last.0 up_others up_items
+        (omega arith) (omega arith) (z ∙ is_other) (λ _. omega (arith, z, is_item, le)) so_far))
+
 -- none of the others waits
 pub merging_ends : (others items now : List ℕ) (left : ℕ) → IsNonDecreasing items → IsMerging others items now left 0 → now ≡ in_order (others ++ items)
 merging_ends others items now left up so_far =
@@ -142,3 +171,27 @@ merging_ends others items now left up so_far =
     ∙ ap (λ (l : List ℕ). l ++ drop (left + 0) now) (in_order_of_rising (take left items) (IsNonDecreasingBy-take (λ x. x) left items up) ∙ sym so_far.front)
     ∙ ap (λ (n : ℕ). take left now ++ drop n now) same
     ∙ take-append-drop left now)
+
+-- none of the items waits: what waits of the others comes first
+pub merging_ends_early : (others items now : List ℕ) (right : ℕ) → IsNonDecreasing others → IsMerging others items now 0 right → take right others ++ drop right now ≡ in_order (others ++ items)
+merging_ends_early others items now right up so_far =
+    let same : 0 + right ≡ right = omega arith in
+    sym (so_far.whole
+    ∙ ap (λ (l : List ℕ). in_order l ++ drop (0 + right) now) (append-nil (take right others))
+    ∙ ap (λ (l : List ℕ). l ++ drop (0 + right) now) (in_order_of_rising (take right others) (IsNonDecreasingBy-take (λ x. x) right others up))
+    ∙ ap (λ (n : ℕ). take right others ++ drop n now) same)
+
+-- either way
+pub merging_is_done : (others items now : List ℕ) (left right : ℕ) → IsNonDecreasing others → IsNonDecreasing items → (0 < left → right ≡ 0)
+    → IsMerging others items now left right → take right others ++ drop right now ≡ in_order (others ++ items)
+merging_is_done others items now left right up_others up_items last so_far =
+    ⊎_elim by_items by_others (cases_lt 0 left)
+  where
+    by_items : 0 < left → take right others ++ drop right now ≡ in_order (others ++ items)
+    by_items some =
+        let none = last some in
+        ap (λ (n : ℕ). take n others ++ drop n now) none ∙ merging_ends others items now left up_items (subst (λ (n : ℕ). IsMerging others items now left n) none so_far)
+
+    by_others : left ≤ 0 → take right others ++ drop right now ≡ in_order (others ++ items)
+    by_others le =
+        let none : left ≡ 0 = omega (arith, le) in merging_ends_early others items now right up_others (subst (λ (n : ℕ). IsMerging others items now n right) none so_far)

@@ -1,5 +1,5 @@
 //! Rising items go up, half of them at each level.
-ghost use Rattle.std.specs.Prelude.{◌≡◌, ◌+◌, ◌*◌, ◌<◌, ◌≤◌, ◌++◌, [], length, All};
+ghost use Rattle.std.specs.Prelude.{◌≡◌, ◌+◌, ◌*◌, ◌<◌, ◌≤◌, ◌++◌, [], length, drop, All};
 ghost use Rattle.std.specs.Prelude.{vec_len, vec_capacity};
 ghost use Rattle.std.specs.List.Sorted.{IsNonDecreasing};
 ghost use Rattle.sk_quant.specs.Coins.{coin_of};
@@ -23,6 +23,25 @@ fn halve(items: &mut Vec<u64>, coin: usize)
     items.truncate(half);
 }
 
+// The greater of two, and 1 if that is the first, or else 0. It takes no branch, which would be guessed wrong half of
+// the time.
+#[inline(always)]
+fn greater_of(first: u64, second: u64) -> (u64, usize)
+    ensures first { second < first → result ≡ (first, 1) }
+    ensures second { first ≤ second → result ≡ (second, 0) }
+    ensures most { result.1 ≤ 1 }
+{
+    (first.max(second), usize::from(first > second))
+}
+
+// Puts the first items in place.
+fn put_first(items: &mut [u64], first: &[u64])
+    requires { length first.now ≤ length items.old }
+    ensures { items.new ≡ first.now ++ drop (length first.now) items.old }
+{
+    items[..first.len()].copy_from_slice(first);
+}
+
 // Puts rising items among others that rise, from the greatest down.
 fn merge(items: &mut Vec<u64>, others: &[u64])
     requires items { IsNonDecreasing items.old.items }
@@ -34,16 +53,13 @@ fn merge(items: &mut Vec<u64>, others: &[u64])
     let mut left = items.len();
     let mut right = others.len();
     items.extend_from_slice(others).unwrap();
-    'merge: while right > 0 {
-        let at = left + right - 1;
-        if left > 0 && items[left - 1] > others[right - 1] {
-            left -= 1;
-            items[at] = items[left];
-        } else {
-            right -= 1;
-            items[at] = others[right];
-        }
+    'merge: while left > 0 && right > 0 {
+        let (last, of_items) = greater_of(items[left - 1], others[right - 1]);
+        items[left + right - 1] = last;
+        left -= of_items;
+        right -= 1 - of_items;
     }
+    put_first(items, &others[..right]);
 }
 
 // Takes rising items up: the half that a coin takes to the first level, and where that was not empty

@@ -1,9 +1,9 @@
-use Rattle.std.proofs.Common.{◌≡◌, ◌+◌, ◌*◌, ◌<◌, ◌≤◌, ℕ, List, [], ◌++◌, length, vec_len, arith, sym, ap, ◌∙◌}
+use Rattle.std.proofs.Common.{◌≡◌, ◌+◌, ◌*◌, ◌<◌, ℕ, List, [], length, arith, sym, ap, ◌∙◌}
 use Rattle.sk_quant.specs.Coins.{coin_of}
 use Rattle.sk_quant.specs.Held.{Held, carried}
 use Rattle.sk_quant.specs.Order.{in_order}
 use Rattle.sk_quant.specs.Stored.{lists_of, held_in}
-use Rattle.sk_quant.proofs.Bounds.{gone_up, all_with_room, all_with_compaction}
+use Rattle.sk_quant.proofs.Bounds.{all_with_room, all_with_compaction}
 use Rattle.sk_quant.proofs.compaction.put_all.Goals as goal
 
 -- the base is empty again, and these are the levels with the place in the coins

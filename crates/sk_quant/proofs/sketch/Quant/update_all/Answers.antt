@@ -1,4 +1,4 @@
-use Rattle.std.proofs.Common.{◌≡◌, ◌+◌, ◌-◌, ◌≤◌, ℕ, List, length, take, drop, arith, sym, ap, ◌∙◌, take_all}
+use Rattle.std.proofs.Common.{◌≡◌, ◌+◌, ◌-◌, ℕ, List, length, take, drop, arith, ap, ◌∙◌, take_all}
 use Rattle.std.proofs.lemmas.List.{length-drop, length-take-le}
 use Rattle.sk_quant.specs.Quantiles.{Quantiles, updated_all}
 use Rattle.sk_quant.proofs.Sketches.{count_updated_all, updated_more}
