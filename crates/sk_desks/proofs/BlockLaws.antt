@@ -14,7 +14,7 @@ use Rattle.sk_desks.specs.Desks.{items_for}
 use Rattle.sk_desks.specs.Feeds.{TakesLines, HasRoom, HaveRoom, TakeBlocks}
 use Rattle.sk_desks.specs.Windows.{AreUnused}
 use Rattle.sk_desks.proofs.ItemLaws.{items_for-append, none_for}
-use Rattle.sk_desks.proofs.Taking.{takes_no_line, takes_more, has_still, room_after}
+use Rattle.sk_desks.proofs.Taking.{takes_no_line, takes_more, has_still, names_still, room_after}
 
 -- ---- lines of a window, one more
 
@@ -37,16 +37,6 @@ pub line_more : (seed : ℕ) (d e d' : DeskState) (lines : List (List ℕ)) (fro
 line_more seed d e d' lines from at line low inside its before after =
     subst (λ (l : List (List ℕ)). TakesLines seed d l d') (ap (λ (l : List ℕ). slice_range lines from at ++ l ∷ []) its ∙ sym (range_more lines from at low inside))
     (takes_more seed d e d' (slice_range lines from at) (line ∷ []) before after)
-
--- the first of the lines to come is that at its place in the window
-pub first_is : (lines rest : List (List ℕ)) (at : ℕ) (line : List ℕ) → rest ≡ drop at lines → line ≡ get_or rest 0 [] → line ≡ get_or lines at []
-first_is lines rest at line is first =
-    let here : at + 0 ≡ at = omega arith in
-    first ∙ ap (λ (l : List (List ℕ)). get_or l 0 []) is ∙ get_or-drop at lines 0 [] ∙ ap (λ (n : ℕ). get_or lines n []) here
-
--- after it come those from the next place on
-pub rest_is : (lines rest rest' : List (List ℕ)) (at : ℕ) → rest ≡ drop at lines → rest' ≡ drop 1 rest → rest' ≡ drop (at + 1) lines
-rest_is lines rest rest' at is moved = moved ∙ ap (drop 1) is ∙ drop-drop 1 at lines
 
 -- ---- windows, one more
 
@@ -79,7 +69,7 @@ take_window seed a b c windows lines before after = record {
 }
 
 -- desks that were unused have room for a window more
-pub room_for : (seed : ℕ) (names : List (List ℕ)) (first desks : List DeskState) (windows : List (List (List ℕ))) (count : ℕ) → AreUnused names first → TakeBlocks seed first windows desks → length (all_lines windows) + count ≤ most_kept → HaveRoom count desks
+pub room_for : (seed : ℕ) (names : List (List ℕ)) (first desks : List DeskState) (windows : List (List (List ℕ))) (count : ℕ) → AreUnused names first → TakeBlocks seed first windows desks → length (all_lines windows) + count ≤ most_kept → HaveRoom names count desks
 room_for seed names first desks windows count unused took few = λ i d within.
     let before : i < length first = omega (arith, took.count) in
     let desk = get_or first i d in
@@ -87,7 +77,11 @@ room_for seed names first desks windows count unused took few = λ i d within.
     let blocks = blocks_of windows i (length first) in
     let its : TakesLines seed desk blocks (get_or desks i d) = took.each i d before in
     let room : HasRoom (length blocks + count) desk = λ t u inside. omega (arith, few_blocks windows (length first) i before, ap length (is.none t u inside), is.quota_is, few) in
-    (has_still seed desk (get_or desks i d) blocks its is.has, room_after seed desk (get_or desks i d) blocks count is.has its room)
+    record {
+      has = has_still seed desk (get_or desks i d) blocks its is.has;
+      names_are = names_still seed desk (get_or desks i d) blocks its ∙ is.names_are;
+      room = room_after seed desk (get_or desks i d) blocks count is.has its room;
+    }
 
 -- ---- all blocks of all windows
 

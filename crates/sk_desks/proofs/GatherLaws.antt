@@ -1,36 +1,38 @@
 -- Lines of a source that are examined one after another, and gathered.
-use Rattle.std.proofs.Common.{◌≡◌, ℕ, ◌+◌, ◌<◌, Bool, true, false, not, Option, None, Result, Ok, Err, IsErrAnd, inl, inr, List, [], ◌∷◌, ◌++◌, length, refl, sym, ap, subst, ◌∙◌, append-nil, append_assoc}
+use Rattle.std.proofs.Common.{◌≡◌, ℕ, ◌+◌, ◌<◌, ◌≤◌, Bool, true, false, not, Option, None, Result, Ok, Err, IsErrAnd, inl, inr, List, [], ◌∷◌, ◌++◌, All, length, refl, sym, ap, subst, ◌∙◌, arith, append-nil, append_assoc, length-append}
+use Rattle.std.proofs.lemmas.List.Elements.{All-head, All-tail, All-take}
 use Rattle.std.specs.Io.KnownBytes.{Consumes}
 use Rattle.std.proofs.KnownBytes.{Consumes-nil, Consumes-trans}
+use Rattle.sk_model.specs.Causes.{HasCauseIn}
+use Rattle.sk_model.specs.Limits.{line_limit}
+use Rattle.sk_model.specs.Lines.{lines_of, AreWithin}
+use Rattle.sk_model.specs.Missing.{Begins}
+use Rattle.sk_model.proofs.Missing.{begins_append, begins_trans}
 use Rattle.sk_read.specs.Faults.{fault_by}
 use Rattle.sk_read.specs.Reading.{Reading, HasRead, Goes, remaining_of}
-use Rattle.sk_read.specs.Reads.{Ends}
+use Rattle.sk_read.specs.Reads.{IsInTime, Ends}
+use Rattle.sk_read.specs.Units.{IsSoundUpTo}
 use Rattle.sk_read.specs.declared.fault.Fault.{Fault}
 use Rattle.sk_read.specs.declared.fault.Fault.TheVariants as fault
 use Rattle.sk_read.specs.declared.reader.LineFault.{LineFault}
 use Rattle.sk_read.specs.declared.reader.LineFault.TheVariants as line_fault
 use Rattle.sk_read.specs.declared.units.Units.TheVariants.{Lines}
-use Rattle.sk_read.proofs.LineEnds.{no_line, no_memory, line_missed}
+use Rattle.sk_read.proofs.ItemLaws.{front_is}
+use Rattle.sk_read.proofs.Readings.{given_settled}
+use Rattle.sk_read.proofs.LineEnds.{no_line, settled_so, line_missed_among}
 use Rattle.sk_fill.specs.Fills.{ReadsLine}
-use Rattle.sk_fill.proofs.Filled.{line_read, line_number, line_added}
+use Rattle.sk_fill.proofs.Filled.{line_read, line_number, line_added, read_few, read_number}
 use Rattle.sk_label.specs.Faults.{fault_of_lines}
 use Rattle.sk_label.specs.Goes.{setting, EndsBefore, WroteSoFar}
-use Rattle.sk_label.specs.Labels.{is_labelled}
 use Rattle.sk_label.specs.Rules.{Rules, IsBad, IsRefused, AreFine}
 use Rattle.sk_label.specs.declared.fault.LabelFault.{LabelFault}
 use Rattle.sk_label.specs.declared.fault.LabelFault.TheVariants as label
 use Rattle.sk_label.proofs.CarryLaws.{stops_so}
 use Rattle.sk_label.proofs.QuietLaws.{wrote_none}
 use Rattle.sk_label.proofs.RuleLaws.{fine_more}
-use Rattle.sk_fill.specs.Windows.{WindowState, fills, is_full}
 use Rattle.sk_desks.specs.declared.plan.Plan.{Plan}
-use Rattle.sk_desks.specs.Windows.{window_lines}
-use Rattle.sk_desks.specs.Desks.{is_known, desk_rules}
-use Rattle.sk_desks.specs.Gathers.{IsOfTenant, RefusesAs, GivesNext, GoOnFine, EndsReading, Gathers}
-
--- an empty window is not full
-pub empty_has_room : (w : WindowState) → w.lines ≡ [] → w.most ≡ window_lines → is_full w ≡ false
-empty_has_room w empty most = ap (λ (l : List (List ℕ)). fills w.most l) empty ∙ ap (λ (m : ℕ). fills m []) most
+use Rattle.sk_desks.specs.Desks.{desk_rules}
+use Rattle.sk_desks.specs.Gathers.{IsOfTenant, RefusesAs, GivesNext, GivesHeld, GoOnFine, EndsReading, StopsWithin, StopsHeld, TakesHeld, Gathers}
 
 -- nothing is written at a line
 pub never : (plan : Plan) (names : List (List ℕ)) (before : List (List ℕ)) (line : List ℕ) → (desk_rules plan names).due_at before line ≡ []
@@ -48,6 +50,58 @@ pub line_fine : (names lines lines' : List (List ℕ)) (line : List ℕ) → GoO
 line_fine names lines lines' line on fine added = λ plan before before_fine.
     let next = fine_more (desk_rules plan names) (before ++ lines) line (on plan before before_fine) (λ filled. let is = fine filled in (is.0, ap not is.1)) in
     subst (AreFine (desk_rules plan names)) (append_assoc before lines (line ∷ []) ∙ ap (λ (l : List (List ℕ)). before ++ l) (sym added)) next
+
+-- some lines more
+pub lines_fine : (names lines group : List (List ℕ)) → GoOnFine names lines → All (IsOfTenant names) group → GoOnFine names (lines ++ group)
+lines_fine names lines [] on fine = subst (GoOnFine names) (sym (append-nil lines)) on
+lines_fine names lines (line ∷ group) on fine =
+    subst (GoOnFine names) (append_assoc lines (line ∷ []) group)
+    (lines_fine names (lines ++ line ∷ []) group (line_fine names lines (lines ++ line ∷ []) line on (All-head (IsOfTenant names) line group fine) refl) (All-tail (IsOfTenant names) line group fine))
+
+-- ---- lines that a reader gave, of which one is refused
+
+module _ (names : List (List ℕ)) (plan : Plan) (r : Reading) (most : ℕ) (first left : Option (List ℕ)) (given group : List (List ℕ)) (taken : List ℕ) (bound : r.most ≡ most) (consumed : Consumes first left taken)
+    (read : HasRead r left (given ++ group) taken) (in_time : IsInTime Lines given taken) (fine : AreFine (desk_rules plan names) given)
+  where
+    wrote_then : (more : List (List ℕ)) → All (IsOfTenant names) more → WroteSoFar (desk_rules plan names) None None (given ++ more)
+    wrote_then more are = wrote_none (desk_rules plan names) (never plan names) None (given ++ more) (lines_fine names [] more (none_fine names) are plan given fine)
+
+    -- memory ran out before any of them was taken
+    memory_ends : EndsBefore (desk_rules plan names) most (setting first None) (setting left None) label.OutOfMemory
+    memory_ends = record {
+      given = given;
+      taken = taken;
+      consumed = consumed;
+      size = omega (arith, read.has.count, read.bound, bound);
+      in_time = in_time;
+      known = wrote_none (desk_rules plan names) (never plan names) None given fine;
+      comes = settled_so (λ (text : List ℕ). Begins (given ++ group) (lines_of text)) (λ (text : List ℕ). Begins given (lines_of text) × IsSoundUpTo Lines (length given) text) left taken
+          (λ text begins.
+          let front : Begins given (lines_of text) = begins_trans given (given ++ group) (lines_of text) (begins_append given group) begins in
+          (front, subst (AreWithin line_limit) (sym (front_is given (lines_of text) front)) short))
+          (given_settled r left (given ++ group) taken read);
+    }
+      where
+        short : AreWithin line_limit given
+        short =
+            let every : AreWithin line_limit (given ++ group) = subst (λ (m : ℕ). AreWithin m (given ++ group)) read.limit read.has.within in
+            subst (AreWithin line_limit) (front_is given (given ++ group) (begins_append given group)) (All-take (λ (l : List ℕ). length l ≤ line_limit) (length given) (given ++ group) every)
+
+    pub stops_within : (n : ℕ) → n ≡ length given + 1 → (f : LabelFault) → StopsWithin names group n f → EndsBefore (desk_rules plan names) most (setting first None) (setting left None) f
+    stops_within n place f (inl memory) = subst (λ (x : LabelFault). EndsBefore (desk_rules plan names) most (setting first None) (setting left None) x) (sym memory) memory_ends
+    stops_within n place (label.BadLine m) (inr r1) =
+        stops_so (λ ls l. (m ≡ length ls + 1) × (WroteSoFar (desk_rules plan names) None None ls × IsBad (desk_rules plan names) l)) (λ ls l. (m ≡ length ls + 1) × WroteSoFar (desk_rules plan names) None None ls × IsBad (desk_rules plan names) l) most first left (λ ls l at. (at.0, at.1.0, at.1.1))
+        (line_missed_among (WroteSoFar (desk_rules plan names) None None) (λ (why : Fault) ls l. WroteSoFar (desk_rules plan names) None None ls × IsBad (desk_rules plan names) l) most r first left given group taken (fault.BadItem m) bound consumed
+        (record { front = r1.before; unit = r1.line; begins = r1.begins; stopped = (wrote_then r1.before r1.fine, (r1.refused.1, r1.refused.2)); fault = omega (arith, r1.refused.0, place) }) read in_time)
+    stops_within n place (label.Refused m) (inr r1) =
+        stops_so (λ ls l. (m ≡ length ls + 1) × (WroteSoFar (desk_rules plan names) None None ls × IsRefused (desk_rules plan names) ls l)) (λ ls l. (m ≡ length ls + 1) × WroteSoFar (desk_rules plan names) None None ls × IsRefused (desk_rules plan names) ls l) most first left (λ ls l at. (at.0, at.1.0, at.1.1))
+        (line_missed_among (WroteSoFar (desk_rules plan names) None None) (λ (why : Fault) ls l. WroteSoFar (desk_rules plan names) None None ls × IsRefused (desk_rules plan names) ls l) most r first left given group taken (fault.BadItem m) bound consumed
+        (record { front = r1.before; unit = r1.line; begins = r1.begins; stopped = (wrote_then r1.before r1.fine, (r1.refused.1, r1.refused.2, ap not r1.refused.3)); fault = omega (arith, r1.refused.0, place) }) read in_time)
+    stops_within n place label.OutOfMemory (inr r1) = absurd r1.refused
+    stops_within n place label.ReadFault (inr r1) = absurd r1.refused
+    stops_within n place label.WriteFault (inr r1) = absurd r1.refused
+    stops_within n place label.TooMuch (inr r1) = absurd r1.refused
+    stops_within n place (label.LongLine m) (inr r1) = absurd r1.refused
 
 -- ---- lines that were given
 
@@ -100,10 +154,6 @@ module _ (names lines : List (List ℕ)) (r r1 r2 : Reading) (old mid new : Opti
   by_lines rules most first line_fault.TooMuch ends = ends
   by_lines rules most first (line_fault.LongLine n) ends = ends
 
-  by_memory : (rules : Rules) (most : ℕ) (first : Option (List ℕ)) → Ends Lines most (WroteSoFar rules None None) (λ why given unit. ⊥) first new fault.OutOfMemory → EndsBefore rules most (setting first None) (setting new None) label.OutOfMemory
-  by_memory rules most first (inl off) = off
-  by_memory rules most first (inr stops) = absurd stops.1.known
-
   module _ (fine : GoOnFine names lines) (bound : r2.most ≡ r.most) where
     wrote : (plan : Plan) (given : List (List ℕ)) → AreFine (desk_rules plan names) given → WroteSoFar (desk_rules plan names) None None (given ++ lines)
     wrote plan given given_fine = wrote_none (desk_rules plan names) (never plan names) None (given ++ lines) (fine plan given given_fine)
@@ -119,40 +169,107 @@ module _ (names lines : List (List ℕ)) (r r1 r2 : Reading) (old mid new : Opti
         (no_line (WroteSoFar rules None None) (λ why given unit. ⊥) r.most r2 first new (given ++ lines) ((taken ++ before.0) ++ on.0) s bound
         (Consumes-trans _ _ _ _ _ (Consumes-trans _ _ _ _ _ consumed before.1) on.1) (wrote plan given given_fine) goes)
 
-    -- the line is refused
-    pub stops_at_line : result ≡ Ok true → (line : List ℕ) (n : ℕ) → line ≡ r2.cutter.line → n ≡ r2.cutter.number → (f : LabelFault) → RefusesAs names line n f → EndsReading names r old new f
-    stops_at_line is line n own count (label.BadLine m) refused = λ plan first given taken consumed has given_fine.
-        let rules = desk_rules plan names in
+    -- the line is refused, or memory ran out for it
+    pub stops_at_line : result ≡ Ok true → (line : List ℕ) (n : ℕ) → line ≡ r2.cutter.line → n ≡ r2.cutter.number → (f : LabelFault) → StopsWithin names (line ∷ []) n f → EndsReading names r old new f
+    stops_at_line is line n own count f stops = λ plan first given taken consumed has given_fine.
         let one = one_line is given taken has in
-        let so : IsBad rules r2.cutter.line = subst (IsBad rules) own (refused.1, refused.2) in
-        stops_so (λ ls l. (m ≡ length ls + 1) × (WroteSoFar rules None None ls × IsBad rules l)) (λ ls l. (m ≡ length ls + 1) × WroteSoFar rules None None ls × IsBad rules l) r.most first new (λ ls l at. (at.0, at.1.0, at.1.1))
-        (line_missed (WroteSoFar rules None None) (λ (why : Fault) ls l. WroteSoFar rules None None ls × IsBad rules l) r.most r2 first new (given ++ lines) r2.cutter.line (taken ++ one.more) m (fault.BadItem m) bound
-        (Consumes-trans _ _ _ _ _ consumed one.consumed) (refused.0 ∙ line_number r2 old new (given ++ lines) r2.cutter.line taken n one count) refl (wrote plan given given_fine, so) one.read one.in_time)
-    stops_at_line is line n own count (label.Refused m) refused = λ plan first given taken consumed has given_fine.
-        let rules = desk_rules plan names in
-        let one = one_line is given taken has in
-        let so : IsRefused rules (given ++ lines) r2.cutter.line = subst (IsRefused rules (given ++ lines)) own (refused.1, refused.2, ap not refused.3) in
-        stops_so (λ ls l. (m ≡ length ls + 1) × (WroteSoFar rules None None ls × IsRefused rules ls l)) (λ ls l. (m ≡ length ls + 1) × WroteSoFar rules None None ls × IsRefused rules ls l) r.most first new (λ ls l at. (at.0, at.1.0, at.1.1))
-        (line_missed (WroteSoFar rules None None) (λ (why : Fault) ls l. WroteSoFar rules None None ls × IsRefused rules ls l) r.most r2 first new (given ++ lines) r2.cutter.line (taken ++ one.more) m (fault.BadItem m) bound
-        (Consumes-trans _ _ _ _ _ consumed one.consumed) (refused.0 ∙ line_number r2 old new (given ++ lines) r2.cutter.line taken n one count) refl (wrote plan given given_fine, so) one.read one.in_time)
-    stops_at_line is line n own count label.OutOfMemory refused = absurd refused
-    stops_at_line is line n own count label.ReadFault refused = absurd refused
-    stops_at_line is line n own count label.WriteFault refused = absurd refused
-    stops_at_line is line n own count label.TooMuch refused = absurd refused
-    stops_at_line is line n own count (label.LongLine m) refused = absurd refused
+        stops_within names plan r2 r.most first new (given ++ lines) (r2.cutter.line ∷ []) (taken ++ one.more) bound (Consumes-trans _ _ _ _ _ consumed one.consumed) one.read one.in_time (fine plan given given_fine)
+        n (line_number r2 old new (given ++ lines) r2.cutter.line taken n one count) f (subst (λ (l : List ℕ). StopsWithin names (l ∷ []) n f) own stops)
 
-    -- memory ran out for it
-    pub stops_for_memory : result ≡ Ok true → (line : List ℕ) → line ≡ r2.cutter.line → IsOfTenant names line → EndsReading names r old new label.OutOfMemory
-    stops_for_memory is line own line_is = λ plan first given taken consumed has given_fine.
-        let rules = desk_rules plan names in
-        let one = one_line is given taken has in
-        let all = (given ++ lines) ++ r2.cutter.line ∷ [] in
-        let next_fine : AreFine rules all =
-        fine_more rules (given ++ lines) r2.cutter.line (fine plan given given_fine)
-        (subst (λ (l : List ℕ). 0 < length l → (is_labelled l ≡ true) × (not (is_known names l) ≡ false)) own (λ filled. let so = line_is filled in (so.0, ap not so.1))) in
-        by_memory rules r.most first
-        (no_memory (WroteSoFar rules None None) (λ why given unit. ⊥) r.most r2 first new all (taken ++ one.more) bound (Consumes-trans _ _ _ _ _ consumed one.consumed)
-        (wrote_none rules (never plan names) None all next_fine) one.read)
+-- ---- lines that a reader holds
+
+-- those that it held went to those that it had given
+pub held_given : (lines lines' : List (List ℕ)) (r r2 r3 : Reading) (old new : Option (List ℕ)) → GivesNext lines r r2 old new → GivesHeld lines lines' r2 r3 → GivesNext lines' r r3 old new
+held_given lines lines' r r2 r3 old new gives held given taken has =
+    let on = gives given taken has in
+    (on.0, on.1, held new given (taken ++ on.0) on.2)
+
+pub held_stops : (names lines : List (List ℕ)) (r r2 : Reading) (old new : Option (List ℕ)) → GivesNext lines r r2 old new → GoOnFine names lines → r2.most ≡ r.most → (f : LabelFault) → (GoOnFine names lines → StopsHeld names lines r2 f) → EndsReading names r old new f
+held_stops names lines r r2 old new gives fine bound f stops = λ plan first given taken consumed has given_fine.
+    let on = gives given taken has in
+    subst (λ (m : ℕ). EndsBefore (desk_rules plan names) m (setting first None) (setting new None) f) bound
+    (stops fine plan first new given (taken ++ on.0) (Consumes-trans _ _ _ _ _ consumed on.1) on.2 given_fine)
+
+-- what a call of `next_lines` gave
+abbrev GroupGoes : Reading → Reading → List (List ℕ) → Type 0
+GroupGoes r r' group = (left : Option (List ℕ)) (given : List (List ℕ)) (taken : List ℕ) → HasRead r left given taken → HasRead r' left (given ++ group) taken
+
+module _ (names lines0 lines group : List (List ℕ)) (r0 r r' : Reading) (held : GivesHeld lines0 lines r0 r) (goes : GroupGoes r r' group) where
+  pub group_given : (lines' : List (List ℕ)) → lines' ≡ lines ++ group → GivesHeld lines0 lines' r0 r'
+  group_given lines' added left given taken has =
+      subst (λ (l : List (List ℕ)). HasRead r' left l taken) (append_assoc given lines group ∙ ap (λ (l : List (List ℕ)). given ++ l) (sym added)) (goes left (given ++ lines) taken (held left given taken has))
+
+  -- one of them is refused, or memory ran out
+  pub group_stops : (n : ℕ) → n ≡ r.cutter.number + 1 → r'.most ≡ r0.most → (GoOnFine names lines0 → GoOnFine names lines) → (f : LabelFault) → StopsWithin names group n f → GoOnFine names lines0 → StopsHeld names lines0 r0 f
+  group_stops n count bound on f stops fine0 = λ plan first left given taken consumed has given_fine.
+      let before : HasRead r left (given ++ lines) taken = held left given taken has in
+      let read : HasRead r' left ((given ++ lines) ++ group) taken = goes left (given ++ lines) taken before in
+      stops_within names plan r' r0.most first left (given ++ lines) group taken bound consumed read before.in_time (on fine0 plan given given_fine)
+      n (omega (arith, count, read_number r left (given ++ lines) taken before)) f stops
+
+pub not_written : {T : Type 0} (result : Result T LabelFault) (f : LabelFault) → IsErrAnd result (λ x. x ≡ f) → (f ≡ label.WriteFault → ⊥) → result ≡ Err label.WriteFault → ⊥
+not_written (Ok x) f is quiet same = absurd is
+not_written (Err e) f is quiet same = let written : e ≡ label.WriteFault = cc in quiet (sym is ∙ written)
+
+-- what was taken then, after lines that were taken
+pub held_then : (names a b c : List (List ℕ)) (r s t : Reading) (result : Result Bool LabelFault) → TakesHeld names a b r s (Ok true) → TakesHeld names b c s t result → TakesHeld names a c r t result
+held_then names a b c r s t (Ok x) one two = record {
+  gives = λ left given taken has. two.gives left given taken (one.gives left given taken has);
+  fine = λ fine. two.fine (one.fine fine);
+  stopped = tt;
+  bound = two.bound ∙ one.bound;
+  fewer = omega (arith, one.fewer, two.fewer);
+  quiet = two.quiet;
+  no_read = two.no_read;
+}
+held_then names a b c r s t (Err f) one two = record {
+  gives = tt;
+  fine = tt;
+  stopped = λ fine plan first left given taken consumed has given_fine.
+      subst (λ (m : ℕ). EndsBefore (desk_rules plan names) m (setting first None) (setting left None) f) one.bound (two.stopped (one.fine fine) plan first left given taken consumed (one.gives left given taken has) given_fine);
+  bound = two.bound ∙ one.bound;
+  fewer = omega (arith, one.fewer, two.fewer);
+  quiet = two.quiet;
+  no_read = two.no_read;
+}
+
+pub held_passed : (names a b : List (List ℕ)) (r s : Reading) (f : LabelFault) (result : Result Bool LabelFault) → IsErrAnd result (λ x. x ≡ f) → TakesHeld names a b r s (Err f) → TakesHeld names a b r s result
+held_passed names a b r s f (Ok x) is takes = absurd is
+held_passed names a b r s f (Err e) is takes = subst (λ (x : LabelFault). TakesHeld names a b r s (Err x)) (sym is) takes
+
+pub held_as : (names a b : List (List ℕ)) (r s : Reading) (x y : Bool) → TakesHeld names a b r s (Ok x) → TakesHeld names a b r s (Ok y)
+held_as names a b r s x y takes = record { gives = takes.gives; fine = takes.fine; stopped = tt; bound = takes.bound; fewer = takes.fewer; quiet = λ is. cc; no_read = λ is. cc }
+
+pub held_all : (names lines lines' : List (List ℕ)) (r r' : Reading) (x : Bool) → GivesHeld lines lines' r r' → (GoOnFine names lines → GoOnFine names lines') → r'.most ≡ r.most → remaining_of r' ≤ remaining_of r → TakesHeld names lines lines' r r' (Ok x)
+held_all names lines lines' r r' x gives fine bound fewer = record { gives = gives; fine = fine; stopped = tt; bound = bound; fewer = fewer; quiet = λ is. cc; no_read = λ is. cc }
+
+pub held_none : (names lines : List (List ℕ)) (r : Reading) (x : Bool) → TakesHeld names lines lines r r (Ok x)
+held_none names lines r x = held_all names lines lines r r x (λ left given taken has. has) (λ fine. fine) refl (omega arith)
+
+pub stops_quiet : (names lines : List (List ℕ)) (n : ℕ) (f : LabelFault) → StopsWithin names lines n f → f ≡ label.WriteFault → ⊥
+stops_quiet names lines n f (inl memory) is = let no : label.OutOfMemory ≡ label.WriteFault = sym memory ∙ is in cc
+stops_quiet names lines n f (inr r) is = absurd (subst (RefusesAs names r.line (n + length r.before)) is r.refused)
+
+stops_unread : (names lines : List (List ℕ)) (n : ℕ) (f : LabelFault) → StopsWithin names lines n f → f ≡ label.ReadFault → ⊥
+stops_unread names lines n f (inl memory) is = let no : label.OutOfMemory ≡ label.ReadFault = sym memory ∙ is in cc
+stops_unread names lines n f (inr r) is = absurd (subst (RefusesAs names r.line (n + length r.before)) is r.refused)
+
+pub held_not : (names lines lines' group : List (List ℕ)) (r r' : Reading) (n : ℕ) (result : Result Bool LabelFault) (f : LabelFault) → IsErrAnd result (λ x. x ≡ f) → StopsWithin names group n f → (GoOnFine names lines → StopsHeld names lines r f) → r'.most ≡ r.most → remaining_of r' ≤ remaining_of r → TakesHeld names lines lines' r r' result
+held_not names lines lines' group r r' n (Ok x) f is stops stopped bound fewer = absurd is
+held_not names lines lines' group r r' n (Err e) f is stops stopped bound fewer = record {
+  gives = tt;
+  fine = tt;
+  stopped = subst (λ (x : LabelFault). GoOnFine names lines → StopsHeld names lines r x) (sym is) stopped;
+  bound = bound;
+  fewer = fewer;
+  quiet = not_written (Err e) f is (stops_quiet names group n f stops);
+  no_read = λ same. let read : e ≡ label.ReadFault = cc in stops_unread names group n f stops (sym is ∙ read);
+}
+
+-- no read failed
+pub no_cause : {T : Type 0} (result : Result T LabelFault) (f : LabelFault) (before now : ℕ) → IsErrAnd result (λ x. x ≡ f) → (f ≡ label.ReadFault → ⊥) → now ≡ before → HasCauseIn label.ReadFault before now result
+no_cause (Ok x) f before now is never_read same = absurd is
+no_cause (Err e) f before now is never_read same = record { steady = λ _. same; failed = λ other. let read : e ≡ label.ReadFault = cc in absurd (never_read (sym is ∙ read)) }
 
 -- ---- how it went
 
@@ -160,16 +277,6 @@ pub lines_quiet : (s : LineFault) → fault_of_lines s ≡ label.WriteFault → 
 lines_quiet line_fault.ReadFault is = cc
 lines_quiet line_fault.TooMuch is = cc
 lines_quiet (line_fault.LongLine n) is = cc
-
-pub refused_quiet : (names : List (List ℕ)) (line : List ℕ) (n : ℕ) (f : LabelFault) → RefusesAs names line n f → f ≡ label.WriteFault → ⊥
-refused_quiet names line n f refused is = subst (RefusesAs names line n) is refused
-
-pub memory_quiet : label.OutOfMemory ≡ label.WriteFault → ⊥
-memory_quiet is = cc
-
-pub not_written : {T : Type 0} (result : Result T LabelFault) (f : LabelFault) → IsErrAnd result (λ x. x ≡ f) → (f ≡ label.WriteFault → ⊥) → result ≡ Err label.WriteFault → ⊥
-not_written (Ok x) f is quiet same = absurd is
-not_written (Err e) f is quiet same = let written : e ≡ label.WriteFault = cc in quiet (sym is ∙ written)
 
 module _ (names : List (List ℕ)) (r r' : Reading) (old new : Option (List ℕ)) (lines : List (List ℕ)) (bound : r'.most ≡ r.most) where
   pub gathers_full : GivesNext lines r r' old new → GoOnFine names lines → remaining_of r' < remaining_of r → Gathers names r r' old new lines (Ok true)

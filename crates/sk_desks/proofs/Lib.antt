@@ -1,6 +1,7 @@
 pub mod ItemLaws
 pub mod Taking
 pub mod BlockLaws
+pub mod WindowLaws
 pub mod GatherLaws
 pub mod WentLaws
 pub mod Counting

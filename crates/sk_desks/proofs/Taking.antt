@@ -133,10 +133,13 @@ pub takes_items : (seed : ℕ) (d d' : DeskState) (lines : List (List ℕ)) (t :
 takes_items seed d d' lines t u has took within =
     subst (λ (l : List ℕ). TakesItems (get_or d.updaters t u) l (get_or d'.updaters t u)) (took.took t (omega (arith, within, has.tenants))) (taken_by d d' took.calls t u took.done within)
 
+pub names_still : (seed : ℕ) (d d' : DeskState) (lines : List (List ℕ)) → TakesLines seed d lines d' → d'.names ≡ d.names
+names_still seed d d' lines took = names_stay d d' took.calls took.done
+
 pub has_still : (seed : ℕ) (d d' : DeskState) (lines : List (List ℕ)) → TakesLines seed d lines d' → HasTenants d → HasTenants d'
 has_still seed d d' lines took has = record {
-  different = subst AreDifferent (sym (names_stay d d' took.calls took.done)) has.different;
-  tenants = count_stays d d' took.calls took.done ∙ has.tenants ∙ ap length (sym (names_stay d d' took.calls took.done));
+  different = subst AreDifferent (sym (names_still seed d d' lines took)) has.different;
+  tenants = count_stays d d' took.calls took.done ∙ has.tenants ∙ ap length (sym (names_still seed d d' lines took));
 }
 
 -- each line takes the room of one item at most

@@ -12,14 +12,15 @@ use Rattle.sk_label.specs.declared.fault.LabelFault.{LabelFault}
 use Rattle.sk_label.specs.declared.fault.LabelFault.TheVariants as fault
 use Rattle.sk_label.proofs.QuietLaws.{ends_quietly}
 use Rattle.sk_label.proofs.RuleLaws.{nothing_is_fine}
-use Rattle.sk_fill.specs.Windows.{WindowState, all_lines}
+use Rattle.sk_fill.specs.Windows.{all_lines}
 use Rattle.sk_fill.proofs.Cutting.{all_lines_more}
 use Rattle.sk_fill.proofs.Filled.{read_few}
 use Rattle.sk_tenant.specs.Desks.{DeskState}
 use Rattle.sk_desks.specs.declared.plan.Plan.{Plan}
 use Rattle.sk_desks.specs.Desks.{desk_rules}
 use Rattle.sk_desks.specs.Feeds.{HaveRoom, TakeBlocks}
-use Rattle.sk_desks.specs.Windows.{window_lines, AreUnused, HaveTaken, WentToDesks}
+use Rattle.sk_desks.specs.Entries.{LabelledState}
+use Rattle.sk_desks.specs.Windows.{AreUnused, HaveTaken, WentToDesks}
 use Rattle.sk_desks.specs.Gathers.{GivesNext, GoOnFine, EndsReading, Gathers}
 use Rattle.sk_desks.proofs.BlockLaws.{take_none, take_window, room_for}
 use Rattle.sk_desks.proofs.GatherLaws.{never}
@@ -28,9 +29,9 @@ use Rattle.sk_desks.proofs.GatherLaws.{never}
 
 module _ (plan : Plan) (names : List (List ℕ)) where
   -- nothing was read yet
-  pub went_start : (desks : List DeskState) (window spare : WindowState) (r : Reading) (left : Option (List ℕ)) → AreUnused names desks → HasRead r left [] [] → window.lines ≡ [] → window.most ≡ window_lines → spare.most ≡ window_lines →
+  pub went_start : (desks : List DeskState) (window spare : LabelledState) (r : Reading) (left : Option (List ℕ)) → AreUnused names desks → HasRead r left [] [] → window.lines ≡ [] → window.names ≡ names → spare.names ≡ names →
       WentToDesks plan names desks desks window spare true r left left
-  went_start desks window spare r left unused read empty most spare_most = record {
+  went_start desks window spare r left unused read empty named spare_named = record {
     unused = unused;
     windows = [];
     taken = [];
@@ -38,27 +39,28 @@ module _ (plan : Plan) (names : List (List ℕ)) where
     read = subst (λ (l : List (List ℕ)). HasRead r left l []) (sym empty) read;
     fine = subst (AreFine (desk_rules plan names)) (sym empty) (nothing_is_fine (desk_rules plan names));
     took = take_none plan.seed desks;
-    most = most;
-    spare_most = spare_most;
+    names_are = named;
+    spare_names = spare_named;
     end = λ is. cc;
   }
 
-  module _ (first desks : List DeskState) (window spare : WindowState) (more : Bool) (r : Reading) (old mid : Option (List ℕ)) (went : WentToDesks plan names first desks window spare more r old mid) where
+  module _ (first desks : List DeskState) (window spare : LabelledState) (more : Bool) (r : Reading) (old mid : Option (List ℕ)) (went : WentToDesks plan names first desks window spare more r old mid) where
     pub went_few : length desks ≤ most_updaters
     went_few = omega (arith, went.took.count, went.unused.few)
 
     -- there is room for what lies in the window
-    pub went_room : HaveRoom (length window.lines) desks
-    went_room = room_for plan.seed names first desks went.windows (length window.lines) went.unused went.took
-        (omega (arith, length-append (all_lines went.windows) window.lines, read_few r mid (all_lines went.windows ++ window.lines) went.taken went.read))
+    pub went_room : HaveRoom window.names (length window.lines) desks
+    went_room = subst (λ (l : List (List ℕ)). HaveRoom l (length window.lines) desks) (sym went.names_are)
+        (room_for plan.seed names first desks went.windows (length window.lines) went.unused went.took
+        (omega (arith, length-append (all_lines went.windows) window.lines, read_few r mid (all_lines went.windows ++ window.lines) went.taken went.read)))
 
     pub went_started : (given : List (List ℕ)) × (taken : List ℕ) × HasRead r mid given taken
     went_started = (all_lines went.windows ++ window.lines, went.taken, went.read)
 
     -- the window was fed, and the next one gathered
-    pub went_more : (desks' : List DeskState) (next : WindowState) (r' : Reading) (new : Option (List ℕ)) (result : Result Bool LabelFault) (b : Bool) → TakeBlocks plan.seed desks (window.lines ∷ []) desks' →
-        Gathers names r r' mid new next.lines result → next.most ≡ window_lines → result ≡ Ok b → WentToDesks plan names first desks' next window b r' old new
-    went_more desks' next r' new result b took gathers most is =
+    pub went_more : (desks' : List DeskState) (next : LabelledState) (r' : Reading) (new : Option (List ℕ)) (result : Result Bool LabelFault) (b : Bool) → TakeBlocks plan.seed desks (window.lines ∷ []) desks' →
+        Gathers names r r' mid new next.lines result → next.names ≡ names → result ≡ Ok b → WentToDesks plan names first desks' next window b r' old new
+    went_more desks' next r' new result b took gathers named is =
         let gives : GivesNext next.lines r r' mid new = subst (λ (x : Result Bool LabelFault). OnOk x (GivesNext next.lines r r' mid new)) is gathers.gives in
         let fine : GoOnFine names next.lines = subst (λ (x : Result Bool LabelFault). OnOk x (GoOnFine names next.lines)) is gathers.fine in
         let lines : List (List ℕ) = all_lines went.windows ++ window.lines in
@@ -72,8 +74,8 @@ module _ (plan : Plan) (names : List (List ℕ)) where
           read = subst (λ (l : List (List ℕ)). HasRead r' new (l ++ next.lines) (went.taken ++ on.0)) joined on.2;
           fine = subst (λ (l : List (List ℕ)). AreFine (desk_rules plan names) (l ++ next.lines)) joined (fine plan lines went.fine);
           took = take_window plan.seed first desks desks' went.windows window.lines went.took took;
-          most = most;
-          spare_most = went.most;
+          names_are = named;
+          spare_names = went.names_are;
           end = λ ended. gathers.end (is ∙ ap (λ (x : Bool). Ok x) ended);
         }
 

@@ -36,9 +36,15 @@ pub record IsUnused (names : List (List ℕ)) (d : DeskState) : Type 0 where
   pub quota_is : d.quota ≡ most_kept
   pub none : (t : ℕ) (u : UpdaterState) → t < length d.updaters → kept_of (slice_index_or d.updaters t u) ≡ []
 
--- each desk may keep this many items more for each tenant
-abbrev pub HaveRoom : ℕ → List DeskState → Type 0
-HaveRoom count desks = (i : ℕ) (d : DeskState) → i < length desks → HasTenants (slice_index_or desks i d) × HasRoom count (slice_index_or desks i d)
+-- a desk of the tenants with these names may keep this many items more for each
+pub record IsReadyFor (names : List (List ℕ)) (count : ℕ) (d : DeskState) : Type 0 where
+  pub has : HasTenants d
+  pub names_are : d.names ≡ names
+  pub room : HasRoom count d
+
+-- each desk is so
+abbrev pub HaveRoom : List (List ℕ) → ℕ → List DeskState → Type 0
+HaveRoom names count desks = (i : ℕ) (d : DeskState) → i < length desks → IsReadyFor names count (slice_index_or desks i d)
 
 -- each desk took its blocks of these windows
 pub record TakeBlocks (seed : ℕ) (desks : List DeskState) (windows : List (List (List ℕ))) (desks' : List DeskState) : Type 0 where

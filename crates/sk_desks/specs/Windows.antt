@@ -3,12 +3,13 @@ use Rattle.std.specs.Prelude.{◌≡◌, ℕ, ◌<◌, ◌≤◌, Bool, true, fa
 use Rattle.std.specs.Io.KnownBytes.{Consumes}
 use Rattle.sk_model.specs.Limits.{most_updaters}
 use Rattle.sk_read.specs.Reading.{Reading, HasRead}
-use Rattle.sk_fill.specs.Windows.{WindowState, all_lines}
+use Rattle.sk_fill.specs.Windows.{all_lines}
 use Rattle.sk_label.specs.Rules.{AreFine}
 use Rattle.sk_tenant.specs.Desks.{DeskState}
 use Rattle.sk_desks.specs.declared.plan.Plan.{Plan}
 use Rattle.sk_desks.specs.Feeds.{IsUnused, TakeBlocks}
 use Rattle.sk_desks.specs.Desks.{desk_rules}
+use Rattle.sk_desks.specs.Entries.{LabelledState}
 
 -- a window has at most this many lines
 abbrev pub window_lines : ℕ
@@ -28,7 +29,7 @@ pub record HaveTaken (seed : ℕ) (first desks : List DeskState) (lines : List (
 
 -- a source was read from its start on by unused desks: the windows of its lines that were full were given to the
 -- desks, and the last one lies at hand; another one is there to be filled
-pub record WentToDesks (plan : Plan) (names : List (List ℕ)) (first desks : List DeskState) (window spare : WindowState) (more : Bool) (r : Reading) (old new : Option (List ℕ)) : Type 0 where
+pub record WentToDesks (plan : Plan) (names : List (List ℕ)) (first desks : List DeskState) (window spare : LabelledState) (more : Bool) (r : Reading) (old new : Option (List ℕ)) : Type 0 where
   pub unused : AreUnused names first
   pub windows : List (List (List ℕ))
   pub taken : List ℕ
@@ -36,6 +37,6 @@ pub record WentToDesks (plan : Plan) (names : List (List ℕ)) (first desks : Li
   pub read : HasRead r new (all_lines windows ++ window.lines) taken
   pub fine : AreFine (desk_rules plan names) (all_lines windows ++ window.lines)
   pub took : TakeBlocks plan.seed first windows desks
-  pub most : window.most ≡ window_lines
-  pub spare_most : spare.most ≡ window_lines
+  pub names_are : window.names ≡ names
+  pub spare_names : spare.names ≡ names
   pub end : more ≡ false → r.ended ≡ true

@@ -17,7 +17,7 @@ use crate::ending::{take_in_all, text_of};
 use crate::feed::{feed_and_gather, feed_window};
 use crate::gather::Gatherer;
 use crate::plan::Plan;
-use sk_fill::Window;
+use crate::window::LabelledWindow;
 use sk_io::{Sink, Source, write_all};
 use sk_label::{LabelFault, read_labelled};
 use sk_model::OutOfMemory;
@@ -30,9 +30,6 @@ use std::mem::swap;
 use std::num::NonZeroUsize;
 use std::sync::Wait;
 use std::thread::{Threads, available_parallelism};
-
-// A window has at most this many lines.
-const WINDOW_LINES: u32 = 65_536;
 
 /// Counts the items of each of 1 to 64 tenants with different names, in a hub of its own: a line of a source of fewer than
 /// `most` bytes is a name, a space and an item. Once the source has ended it writes for each name, in order, the name and
@@ -118,11 +115,10 @@ fn read_all<S: Source, R: Threads + Wait + Sync>(
         return read_alone(rt, alloc, plan, most, source, &mut desks[0]);
     }
     let mut gatherer = Gatherer {
-        names,
         reader: LineReader::new(alloc, most)?,
-        window: Window::new(alloc, WINDOW_LINES)?,
+        window: LabelledWindow::new(alloc, names)?,
     };
-    let mut full = Window::new(alloc, WINDOW_LINES)?;
+    let mut full = LabelledWindow::new(alloc, names)?;
     read_windows(rt, plan, &mut gatherer, &mut full, source, desks)?;
     feed_window(rt, desks, &full, plan.seed, threads_for(rt, desks.len()));
     Ok(())
@@ -177,18 +173,18 @@ fn read_with<S: Source, R: Wait>(
 
 // Gathers the lines of a source, and feeds each window that is full to the desks while the next one is gathered. `full`
 // has the last lines then.
-fn read_windows<S: Source, R: Threads + Wait + Sync>(
+fn read_windows<'n, S: Source, R: Threads + Wait + Sync>(
     rt: &R,
     plan: &Plan,
-    gatherer: &mut Gatherer<'_>,
-    full: &mut Window,
+    gatherer: &mut Gatherer<'n>,
+    full: &mut LabelledWindow<'n>,
     source: &mut S,
     desks: &mut Vec<Desk>,
 ) -> Result<(), LabelFault>
-    requires went { WentToDesks plan.now gatherer.old.names.now desks.old.items desks.old.items full.old gatherer.old.window true gatherer.old.reader (S.left source.old) (S.left source.old) }
-    ensures went { OnOk result (WentToDesks plan.now gatherer.old.names.now desks.old.items desks.new.items full.new gatherer.new.window false gatherer.new.reader (S.left source.old) (S.left source.new)) }
+    requires went { WentToDesks plan.now gatherer.old.window.names desks.old.items desks.old.items full.old gatherer.old.window true gatherer.old.reader (S.left source.old) (S.left source.old) }
+    ensures went { OnOk result (WentToDesks plan.now gatherer.old.window.names desks.old.items desks.new.items full.new gatherer.new.window false gatherer.new.reader (S.left source.old) (S.left source.new)) }
     ensures bound { OnOk result (gatherer.new.reader.most ≡ gatherer.old.reader.most) }
-    ensures early { IfErr result (EndsBefore (desk_rules plan.now gatherer.old.names.now) gatherer.old.reader.most (setting (S.left source.old) None) (setting (S.left source.new) None)) }
+    ensures early { IfErr result (EndsBefore (desk_rules plan.now gatherer.old.window.names) gatherer.old.reader.most (setting (S.left source.old) None) (setting (S.left source.new) None)) }
     ensures quiet { result ≢ Err LabelFault.WriteFault }
     ensures reads { HasCauseIn LabelFault.ReadFault (S.faults source.old) (S.faults source.new) result }
     ensures stays { S.stands_on source.new ≡ S.stands_on source.old }

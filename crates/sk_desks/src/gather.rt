@@ -1,81 +1,106 @@
-// Lines of a source that are examined one after another, and gathered in a window.
-ghost use Rattle.std.specs.Prelude.{◌≡◌, ℕ, List, [], OnOk, IfErr};
+// Lines of a source that are examined as they come, and gathered in a window.
+ghost use Rattle.std.specs.Prelude.{◌≡◌, ◌+◌, ◌<◌, ◌≤◌, ◌++◌, ℕ, List, Option, [], length, true, false, Ok};
 ghost use Rattle.sk_model.specs.Causes.{HasCauseIn};
-ghost use Rattle.sk_read.specs.Reading.{HasRead};
+ghost use Rattle.sk_read.specs.Reading.{HasRead, remaining_of};
 ghost use Rattle.sk_desks.specs.Windows.{window_lines};
-ghost use Rattle.sk_desks.specs.Gathers.{IsOfTenant, RefusesAs, Gathers};
+ghost use Rattle.sk_desks.specs.Entries.{text_limit, most_bytes};
+ghost use Rattle.sk_desks.specs.Gathers.{Gathers, TakesHeld};
 
-use sk_fill::Window;
+use crate::window::LabelledWindow;
 use sk_io::Source;
-use sk_label::{LabelFault, split};
+use sk_label::LabelFault;
+use sk_lines::{GROUP, Span};
 use sk_read::LineReader;
-use sk_tenant::Names;
 
 /// A reader of lines, and the window in which those are gathered that are empty or of a tenant.
 #[derive(Drop)]
 pub(crate) struct Gatherer<'n> {
-    pub(crate) names: &'n Names,
     pub(crate) reader: LineReader,
-    pub(crate) window: Window,
+    pub(crate) window: LabelledWindow<'n>,
 }
 
 impl Gatherer<'_> {
     /// Reads lines into the window, in the place of those that it has, until it is full, or returns `false` at the end
     /// of the source.
     pub(crate) fn gather<S: Source>(&mut self, source: &mut S) -> Result<bool, LabelFault>
-        requires lines { self.old.window.most ≡ window_lines }
         requires started { (given : List (List ℕ)) × (taken : List ℕ) × HasRead self.old.reader (S.left source.old) given taken }
-        ensures gathers { Gathers self.old.names.now self.old.reader self.new.reader (S.left source.old) (S.left source.new) self.new.window.lines result }
-        ensures names { self.new.names.now ≡ self.old.names.now }
-        ensures lines { self.new.window.most ≡ self.old.window.most }
+        ensures gathers { Gathers self.old.window.names self.old.reader self.new.reader (S.left source.old) (S.left source.new) self.new.window.lines result }
+        ensures names { self.new.window.names ≡ self.old.window.names }
         ensures cause { HasCauseIn LabelFault.ReadFault (S.faults source.old) (S.faults source.new) result }
         ensures stays { S.stands_on source.new ≡ S.stands_on source.old }
     {
         self.window.clear();
-        gather(self.names, &mut self.reader, &mut self.window, source)
+        gather(&mut self.reader, &mut self.window, source)
     }
 }
 
 // Reads lines into an empty window.
 fn gather<S: Source>(
-    names: &Names,
     reader: &mut LineReader,
-    window: &mut Window,
+    window: &mut LabelledWindow<'_>,
     source: &mut S,
 ) -> Result<bool, LabelFault>
     requires empty { window.old.lines ≡ [] }
-    requires lines { window.old.most ≡ window_lines }
+    requires no_bytes { window.old.bytes ≡ 0 }
     requires started { (given : List (List ℕ)) × (taken : List ℕ) × HasRead reader.old (S.left source.old) given taken }
-    ensures gathers { Gathers names.now reader.old reader.new (S.left source.old) (S.left source.new) window.new.lines result }
-    ensures lines { window.new.most ≡ window.old.most }
+    ensures gathers { Gathers window.old.names reader.old reader.new (S.left source.old) (S.left source.new) window.new.lines result }
+    ensures names { window.new.names ≡ window.old.names }
     ensures cause { HasCauseIn LabelFault.ReadFault (S.faults source.old) (S.faults source.new) result }
     ensures stays { S.stands_on source.new ≡ S.stands_on source.old }
 {
     'piece: while reader.next(source)? {
-        let line = reader.line();
-        examine(names, line, reader.number())?;
-        window.push(line)?;
-        if window.is_full() {
+        window.push(reader.line(), reader.number())?;
+        if take_held(window, reader)? {
             return Ok(true);
         }
     }
     Ok(false)
 }
 
-// Whether the line of this number is empty, or has the form and the name of a tenant.
-#[inline(always)]
-fn examine(names: &Names, line: &[u8], number: u64) -> Result<(), LabelFault>
-    ensures fine { OnOk result (IsOfTenant names.now line.now) }
-    ensures refused { IfErr result (RefusesAs names.now line.now number) }
+// Takes the lines that a reader holds into a window, many at once, until it is full, and returns whether it is.
+fn take_held(window: &mut LabelledWindow<'_>, reader: &mut LineReader) -> Result<bool, LabelFault>
+    requires started { (left : Option (List ℕ)) × (given : List (List ℕ)) × (taken : List ℕ) × HasRead reader.old left (given ++ window.old.lines) taken }
+    ensures takes { TakesHeld window.old.names window.old.lines window.new.lines reader.old reader.new result }
+    ensures room { result ≡ Ok false → length window.new.lines + GROUP ≤ window_lines }
+    ensures few { result ≡ Ok false → window.new.bytes < text_limit }
+    ensures names { window.new.names ≡ window.old.names }
 {
-    if line.is_empty() {
-        return Ok(());
+    let mut spans = [Span::EMPTY; GROUP];
+    'group: while window.has_room_for(held_bytes(reader)) {
+        if !take_group(window, reader, &mut spans)? {
+            return Ok(false);
+        }
     }
-    let Some(parts) = split(line) else {
-        return Err(LabelFault::BadLine(number));
-    };
-    if names.place(parts.label).is_none() {
-        return Err(LabelFault::Refused(number));
+    Ok(true)
+}
+
+// Takes some lines that a reader holds into a window, and returns whether there were any.
+fn take_group(
+    window: &mut LabelledWindow<'_>,
+    reader: &mut LineReader,
+    spans: &mut [Span; GROUP],
+) -> Result<bool, LabelFault>
+    requires started { (left : Option (List ℕ)) × (given : List (List ℕ)) × (taken : List ℕ) × HasRead reader.old left (given ++ window.old.lines) taken }
+    requires room { length window.old.lines + GROUP ≤ window_lines }
+    requires small { window.old.bytes + (length reader.old.cutter.front + length reader.old.cutter.rest) < most_bytes }
+    ensures takes { TakesHeld window.old.names window.old.lines window.new.lines reader.old reader.new result }
+    ensures progress { result ≡ Ok true → remaining_of reader.new < remaining_of reader.old }
+    ensures none { result ≡ Ok false → window.new ≡ window.old }
+    ensures names { window.new.names ≡ window.old.names }
+{
+    let first = reader.number() + 1;
+    let from = reader.front().len();
+    let count = reader.next_lines(spans);
+    if count == 0 {
+        return Ok(false);
     }
-    Ok(())
+    window.append(reader.front(), from, &spans[..count], first)?;
+    Ok(true)
+}
+
+// How many bytes a reader holds, those of lines that it gave too.
+fn held_bytes(reader: &LineReader) -> usize
+    ensures { result ≡ length reader.now.cutter.front + length reader.now.cutter.rest }
+{
+    reader.front().len() + reader.rest().len()
 }

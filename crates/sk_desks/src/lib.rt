@@ -9,6 +9,7 @@ mod ending;
 mod feed;
 mod gather;
 mod plan;
+mod window;
 
 pub use command::tenants;
 pub use plan::Plan;

@@ -5,8 +5,7 @@ use Rattle.sk_desks.proofs.command.read_windows.Given as goal
 
 abbrev pub invariant-window : goal.invariant-window
 invariant-window g l = record {
-  went : WentToDesks l.plan l.initial.gatherer.names.now l.initial.desks.items l.desks.items l.full l.gatherer.window l.more l.gatherer.reader (g.S.Source.left l.initial.source) (g.S.Source.left l.source);
-  names : l.gatherer.names.now ≡ l.initial.gatherer.names.now;
+  went : WentToDesks l.plan l.initial.gatherer.window.names l.initial.desks.items l.desks.items l.full l.gatherer.window l.more l.gatherer.reader (g.S.Source.left l.initial.source) (g.S.Source.left l.source);
   bound : l.gatherer.reader.most ≡ l.initial.gatherer.reader.most;
   steady : g.S.Source.faults l.source ≡ g.S.Source.faults l.initial.source;
   stays : g.S.Source.stands_on l.source ≡ g.S.Source.stands_on l.initial.source;

@@ -1,15 +1,16 @@
 use Rattle.std.proofs.Common.{ℕ, ◌<◌, length, get_or, sym, subst, arith}
 use Rattle.sk_fill.specs.Blocks.{block_of}
 use Rattle.sk_tenant.specs.Desks.{DeskState}
-use Rattle.sk_desks.specs.Feeds.{HasRoom, HasTenants, TakesLines}
+use Rattle.sk_desks.specs.Feeds.{IsReadyFor, TakesLines}
 use Rattle.sk_desks.proofs.BlockLaws.{take_each}
 use Rattle.sk_desks.proofs.feed.feed_each.Goals as goal
 
 pub for_each_mut-requires-clause-accepts : goal.for_each_mut-requires-clause-accepts
 for_each_mut-requires-clause-accepts g c κs within = λ i p inside is.
     let few = c.requires.few in
-    let both : HasTenants p.now × HasRoom (length c.args.window.now.lines) p.now =
-    subst (λ (d : DeskState). HasTenants d × HasRoom (length c.args.window.now.lines) d) (sym is) (c.requires.room i p.now inside) in
+    let ready : IsReadyFor c.args.window.now.names (length c.args.window.now.lines) p.now =
+    subst (IsReadyFor c.args.window.now.names (length c.args.window.now.lines)) (sym is) (c.requires.room i p.now inside) in
+    let has = ready.has in let names = ready.names_are in let room = ready.room in
     search
 
 pub returns : goal.returns

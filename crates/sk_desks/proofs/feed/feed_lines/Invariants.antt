@@ -1,11 +1,11 @@
-use Rattle.std.proofs.Common.{◌≡◌, ◌-◌, drop, slice_range}
+use Rattle.std.proofs.Common.{◌≡◌, ◌-◌, slice_range}
 use Rattle.sk_desks.specs.Feeds.{HasRoom, HasTenants, TakesLines}
 use Rattle.sk_desks.proofs.feed.feed_lines.Given as goal
 
 abbrev pub invariant-line : goal.invariant-line
 invariant-line g l = record {
-  took : TakesLines l.seed l.initial.desk (slice_range l.window.lines l.fn.from l.counter) l.desk;
-  rest : l.lines.rest ≡ drop l.counter l.window.lines;
+  took : TakesLines l.seed l.initial.desk (slice_range l.window.lines l.fn.from l.at) l.desk;
   tenants : HasTenants l.desk;
-  room : HasRoom (l.fn.to - l.counter) l.desk;
+  names : l.desk.names ≡ l.window.names;
+  room : HasRoom (l.fn.to - l.at) l.desk;
 }

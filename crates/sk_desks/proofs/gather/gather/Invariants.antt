@@ -1,15 +1,17 @@
-use Rattle.std.proofs.Common.{◌≡◌, ◌≤◌, false}
+use Rattle.std.proofs.Common.{◌≡◌, ◌+◌, ◌<◌, ◌≤◌, length}
 use Rattle.sk_read.specs.Reading.{remaining_of}
-use Rattle.sk_fill.specs.Windows.{is_full}
+use Rattle.sk_desks.specs.Entries.{text_limit}
+use Rattle.sk_desks.specs.Windows.{window_lines}
 use Rattle.sk_desks.specs.Gathers.{GivesNext, GoOnFine}
 use Rattle.sk_desks.proofs.gather.gather.Given as goal
 
 abbrev pub invariant-piece : goal.invariant-piece
 invariant-piece g l = record {
   gives : GivesNext l.window.lines l.initial.reader l.reader (g.S.Source.left l.initial.source) (g.S.Source.left l.source);
-  fine : GoOnFine l.names l.window.lines;
-  room : is_full l.window ≡ false;
-  most : l.window.most ≡ l.initial.window.most;
+  fine : GoOnFine l.initial.window.names l.window.lines;
+  room : length l.window.lines + 128 ≤ window_lines;
+  small : l.window.bytes < text_limit;
+  names : l.window.names ≡ l.initial.window.names;
   bound : l.reader.most ≡ l.initial.reader.most;
   fewer : remaining_of l.reader ≤ remaining_of l.initial.reader;
   steady : g.S.Source.faults l.source ≡ g.S.Source.faults l.initial.source;
