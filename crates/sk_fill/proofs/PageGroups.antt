@@ -1,32 +1,17 @@
 -- Many lines of a page that are given at once.
-use Rattle.std.proofs.Common.{◌≡◌, ℕ, zero, suc, ◌+◌, ◌-◌, ◌≤◌, List, [], ◌∷◌, ◌++◌, length, take, drop, map, slice_range, refl, sym, ap, ◌∙◌, subst, arith, length-take, length-drop, take-take}
+use Rattle.std.proofs.Common.{◌≡◌, ℕ, ◌+◌, ◌-◌, ◌≤◌, List, [], ◌∷◌, ◌++◌, length, take, drop, slice_range, refl, sym, ap, ◌∙◌, subst, arith, length-take, length-drop}
 use Rattle.std.specs.Str.Lines.{strip_carriage_return}
-use Rattle.std.proofs.lemmas.List.{take-map}
 use Rattle.std.proofs.lemmas.List.Elements.{All-nil, All-cons, All-head}
 use Rattle.sk_model.specs.Lines.{lines_of}
 use Rattle.sk_model.proofs.Lines.{length-strip}
 use Rattle.sk_lines.specs.Cutter.{IsOfWholeLines}
 use Rattle.sk_lines.specs.Marks.{KnowsLfs}
 use Rattle.sk_fill.specs.Pages.{text_from, IsPadded, AreOnTheWay}
-use Rattle.sk_lines.specs.Spans.{FollowLfs, AreEnds, IsLine, AreLines, IsLongLine, AreBehind, ends_of, lines_at}
+use Rattle.sk_lines.specs.Spans.{IsLine, AreLines, IsLongLine, AreBehind, lines_at}
 use Rattle.sk_lines.specs.declared.spans.Span.{Span}
 use Rattle.sk_lines.proofs.Places.{known_none}
 use Rattle.sk_lines.proofs.Steps.{found_line}
 use Rattle.sk_fill.proofs.PageText.{whole_behind, next_is}
-
--- ---- ends
-
-ends_in_front : (bytes : List ℕ) (from at m : ℕ) (ends : List ℕ) → FollowLfs bytes from ends at → AreEnds bytes from (take m ends)
-unfolding FollowLfs
-ends_in_front bytes from at zero ends follow = (from, refl)
-ends_in_front bytes from at (suc m) [] follow = (from, refl)
-ends_in_front bytes from at (suc m) (end ∷ ends) follow = let later = ends_in_front bytes (end + 1) at m ends follow.1 in (later.0, (follow.0, later.1))
-
--- the first of some ends
-pub fewer_ends : (bytes : List ℕ) (from m n : ℕ) (spans : List Span) → m ≤ n → AreEnds bytes from (ends_of n spans) → AreEnds bytes from (ends_of m spans)
-fewer_ends bytes from m n spans few ends =
-    let same : take m (ends_of n spans) ≡ ends_of m spans = take-map (λ (s : Span). s.to) m (take n spans) ∙ ap (map (λ (s : Span). s.to)) (take-take m n spans few) in
-    subst (AreEnds bytes from) same (ends_in_front bytes from ends.0 m (ends_of n spans) ends.1)
 
 -- no line is longer than its text
 pub no_long_line : (bytes : List ℕ) (at : ℕ) → IsLongLine bytes (length bytes) at → ⊥

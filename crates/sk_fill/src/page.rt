@@ -7,7 +7,7 @@ ghost use Rattle.sk_fill.specs.Pages.{IsPadded, Begins, text_in};
 ghost use Rattle.sk_lines.specs.Runs.{IsRun};
 ghost use Rattle.sk_lines.specs.Spans.{AreBehind, lines_at};
 
-use sk_lines::{BLOCK, GROUP, Span, cut_lines, find_ends, line_len, seek, skip_lfs, take_lf};
+use sk_lines::{BLOCK, GROUP, Span, cut_group, line_len, seek, skip_lfs, take_lf};
 use sk_model::OutOfMemory;
 use std::alloc::Global;
 use std::marker::Model;
@@ -319,9 +319,8 @@ impl<'a> PageLines<'a> {
         ensures some { 0 < most → 0 < length self.old.rest → 0 < result }
         ensures text { self.new.text ≡ self.old.text }
     {
-        let found = find_ends(self.text, self.at, spans).min(most);
         // No line is longer than the text.
-        let (count, at) = cut_lines(self.text, self.at, self.text.len(), spans, found);
+        let (count, at) = cut_group(self.text, self.at, self.text.len(), most, spans);
         self.at = at;
         self.scanned = at;
         self.marks = 0;

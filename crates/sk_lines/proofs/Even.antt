@@ -1,5 +1,5 @@
 -- Lines of one length.
-use Rattle.std.proofs.Common.{◌≡◌, ◌≢◌, ℕ, ◌+◌, ◌-◌, ◌<◌, ◌≤◌, ◌%◌, ◌^◌, ◌==◌, Bool, true, false, cond, List, [], ◌∷◌, ◌++◌, length, map, take, drop, get_or, set, slice_index, slice_range, replicate, refl, sym, ap, ◌∙◌, subst, arith, eqb-true, nat_lt, lt-ltb, ⊎_elim, w8}
+use Rattle.std.proofs.Common.{◌≡◌, ◌≢◌, ℕ, ◌+◌, ◌-◌, ◌<◌, ◌≤◌, ◌%◌, ◌^◌, ◌==◌, Bool, true, false, cond, List, ◌++◌, length, map, take, get_or, set, slice_index, slice_range, replicate, refl, sym, ap, ◌∙◌, subst, arith, eqb-true, nat_lt, lt-ltb, ⊎_elim, w8}
 use Rattle.std.specs.Int.{bit_at}
 use Rattle.std.specs.Str.Lines.{strip_carriage_return}
 use Rattle.std.specs.Simd.Lanes.{zip2, mask_l, top, chunk}
