@@ -3,15 +3,13 @@ ghost use Rattle.std.specs.Io.{ReadsAtMost};
 ghost use Rattle.std.specs.Io.KnownBytes.{ReadConsumes};
 ghost use Rattle.sk_model.specs.Causes.{HasCause};
 
+use crate::opener::Opener;
 use crate::shelf::Shelf;
 use crate::steps::{count_fault, read_some};
 use crate::stream::Failed;
-use std::fs;
-use std::io::Read;
-use std::rt::Files;
 
-/// The files of the system, by their paths. It counts the system's errors, and knows neither their bytes
-/// nor what was opened.
+/// The files that an opener reaches, as the files of the system by their paths. It counts errors, and does not
+/// know the bytes; it knows what was opened if the opener keeps that.
 #[derive(Drop)]
 pub struct FileShelf<R> {
     rt: R,
@@ -19,9 +17,10 @@ pub struct FileShelf<R> {
     read_faults: u64,
 }
 
-impl<R: Files> FileShelf<R> {
+impl<R: Opener> FileShelf<R> {
     /// The files that `rt` reaches.
     pub fn new(rt: R) -> Self
+        ensures opened { ⟦<FileShelf<R> as Shelf>⟧.opened result ≡ R.names rt }
         ensures opens { ⟦<FileShelf<R> as Shelf>⟧.open_faults result ≡ 0 }
         ensures reads { ⟦<FileShelf<R> as Shelf>⟧.read_faults result ≡ 0 }
     {
@@ -33,7 +32,7 @@ impl<R: Files> FileShelf<R> {
     }
 }
 
-impl<R: Files> Shelf for FileShelf<R> {
+impl<R: Opener> Shelf for FileShelf<R> {
     type File = R::File;
 
     ghost open_faults = { λ s. s.open_faults };
@@ -42,14 +41,14 @@ impl<R: Files> Shelf for FileShelf<R> {
 
     ghost files = { λ _. None };
 
-    ghost opened = { λ _. None };
+    ghost opened = { λ s. R.names s.rt };
 
     ghost left = { λ _ _. None };
 
     ghost rest = { λ _. None };
 
     fn open(&mut self, name: &str) -> Result<R::File, Failed> {
-        match fs::open(&self.rt, name) {
+        match self.rt.open_named(name) {
             Ok(file) => Ok(file),
             Err(_) => Err(count_fault(&mut self.open_faults)),
         }
@@ -64,8 +63,8 @@ impl<R: Files> Shelf for FileShelf<R> {
         ensures file { ReadConsumes (R.File.remaining file.old) (R.File.remaining file.new) result buf.new }
         ensures cause { let faults = ⟦<FileShelf<R> as Shelf>⟧.read_faults in
             HasCause (faults self.old) (faults self.new) result }
-        ensures opens { let faults = ⟦<FileShelf<R> as Shelf>⟧.open_faults in
-            faults self.new ≡ faults self.old }
+        ensures opens { let shelf = ⟦<FileShelf<R> as Shelf>⟧ in
+            (shelf.open_faults self.new ≡ shelf.open_faults self.old) × (shelf.opened self.new ≡ shelf.opened self.old) }
     {
         match read_some(file, buf) {
             Ok(n) => Ok(n),
