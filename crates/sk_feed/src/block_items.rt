@@ -1,5 +1,5 @@
 //! The items of a block of a window on their way to an updater, many lines at a time.
-ghost use Rattle.std.specs.Prelude.{◌≡◌, ◌<◌, ◌≤◌, ◌+◌, ◌++◌, ℕ, List, [], length, take, slice_range, true};
+ghost use Rattle.std.specs.Prelude.{◌≡◌, ◌<◌, ◌≤◌, ◌+◌, ◌++◌, ℕ, List, [], length, slice_range, true};
 ghost use Rattle.std.specs.List.{filter};
 ghost use Rattle.sk_hub.specs.Updaters.{UpdaterState, kept_of};
 ghost use Rattle.sk_fill.specs.Windows.{items_in};
@@ -8,10 +8,9 @@ ghost use Rattle.sk_feed.specs.OnItsWay.{IsOnItsWay};
 ghost use Rattle.sk_model.specs.Limits.{most_kept};
 ghost use Rattle.sk_model.specs.Width.{AreItems};
 
-use crate::feed::offer;
 use sk_compose::Composable;
 use sk_fill::{Block, Window, WindowLines, gather_all};
-use sk_hub::{Update, Updater};
+use sk_hub::Updater;
 use sk_lines::{GROUP, Span};
 use sk_read::Kind;
 use std::marker::Model;
@@ -87,7 +86,7 @@ impl<'a> BlockItems<'a> {
         ensures kind { self.new.kind ≡ self.old.kind }
         ensures rest { self.new.rest ≡ self.old.rest }
     {
-        self.at += offer_each(u, &self.kept[self.at..self.end]);
+        self.at += u.update_each(&self.kept[self.at..self.end]);
         self.at == self.end
     }
 
@@ -105,19 +104,4 @@ impl<'a> BlockItems<'a> {
         self.at = 0;
         self.end = gather_all::<C>(self.kind, hint, text, &spans[..count], &mut self.kept);
     }
-}
-
-// Offers items, in order, until the updater is busy with one, and returns how many were taken.
-fn offer_each<C: Composable>(u: &mut Updater<C>, items: &[u64]) -> usize
-    requires items { AreItems items.now }
-    requires room { length (kept_of u.old) + length items.now ≤ most_kept }
-    ensures within { result ≤ length items.now }
-    ensures taken { Takes C.keeps_of C.hint_of u.old (take result items.now) u.new }
-{
-    'item: for at in 0..items.len() {
-        if let Update::Busy = offer(u, items[at]) {
-            return at;
-        }
-    }
-    items.len()
 }

@@ -7,9 +7,9 @@ use Rattle.sk_feed.proofs.block_items.BlockItems.offer_waiting.Goals as goal
 pub invariant_of-self : goal.invariant_of-self
 invariant_of-self g c =
     let a = c.self.inside in
-    let n = c.offer_each.result in
+    let n = c.update_each.result in
     let waiting : List ℕ = slice_range a.kept a.at a.end in
-    let few = c.offer_each.ensures.within in
+    let few = c.update_each.ensures.within in
     let order = c.self.invariant.0 in
     let inside : a.at + n ≤ a.end = omega (arith, few, length-take (a.end - a.at) (drop a.at a.kept), order) in (
       inside,
@@ -21,12 +21,12 @@ invariant_of-self g c =
 pub returns-clause-taken : goal.returns-clause-taken
 returns-clause-taken g c =
     let a = c.self.inside in
-    let n = c.offer_each.result in
+    let n = c.update_each.result in
     let waiting : List ℕ = slice_range a.kept a.at a.end in
-    let few = c.offer_each.ensures.within in
+    let few = c.update_each.ensures.within in
     let order = c.self.invariant.0 in (
       take n waiting,
       ap (λ b. b.waiting) (sym c.self.view_is) ∙ sym (take-append-drop n waiting)
           ∙ ap (λ l. take n waiting ++ l) (sym (range_less a.kept a.at a.end n (omega (arith, few, length-take (a.end - a.at) (drop a.at a.kept), order)))),
-      c.offer_each.ensures.taken,
+      c.update_each.ensures.taken,
     )
