@@ -24,6 +24,10 @@ pub struct Gathered {
     pub items: usize,
 }
 
+impl Gathered {
+    const NOTHING: Gathered = Gathered { lines: 0, items: 0 };
+}
+
 /// Writes the items of lines that a hint keeps to the start of `kept`, up to the first line that is neither empty
 /// nor an item. It does not branch on whether an item is kept: a processor would often foretell that wrongly.
 #[inline(always)]
@@ -43,47 +47,18 @@ pub fn gather<C: Composable>(
     ensures kept { take result.items kept.new ≡ filter (C.keeps_of hint) (items_in kind (take result.lines (lines_at spans.now text.now))) }
     ensures below { AreItems (take result.items kept.new) }
 {
-    let first = gather_first::<C>(kind, hint, text, spans, kept);
-    let mut items = first.items;
-    'line: for at in first.lines..spans.len() {
-        let line = &text[spans[at].from..spans[at].to];
-        if !line.is_empty() {
-            match kind.item_at(text, spans[at]) {
-                Some(item) => {
-                    kept[items] = item;
-                    items += usize::from(C::keeps(hint, item));
-                }
-                None => return Gathered { lines: at, items },
-            }
-        }
-    }
-    Gathered {
-        lines: spans.len(),
-        items,
-    }
-}
-
-// The same of the first lines, as far as there is a shorter way for them.
-#[inline(always)]
-fn gather_first<C: Composable>(
-    kind: Kind,
-    hint: u64,
-    text: &[u8],
-    spans: &[Span],
-    kept: &mut [u64; GROUP],
-) -> Gathered
-    requires few { length spans.now ≤ GROUP }
-    requires within { AreBehind 0 spans.now text.now }
-    ensures { HasGathered (C.keeps_of hint) kind (lines_at spans.now text.now) kept.new result.lines result.items }
-{
+    // Each kind has a loop of its own, so that neither pays for what the other needs.
     match kind {
-        Kind::Hash(_) => gather_blocks::<C>(kind, hint, text, spans, kept),
-        Kind::Raw => Gathered { lines: 0, items: 0 },
+        Kind::Hash(_) => {
+            let first = gather_blocks::<C>(kind, hint, text, spans, kept);
+            gather_rest::<C>(kind, hint, text, spans, first, kept)
+        }
+        Kind::Raw => gather_rest::<C>(kind, hint, text, spans, Gathered::NOTHING, kept),
     }
 }
 
-// The same of the first lines that have one block: a loop over lines of one length has no branch on it, and keeps
-// the numbers of the hash in registers.
+// The same of the first lines, while they have one block each: a loop over lines of one length has no branch on it,
+// and keeps the numbers of the hash in registers.
 #[inline(always)]
 fn gather_blocks<C: Composable>(
     kind: Kind,
@@ -117,6 +92,42 @@ fn gather_blocks<C: Composable>(
     Gathered {
         lines: spans.len(),
         items: count,
+    }
+}
+
+// The same of the lines after the first, of which this was found.
+#[inline(always)]
+fn gather_rest<C: Composable>(
+    kind: Kind,
+    hint: u64,
+    text: &[u8],
+    spans: &[Span],
+    first: Gathered,
+    kept: &mut [u64; GROUP],
+) -> Gathered
+    requires few { length spans.now ≤ GROUP }
+    requires within { AreBehind 0 spans.now text.now }
+    requires first { HasGathered (C.keeps_of hint) kind (lines_at spans.now text.now) kept.old first.lines first.items }
+    ensures found { HasGathered (C.keeps_of hint) kind (lines_at spans.now text.now) kept.new result.lines result.items }
+    ensures bad { result.lines < length spans.now → IsBad kind (slice_index_or (lines_at spans.now text.now) result.lines []) }
+    ensures below { AreItems (take result.items kept.new) }
+{
+    let mut items = first.items;
+    'line: for at in first.lines..spans.len() {
+        let line = &text[spans[at].from..spans[at].to];
+        if !line.is_empty() {
+            match kind.item_at(text, spans[at]) {
+                Some(item) => {
+                    kept[items] = item;
+                    items += usize::from(C::keeps(hint, item));
+                }
+                None => return Gathered { lines: at, items },
+            }
+        }
+    }
+    Gathered {
+        lines: spans.len(),
+        items,
     }
 }
 
