@@ -117,7 +117,7 @@ impl<C: Composable> Updater<C> {
     }
 
     /// Updates by items, in order, until the updater is busy with one, and returns how many came before that one.
-    /// It looks as often as `update` would.
+    /// An eager updater hands over together those of a call.
     pub fn update_each(&mut self, items: &[u64]) -> usize
         requires items { AreItems items.now }
         requires room { length (kept_of self.old) + length items.now ≤ most_kept }
@@ -137,8 +137,7 @@ impl<C: Composable> Updater<C> {
         at
     }
 
-    // Takes some of the items, or none if it is busy with the first. Before the last that the buffer has room for none
-    // needs a look.
+    // Takes some of the items, or none if it is busy with the first.
     fn take_some(&mut self, items: &[u64]) -> usize
         requires some { 0 < length items.now }
         requires items { AreItems items.now }
@@ -148,15 +147,31 @@ impl<C: Composable> Updater<C> {
         ensures full { result ≡ 0 → length self.new.fill ≡ self.new.size }
         ensures busy { result ≡ 0 → (mine_of self.new.view).ready ≡ false }
     {
-        let room = (self.size() - self.len()) as usize;
-        if room < 2 || self.is_eager() {
+        let count = self.count_before_due(items.len());
+        if count == 0 {
             return self.take_first(items[0]);
         }
         // It shows the proof which list the hint is of.
         let _hint = self.hint();
-        let count = items.len().min(room - 1);
         self.put_each(&items[..count]);
         count
+    }
+
+    // How many of some items come before one with which the buffer may be due: the last that it has room for, or the last
+    // of all if the updater is eager. These need no look.
+    fn count_before_due(&self, count: usize) -> usize
+        requires some { 0 < count }
+        ensures within { result ≤ count }
+        ensures room { length self.now.fill + result ≤ self.now.size }
+    {
+        let room = (self.size() - self.len()) as usize;
+        if room == 0 {
+            return 0;
+        }
+        if self.is_eager() {
+            return (room - 1).min(count - 1);
+        }
+        (room - 1).min(count)
     }
 
     // Takes an item, or none if it is busy.
@@ -241,15 +256,14 @@ impl<C: Composable> Updater<C> {
         ensures handed { OnTrue result (HandsOver C.hint_of self.old [] self.new) }
         ensures busy { OnFalse result (LooksInVain self.old self.new) }
     {
+        let hint = self.seat.look();
+        if hint == 0 {
+            return false;
+        }
         let Some(fill) = self.fill.take() else {
             unreachable!()
         };
         let count = fill.len();
-        let hint = self.seat.look();
-        if hint == 0 {
-            self.fill = Some(fill);
-            return false;
-        }
         let full = Parcel {
             buffer: fill,
             told: None,

@@ -4,7 +4,7 @@ use Rattle.std.specs.List.{filter}
 use Rattle.std.proofs.lemmas.List.Elements.{All-filter}
 use Rattle.sk_model.specs.Sketch.{rising, k_smallest}
 use Rattle.sk_model.specs.Width.{IsItem, AreItems}
-use Rattle.sk_theta.specs.Kept.{Sketch, StandsFor}
+use Rattle.sk_theta.specs.Kept.{Sketch}
 use Rattle.sk_heap.specs.Table.{is_at_home}
 use Rattle.sk_heap.proofs.AtHome.{others_stand}
 use Rattle.sk_heap.proofs.heap_theta.HeapTheta.merge_few.Goals as goal
