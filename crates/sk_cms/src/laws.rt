@@ -44,7 +44,7 @@ pub fn any_order()
         → least_of rows width x items ≡ least_of rows width x others }
 {}
 
-/// If a list of updates has exactly these items of each updater, it answers as all their items do.
+/// If a list of updates has exactly these items of each updater, a tally of the list is one of all their items.
 pub fn a_tally_is_of_all_items()
     ensures { (x rows width n least updaters : ℕ) (list : List Entry) (items : ℕ → List ℕ)
         → All (λ entry. entry.0 < updaters) list → ((i : ℕ) → i < updaters → entries_by i list ≡ items i)

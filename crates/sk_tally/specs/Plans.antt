@@ -1,4 +1,4 @@
--- What a tally is asked, within which limits, and how it is told.
+-- What a tally is asked, within which limits, and how it is written.
 use Rattle.std.specs.Prelude.{ℕ, List}
 use Rattle.sk_model.specs.Limits.{most_size, most_updaters, IsFrom}
 use Rattle.sk_cms.specs.Estimate.{least_of, times}

@@ -12,6 +12,6 @@ count_line n least = labelled (codes "n ") n ++ (labelled (codes " item ") least
 abbrev pub line_by : ℕ → ℕ → ℕ → List ℕ → List ℕ
 line_by rows width x items = count_line (length items) (least_of rows width x items)
 
--- what a sketch answers is not below how often it is among them
+-- what a sketch returns is not below how often it is among them
 pub at_least_so : (rows width x : ℕ) (items : List ℕ) (n least : ℕ) → IsTally x rows width items n least → times x items ≤ least_of rows width x items
 at_least_so rows width x items n least is = subst (λ m. times x items ≤ m) is.value is.over

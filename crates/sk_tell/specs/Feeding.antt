@@ -12,7 +12,7 @@ use Rattle.sk_tell.specs.Manners.{Manner, lines_of_window, share_of}
 use Rattle.sk_tell.specs.Moments.{Moment, AreMoments}
 use Rattle.sk_tell.specs.Texts.{interim_text}
 
--- it has kept nothing and holds nothing told, and has buffers of this size
+-- it has kept nothing and has no told value, and has buffers of this size
 pub record IsIdle (size : ℕ) (u : UpdaterState) : Type 0 where
   pub kept : kept_of u ≡ []
   pub size_is : u.size ≡ size

@@ -24,7 +24,7 @@ pub record IsMoment (manner : Manner) (windows : List (List (List ℕ))) (m : Mo
 abbrev pub moments_due : Manner → List (List (List ℕ)) → ℕ
 moments_due manner windows = if is_some manner.window then length windows else 0
 
--- the list of a later moment goes on from this one's
+-- the list of a later moment continues this one's
 abbrev pub Follows : Moment → Moment → Type 0
 Follows m m' = Begins m.list m'.list
 

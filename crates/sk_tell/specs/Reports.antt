@@ -23,7 +23,7 @@ showing query reader written = record { query = query; reader = reader; written 
 abbrev pub due_line : {Q : Type 0} → (Q → List ℕ → List ℕ → List ℕ) → ℕ → Q → Learnt → List ℕ
 due_line line lines query reader = interim_line lines (line query reader.numbers (items_in reader.known))
 
--- the reader learnt what each updater of a hub was told
+-- the reader learnt the told value of each updater of a hub
 pub record LearnsHub (r : Learnt) (us : List UpdaterState) (s : Learnt) : Type 0 where
   pub goes : ReaderGoesOn r s
   pub knows : (i : ℕ) (d : UpdaterState) → i < length us → Knows s (slice_index_or us i d)

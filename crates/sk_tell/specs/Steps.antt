@@ -1,4 +1,4 @@
--- Where a telling stands between two windows, and what it says of windows that were fed and reported.
+-- How far a telling is between two windows, and what it says of windows that were fed and reported.
 use Rattle.std.specs.Prelude.{◌≡◌, ℕ, ◌<◌, false, List, length, All, slice_index_or}
 use Rattle.std.specs.Io.KnownBytes.{Appends}
 use Rattle.sk_model.specs.Entries.{Entry, entries_by}
@@ -12,7 +12,8 @@ use Rattle.sk_tell.specs.Moments.{Moment}
 use Rattle.sk_tell.specs.Reports.{Showing}
 use Rattle.sk_tell.specs.Texts.{interim_text}
 
--- updater i has kept its share of these windows; all that it was told before it holds nothing told is in the list
+-- updater i has kept its share of these windows; if it has no told value, what it handed over before its last buffer is
+-- in the list
 pub record Took (manner : Manner) (windows : List (List (List ℕ))) (list : List Entry) (i : ℕ) (u : UpdaterState) : Type 0 where
   pub number : u.number ≡ i
   pub kept : kept_of u ≡ share_of manner windows i

@@ -48,7 +48,7 @@ impl<S: Sequential, Q: Line<S>, O: Sink, R: Wait, W: Wait + Drop> Report<Version
     }
 }
 
-// Writes the line of an answer after n units.
+// Writes the line of what a query returned, after n units.
 fn write_interim<S: Sequential, Q: Line<S>, O: Sink>(
     out: &mut O,
     units: u64,

@@ -11,7 +11,7 @@ pub trait Line<S: Sequential>: Query<S, Answer: Drop> + Copy {
     /// The line of items, by a sketch with these numbers.
     ghost line: { Self → List ℕ → List ℕ → List ℕ };
 
-    /// Two numbers of the items of a line: an answer says that the first is at most the other.
+    /// Two numbers of the items of a line: what the query returns says that the first is at most the other.
     ghost lower: { Self → List ℕ → List ℕ → ℕ };
 
     ghost upper: { Self → List ℕ → List ℕ → ℕ };
