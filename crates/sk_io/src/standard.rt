@@ -1,13 +1,14 @@
-ghost use Rattle.std.specs.Prelude.{◌≡◌, ◌<◌, None, IfOk, length, take};
+ghost use Rattle.std.specs.Prelude.{◌≡◌, ◌<◌, None, IfOk, OnOk, length, take};
 ghost use Rattle.std.specs.Io.{WritesAtMost};
-ghost use Rattle.std.specs.Io.KnownBytes.{Appends, WriteAppends};
+ghost use Rattle.std.specs.Io.KnownBytes.{Appends, IsAtEnd, WriteAppends};
 ghost use Rattle.sk_model.specs.Causes.{HasCause};
 ghost use Rattle.sk_io.specs.Base.{nothing};
 ghost use Rattle.sk_io.specs.Standard.{writer_of};
 
-use crate::steps::{count_fault, flush_some, read_some, write_some};
+use crate::outlet::Outlet;
+use crate::steps::{count_fault, read_some};
 use crate::stream::{Failed, Sink, Source};
-use std::io::{Read, Write};
+use std::io::Read;
 
 /// A reader of std as a source, which counts the reader's errors.
 #[derive(Drop)]
@@ -41,7 +42,7 @@ impl<R: Read> Source for StdSource<R> {
     }
 }
 
-/// A writer of std as a sink, flushed after each write, which counts the writer's errors. A write
+/// An outlet as a sink, as a writer of std is one: it hands on each write, and counts the errors. A write
 /// that takes no byte is an error too. What a flush that fails has done to the bytes is unknown,
 /// so the sink reports none.
 #[derive(Drop)]
@@ -50,7 +51,7 @@ pub struct StdSink<W> {
     faults: u64,
 }
 
-impl<W: Write> StdSink<W> {
+impl<W: Outlet> StdSink<W> {
     /// A sink that hands all to `inner`.
     pub fn new(inner: W) -> Self
         ensures writer { writer_of result ≡ inner }
@@ -60,7 +61,7 @@ impl<W: Write> StdSink<W> {
     }
 }
 
-impl<W: Write> Sink for StdSink<W> {
+impl<W: Outlet> Sink for StdSink<W> {
     ghost written = { λ _. None };
 
     ghost faults = { λ s. s.faults };
@@ -74,6 +75,7 @@ impl<W: Write> Sink for StdSink<W> {
             HasCause (faults self.old) (faults self.new) result }
         ensures writer { IfOk result (λ n.
             Appends (W.contents (writer_of self.old)) (W.contents (writer_of self.new)) (take n bytes.now)) }
+        ensures through { OnOk result (IsAtEnd (W.held (writer_of self.new))) }
     {
         match write_through(&mut self.inner, bytes) {
             Ok(n) => Ok(n),
@@ -82,14 +84,15 @@ impl<W: Write> Sink for StdSink<W> {
     }
 }
 
-// Writes at least one byte from the start of `bytes`, and flushes.
-fn write_through<W: Write>(out: &mut W, bytes: &[u8]) -> Result<usize, Failed>
+// Writes at least one byte from the start of `bytes`, and hands on all that is held back.
+fn write_through<W: Outlet>(out: &mut W, bytes: &[u8]) -> Result<usize, Failed>
     requires { 0 < length bytes.now }
     ensures bound { WritesAtMost result bytes.now }
     ensures some { IfOk result (λ n. 0 < n) }
     ensures bytes { IfOk result (λ n. Appends (W.contents out.old) (W.contents out.new) (take n bytes.now)) }
+    ensures through { OnOk result (IsAtEnd (W.held out.new)) }
 {
-    let n = write_some(out, bytes)?;
-    flush_some(out)?;
+    let n = out.take_some(bytes)?;
+    out.hand_on()?;
     Ok(n)
 }
