@@ -1,5 +1,5 @@
 //! A source's units that go to the one updater of a hub, one by one.
-ghost use Rattle.std.specs.Prelude.{◌≡◌, ◌+◌, ◌<◌, ◌≤◌, ℕ, List, [], ◌∷◌, ◌++◌, Some, OnOk, OnErr, IfErr, length};
+ghost use Rattle.std.specs.Prelude.{◌≡◌, ◌+◌, ◌<◌, ◌≤◌, ℕ, List, [], ◌∷◌, ◌++◌, Some, OnOk, OnErr, IfOk, IfErr, length, take};
 ghost use Rattle.sk_model.specs.Limits.{most_kept};
 ghost use Rattle.sk_model.specs.Width.{IsItem, AreItems};
 ghost use Rattle.sk_hub.specs.Updaters.{kept_of};
@@ -133,10 +133,37 @@ fn feed_items<C: Composable, R: Wait>(
     ensures heart { HeartGoesOn heart.old heart.new }
     ensures some { OnErr result (0 < length items.now) }
 {
-    'item: for at in 0..items.len() {
-        feed_one(rt, heart, u, items[at], plan)?;
+    let mut at = 0;
+    'some: while at < items.len() {
+        let count = feed_some(rt, heart, u, &items[at..], plan)?;
+        at += count;
     }
     Ok(())
+}
+
+// Feeds items, in order, up to one that the updater is busy with, and that one when one has propagated. It returns how
+// many they are.
+#[inline(always)]
+fn feed_some<C: Composable, R: Wait>(
+    rt: &R,
+    heart: &mut Heart<C>,
+    u: &mut Updater<C>,
+    items: &[u64],
+    plan: &Intake,
+) -> Result<usize, OutOfMemory>
+    requires some { 0 < length items.now }
+    requires items { AreItems items.now }
+    requires room { length (kept_of u.old) + length items.now ≤ most_kept }
+    ensures count { IfOk result (λ n. (0 < n) × (n ≤ length items.now)) }
+    ensures taken { IfOk result (λ n. Takes C.keeps_of C.hint_of u.old (take n items.now) u.new) }
+    ensures heart { HeartGoesOn heart.old heart.new }
+{
+    let count = u.update_each(items);
+    if count == items.len() {
+        return Ok(count);
+    }
+    propagate_until_taken(rt, heart, u, items[count], Propagation::of(plan))?;
+    Ok(count + 1)
 }
 
 // Feeds an item until it is taken. When the updater is busy one propagates.

@@ -1,25 +1,38 @@
-use Rattle.std.proofs.Common.{[], ◌∷◌, get_or, take, sym, subst, arith}
-use Rattle.std.proofs.lemmas.List.{take_more}
+use Rattle.std.proofs.Common.{◌≡◌, ℕ, ◌+◌, ◌-◌, ◌≤◌, List, ◌++◌, length, take, drop, sym, ap, ◌∙◌, subst, arith, length-take, length-drop}
+use Rattle.std.proofs.Math.Seq.{take-add}
+use Rattle.std.proofs.lemmas.List.{take_rest}
 use Rattle.sk_hub.specs.Calls.{Takes}
 use Rattle.sk_hub.proofs.Calls.{none_refl, takes_none, takes_trans, takes_few}
 use Rattle.sk_feed.proofs.HubLaws.{heart_waits, heart_goes}
 use Rattle.sk_ingest.proofs.one_by_one.feed_items.Goals as goal
 
-pub item-init : goal.item-init
-item-init g c = let k = g.C.Composable in record {
+-- the first items, and the first of those after them
+more_of : (at n : ℕ) (items : List ℕ) → take at items ++ take n (take (length items - at) (drop at items)) ≡ take (at + n) items
+more_of at n items = ap (λ (l : List ℕ). take at items ++ take n l) (take_rest items at) ∙ sym (take-add at n items)
+
+left_of : (at : ℕ) (items : List ℕ) → length (take (length items - at) (drop at items)) ≡ length items - at
+left_of at items = ap (λ (l : List ℕ). length l) (take_rest items at) ∙ length-drop at items
+
+pub some-init : goal.some-init
+some-init g c = let k = g.C.Composable in record {
+  within = omega arith;
   taken = takes_none k.keeps_of k.hint_of c.args.u.now c.args.u.now (none_refl c.args.u.now);
   room = omega (arith, c.requires.room);
   heart = heart_waits c.args.heart.now;
 }
 
-pub returns-in_err-feed_one-clause-heart : goal.returns-in_err-feed_one-clause-heart
-returns-in_err-feed_one-clause-heart g c = heart_goes c.args.heart.now c.item.heart c.feed_one.new.heart c.item.invariant.heart c.feed_one.ensures.heart
+pub returns-in_err-count-clause-heart : goal.returns-in_err-count-clause-heart
+returns-in_err-count-clause-heart g c = heart_goes c.args.heart.now c.some.heart c.feed_some.new.heart c.some.invariant.heart c.feed_some.ensures.heart
 
-pub item-preserved : goal.item-preserved
-item-preserved g c =
-    let k = g.C.Composable in let items = c.args.items.now in let item = get_or items c.item.at 0 in let taken = c.in_ok-feed_one.ensures.taken in record {
-      taken = subst (λ l. Takes k.keeps_of k.hint_of c.args.u.now l c.feed_one.new.u) (sym (take_more items c.item.at 0 c.item-test.true))
-          (takes_trans k.keeps_of k.hint_of c.args.u.now c.item.u c.feed_one.new.u (take c.item.at items) (item ∷ []) c.item.invariant.taken taken);
-      room = omega (arith, c.item-test.true, c.item.invariant.room, takes_few k.keeps_of k.hint_of c.item.u c.feed_one.new.u (item ∷ []) taken);
-      heart = heart_goes c.args.heart.now c.item.heart c.feed_one.new.heart c.item.invariant.heart c.feed_one.ensures.heart;
+pub some-preserved : goal.some-preserved
+some-preserved g c =
+    let k = g.C.Composable in let items : List ℕ = c.args.items.now in let at : ℕ = c.some.at in let n : ℕ = c.in_ok-count.count in
+    let after : List ℕ = take (length items - at) (drop at items) in
+    let step = c.in_ok-count.ensures.taken in
+    let within : at + n ≤ length items = omega (arith, c.in_ok-count.ensures.count.1, left_of at items, c.some.invariant.within) in record {
+      within = within;
+      taken = subst (λ (l : List ℕ). Takes k.keeps_of k.hint_of c.args.u.now l c.feed_some.new.u) (more_of at n items)
+          (takes_trans k.keeps_of k.hint_of c.args.u.now c.some.u c.feed_some.new.u (take at items) (take n after) c.some.invariant.taken step);
+      room = omega (arith, within, c.some.invariant.room, takes_few k.keeps_of k.hint_of c.some.u c.feed_some.new.u (take n after) step, length-take n after);
+      heart = heart_goes c.args.heart.now c.some.heart c.feed_some.new.heart c.some.invariant.heart c.feed_some.ensures.heart;
     }
