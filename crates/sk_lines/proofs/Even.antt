@@ -17,16 +17,15 @@ use Rattle.sk_lines.proofs.Ends.{lines_more}
 abbrev floors_at : List ℕ
 floors_at = replicate 16 14 ++ replicate 16 0
 
-pub floors : (len : ℕ) → len ≤ 16 → AreFloors len (chunk 0 16 (chunk (16 - len) (32 - (16 - len)) floors_at))
-floors len few =
-    let n : ℕ = 16 - len in
+pub floors : (len n : ℕ) → n ≡ 16 - len → AreFloors len (chunk 0 16 (chunk n (32 - n) floors_at))
+floors len n is =
     let rest : List ℕ = chunk n (32 - n) floors_at in
     let long : length rest ≡ 32 - n = length-chunk n (32 - n) floors_at (omega arith) in
     record {
       wide = length-chunk 0 16 rest (omega (arith, long));
-      line = λ k below.
+      line = λ k below inside.
           let same : 0 + k ≡ k = omega arith in
-          get_or-chunk 0 16 rest k 0 (omega arith) ∙ ap (λ (i : ℕ). get_or rest i 0) same ∙ get_or-chunk n (32 - n) floors_at k 0 (omega arith)
+          get_or-chunk 0 16 rest k 0 inside ∙ ap (λ (i : ℕ). get_or rest i 0) same ∙ get_or-chunk n (32 - n) floors_at k 0 (omega arith)
           ∙ get_or_append_left (replicate 16 14) (replicate 16 0) 0 (n + k) (omega (arith, length-replicate {A = ℕ} 16 14)) ∙ get_or-replicate 16 (n + k) 14 0 (omega arith);
     }
 
@@ -46,14 +45,25 @@ none_below xs ys sx sy none k inside =
     (λ (most : get_or ys k 0 ≤ get_or xs k 0). most)
     (cases_lt (get_or xs k 0) (get_or ys k 0))
 
-pub plain_block : (bytes floors : List ℕ) (at len : ℕ) → at + 16 ≤ length bytes → len ≤ 16 → AreFloors len floors → slice_index bytes (at + len) ≡ 10
-    → mask_l (map (top 7) (zip2 (λ a b. cond (nat_lt a b) 255 0) (chunk at 16 bytes) floors)) % 2 ^ 64 ≡ 0 → IsPlain bytes at len
-plain_block bytes floors at len within few are lf none = record {
+pub plain_line_of : (bytes floors : List ℕ) (at len : ℕ) → at + 16 ≤ length bytes → AreFloors len floors → slice_index bytes (at + len) ≡ 10
+    → mask_l (map (top 7) (zip2 (λ a b. cond (nat_lt a b) 255 0) (chunk at 16 bytes) floors)) % 2 ^ 64 ≡ 0 → ((i : ℕ) → at + 16 ≤ i → i < at + len → 14 ≤ slice_index bytes i) → IsPlain bytes at len
+plain_line_of bytes floors at len within are lf none rest = record {
   lf = lf;
-  plain = λ k below.
-      let inside : k < 16 = omega arith in
-      omega (arith, none_below (chunk at 16 bytes) floors (length-chunk at 16 bytes within) are.wide none k inside, are.line k below, get_or-chunk at 16 bytes k 0 inside);
+  plain = λ k below. ⊎_elim
+      (λ (inside : k < 16).
+      omega (arith, none_below (chunk at 16 bytes) floors (length-chunk at 16 bytes within) are.wide none k inside, are.line k below inside, get_or-chunk at 16 bytes k 0 inside))
+      (λ (past : 16 ≤ k). rest (at + k) (omega arith) (omega arith))
+      (cases_lt k 16);
 }
+
+pub plain_block : (bytes : List ℕ) (at : ℕ) → at + 16 ≤ length bytes
+    → mask_l (map (top 7) (zip2 (λ a b. cond (nat_lt a b) 255 0) (chunk at 16 bytes) (replicate 16 14))) % 2 ^ 64 ≡ 0 → (i : ℕ) → at ≤ i → i < at + 16 → 14 ≤ slice_index bytes i
+plain_block bytes at within none i from below =
+    let k : ℕ = i - at in
+    let inside : k < 16 = omega arith in
+    let place : at + k ≡ i = omega arith in
+    let byte : slice_index bytes (at + k) ≡ slice_index bytes i = ap (slice_index bytes) place in
+    omega (arith, byte, none_below (chunk at 16 bytes) (replicate 16 14) (length-chunk at 16 bytes within) (length-replicate {A = ℕ} 16 14) none k inside, get_or-replicate {A = ℕ} 16 k 14 0 inside, get_or-chunk at 16 bytes k 0 inside)
 
 -- ---- a line
 

@@ -6,7 +6,7 @@ pub record IsPlain (bytes : List ℕ) (at len : ℕ) : Type 0 where
   pub lf : slice_index bytes (at + len) ≡ 10
   pub plain : (k : ℕ) → k < len → 14 ≤ slice_index bytes (at + k)
 
--- what the bytes of such a line are not below
+-- what the first 16 bytes of such a line are not below
 pub record AreFloors (len : ℕ) (floors : List ℕ) : Type 0 where
   pub wide : length floors ≡ 16
-  pub line : (k : ℕ) → k < len → slice_index floors k ≡ 14
+  pub line : (k : ℕ) → k < len → k < 16 → slice_index floors k ≡ 14

@@ -7,11 +7,17 @@ use crate::marks::{BLOCK, LF, lfs_of_block};
 use crate::spans::{GROUP, Span, cut_lines, find_ends};
 use std::simd::prelude::*;
 
-// How many bytes of a line are looked at together: lines that have more are not foreseen.
+// How many bytes of a line are looked at together.
 const WIDE: usize = 16;
+
+// Lines that have more bytes are not foreseen.
+const LONGEST: usize = 63;
 
 // If fewer lines are as long as the first, the ends of all are sought: a group of few lines costs more.
 const FEWEST: usize = 32;
+
+// No byte from this on is LF or CR.
+const PLAIN: u8 = 14;
 
 // From place n on it has 16 floors: LF and CR are below the first 16 - n, and no byte is below the others.
 const FLOORS: [u8; 2 * WIDE] = [
@@ -46,17 +52,18 @@ pub fn cut_group(
     cut_lines(bytes, from, limit, spans, found)
 }
 
-// How many bytes the first line has, if it has few and the next ones may have as many: the last of so many ends there.
+// How many bytes the first line has, if they are few and the next lines may have as many: one of them ends where it
+// should.
 fn even_len(bytes: &[u8], from: usize, limit: usize) -> Option<usize>
     requires padded { BLOCK ≤ length bytes.now }
-    ensures wide { IfSome result (λ len. len ≤ 16) }
+    ensures few { IfSome result (λ len. len ≤ 63) }
     ensures short { IfSome result (λ len. len ≤ limit) }
 {
     if from >= bytes.len() - BLOCK {
         return None;
     }
     let len = lfs_of_block(bytes, from).trailing_zeros() as usize;
-    if len > WIDE || len > limit {
+    if len > LONGEST || len > limit {
         return None;
     }
     let after = from + FEWEST * (len + 1);
@@ -78,7 +85,7 @@ fn cut_even_lines(
 ) -> (usize, usize)
     requires padded { BLOCK ≤ length bytes.now }
     requires within { from ≤ length bytes.now }
-    requires wide { len ≤ 16 }
+    requires few { len ≤ 63 }
     requires short { len ≤ limit }
     ensures few { result.0 ≤ GROUP }
     ensures most { result.0 ≤ most }
@@ -100,13 +107,12 @@ fn cut_even_lines(
     (count, at)
 }
 
-// The floors of a line.
+// The floors of the first bytes of a line.
 #[inline(always)]
 fn floors_of(len: usize) -> u8x16
-    requires { len ≤ 16 }
     ensures { AreFloors len result }
 {
-    u8x16::from_slice(&FLOORS[WIDE - len..])
+    u8x16::from_slice(&FLOORS[WIDE.saturating_sub(len)..])
 }
 
 // Whether as many bytes are a line, and a whole block comes after it. A byte below the floor may be no line end all
@@ -115,7 +121,7 @@ fn floors_of(len: usize) -> u8x16
 fn is_plain_line(bytes: &[u8], at: usize, len: usize, floors: u8x16) -> bool
     requires padded { BLOCK ≤ length bytes.now }
     requires within { at ≤ length bytes.now }
-    requires len { len ≤ 16 }
+    requires few { len ≤ 63 }
     requires floors { AreFloors len floors }
     ensures within { result ≡ true → at + len + BLOCK < length bytes.now }
     ensures plain { result ≡ true → IsPlain bytes.now at len }
@@ -124,6 +130,39 @@ fn is_plain_line(bytes: &[u8], at: usize, len: usize, floors: u8x16) -> bool
     if end >= bytes.len() - BLOCK || bytes[end] != LF {
         return false;
     }
-    let line = u8x16::from_slice(&bytes[at..]);
-    line.simd_lt(floors).to_bitmask() == 0
+    let below = u8x16::from_slice(&bytes[at..]).simd_lt(floors).to_bitmask();
+    if below != 0 {
+        return false;
+    }
+    are_plain(bytes, at + WIDE, end)
+}
+
+// Whether no byte from one place up to another is LF or CR: by blocks, of which the last may lie over the one before.
+#[inline(always)]
+fn are_plain(bytes: &[u8], from: usize, end: usize) -> bool
+    requires room { 16 ≤ from }
+    requires within { end + BLOCK ≤ length bytes.now }
+    ensures { result ≡ true → (i : ℕ) → from ≤ i → i < end → 14 ≤ slice_index bytes.now i }
+{
+    let mut at = from;
+    'block: while at < end {
+        let place = at.min(end - WIDE);
+        if !is_plain_block(bytes, place) {
+            return false;
+        }
+        at += WIDE;
+    }
+    true
+}
+
+// Whether none of 16 bytes is LF or CR.
+#[inline(always)]
+fn is_plain_block(bytes: &[u8], at: usize) -> bool
+    requires { at + 16 ≤ length bytes.now }
+    ensures { result ≡ true → (i : ℕ) → at ≤ i → i < at + 16 → 14 ≤ slice_index bytes.now i }
+{
+    u8x16::from_slice(&bytes[at..])
+        .simd_lt(u8x16::splat(PLAIN))
+        .to_bitmask()
+        == 0
 }
