@@ -1,5 +1,5 @@
 //! The names of tenants, which all desks share.
-ghost use Rattle.std.specs.Prelude.{◌≡◌, ℕ, ◌<◌, ◌≤◌, true, Some, length, map, slice_get, IfOk, IfSome, IfNone, Contains};
+ghost use Rattle.std.specs.Prelude.{◌≡◌, ℕ, ◌-◌, ◌<◌, ◌≤◌, true, Some, length, take, drop, map, slice_get, IfOk, IfSome, IfNone, Contains};
 ghost use Rattle.sk_tenant.specs.Names.{place_of, bytes_of, most_tenants, AreDifferent, IsFirstTwice};
 
 use crate::answers::TenantStop;
@@ -12,6 +12,9 @@ use std::sync::Arc;
 
 /// The most tenants.
 pub const MOST_TENANTS: usize = 64;
+
+// So many bytes of a name are compared at once.
+const END: usize = 8;
 
 /// The names of tenants, no two of them equal. All desks share one table, by which a name is found.
 #[derive(Drop)]
@@ -104,9 +107,55 @@ fn is_at(names: &IndexSet<Vec<u8>>, t: u32, name: &[u8]) -> bool
     ensures { result ≡ true → slice_get (map (λ own. own.items) names.now.keys) t ≡ Some name.now }
 {
     match names.get_index(t as usize) {
-        Some(own) => own.as_slice() == name,
+        Some(own) => are_equal(own.as_slice(), name),
         None => false,
     }
+}
+
+// Whether two names are equal. Those of 8 to 16 bytes are compared by their ends, which takes no call.
+#[inline(always)]
+#[tactic(auto, using(crate::proofs::Places::same_ends))]
+fn are_equal(a: &[u8], b: &[u8]) -> bool
+    ensures { result ≡ true → a.now ≡ b.now }
+{
+    if a.len() != b.len() {
+        return false;
+    }
+    if a.len() < END || a.len() > 2 * END {
+        return a == b;
+    }
+    have_equal_starts(a, b) && have_equal_ends(a, b)
+}
+
+// Whether two texts begin with the same eight bytes.
+#[inline(always)]
+fn have_equal_starts(a: &[u8], b: &[u8]) -> bool
+    ensures { result ≡ true → take 8 a.now ≡ take 8 b.now }
+{
+    match (a.first_chunk::<END>(), b.first_chunk::<END>()) {
+        (Some(a), Some(b)) => are_equal_words(*a, *b),
+        _ => false,
+    }
+}
+
+// Whether two texts, of as many bytes, end with the same eight.
+#[inline(always)]
+fn have_equal_ends(a: &[u8], b: &[u8]) -> bool
+    requires count { length a.now ≡ length b.now }
+    ensures { result ≡ true → drop (length a.now - 8) a.now ≡ drop (length a.now - 8) b.now }
+{
+    match (a.last_chunk::<END>(), b.last_chunk::<END>()) {
+        (Some(a), Some(b)) => are_equal_words(*a, *b),
+        _ => false,
+    }
+}
+
+// Whether eight bytes are the same, by the numbers that they spell: so it is one comparison.
+#[inline(always)]
+fn are_equal_words(a: [u8; END], b: [u8; END]) -> bool
+    ensures { result ≡ true → a ≡ b }
+{
+    u64::from_le_bytes(a) == u64::from_le_bytes(b)
 }
 
 // The place of a name, by its hash: seldom, so that `place` is short where it is called.
