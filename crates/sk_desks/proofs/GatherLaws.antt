@@ -1,5 +1,5 @@
 -- Lines of a source that are examined one after another, and gathered.
-use Rattle.std.proofs.Common.{◌≡◌, ℕ, ◌+◌, ◌<◌, ◌≤◌, Bool, true, false, not, Option, None, Result, Ok, Err, IsErrAnd, inl, inr, List, [], ◌∷◌, ◌++◌, All, length, refl, sym, ap, subst, ◌∙◌, arith, append-nil, append_assoc, length-append}
+use Rattle.std.proofs.Common.{◌≡◌, ℕ, ◌+◌, ◌<◌, ◌≤◌, Bool, true, false, not, Option, None, Result, Ok, Err, IsErrAnd, inl, inr, List, [], ◌∷◌, ◌++◌, All, length, refl, sym, ap, subst, ◌∙◌, arith, append-nil, append_assoc}
 use Rattle.std.proofs.lemmas.List.Elements.{All-head, All-tail, All-take}
 use Rattle.std.specs.Io.KnownBytes.{Consumes}
 use Rattle.std.proofs.KnownBytes.{Consumes-nil, Consumes-trans}
@@ -21,7 +21,7 @@ use Rattle.sk_read.proofs.ItemLaws.{front_is}
 use Rattle.sk_read.proofs.Readings.{given_settled}
 use Rattle.sk_read.proofs.LineEnds.{no_line, settled_so, line_missed_among}
 use Rattle.sk_fill.specs.Fills.{ReadsLine}
-use Rattle.sk_fill.proofs.Filled.{line_read, line_number, line_added, read_few, read_number}
+use Rattle.sk_fill.proofs.Filled.{line_read, line_number, line_added, read_number}
 use Rattle.sk_label.specs.Faults.{fault_of_lines}
 use Rattle.sk_label.specs.Goes.{setting, EndsBefore, WroteSoFar}
 use Rattle.sk_label.specs.Rules.{Rules, IsBad, IsRefused, AreFine}
@@ -236,9 +236,6 @@ held_then names a b c r s t (Err f) one two = record {
 pub held_passed : (names a b : List (List ℕ)) (r s : Reading) (f : LabelFault) (result : Result Bool LabelFault) → IsErrAnd result (λ x. x ≡ f) → TakesHeld names a b r s (Err f) → TakesHeld names a b r s result
 held_passed names a b r s f (Ok x) is takes = absurd is
 held_passed names a b r s f (Err e) is takes = subst (λ (x : LabelFault). TakesHeld names a b r s (Err x)) (sym is) takes
-
-pub held_as : (names a b : List (List ℕ)) (r s : Reading) (x y : Bool) → TakesHeld names a b r s (Ok x) → TakesHeld names a b r s (Ok y)
-held_as names a b r s x y takes = record { gives = takes.gives; fine = takes.fine; stopped = tt; bound = takes.bound; fewer = takes.fewer; quiet = λ is. cc; no_read = λ is. cc }
 
 pub held_all : (names lines lines' : List (List ℕ)) (r r' : Reading) (x : Bool) → GivesHeld lines lines' r r' → (GoOnFine names lines → GoOnFine names lines') → r'.most ≡ r.most → remaining_of r' ≤ remaining_of r → TakesHeld names lines lines' r r' (Ok x)
 held_all names lines lines' r r' x gives fine bound fewer = record { gives = gives; fine = fine; stopped = tt; bound = bound; fewer = fewer; quiet = λ is. cc; no_read = λ is. cc }

@@ -1,5 +1,5 @@
 -- Lines of a window that are noted, and the places where they lie.
-use Rattle.std.proofs.Common.{◌≡◌, ℕ, ◌+◌, ◌-◌, ◌<◌, ◌≤◌, inl, inr, Result, Ok, Err, OnOk, IfErr, List, [], ◌∷◌, ◌++◌, length, get_or, take, drop, map, slice_range, All, refl, sym, ap, subst, ◌∙◌, arith, length-append, length-drop, length-take, take-append-drop}
+use Rattle.std.proofs.Common.{◌≡◌, ℕ, ◌+◌, ◌-◌, ◌<◌, ◌≤◌, inr, Result, Ok, Err, OnOk, IfErr, List, [], ◌∷◌, ◌++◌, length, get_or, take, drop, map, slice_range, All, refl, sym, ap, subst, ◌∙◌, arith, length-append, length-drop, length-take, take-append-drop}
 use Rattle.std.proofs.Math.Seq.{drop-append-add}
 use Rattle.std.proofs.lemmas.List.{drop-drop, drop-append-le, take-append-le, take_more, map-append, length-map}
 use Rattle.std.proofs.lemmas.List.Elements.{All-head, All-tail}

@@ -1,7 +1,6 @@
-use Rattle.std.proofs.Common.{◌≡◌, ◌∙◌, Bool, true, false, Result, Ok, Err, List, ℕ, refl, sym, ap, subst, arith}
-use Rattle.sk_label.specs.declared.fault.LabelFault.{LabelFault}
+use Rattle.std.proofs.Common.{◌≡◌, ◌∙◌, Bool, true, false, Ok, Err, List, ℕ, refl, ap, subst}
 use Rattle.sk_desks.specs.Gathers.{TakesHeld}
-use Rattle.sk_desks.proofs.GatherLaws.{held_none, held_then, held_as, held_passed}
+use Rattle.sk_desks.proofs.GatherLaws.{held_none, held_then, held_passed}
 use Rattle.sk_desks.proofs.gather.take_held.Goals as goal
 
 pub group-init : goal.group-init

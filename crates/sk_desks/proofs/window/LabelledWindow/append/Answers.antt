@@ -1,7 +1,6 @@
 use Rattle.std.proofs.Common.{◌≡◌, ◌++◌, ℕ, List, All, length, drop, sym, ap, subst, arith, ◌∙◌}
 use Rattle.std.proofs.lemmas.List.{take_rest}
 use Rattle.sk_lines.specs.Spans.{lines_at}
-use Rattle.sk_label.specs.declared.fault.LabelFault.{LabelFault}
 use Rattle.sk_desks.specs.Entries.{LabelledState, lines_in}
 use Rattle.sk_desks.specs.Gathers.{IsOfTenant, StopsWithin}
 use Rattle.sk_desks.proofs.WindowLaws.{moved_are, lines_after, on_ok_so, if_err_so}
