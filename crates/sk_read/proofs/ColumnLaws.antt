@@ -1,11 +1,9 @@
 -- Records that a table takes, one after another.
-use Rattle.std.proofs.Common.{Bor, ◌≡◌, ℕ, zero, suc, ◌+◌, ◌<◌, ◌≤◌, List, [], ◌∷◌, ◌++◌, length, get_or, Option, Some, None, Result, Ok, Err, OnOk, inr, unwrap_or, refl, sym, ap, ◌∙◌, subst, append_assoc}
+use Rattle.std.proofs.Common.{◌≡◌, ℕ, ◌+◌, ◌<◌, ◌≤◌, List, [], ◌∷◌, ◌++◌, length, Result, Ok, Err, OnOk, inr, refl, sym, ap, ◌∙◌, subst, append_assoc}
 use Rattle.std.specs.Result.{IfErr}
 use Rattle.std.specs.Prelude.{MatchResult}
-use Rattle.std.specs.Option.{option_map}
 use Rattle.std.proofs.lemmas.List.{map-append, length-map}
 use Rattle.std.proofs.lemmas.List.Elements.{All-cons, All-nil, All-push}
-use Rattle.csv.specs.Records.{field_at}
 use Rattle.sk_model.specs.Missing.{Begins}
 use Rattle.sk_read.specs.declared.fault.Fault.{Fault}
 use Rattle.sk_read.specs.declared.fault.Fault.TheVariants as fault
@@ -14,12 +12,6 @@ use Rattle.sk_read.specs.Records.{Row, field_of, fields_in, width_of, AreEven, A
 use Rattle.sk_read.specs.Columns.{Refuses, Breaks}
 use Rattle.sk_read.specs.Faults.{IsOfTaker}
 use Rattle.sk_model.specs.Limits.{line_limit}
-
-field_at_is : (fields : Row) (i : ℕ) → unwrap_or (field_at fields i) [] ≡ get_or fields i []
-unfolding field_at
-field_at_is [] i = refl
-field_at_is (field ∷ fields) zero = refl
-field_at_is (field ∷ fields) (suc i) = field_at_is fields i
 
 -- what is known of a call, of its value or its fault
 pub took : {A : Type 0} (r : Result A Fault) (P R : Type 0) (Q S T : Fault → Type 0) → OnOk r R → (R → P) → IfErr r S → IfErr r T → ((f : Fault) → S f → T f → Q f) → MatchResult r (λ _. P) Q
@@ -64,17 +56,6 @@ pub ends_at : (Gave : List (List ℕ) → Type 0) (Stopped : Fault → List (Lis
     Refuses column Gave Stopped (rows ++ some) row f → Breaks column Gave Stopped rows more f
 ends_at Gave Stopped column rows more some row fault.OutOfMemory begins sound refused = inr (record { some = some; next = row; begins = begins; sound = sound; refused = refused })
 ends_at Gave Stopped column rows more some row f begins sound refused = record { some = some; next = row; begins = begins; sound = sound; refused = refused }
-
--- a field, or an empty one where there is none
-pub field_or_empty : (o : Option (Bor (List ℕ))) (d : Bor (List ℕ)) (fields : Row) (i : ℕ) → option_map (λ (s : Bor (List ℕ)). s.now) o ≡ field_at fields i → d.now ≡ [] →
-    (unwrap_or o d).now ≡ get_or fields i []
-field_or_empty None d fields i is empty = empty ∙ ap (λ (f : Option (List ℕ)). unwrap_or f []) is ∙ field_at_is fields i
-field_or_empty (Some s) d fields i is empty = ap (λ (f : Option (List ℕ)). unwrap_or f []) is ∙ field_at_is fields i
-
--- how many bytes there are, if they are reported
-abbrev pub length_told : Option (List ℕ) → ℕ
-length_told None = 0
-length_told (Some bytes) = length bytes
 
 pub one_more_row : (all given : List Row) (row : Row) (run more : List Row) → all ≡ given ++ run → run ≡ row ∷ more → all ≡ (given ++ row ∷ []) ++ more
 one_more_row all given row run more split next =

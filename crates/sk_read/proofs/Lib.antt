@@ -13,6 +13,7 @@ pub mod Pairs
 pub mod PartLaws
 pub mod Plain
 pub mod PlainLaws
+pub mod QuotedRecords
 pub mod Quotes
 pub mod Readings
 pub mod RecordEnds

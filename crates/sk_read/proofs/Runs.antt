@@ -1,6 +1,5 @@
 -- How a text is read into records, byte by byte.
 use Rattle.std.proofs.Common.{◌≡◌, ◌⊎◌, ℕ, zero, suc, ◌+◌, ◌-◌, ◌<◌, ◌≤◌, Bool, true, false, List, [], ◌∷◌, ◌++◌, length, Option, Some, None, unwrap_or, refl, sym, ap, ◌∙◌, subst, inl, inr, arith}
-use Rattle.std.specs.Prelude.{if◌then◌else◌}
 use Rattle.std.proofs.lemmas.Bool.{false≢true}
 use Rattle.csv.specs.Machine.{Read, next_record, step, is_end, ends_at_end, fields_after, field_after}
 use Rattle.csv.specs.Reading.{default_config, records, records_from, records_next}
@@ -9,14 +8,8 @@ use Rattle.csv.specs.declared.parser.State.TheVariants as st
 use Rattle.csv.specs.declared.parser.Action.{Action}
 use Rattle.sk_read.specs.Scan.{IsEnd, settled, is_inside, state_after, StaysInside}
 use Rattle.sk_read.specs.Records.{Row}
+use Rattle.sk_read.specs.Runs.{run}
 use Rattle.sk_read.proofs.Steps.{after_cr, not_both, ends_between, stays_inside, between_goes_on, end_is_skipped, between_ends_none}
-
--- the records of a text from a state, with the fields and the bytes of the field at hand
-unfoldable pub run : State → Row → List ℕ → List ℕ → List Row
-run s fields field [] = if ends_at_end s then (fields ++ (field ∷ [])) ∷ [] else []
-run s fields field (c ∷ rest) =
-    if is_end (step default_config s c).1 then fields_after (step default_config s c).1 fields field ∷ run (step default_config s c).0 [] [] rest
-    else run (step default_config s c).0 (fields_after (step default_config s c).1 fields field) (field_after (step default_config s c).1 c field) rest
 
 some_is : {A : Type 0} (x y : A) → Some x ≡ Some y → x ≡ y
 some_is x y same = ap (λ (o : Option _). unwrap_or o x) same

@@ -8,11 +8,12 @@ pub mod Inside
 pub mod Items
 pub mod Parts
 pub mod PlainLines
+pub mod QuotedRecords
 pub mod Quotes
 pub mod Reading
 pub mod Reads
 pub mod Records
-pub mod Rows
+pub mod Runs
 pub mod Scan
 pub mod ShortNumbers
 pub mod Standing

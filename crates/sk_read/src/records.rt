@@ -9,6 +9,7 @@ mod column;
 mod delimiters;
 mod parts;
 mod plain;
+mod quoted;
 mod quotes;
 mod scan;
 

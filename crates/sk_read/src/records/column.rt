@@ -1,13 +1,8 @@
 // The records of a text, their lengths, and the fields in a column of them.
 ghost use Rattle.std.specs.Prelude.{◌≡◌, ◌≢◌, ◌↔◌, ◌≤◌, ◌<◌, ◌+◌, ℕ, List, [], ◌∷◌, ◌++◌, Ok, Some, None, OnOk, IfErr, MatchResult, All, length, take, drop, true, false};
-ghost use Rattle.csv.specs.Machine.{Read, next_record};
-ghost use Rattle.csv.specs.Reading.{default_config, records, strip_bom};
-ghost use Rattle.csv.specs.Records.{fields_of};
-ghost use Rattle.csv.specs.declared.parser.State.{State};
-ghost use Rattle.csv.specs.declared.parser.State.TheVariants as st;
+ghost use Rattle.csv.specs.Reading.{default_config, records};
 ghost use Rattle.sk_model.specs.Limits.{most_kept, line_limit};
 ghost use Rattle.sk_read.specs.Records.{Row, field_of, width_of};
-ghost use Rattle.sk_read.specs.Rows.{StandsAt};
 ghost use Rattle.sk_read.specs.Columns.{first_width, HasRows, IsFieldOf, Refuses, Breaks};
 ghost use Rattle.sk_read.specs.Groups.{HasSeen, RefusesRow, KnowsAfter, CutsGroup};
 ghost use Rattle.sk_lines.specs.Spans.{AreBehind};
@@ -15,8 +10,8 @@ ghost use Rattle.sk_lines.specs.Spans.{AreBehind};
 use crate::fault::Fault;
 use crate::records::delimiters::Ahead;
 use crate::records::plain::{cut_line, is_plain};
+use crate::records::quoted::{is_line_end, read_record};
 use crate::units::UnitTaker;
-use csv::{ByteRecord, Reader, ReaderBuilder};
 use sk_lines::{GROUP, Span};
 use sk_model::limits::LINE_LIMIT;
 use std::alloc::Global;
@@ -79,7 +74,6 @@ impl ColumnReader {
         text: &[u8],
         taker: &mut T,
     ) -> Result<(), Fault>
-        requires plain { strip_bom text.now ≡ text.now }
         requires room { (start : _) × (rows : List Row) × (length rows + length (records default_config text.now) ≤ most_kept) × HasRows self.old (T.went start taker.old) rows }
         ensures goes { (start : _) (rows : List Row) → length rows + length (records default_config text.now) ≤ most_kept → HasRows self.old (T.went start taker.old) rows
             → MatchResult result (λ _. HasRows self.new (T.went start taker.new) (rows ++ records default_config text.now))
@@ -157,14 +151,13 @@ impl ColumnReader {
         }
     }
 
-    // The same, by a reader of records.
+    // The same, record by record.
     fn give_records<T: UnitTaker>(
         &mut self,
         alloc: Global,
         text: &[u8],
         taker: &mut T,
     ) -> Result<(), Fault>
-        requires plain { strip_bom text.now ≡ text.now }
         requires room { (start : _) × (rows : List Row) × (length rows + length (records default_config text.now) ≤ most_kept) × HasRows self.old (T.went start taker.old) rows }
         ensures goes { (start : _) (rows : List Row) → length rows + length (records default_config text.now) ≤ most_kept → HasRows self.old (T.went start taker.old) rows
             → MatchResult result (λ _. HasRows self.new (T.went start taker.new) (rows ++ records default_config text.now))
@@ -172,24 +165,18 @@ impl ColumnReader {
         ensures column { self.new.column ≡ self.old.column }
         ensures taker { T.stands_on taker.new ≡ T.stands_on taker.old }
     {
-        let mut reader = reader_of(alloc, text);
-        let mut row = ByteRecord::new(alloc);
-        'row: while next_row(&mut reader, &mut row)? {
-            self.give_record(&row, taker)?;
+        let mut field = Vec::new(alloc);
+        let mut at = 0;
+        'row: while at < text.len() {
+            if is_line_end(text[at]) {
+                at += 1;
+            } else {
+                let found = read_record(text, at, self.column, &mut field)?;
+                self.give_field(&field, found.width, taker)?;
+                at = found.end;
+            }
         }
         Ok(())
-    }
-
-    // Gives the field of one record to the taker.
-    fn give_record<T: UnitTaker>(&mut self, row: &ByteRecord, taker: &mut T) -> Result<(), Fault>
-        requires room { (start : _) × (rows : List Row) × (length rows < most_kept) × HasRows self.old (T.went start taker.old) rows }
-        ensures goes { (start : _) (rows : List Row) → length rows < most_kept → HasRows self.old (T.went start taker.old) rows
-            → MatchResult result (λ _. HasRows self.new (T.went start taker.new) (rows ++ fields_of row.now ∷ []))
-            (λ fault. Refuses self.old.column (T.went start taker.new) (T.stopped start taker.new) rows (fields_of row.now) fault) }
-        ensures column { self.new.column ≡ self.old.column }
-        ensures taker { T.stands_on taker.new ≡ T.stands_on taker.old }
-    {
-        self.give_field(field_in(row, self.column), row.len(), taker)
     }
 
     // Gives a field to the taker, that of a record of `width` fields.
@@ -238,36 +225,4 @@ fn fits(first: &mut Option<usize>, column: usize, width: usize) -> bool
 {
     let first = *first.get_or_insert(width);
     first == width && column < width
-}
-
-// The field of a record in a column. A record without it has an empty one.
-#[inline]
-fn field_in(row: &ByteRecord, column: usize) -> &[u8]
-    ensures { result.now ≡ field_of column (fields_of row.now) }
-{
-    row.get(column).unwrap_or(&[])
-}
-
-// A reader of a text's records: commas, double quotes, no header row, records of any length.
-fn reader_of(alloc: Global, text: &[u8]) -> Reader<&[u8]>
-    requires { strip_bom text.now ≡ text.now }
-    ensures { StandsAt result st.StartRecord text.now }
-{
-    ReaderBuilder::new()
-        .has_headers(false)
-        .flexible(true)
-        .from_reader(alloc, text)
-}
-
-// Reads the next record, if there is one. The text lies in memory, so memory alone can fail.
-fn next_row(reader: &mut Reader<&[u8]>, row: &mut ByteRecord) -> Result<bool, Fault>
-    ensures found { result ≡ Ok true → (state : State) (text : List ℕ) → StandsAt reader.old state text
-        → (p : Read) × (next_record default_config state [] [] text ≡ Some p) × (fields_of row.new ≡ p.0) × StandsAt reader.new p.1 p.2 }
-    ensures none { result ≡ Ok false → (state : State) (text : List ℕ) → StandsAt reader.old state text → next_record default_config state [] [] text ≡ None }
-    ensures err { IfErr result (λ fault. fault ≡ Fault.OutOfMemory) }
-{
-    match reader.read_byte_record(row) {
-        Ok(found) => Ok(found),
-        Err(_) => Err(Fault::OutOfMemory),
-    }
 }

@@ -21,7 +21,7 @@ pub(crate) fn scan_block(start: ScanState, bytes: &[u8], at: usize) -> Option<(S
         return None;
     }
     let within = between_quotes(start, quotes);
-    let may_begin = places_behind(start, delimiters_of_block(bytes, at) | quotes);
+    let may_begin = next_places(start, delimiters_of_block(bytes, at) | quotes);
     if !are_among(quotes, within, may_begin) {
         return None;
     }
@@ -73,9 +73,9 @@ fn with_below(bits: u64, by: u32) -> u64
     bits ^ (bits << by)
 }
 
-// The places behind marks, and the first one if quotes may begin there.
+// The places after marks, and the first one if quotes may begin there.
 #[inline(always)]
-fn places_behind(start: ScanState, marks: u64) -> u64
+fn next_places(start: ScanState, marks: u64) -> u64
     ensures first { bit_at result 0 ≡ 1 → start ≢ scan.InField }
     ensures next { (k : ℕ) → k < 63 → bit_at result (k + 1) ≡ 1 → bit_at marks k ≡ 1 }
 {

@@ -21,7 +21,7 @@ pub(crate) enum ScanState {
 
 // The place after a byte.
 #[inline(always)]
-fn behind(place: ScanState, byte: u8) -> ScanState
+pub(crate) fn behind(place: ScanState, byte: u8) -> ScanState
     ensures { state_of result ≡ settled (step default_config (state_of place) byte).0 }
 {
     match place {

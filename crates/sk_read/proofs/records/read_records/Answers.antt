@@ -86,19 +86,19 @@ rest-requires g c =
     let at = filled g (goal.at.rest-requires g c).In_ok-refill in
     (c.part.invariant.rows, c.part.invariant.taken ++ at.0, (held_by c.refill.new.self _ c.part.invariant.rows (c.part.invariant.taken ++ at.0) c.in_ok-refill.field-0 at.2).has)
 
-pub give-requires-clause-room : goal.give-requires-clause-room
-give-requires-clause-room g c =
+pub give-requires : goal.give-requires
+give-requires g c =
     let inv = c.part.invariant in
-    let at = filled g (goal.at.give-requires-clause-room g c).In_ok-refill in
+    let at = filled g (goal.at.give-requires g c).In_ok-refill in
     let held = held_by c.refill.new.self _ inv.rows (inv.taken ++ at.0) c.in_ok-refill.field-0 at.2 in
-    (c.args.taker.now, inv.rows, subst (λ (l : List ℕ). length inv.rows + length (records default_config l) ≤ most_kept) (sym c.whole.ensures.bytes) (room_whole c.refill.new.self inv.rows (inv.taken ++ at.0) held.has), inv.table)
+    record { room = (c.args.taker.now, inv.rows, subst (λ (l : List ℕ). length inv.rows + length (records default_config l) ≤ most_kept) (sym c.whole.ensures.bytes) (room_whole c.refill.new.self inv.rows (inv.taken ++ at.0) held.has), inv.table) }
 
-pub give-requires-2-clause-room : goal.give-requires-2-clause-room
-give-requires-2-clause-room g c =
+pub give-requires-2 : goal.give-requires-2
+give-requires-2 g c =
     let inv = c.part.invariant in
-    let at = filled g (goal.at.give-requires-2-clause-room g c).In_ok-refill in
+    let at = filled g (goal.at.give-requires-2 g c).In_ok-refill in
     let held = held_by c.refill.new.self _ inv.rows (inv.taken ++ at.0) c.in_ok-refill.field-0 at.2 in
-    (c.args.taker.now, inv.rows, subst (λ (l : List ℕ). length inv.rows + length (records default_config l) ≤ most_kept) (sym c.rest.ensures.bytes) (room_rest c.refill.new.self inv.rows (inv.taken ++ at.0) held.has), inv.table)
+    record { room = (c.args.taker.now, inv.rows, subst (λ (l : List ℕ). length inv.rows + length (records default_config l) ≤ most_kept) (sym c.rest.ensures.bytes) (room_rest c.refill.new.self inv.rows (inv.taken ++ at.0) held.has), inv.table) }
 
 pub returns-in_err-give-clause-read : goal.returns-in_err-give-clause-read
 returns-in_err-give-clause-read g c =

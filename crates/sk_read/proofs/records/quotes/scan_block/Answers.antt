@@ -24,9 +24,9 @@ has c =
       next = c.between_quotes-within.ensures.next;
       ready = ready_at_start c.args.start (slice_index text (at + 0)) (λ out here.
           let set = (c.marks_of_block-quotes.ensures 0).1 (omega arith, here) in
-          c.places_behind-may_begin.ensures.first (among 0 (omega arith) set (omega (arith, c.between_quotes-within.ensures.first, out, set))));
+          c.next_places-may_begin.ensures.first (among 0 (omega arith) set (omega (arith, c.between_quotes-within.ensures.first, out, set))));
       begin = λ k below set now.
-          let marks = c.places_behind-may_begin.ensures.next k below (among (k + 1) (omega (arith, below)) set now) in
+          let marks = c.next_places-may_begin.ensures.next k below (among (k + 1) (omega (arith, below)) set now) in
           elim (max_is (bit_at c.delimiters_of_block.result k) (bit_at quotes k) (sym (bit_at_or c.delimiters_of_block.result quotes k) ∙ marks)) [
             | inl delimiter ↦ inl ((c.delimiters_of_block.ensures k).0 delimiter).1
             | inr quote ↦ inr ((c.marks_of_block-quotes.ensures k).0 quote).1

@@ -3,7 +3,7 @@ use Rattle.std.specs.Int.{bit_at}
 use Rattle.std.proofs.lemmas.Nat.{pow_pos}
 use Rattle.std.proofs.lemmas.Nat.Bits.{bit_at_or, bit_at_lowest, bit_at_above}
 use Rattle.sk_read.proofs.Quotes.{shifted_low, shifted_high}
-use Rattle.sk_read.proofs.records.quotes.places_behind.Goals as goal
+use Rattle.sk_read.proofs.records.quotes.next_places.Goals as goal
 
 pub returns-clause-first : goal.returns-clause-first
 returns-clause-first c set =
