@@ -1,4 +1,4 @@
-use Rattle.std.proofs.Common.{◌≡◌, ℕ, ◌+◌, ◌<◌, [], ◌∷◌, List, length, get_or, take, sym, subst, arith, length-take}
+use Rattle.std.proofs.Common.{ℕ, ◌<◌, [], ◌∷◌, List, length, get_or, take, sym, subst, arith, length-take}
 use Rattle.std.proofs.lemmas.List.{take_more}
 use Rattle.sk_hub.specs.Calls.{Takes}
 use Rattle.sk_hub.proofs.Calls.{takes_trans, takes_few}
