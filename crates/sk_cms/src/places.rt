@@ -1,5 +1,5 @@
 //! Where the cells of items lie, which is the same in all sketches of a shape.
-ghost use Rattle.std.specs.Prelude.{◌≡◌, ◌++◌, flat_map, IfOk, OnOk};
+ghost use Rattle.std.specs.Prelude.{◌≡◌, ◌+◌, ◌≤◌, ◌++◌, flat_map, vec_len, vec_capacity, IfOk, OnOk};
 ghost use Rattle.sk_cms.specs.Counts.{IsMaskOf};
 ghost use Rattle.sk_cms.specs.Limits.{IsShape};
 ghost use Rattle.sk_cms.specs.Places.{places_of, ArePlacesOf};
@@ -50,7 +50,10 @@ fn push_places(
 ) -> Result<(), OutOfMemory>
     requires shape { IsShape rows width }
     requires mask { IsMaskOf width mask }
-    ensures { OnOk result (places.new.items ≡ places.old.items ++ places_of rows width x) }
+    requires room { vec_len places.old + rows ≤ vec_capacity places.old }
+    ensures places { OnOk result (places.new.items ≡ places.old.items ++ places_of rows width x) }
+    ensures len { OnOk result (vec_len places.new ≡ vec_len places.old + rows) }
+    ensures capacity { vec_capacity places.new ≡ vec_capacity places.old }
 {
     if rows == 4 {
         push_rows(places, 4, width, mask, x)
@@ -59,8 +62,8 @@ fn push_places(
     }
 }
 
-// The same by a loop over the rows. There is room, but pushes that cannot fail would let LLVM hash several rows at a
-// time, by products of halves, which takes longer.
+// The same by a loop over the rows. A place has 32 bits, but without the test LLVM would hash several rows at a time, by
+// products of halves, which takes longer.
 #[inline(always)]
 fn push_rows(
     places: &mut Vec<u32>,
@@ -71,10 +74,17 @@ fn push_rows(
 ) -> Result<(), OutOfMemory>
     requires shape { IsShape rows width }
     requires mask { IsMaskOf width mask }
-    ensures { OnOk result (places.new.items ≡ places.old.items ++ places_of rows width x) }
+    requires room { vec_len places.old + rows ≤ vec_capacity places.old }
+    ensures places { OnOk result (places.new.items ≡ places.old.items ++ places_of rows width x) }
+    ensures len { OnOk result (vec_len places.new ≡ vec_len places.old + rows) }
+    ensures capacity { vec_capacity places.new ≡ vec_capacity places.old }
 {
     'row: for r in 0..rows {
-        places.push(place(width, mask, r, x) as u32)?;
+        let at = place(width, mask, r, x);
+        if at > u32::MAX as usize {
+            return Err(OutOfMemory);
+        }
+        places.push_reserved(at as u32);
     }
     Ok(())
 }
