@@ -5,7 +5,7 @@ ghost use Rattle.sk_model.specs.Causes.{HasCause, Rose};
 ghost use Rattle.sk_io.specs.Files.{told_file, IsMissing, Opens};
 
 use super::streams::{drained, piece_of};
-use sk_io::{Failed, FileShelf, MemShelf, OnShelf, OpenFile, Shelf};
+use sk_io::{Failed, FileShelf, MemShelf, OnShelf, OpenFile, Opener, Shelf};
 use std::alloc::Global;
 use std::fs;
 use std::test::Fail;
@@ -39,6 +39,15 @@ fn prefix_of<F: Shelf>(shelf: &mut F, name: &str, piece: &mut [u8]) -> Result<us
         Ok(mut file) => piece_of(&mut file, piece),
         Err(_refused) => Err(Failed),
     }
+}
+
+// What the owner of an opener knows after it opened a file: the opener was asked for the one of this name.
+fn asked_for<R: Opener>(opener: R, name: &str) -> (FileShelf<R>, Result<R::File, Failed>)
+    ensures { Opens (R.names opener) (⟦<FileShelf<R> as Shelf>⟧.opened result.0) (name.now ∷ []) }
+{
+    let mut shelf = FileShelf::new(opener);
+    let opened = shelf.open(name);
+    (shelf, opened)
 }
 
 // All that a file of a shelf has.
@@ -117,8 +126,8 @@ fn two_files_of_a_shelf_are_read_in_turn(rt: HostRuntime) -> Result<(), Fail> {
 fn a_shelf_of_files_opens_what_is_there(rt: HostRuntime) -> Result<(), Fail> {
     let alloc = rt.alloc();
     fs::write(&rt, "shelf.txt", "red fish blue fish\n")?;
-    let mut shelf = FileShelf::new(&rt);
-    let mut file = shelf.open("shelf.txt").map_err(|_| "no file")?;
+    let (mut shelf, opened) = asked_for(&rt, "shelf.txt");
+    let mut file = opened.map_err(|_| "no file")?;
     let text = drained(alloc, &mut OnShelf::new(&mut shelf, &mut file))?;
     assert_eq!(rt; text.as_slice(), b"red fish blue fish\n".as_slice());
     // The second opens, but a folder gives no bytes.

@@ -1,11 +1,12 @@
 // Sources and sinks: in memory, and over std.
-ghost use Rattle.std.specs.Prelude.{◌≡◌, ◌<◌, length};
+ghost use Rattle.std.specs.Prelude.{◌≡◌, ◌<◌, OnOk, length};
 ghost use Rattle.std.specs.Io.{ReadsAtMost};
-ghost use Rattle.std.specs.Io.KnownBytes.{ReadConsumes};
+ghost use Rattle.std.specs.Io.KnownBytes.{Appends, IsAtEnd, ReadConsumes};
 ghost use Rattle.sk_model.specs.Causes.{HasCause};
+ghost use Rattle.sk_io.specs.Standard.{writer_of};
 
 use sk_io::{
-    BoundFault, Failed, MemSink, MemSource, Sink, Source, StdSink, StdSource, SureSource,
+    BoundFault, Failed, MemSink, MemSource, Outlet, Sink, Source, StdSink, StdSource, SureSource,
     read_within, write_all,
 };
 use std::alloc::Global;
@@ -116,7 +117,7 @@ pub fn piece_of<S: Source>(source: &mut S, piece: &mut [u8]) -> Result<usize, Fa
 fn a_file_is_written_and_read_back(rt: HostRuntime) -> Result<(), Fail> {
     let alloc = rt.alloc();
     let mut sink = StdSink::new(File::create(&rt, "streams.txt")?);
-    assert_eq!(rt; write_all(&mut sink, b"one fish two fish\n"), Ok(()));
+    assert_eq!(rt; handed_on(&mut sink, b"one fish two fish\n"), Ok(()));
     let mut source = StdSource::new(File::open(&rt, "streams.txt")?);
     let text = drained(alloc, &mut source)?;
     assert_eq!(rt; text.as_slice(), b"one fish two fish\n".as_slice());
@@ -140,6 +141,20 @@ fn errors_of_std_are_faults(rt: HostRuntime) -> Result<(), Fail> {
     Ok(())
 }
 
+// Writes all of a text that is not empty. What was handed to the writer is flushed, or there is a fault.
+fn handed_on<W: Outlet>(sink: &mut StdSink<W>, bytes: &[u8]) -> Result<(), Failed>
+    requires { 0 < length bytes.now }
+    ensures bytes { OnOk result (Appends (W.contents (writer_of sink.old)) (W.contents (writer_of sink.new)) bytes.now) }
+    ensures flushed { OnOk result (IsAtEnd (W.held (writer_of sink.new))) }
+    ensures fault { let faults = ⟦<StdSink<W> as Sink>⟧.faults in HasCause (faults sink.old) (faults sink.new) result }
+{
+    let mut at = 0;
+    'write: while at < bytes.len() {
+        at += sink.write(&bytes[at..])?;
+    }
+    Ok(())
+}
+
 // A writer that takes all, and can't hand it on.
 #[derive(Drop)]
 struct Clogged;
@@ -158,6 +173,6 @@ impl Write for Clogged {
 fn a_flush_that_fails_is_a_fault(rt: HostRuntime) -> Result<(), Fail> {
     let mut sink = StdSink::new(Clogged);
     assert_eq!(rt; sink.write(b"estimate"), Err(Failed));
-    assert_eq!(rt; write_all(&mut sink, b"estimate"), Err(Failed));
+    assert_eq!(rt; handed_on(&mut sink, b"estimate"), Err(Failed));
     Ok(())
 }
