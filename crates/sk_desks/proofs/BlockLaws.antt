@@ -11,7 +11,7 @@ use Rattle.sk_fill.proofs.Joined.{blocks_joined}
 use Rattle.sk_feed.proofs.Rooms.{few_blocks}
 use Rattle.sk_tenant.specs.Desks.{DeskState}
 use Rattle.sk_desks.specs.Desks.{items_for}
-use Rattle.sk_desks.specs.Feeds.{TakesLines, HasRoom, HaveRoom, TakeBlocks}
+use Rattle.sk_desks.specs.Feeds.{TakesLines, HasRoom, IsReadyFor, HaveRoom, TakeBlocks}
 use Rattle.sk_desks.specs.Windows.{AreUnused}
 use Rattle.sk_desks.proofs.ItemLaws.{items_for-append, none_for}
 use Rattle.sk_desks.proofs.Taking.{takes_no_line, takes_more, has_still, names_still, room_after}
@@ -43,7 +43,7 @@ line_more seed d e d' lines from at line low inside its before after =
 one_block : (lines : List (List ℕ)) (i n : ℕ) → blocks_of (lines ∷ []) i n ≡ block_of lines i n
 one_block lines i n = append-nil (block_of lines i n)
 
-blocks_more : (windows : List (List (List ℕ))) (lines : List (List ℕ)) (i n : ℕ) → blocks_of (windows ++ lines ∷ []) i n ≡ blocks_of windows i n ++ block_of lines i n
+pub blocks_more : (windows : List (List (List ℕ))) (lines : List (List ℕ)) (i n : ℕ) → blocks_of (windows ++ lines ∷ []) i n ≡ blocks_of windows i n ++ block_of lines i n
 blocks_more windows lines i n = flat_map-append (λ (w : List (List ℕ)). block_of w i n) windows (lines ∷ []) ∙ ap (λ (l : List (List ℕ)). blocks_of windows i n ++ l) (append-nil (block_of lines i n))
 
 pub take_none : (seed : ℕ) (desks : List DeskState) → TakeBlocks seed desks [] desks
@@ -57,31 +57,35 @@ take_each seed desks desks' lines count each = record {
   each = λ i d within. subst (λ (l : List (List ℕ)). TakesLines seed (get_or desks i d) l (get_or desks' i d)) (sym (one_block lines i (length desks))) (each i d within);
 }
 
-pub take_window : (seed : ℕ) (a b c : List DeskState) (windows : List (List (List ℕ))) (lines : List (List ℕ)) → TakeBlocks seed a windows b → TakeBlocks seed b (lines ∷ []) c → TakeBlocks seed a (windows ++ lines ∷ []) c
-take_window seed a b c windows lines before after = record {
+-- each took its blocks of some windows, and then of others
+pub take_windows : (seed : ℕ) (a b c : List DeskState) (windows more : List (List (List ℕ))) → TakeBlocks seed a windows b → TakeBlocks seed b more c → TakeBlocks seed a (windows ++ more) c
+take_windows seed a b c windows more before after = record {
   count = after.count ∙ before.count;
   each = λ i d within.
-      let within' : i < length b = omega (arith, before.count) in
-      let more : TakesLines seed (get_or b i d) (block_of lines i (length a)) (get_or c i d) =
-      subst (λ (l : List (List ℕ)). TakesLines seed (get_or b i d) l (get_or c i d)) (one_block lines i (length b) ∙ ap (λ (n : ℕ). block_of lines i n) before.count) (after.each i d within') in
-      subst (λ (l : List (List ℕ)). TakesLines seed (get_or a i d) l (get_or c i d)) (sym (blocks_more windows lines i (length a)))
-      (takes_more seed (get_or a i d) (get_or b i d) (get_or c i d) (blocks_of windows i (length a)) (block_of lines i (length a)) (before.each i d within) more);
+      let within' : i < length b = omega (arith, within, before.count) in
+      let later : TakesLines seed (get_or b i d) (blocks_of more i (length a)) (get_or c i d) =
+      subst (λ (n : ℕ). TakesLines seed (get_or b i d) (blocks_of more i n) (get_or c i d)) before.count (after.each i d within') in
+      subst (λ (l : List (List ℕ)). TakesLines seed (get_or a i d) l (get_or c i d)) (sym (flat_map-append (λ (w : List (List ℕ)). block_of w i (length a)) windows more))
+      (takes_more seed (get_or a i d) (get_or b i d) (get_or c i d) (blocks_of windows i (length a)) (blocks_of more i (length a)) (before.each i d within) later);
 }
 
--- desks that were unused have room for a window more
+-- desks that were unused have room for windows more
 pub room_for : (seed : ℕ) (names : List (List ℕ)) (first desks : List DeskState) (windows : List (List (List ℕ))) (count : ℕ) → AreUnused names first → TakeBlocks seed first windows desks → length (all_lines windows) + count ≤ most_kept → HaveRoom names count desks
-room_for seed names first desks windows count unused took few = λ i d within.
-    let before : i < length first = omega (arith, took.count) in
-    let desk = get_or first i d in
-    let is = unused.each i d before in
-    let blocks = blocks_of windows i (length first) in
-    let its : TakesLines seed desk blocks (get_or desks i d) = took.each i d before in
-    let room : HasRoom (length blocks + count) desk = λ t u inside. omega (arith, few_blocks windows (length first) i before, ap length (is.none t u inside), is.quota_is, few) in
-    record {
-      has = has_still seed desk (get_or desks i d) blocks its is.has;
-      names_are = names_still seed desk (get_or desks i d) blocks its ∙ is.names_are;
-      room = room_after seed desk (get_or desks i d) blocks count is.has its room;
-    }
+room_for seed names first desks windows count unused took few = record { few = omega (arith, took.count, unused.few); each = each }
+  where
+    each : (i : ℕ) (d : DeskState) → i < length desks → IsReadyFor names count (get_or desks i d)
+    each i d within =
+        let before : i < length first = omega (arith, within, took.count) in
+        let desk = get_or first i d in
+        let is = unused.each i d before in
+        let blocks = blocks_of windows i (length first) in
+        let its : TakesLines seed desk blocks (get_or desks i d) = took.each i d before in
+        let room : HasRoom (length blocks + count) desk = λ t u inside. omega (arith, few_blocks windows (length first) i before, ap length (is.none t u inside), is.quota_is, few) in
+        record {
+          has = has_still seed desk (get_or desks i d) blocks its is.has;
+          names_are = names_still seed desk (get_or desks i d) blocks its ∙ is.names_are;
+          room = room_after seed desk (get_or desks i d) blocks count is.has its room;
+        }
 
 -- ---- all blocks of all windows
 

@@ -3,6 +3,7 @@ pub mod Taking
 pub mod BlockLaws
 pub mod WindowLaws
 pub mod GatherLaws
+pub mod StretchLaws
 pub mod WentLaws
 pub mod Counting
 pub mod EndingLaws

@@ -11,9 +11,16 @@ pub record LabelledState : Type 0 where
   -- how many bytes its text has
   pub bytes : ℕ
 
+-- windows of lines that are fed together
+pub record LabelledWindows : Type 0 where
+  -- the names of the tenants
+  pub names : List (List ℕ)
+  -- the lines of each
+  pub windows : List (List (List ℕ))
+
 -- as many bytes of lines as this make a window full, and it never has as many as these
 abbrev pub text_limit : ℕ
-text_limit = 16777216
+text_limit = 4194304
 
 abbrev pub most_bytes : ℕ
 most_bytes = 33554432

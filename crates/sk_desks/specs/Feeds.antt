@@ -1,6 +1,6 @@
 -- What desks took of lines.
 use Rattle.std.specs.Prelude.{◌≡◌, ℕ, ◌+◌, ◌<◌, ◌≤◌, List, [], ◌∷◌, length, map, slice_index_or}
-use Rattle.sk_model.specs.Limits.{most_kept}
+use Rattle.sk_model.specs.Limits.{most_kept, most_updaters}
 use Rattle.sk_hub.specs.Updaters.{UpdaterState, kept_of}
 use Rattle.sk_fill.specs.Blocks.{blocks_of}
 use Rattle.sk_tenant.specs.Names.{AreDifferent}
@@ -42,9 +42,10 @@ pub record IsReadyFor (names : List (List ℕ)) (count : ℕ) (d : DeskState) : 
   pub names_are : d.names ≡ names
   pub room : HasRoom count d
 
--- each desk is so
-abbrev pub HaveRoom : List (List ℕ) → ℕ → List DeskState → Type 0
-HaveRoom names count desks = (i : ℕ) (d : DeskState) → i < length desks → IsReadyFor names count (slice_index_or desks i d)
+-- there are at most 64 desks, and each is so
+pub record HaveRoom (names : List (List ℕ)) (count : ℕ) (desks : List DeskState) : Type 0 where
+  pub few : length desks ≤ most_updaters
+  pub each : (i : ℕ) (d : DeskState) → i < length desks → IsReadyFor names count (slice_index_or desks i d)
 
 -- each desk took its blocks of these windows
 pub record TakeBlocks (seed : ℕ) (desks : List DeskState) (windows : List (List (List ℕ))) (desks' : List DeskState) : Type 0 where

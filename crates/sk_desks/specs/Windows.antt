@@ -9,7 +9,7 @@ use Rattle.sk_tenant.specs.Desks.{DeskState}
 use Rattle.sk_desks.specs.declared.plan.Plan.{Plan}
 use Rattle.sk_desks.specs.Feeds.{IsUnused, TakeBlocks}
 use Rattle.sk_desks.specs.Desks.{desk_rules}
-use Rattle.sk_desks.specs.Entries.{LabelledState}
+use Rattle.sk_desks.specs.Entries.{LabelledWindows}
 
 -- a window has at most this many lines
 abbrev pub window_lines : ℕ
@@ -27,16 +27,16 @@ pub record HaveTaken (seed : ℕ) (first desks : List DeskState) (lines : List (
   pub joined : lines ≡ all_lines windows
   pub took : TakeBlocks seed first windows desks
 
--- a source was read from its start on by unused desks: the windows of its lines that were full were given to the
--- desks, and the last one lies at hand; another one is there to be filled
-pub record WentToDesks (plan : Plan) (names : List (List ℕ)) (first desks : List DeskState) (window spare : LabelledState) (more : Bool) (r : Reading) (old new : Option (List ℕ)) : Type 0 where
+-- a source was read from its start on by unused desks: the windows of its lines that were gathered before were given
+-- to the desks, and the last ones lie at hand; other windows are there to be filled
+pub record WentToDesks (plan : Plan) (names : List (List ℕ)) (first desks : List DeskState) (stretch spare : LabelledWindows) (more : Bool) (r : Reading) (old new : Option (List ℕ)) : Type 0 where
   pub unused : AreUnused names first
   pub windows : List (List (List ℕ))
   pub taken : List ℕ
   pub consumed : Consumes old new taken
-  pub read : HasRead r new (all_lines windows ++ window.lines) taken
-  pub fine : AreFine (desk_rules plan names) (all_lines windows ++ window.lines)
+  pub read : HasRead r new (all_lines windows ++ all_lines stretch.windows) taken
+  pub fine : AreFine (desk_rules plan names) (all_lines windows ++ all_lines stretch.windows)
   pub took : TakeBlocks plan.seed first windows desks
-  pub names_are : window.names ≡ names
+  pub names_are : stretch.names ≡ names
   pub spare_names : spare.names ≡ names
   pub end : more ≡ false → r.ended ≡ true

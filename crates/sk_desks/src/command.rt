@@ -14,10 +14,10 @@ ghost use Rattle.sk_desks.specs.Desks.{desk_rules};
 
 use crate::clerk::Clerk;
 use crate::ending::{take_in_all, text_of};
-use crate::feed::{feed_and_gather, feed_window};
-use crate::gather::Gatherer;
+use crate::feed::{feed_and_gather, feed_stretch};
+use crate::gatherer::Gatherer;
 use crate::plan::Plan;
-use crate::window::LabelledWindow;
+use crate::stretch::LabelledStretch;
 use sk_io::{Sink, Source, write_all};
 use sk_label::{LabelFault, read_labelled};
 use sk_model::OutOfMemory;
@@ -116,11 +116,11 @@ fn read_all<S: Source, R: Threads + Wait + Sync>(
     }
     let mut gatherer = Gatherer {
         reader: LineReader::new(alloc, most)?,
-        window: LabelledWindow::new(alloc, names)?,
+        stretch: LabelledStretch::new(alloc, names),
     };
-    let mut full = LabelledWindow::new(alloc, names)?;
-    read_windows(rt, plan, &mut gatherer, &mut full, source, desks)?;
-    feed_window(rt, desks, &full, plan.seed, threads_for(rt, desks.len()));
+    let mut full = LabelledStretch::new(alloc, names);
+    read_stretches(rt, plan, &mut gatherer, &mut full, source, desks)?;
+    feed_stretch(rt, desks, &full, plan.seed, threads_for(rt, desks.len()));
     Ok(())
 }
 
@@ -171,29 +171,29 @@ fn read_with<S: Source, R: Wait>(
     Ok(())
 }
 
-// Gathers the lines of a source, and feeds each window that is full to the desks while the next one is gathered. `full`
+// Gathers the lines of a source, and feeds each stretch of windows to the desks while the next one is gathered. `full`
 // has the last lines then.
-fn read_windows<'n, S: Source, R: Threads + Wait + Sync>(
+fn read_stretches<'n, S: Source, R: Threads + Wait + Sync>(
     rt: &R,
     plan: &Plan,
     gatherer: &mut Gatherer<'n>,
-    full: &mut LabelledWindow<'n>,
+    full: &mut LabelledStretch<'n>,
     source: &mut S,
     desks: &mut Vec<Desk>,
 ) -> Result<(), LabelFault>
-    requires went { WentToDesks plan.now gatherer.old.window.names desks.old.items desks.old.items full.old gatherer.old.window true gatherer.old.reader (S.left source.old) (S.left source.old) }
-    ensures went { OnOk result (WentToDesks plan.now gatherer.old.window.names desks.old.items desks.new.items full.new gatherer.new.window false gatherer.new.reader (S.left source.old) (S.left source.new)) }
+    requires went { WentToDesks plan.now gatherer.old.stretch.names desks.old.items desks.old.items full.old gatherer.old.stretch true gatherer.old.reader (S.left source.old) (S.left source.old) }
+    ensures went { OnOk result (WentToDesks plan.now gatherer.old.stretch.names desks.old.items desks.new.items full.new gatherer.new.stretch false gatherer.new.reader (S.left source.old) (S.left source.new)) }
     ensures bound { OnOk result (gatherer.new.reader.most ≡ gatherer.old.reader.most) }
-    ensures early { IfErr result (EndsBefore (desk_rules plan.now gatherer.old.window.names) gatherer.old.reader.most (setting (S.left source.old) None) (setting (S.left source.new) None)) }
+    ensures early { IfErr result (EndsBefore (desk_rules plan.now gatherer.old.stretch.names) gatherer.old.reader.most (setting (S.left source.old) None) (setting (S.left source.new) None)) }
     ensures quiet { result ≢ Err LabelFault.WriteFault }
     ensures reads { HasCauseIn LabelFault.ReadFault (S.faults source.old) (S.faults source.new) result }
     ensures stays { S.stands_on source.new ≡ S.stands_on source.old }
 {
     let threads = threads_for(rt, desks.len());
     let mut more = true;
-    'window: while more {
+    'stretch: while more {
         more = feed_and_gather(rt, desks, full, plan.seed, threads, gatherer, source)?;
-        swap(full, &mut gatherer.window);
+        swap(full, &mut gatherer.stretch);
     }
     Ok(())
 }

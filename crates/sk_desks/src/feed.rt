@@ -1,14 +1,16 @@
-// Lines of a window, fed to desks.
-ghost use Rattle.std.specs.Prelude.{◌≡◌, ℕ, ◌<◌, ◌≤◌, ◌+◌, ◌-◌, List, ◌∷◌, [], length, slice_range, slice_index_or};
+// Lines of windows, fed to desks.
+ghost use Rattle.std.specs.Prelude.{◌≡◌, ℕ, ◌<◌, ◌≤◌, ◌+◌, ◌-◌, List, ◌∷◌, [], length, map, All, slice_range, slice_index_or};
 ghost use Rattle.sk_model.specs.Causes.{HasCauseIn};
 ghost use Rattle.sk_model.specs.Limits.{most_updaters};
 ghost use Rattle.sk_read.specs.Reading.{HasRead};
-ghost use Rattle.sk_fill.specs.Blocks.{block_of};
+ghost use Rattle.sk_fill.specs.Blocks.{block_of, blocks_of};
+ghost use Rattle.sk_fill.specs.Windows.{all_lines};
 ghost use Rattle.sk_desks.specs.Gathers.{Gathers};
 ghost use Rattle.sk_desks.specs.Feeds.{HasRoom, HaveRoom, HasTenants, TakesLines, TakeBlocks};
 
 use crate::calls::insist;
-use crate::gather::Gatherer;
+use crate::gatherer::Gatherer;
+use crate::stretch::LabelledStretch;
 use crate::window::LabelledWindow;
 use sk_fill::Block;
 use sk_hash::hash63;
@@ -16,113 +18,137 @@ use sk_io::Source;
 use sk_label::LabelFault;
 use sk_tenant::Desk;
 use std::sync::Wait;
+use std::sync::atomic::{AtomicBool, Ordering};
 use std::thread::{Threads, for_each_mut, join_mut};
 
-// Feeds a window to the desks, and meanwhile gathers the lines of the next one.
+// Feeds a stretch to the desks, and meanwhile gathers the next one: a window, and others as long as the desks are fed.
 pub(crate) fn feed_and_gather<S: Source, R: Threads + Wait + Sync>(
     rt: &R,
     desks: &mut Vec<Desk>,
-    window: &LabelledWindow<'_>,
+    stretch: &LabelledStretch<'_>,
     seed: u32,
     threads: u32,
     gatherer: &mut Gatherer<'_>,
     source: &mut S,
 ) -> Result<bool, LabelFault>
     requires threads { 0 < threads }
-    requires few { length desks.old.items ≤ most_updaters }
-    requires room { HaveRoom window.now.names (length window.now.lines) desks.old.items }
+    requires room { HaveRoom stretch.now.names (length (all_lines stretch.now.windows)) desks.old.items }
     requires started { (given : List (List ℕ)) × (taken : List ℕ) × HasRead gatherer.old.reader (S.left source.old) given taken }
-    ensures took { TakeBlocks seed desks.old.items (window.now.lines ∷ []) desks.new.items }
-    ensures gathers { Gathers gatherer.old.window.names gatherer.old.reader gatherer.new.reader (S.left source.old) (S.left source.new) gatherer.new.window.lines result }
-    ensures names { gatherer.new.window.names ≡ gatherer.old.window.names }
+    ensures took { TakeBlocks seed desks.old.items stretch.now.windows desks.new.items }
+    ensures gathers { Gathers gatherer.old.stretch.names gatherer.old.reader gatherer.new.reader (S.left source.old) (S.left source.new) (all_lines gatherer.new.stretch.windows) result }
+    ensures names { gatherer.new.stretch.names ≡ gatherer.old.stretch.names }
     ensures cause { HasCauseIn LabelFault.ReadFault (S.faults source.old) (S.faults source.new) result }
     ensures stays { S.stands_on source.new ≡ S.stands_on source.old }
 {
-    if threads < 2 || window.is_empty() {
-        feed_window(rt, desks, window, seed, threads);
-        return gatherer.gather(source);
+    if threads < 2 || stretch.is_empty() {
+        feed_stretch(rt, desks, stretch, seed, threads);
+        return gatherer.gather(source, &AtomicBool::new(true));
     }
+    let fed = AtomicBool::new(false);
     feed_beside(
         rt,
         desks,
-        window,
+        stretch,
         seed,
         threads,
+        &fed,
         &mut ||
             requires started { (given : List (List ℕ)) × (taken : List ℕ) × HasRead gatherer.now.reader (S.left source.now) given taken }
-            ensures gathers { Gathers gatherer.entry.now.window.names gatherer.entry.now.reader gatherer.exit.now.reader (S.left source.entry.now) (S.left source.exit.now) gatherer.exit.now.window.lines result }
-            ensures names { gatherer.exit.now.window.names ≡ gatherer.entry.now.window.names }
+            ensures gathers { Gathers gatherer.entry.now.stretch.names gatherer.entry.now.reader gatherer.exit.now.reader (S.left source.entry.now) (S.left source.exit.now) (all_lines gatherer.exit.now.stretch.windows) result }
+            ensures names { gatherer.exit.now.stretch.names ≡ gatherer.entry.now.stretch.names }
             ensures cause { HasCauseIn LabelFault.ReadFault (S.faults source.entry.now) (S.faults source.exit.now) result }
             ensures stays { S.stands_on source.exit.now ≡ S.stands_on source.entry.now }
-        { gatherer.gather(source) },
+        { gatherer.gather(source, &fed) },
     )
 }
 
-// Feeds a window to the desks while other work is done here.
+// Feeds a stretch to the desks while other work is done here. `fed` says when they have taken it.
 fn feed_beside<R: Threads + Wait + Sync, F: FnMut() -> A, A>(
     rt: &R,
     desks: &mut Vec<Desk>,
-    window: &LabelledWindow<'_>,
+    stretch: &LabelledStretch<'_>,
     seed: u32,
     threads: u32,
+    fed: &AtomicBool,
     work: &mut F,
 ) -> A
     requires threads { 0 < threads }
-    requires few { length desks.old.items ≤ most_updaters }
-    requires room { HaveRoom window.now.names (length window.now.lines) desks.old.items }
+    requires room { HaveRoom stretch.now.names (length (all_lines stretch.now.windows)) desks.old.items }
     requires work { F.pre work.old }
-    ensures took { TakeBlocks seed desks.old.items (window.now.lines ∷ []) desks.new.items }
+    ensures took { TakeBlocks seed desks.old.items stretch.now.windows desks.new.items }
     ensures work { F.step work.old result work.new }
 {
     let (_, done) = join_mut(
         rt,
         &mut ||
             requires threads { 0 < threads }
-            requires few { length desks.now.items ≤ most_updaters }
-            requires room { HaveRoom window.now.names (length window.now.lines) desks.now.items }
-            ensures { TakeBlocks seed desks.entry.now.items (window.entry.now.lines ∷ []) desks.exit.now.items }
-        { feed_window(rt, desks, window, seed, threads) },
+            requires room { HaveRoom stretch.now.names (length (all_lines stretch.now.windows)) desks.now.items }
+            ensures { TakeBlocks seed desks.entry.now.items stretch.entry.now.windows desks.exit.now.items }
+        {
+            feed_stretch(rt, desks, stretch, seed, threads);
+            fed.store(true, Ordering::SeqCst);
+        },
         work,
     );
     done
 }
 
-// Feeds a window to the desks, at most this many in parallel: to each its block.
-pub(crate) fn feed_window<R: Threads + Wait + Sync>(
+// Feeds a stretch to the desks, at most this many in parallel: to each its block of each window.
+pub(crate) fn feed_stretch<R: Threads + Wait + Sync>(
     rt: &R,
     desks: &mut Vec<Desk>,
-    window: &LabelledWindow<'_>,
+    stretch: &LabelledStretch<'_>,
     seed: u32,
     threads: u32,
 )
     requires threads { 0 < threads }
-    requires few { length desks.old.items ≤ most_updaters }
-    requires room { HaveRoom window.now.names (length window.now.lines) desks.old.items }
-    ensures { TakeBlocks seed desks.old.items (window.now.lines ∷ []) desks.new.items }
+    requires room { HaveRoom stretch.now.names (length (all_lines stretch.now.windows)) desks.old.items }
+    ensures { TakeBlocks seed desks.old.items stretch.now.windows desks.new.items }
 {
-    feed_each(rt, desks.as_mut_slice(), window, seed, threads);
+    feed_each(rt, desks.as_mut_slice(), stretch, seed, threads);
 }
 
 // The same, of a slice of desks.
 fn feed_each<R: Threads + Wait + Sync>(
     rt: &R,
     desks: &mut [Desk],
-    window: &LabelledWindow<'_>,
+    stretch: &LabelledStretch<'_>,
     seed: u32,
     threads: u32,
 )
     requires threads { 0 < threads }
-    requires few { length desks.old ≤ most_updaters }
-    requires room { HaveRoom window.now.names (length window.now.lines) desks.old }
-    ensures { TakeBlocks seed desks.old (window.now.lines ∷ []) desks.new }
+    requires room { HaveRoom stretch.now.names (length (all_lines stretch.now.windows)) desks.old }
+    ensures { TakeBlocks seed desks.old stretch.now.windows desks.new }
 {
     let n = desks.len();
     for_each_mut(
         rt,
         desks,
         threads as usize,
-        &|i, desk| { feed_block(rt, desk, window, i, n, seed) },
+        &|i, desk| { feed_blocks(rt, desk, stretch, i, n, seed) },
     );
+}
+
+// Feeds block i of n of each window to a desk, in order.
+fn feed_blocks<R: Wait>(
+    rt: &R,
+    desk: &mut Desk,
+    stretch: &LabelledStretch<'_>,
+    i: usize,
+    n: usize,
+    seed: u32,
+)
+    requires few { n ≤ most_updaters }
+    requires within { i < n }
+    requires tenants { HasTenants desk.old }
+    requires names { desk.old.names ≡ stretch.now.names }
+    requires room { HasRoom (length (all_lines stretch.now.windows)) desk.old }
+    ensures { TakesLines seed desk.old (blocks_of stretch.now.windows i n) desk.new }
+{
+    let windows = stretch.windows();
+    'window: for at in 0..windows.len() {
+        feed_block(rt, desk, &windows[at], i, n, seed);
+    }
 }
 
 // Feeds block i of n of a window to a desk.

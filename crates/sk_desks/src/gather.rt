@@ -12,30 +12,8 @@ use sk_label::LabelFault;
 use sk_lines::{GROUP, Span};
 use sk_read::LineReader;
 
-/// A reader of lines, and the window in which those are gathered that are empty or of a tenant.
-#[derive(Drop)]
-pub(crate) struct Gatherer<'n> {
-    pub(crate) reader: LineReader,
-    pub(crate) window: LabelledWindow<'n>,
-}
-
-impl Gatherer<'_> {
-    /// Reads lines into the window, in the place of those that it has, until it is full, or returns `false` at the end
-    /// of the source.
-    pub(crate) fn gather<S: Source>(&mut self, source: &mut S) -> Result<bool, LabelFault>
-        requires started { (given : List (List ℕ)) × (taken : List ℕ) × HasRead self.old.reader (S.left source.old) given taken }
-        ensures gathers { Gathers self.old.window.names self.old.reader self.new.reader (S.left source.old) (S.left source.new) self.new.window.lines result }
-        ensures names { self.new.window.names ≡ self.old.window.names }
-        ensures cause { HasCauseIn LabelFault.ReadFault (S.faults source.old) (S.faults source.new) result }
-        ensures stays { S.stands_on source.new ≡ S.stands_on source.old }
-    {
-        self.window.clear();
-        gather(&mut self.reader, &mut self.window, source)
-    }
-}
-
-// Reads lines into an empty window.
-fn gather<S: Source>(
+// Reads lines into an empty window, until it is full, or returns `false` at the end of the source.
+pub(crate) fn gather_window<S: Source>(
     reader: &mut LineReader,
     window: &mut LabelledWindow<'_>,
     source: &mut S,

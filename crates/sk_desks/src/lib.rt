@@ -8,7 +8,9 @@ mod command;
 mod ending;
 mod feed;
 mod gather;
+mod gatherer;
 mod plan;
+mod stretch;
 mod window;
 
 pub use command::tenants;

@@ -1,5 +1,5 @@
 // A window of lines, of which it is noted whose they are and where their items lie.
-ghost use Rattle.std.specs.Prelude.{◌≡◌, ◌<◌, ◌≤◌, ◌+◌, ◌++◌, ◌∷◌, ◌==◌, ◌^◌, [], List, All, length, slice_get, slice_index_or, slice_range, true, Some, OnOk, IfOk, IfErr, IfSome, IfNone, vec_len, vec_capacity};
+ghost use Rattle.std.specs.Prelude.{◌≡◌, ◌<◌, ◌≤◌, ◌+◌, ◌++◌, ◌∷◌, ◌^◌, [], List, All, length, slice_get, slice_index_or, slice_range, true, Some, OnOk, IfOk, IfErr, IfSome, IfNone, vec_len, vec_capacity};
 ghost use Rattle.sk_lines.specs.Spans.{AreBehind, lines_at};
 ghost use Rattle.sk_label.specs.Labels.{is_labelled, label_of, item_text_of};
 ghost use Rattle.sk_desks.specs.Entries.{IsEntry, IsLabelledBy, IsMoved, lines_in, lines_moved, most_bytes, text_limit};
@@ -16,8 +16,8 @@ use std::marker::Model;
 // A window has at most this many lines.
 const MOST_LINES: usize = 65_536;
 
-// As many bytes of lines as this make a window full.
-const FULL_BYTES: usize = 16_777_216;
+// As many bytes of lines as this make a window full, so that a stretch of long lines stays small.
+const FULL_BYTES: usize = 4_194_304;
 
 // Where a line lies in the text of a window, where its item begins in the line, and the place of its tenant. An empty
 // line has no item.
@@ -83,12 +83,6 @@ impl<'n> LabelledWindow<'n> {
         ensures within { result ≤ window_lines }
     {
         self.entries.len() as u32
-    }
-
-    pub(crate) fn is_empty(&self) -> bool
-        ensures { result ≡ (length self.now.lines == 0) }
-    {
-        self.len() == 0
     }
 
     /// Whether it takes a group of lines more, and this many bytes.

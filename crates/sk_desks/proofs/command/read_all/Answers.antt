@@ -19,47 +19,37 @@ returns-in_err-new-clause-early g c =
     let rules = desk_rules c.args.plan.now c.args.names.now in let left = g.S.Source.left c.args.source.now in
     stop_is (λ (f : LabelFault). EndsBefore rules c.args.most (setting left None) (setting left None) f) fault.OutOfMemory c.from_residual.result c.from_residual.ensures.1 (ends_at_start rules c.args.most left None)
 
-pub returns-in_err-new-2-clause-early : goal.returns-in_err-new-2-clause-early
-returns-in_err-new-2-clause-early g c =
-    let rules = desk_rules c.args.plan.now c.args.names.now in let left = g.S.Source.left c.args.source.now in
-    stop_is (λ (f : LabelFault). EndsBefore rules c.args.most (setting left None) (setting left None) f) fault.OutOfMemory c.from_residual-in_err-new-2.result c.from_residual-in_err-new-2.ensures.1 (ends_at_start rules c.args.most left None)
-
-pub returns-in_err-full-clause-early : goal.returns-in_err-full-clause-early
-returns-in_err-full-clause-early g c =
-    let rules = desk_rules c.args.plan.now c.args.names.now in let left = g.S.Source.left c.args.source.now in
-    stop_is (λ (f : LabelFault). EndsBefore rules c.args.most (setting left None) (setting left None) f) fault.OutOfMemory c.from_residual-in_err-full.result c.from_residual-in_err-full.ensures.1 (ends_at_start rules c.args.most left None)
-
-pub read_windows-requires-clause-went : goal.read_windows-requires-clause-went
-read_windows-requires-clause-went g c κs within =
+pub read_stretches-requires-clause-went : goal.read_stretches-requires-clause-went
+read_stretches-requires-clause-went g c κs within =
     let left = g.S.Source.left c.args.source.now in
-    let named = c.in_ok-new-2.ensures.names in
-    subst (λ (ns : List (List ℕ)). WentToDesks c.args.plan.now ns c.args.desks.now.items c.args.desks.now.items c.in_ok-full.full c.in_ok-new-2.field-0 true c.in_ok-new.field-0 left left) (sym named)
-    (went_start c.args.plan.now c.args.names.now c.args.desks.now.items c.in_ok-full.full c.in_ok-new-2.field-0 c.in_ok-new.field-0 left c.requires.unused (c.in_ok-new.ensures.read left)
-    c.in_ok-full.ensures.lines c.in_ok-full.ensures.names named)
+    let named = c.new-2.ensures.names in
+    subst (λ (ns : List (List ℕ)). WentToDesks c.args.plan.now ns c.args.desks.now.items c.args.desks.now.items c.new-full.result c.new-2.result true c.in_ok-new.field-0 left left) (sym named)
+    (went_start c.args.plan.now c.args.names.now c.args.desks.now.items c.new-full.result c.new-2.result c.in_ok-new.field-0 left c.requires.unused (c.in_ok-new.ensures.read left)
+    c.new-full.ensures.windows c.new-full.ensures.names named)
 
-pub returns-in_err-read_windows-clause-early : goal.returns-in_err-read_windows-clause-early
-returns-in_err-read_windows-clause-early g c =
-    let left = g.S.Source.left c.args.source.now in let left' = g.S.Source.left c.read_windows.new.source in
-    let f = c.in_err-read_windows.field-0.0 in
+pub returns-in_err-read_stretches-clause-early : goal.returns-in_err-read_stretches-clause-early
+returns-in_err-read_stretches-clause-early g c =
+    let left = g.S.Source.left c.args.source.now in let left' = g.S.Source.left c.read_stretches.new.source in
+    let f = c.in_err-read_stretches.field-0.0 in
     let rules = desk_rules c.args.plan.now c.args.names.now in
-    stop_is (λ (x : LabelFault). EndsBefore rules c.args.most (setting left None) (setting left' None) x) f c.from_residual-in_err-read_windows.result c.from_residual-in_err-read_windows.ensures.1
+    stop_is (λ (x : LabelFault). EndsBefore rules c.args.most (setting left None) (setting left' None) x) f c.from_residual-in_err-read_stretches.result c.from_residual-in_err-read_stretches.ensures.1
     (subst (λ (m : ℕ). EndsBefore rules m (setting left None) (setting left' None) f) c.in_ok-new.ensures.most
-    (subst (λ (ns : List (List ℕ)). EndsBefore (desk_rules c.args.plan.now ns) c.in_ok-new.field-0.most (setting left None) (setting left' None) f) c.in_ok-new-2.ensures.names c.in_err-read_windows.ensures.early))
+    (subst (λ (ns : List (List ℕ)). EndsBefore (desk_rules c.args.plan.now ns) c.in_ok-new.field-0.most (setting left None) (setting left' None) f) c.new-2.ensures.names c.in_err-read_stretches.ensures.early))
 
-pub feed_window-requires-clause-room : goal.feed_window-requires-clause-room
-feed_window-requires-clause-room g c κs within =
-    let w = c.read_windows.new in
-    went_room c.args.plan.now c.in_ok-new-2.field-0.names c.args.desks.now.items w.desks.items w.full w.gatherer.window false w.gatherer.reader
-    (g.S.Source.left c.args.source.now) (g.S.Source.left w.source) c.in_ok-read_windows.ensures.went
+pub feed_stretch-requires-clause-room : goal.feed_stretch-requires-clause-room
+feed_stretch-requires-clause-room g c κs within =
+    let w = c.read_stretches.new in
+    went_room c.args.plan.now c.new-2.result.names c.args.desks.now.items w.desks.items w.full w.gatherer.stretch false w.gatherer.reader
+    (g.S.Source.left c.args.source.now) (g.S.Source.left w.source) c.in_ok-read_stretches.ensures.went
 
 pub returns-clause-read : goal.returns-clause-read
 returns-clause-read g c =
-    let w = c.read_windows.new in let plan = c.args.plan.now in let names = c.args.names.now in let ns = c.in_ok-new-2.field-0.names in let first = c.args.desks.now.items in let desks = c.feed_window.new.desks.items in
+    let w = c.read_stretches.new in let plan = c.args.plan.now in let names = c.args.names.now in let ns = c.new-2.result.names in let first = c.args.desks.now.items in let desks = c.feed_stretch.new.desks.items in
     reads_so (λ lines. AreFine (desk_rules plan ns) lines × HaveTaken plan.seed first desks lines) (λ lines. AreFine (desk_rules plan names) lines × HaveTaken plan.seed first desks lines) c.args.most (g.S.Source.left c.args.source.now) (g.S.Source.left w.source)
-    (λ lines both. (fine_same plan names ns lines c.in_ok-new-2.ensures.names both.0, both.1))
-    (went_all plan ns first w.desks.items w.full w.gatherer.window false w.gatherer.reader
-    (g.S.Source.left c.args.source.now) (g.S.Source.left w.source) c.in_ok-read_windows.ensures.went c.args.most desks
-    (c.in_ok-read_windows.ensures.bound ∙ c.in_ok-new.ensures.most) refl c.feed_window.ensures)
+    (λ lines both. (fine_same plan names ns lines c.new-2.ensures.names both.0, both.1))
+    (went_all plan ns first w.desks.items w.full w.gatherer.stretch false w.gatherer.reader
+    (g.S.Source.left c.args.source.now) (g.S.Source.left w.source) c.in_ok-read_stretches.ensures.went c.args.most desks
+    (c.in_ok-read_stretches.ensures.bound ∙ c.in_ok-new.ensures.most) refl c.feed_stretch.ensures)
 
 pub returns-then-len-eq1-clause-read : goal.returns-then-len-eq1-clause-read
 returns-then-len-eq1-clause-read g c =

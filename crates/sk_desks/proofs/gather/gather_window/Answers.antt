@@ -1,4 +1,4 @@
-use Rattle.std.proofs.Common.{◌≡◌, ◌+◌, ◌≤◌, ◌∷◌, [], ◌++◌, List, ℕ, length, Bool, true, false, Ok, Err, OnOk, IfErr, refl, sym, ap, ◌∙◌, subst, arith}
+use Rattle.std.proofs.Common.{◌≡◌, ◌≤◌, ◌∷◌, [], ◌++◌, List, ℕ, length, Bool, true, false, Ok, Err, OnOk, IfErr, refl, sym, ap, ◌∙◌, subst, arith}
 use Rattle.sk_model.specs.Limits.{line_limit}
 use Rattle.sk_label.specs.Faults.{fault_of_lines}
 use Rattle.sk_label.specs.declared.fault.LabelFault.{LabelFault}
@@ -6,7 +6,7 @@ use Rattle.sk_fill.proofs.Filled.{line_short, read_few, read_number}
 use Rattle.sk_fill.proofs.Readings.{steady_on_ok}
 use Rattle.sk_desks.specs.Gathers.{IsOfTenant, GoOnFine, StopsWithin, StopsHeld, TakesHeld}
 use Rattle.sk_desks.proofs.GatherLaws as laws
-use Rattle.sk_desks.proofs.gather.gather.Goals as goal
+use Rattle.sk_desks.proofs.gather.gather_window.Goals as goal
 
 pub piece-init : goal.piece-init
 piece-init g c = record {

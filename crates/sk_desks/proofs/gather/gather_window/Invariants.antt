@@ -3,7 +3,7 @@ use Rattle.sk_read.specs.Reading.{remaining_of}
 use Rattle.sk_desks.specs.Entries.{text_limit}
 use Rattle.sk_desks.specs.Windows.{window_lines}
 use Rattle.sk_desks.specs.Gathers.{GivesNext, GoOnFine}
-use Rattle.sk_desks.proofs.gather.gather.Given as goal
+use Rattle.sk_desks.proofs.gather.gather_window.Given as goal
 
 abbrev pub invariant-piece : goal.invariant-piece
 invariant-piece g l = record {
