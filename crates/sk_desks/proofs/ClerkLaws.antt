@@ -1,7 +1,7 @@
 -- Lines that a clerk gave to the one desk that there is.
-use Rattle.std.proofs.Common.{◌≡◌, ℕ, ◌+◌, ◌<◌, false, not, None, Result, Ok, Err, OnOk, List, [], ◌∷◌, ◌++◌, length, get_or, set, refl, sym, ap, subst, ◌∙◌, arith, append-nil, length-set, get_or-set_same}
+use Rattle.std.proofs.Common.{◌≡◌, ℕ, ◌+◌, ◌-◌, ◌<◌, false, not, None, Result, Ok, Err, OnOk, List, [], ◌∷◌, ◌++◌, length, get_or, slice_range, set, refl, sym, ap, subst, ◌∙◌, arith, append-nil, length-set, get_or-set_same}
 use Rattle.std.proofs.KnownBytes.{Appends-nil}
-use Rattle.std.proofs.lemmas.List.{get_or_default}
+use Rattle.std.proofs.lemmas.List.{get_or_default, take_all}
 use Rattle.sk_model.specs.Limits.{most_kept}
 use Rattle.sk_label.specs.Labels.{is_labelled}
 use Rattle.sk_label.specs.Stops.{Takes, StopsBy}
@@ -81,3 +81,8 @@ taken_alone seed first desks d' lines one is took = record {
     each i d within =
         let zero : 0 ≡ i = omega (arith, within, one) in
         subst (λ (n : ℕ). TakesLines seed (get_or first n d) (block_of lines n (length first)) (get_or desks n d)) zero (here d)
+
+-- ---- a line as a text of its own
+
+pub whole_line : (line : List ℕ) → slice_range line 0 (length line) ≡ line
+whole_line line = take_all (length line - 0) line (omega arith)

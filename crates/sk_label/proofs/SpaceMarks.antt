@@ -1,11 +1,11 @@
 -- The spaces of a line, by marks of 16 bytes.
-use Rattle.std.proofs.Common.{◌≡◌, ◌≢◌, ◌↔◌, ℕ, ◌+◌, ◌-◌, ◌<◌, ◌≤◌, Bool, true, false, cond, eqb, List, length, map, get_or, slice_index, refl, sym, ap, ◌∙◌, subst, arith, eqb-true, eq-eqb, ⊎_elim, ◌^◌, ◌%◌, replicate, w8, w64}
+use Rattle.std.proofs.Common.{◌≡◌, ◌≢◌, ◌↔◌, ℕ, ◌+◌, ◌-◌, ◌<◌, ◌≤◌, Bool, true, false, cond, eqb, List, length, length-take, length-drop, map, drop, get_or, slice_index, slice_range, refl, sym, ap, ◌∙◌, subst, arith, eqb-true, eq-eqb, ⊎_elim, ◌^◌, ◌%◌, replicate, w8, w64}
 use Rattle.std.specs.Int.{bit_at, trailing_zeros}
 use Rattle.std.specs.List.{position_or_len}
 use Rattle.std.specs.Simd.Lanes.{zip2, mask_l, top, chunk}
 use Rattle.std.proofs.lemmas.Simd.{bit_mask_l, bitmask_splat, length-chunk, get_or-chunk}
 use Rattle.std.proofs.Math.ListN.{get_or-map}
-use Rattle.std.proofs.lemmas.List.{get_or_past}
+use Rattle.std.proofs.lemmas.List.{get_or_past, get_or-take, get_or-drop}
 use Rattle.std.proofs.lemmas.List.Sums.{position_or_len_is}
 use Rattle.std.proofs.lemmas.Bool.{cases_lt, ne_eqb}
 use Rattle.std.proofs.lemmas.Nat.Bits.{bit_at-trailing_zeros, bit_at-zero}
@@ -69,3 +69,21 @@ module _ (bytes : List ℕ) (at marks : ℕ) (block : (k : ℕ) → (bit_at mark
         sym (position_or_len_is is_space bytes (at + low) 0 (omega (arith, within, here.0)) below (λ _. eq-eqb (get_or bytes (at + low) 0) 32 here.1)),
         omega (arith, within, here.0),
       )
+
+-- the lowest mark of a block at the start of a line that lies in a text is of the line's first space, if it is inside
+module _ (text : List ℕ) (from to marks : ℕ) (block : (k : ℕ) → (bit_at marks k ≡ 1) ↔ ((k < 16) × (slice_index text (from + k) ≡ 32))) where
+  byte_of_line : (k : ℕ) → k < to - from → get_or (slice_range text from to) k 0 ≡ get_or text (from + k) 0
+  byte_of_line k inside = get_or-take (to - from) (drop from text) k 0 inside ∙ get_or-drop from text k 0
+
+  pub first_in_text : from ≤ to → to ≤ length text → marks < 2 ^ 64 → marks ≢ 0 → trailing_zeros w64 marks < to - from → trailing_zeros w64 marks ≡ position_or_len is_space (slice_range text from to)
+  first_in_text order within fits some inside =
+      let low : ℕ = trailing_zeros w64 marks in
+      let line : List ℕ = slice_range text from to in
+      let h = bit_at-trailing_zeros w64 marks (omega (arith, some)) fits in
+      let here : (low < 16) × (slice_index text (from + low) ≡ 32) = (block low).0 h.1 in
+      let size : length line ≡ to - from = length-take (to - from) (drop from text) ∙ omega (arith, order, within, length-drop from text) in
+      let below : (k : ℕ) → k < low → is_space (get_or line k 0) ≡ false = λ k less.
+      ne_eqb (get_or line k 0) 32 (λ is.
+      let set : bit_at marks k ≡ 1 = (block k).1 (omega (arith, less, here.0), sym (byte_of_line k (omega (arith, less, inside))) ∙ is) in
+      omega (arith, set, h.2 k less)) in
+      sym (position_or_len_is is_space line low 0 (omega (arith, size, inside)) below (λ _. eq-eqb (get_or line low 0) 32 (byte_of_line low inside ∙ here.1)))

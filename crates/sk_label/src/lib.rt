@@ -10,5 +10,5 @@ mod taker;
 
 pub use carrier::read_labelled;
 pub use fault::{LabelFault, LineStop};
-pub use parts::{Parts, split};
+pub use parts::{Parts, split, split_short};
 pub use taker::LineTaker;

@@ -1,5 +1,5 @@
 // Where the first space of a line stands.
-ghost use Rattle.std.specs.Prelude.{◌≡◌, ◌≢◌, ◌↔◌, ℕ, ◌+◌, ◌<◌, ◌≤◌, false, length, slice_index};
+ghost use Rattle.std.specs.Prelude.{◌≡◌, ◌≢◌, ◌↔◌, ℕ, ◌+◌, ◌<◌, ◌≤◌, ◌-◌, false, length, slice_index, slice_range, IfSome};
 ghost use Rattle.std.specs.Int.{bit_at};
 ghost use Rattle.std.specs.List.{position_or_len};
 ghost use Rattle.sk_label.specs.Labels.{is_space};
@@ -24,6 +24,25 @@ pub(crate) fn first_space(line: &[u8]) -> usize
         at += BLOCK;
     }
     first_space_from(line, at)
+}
+
+/// The place of the first space of a line that lies in a text, if it is one of the first 16 bytes and the text has them.
+#[inline(always)]
+pub(crate) fn first_space_in(text: &[u8], from: usize, to: usize) -> Option<usize>
+    requires order { from ≤ to }
+    requires within { to ≤ length text.now }
+    ensures place { IfSome result (λ at. at ≡ position_or_len is_space (slice_range text.now from to)) }
+    ensures inside { IfSome result (λ at. at < to - from) }
+{
+    if text.len() - from < BLOCK {
+        return None;
+    }
+    let spaces = spaces_of_block(text, from);
+    let at = spaces.trailing_zeros() as usize;
+    if spaces == 0 || to - from <= at {
+        return None;
+    }
+    Some(at)
 }
 
 // The spaces of the 16 bytes from `at` on: bit k is set if the byte at place `at + k` is one.

@@ -1,13 +1,15 @@
 -- What calls for one tenant take of its updater.
-use Rattle.std.proofs.Common.{◌≡◌, ◌↔◌, ℕ, ◌<◌, ◌≤◌, Bool, true, false, List, [], ◌∷◌, length, refl, sym, ap, subst, arith}
+use Rattle.std.proofs.Common.{◌≡◌, ◌↔◌, ⊎_elim, ℕ, ◌<◌, ◌≤◌, Bool, true, false, List, [], ◌∷◌, length, refl, sym, ap, subst, arith}
 use Rattle.std.proofs.lemmas.List.Elements.{All-nil, All-cons, All-append}
 use Rattle.sk_model.specs.Width.{IsItem, AreItems}
-use Rattle.sk_hub.specs.Updaters.{UpdaterState, kept_of}
+use Rattle.sk_hub.specs.Updaters.{UpdaterState, kept_of, base_of}
 use Rattle.sk_hub.specs.Calls.{KeepsNone}
-use Rattle.sk_hub.proofs.Calls.{none_refl, takes_none, takes_trans, takes_few}
+use Rattle.sk_hub.specs.declared.answers.Update.TheVariants as update
+use Rattle.sk_feed.proofs.Calls.{filtered_now}
+use Rattle.sk_hub.proofs.Calls.{none_refl, offered, takes_none, takes_trans, takes_few}
 use Rattle.sk_tenant.specs.declared.answers.Add.{Add}
 use Rattle.sk_tenant.specs.declared.answers.Add.TheVariants.{Kept, Filtered, Busy, Over}
-use Rattle.sk_tenant.specs.Calls.{Call, Adds, Insists, Asks, Helps, theta_keeps, theta_hint, TakesItems, OwesAdd, OwesInsist, Owes, Lone, taken_of, items_taken}
+use Rattle.sk_tenant.specs.Calls.{Call, Adds, Insists, Asks, Helps, by_theta, theta_keeps, theta_early, theta_hint, TakesItems, OwesAdd, OwesInsist, Owes, Lone, taken_of, items_taken}
 
 -- ---- one call
 
@@ -96,3 +98,16 @@ over_exactly quota u u' item Over owed = (λ over. owed.full, λ full. refl)
 pub insist_exactly : (quota : ℕ) (u u' : UpdaterState) (item : ℕ) (taken : Bool) → OwesInsist quota u item taken u' → (taken ≡ false) ↔ (length (kept_of u) ≡ quota)
 insist_exactly quota u u' item true owed = (λ over. cc, λ full. absurd (omega (arith, full, owed.0.below)))
 insist_exactly quota u u' item false owed = (λ over. owed.full, λ full. refl)
+
+-- ---- an item that is dropped
+
+-- an item below the quota that the hint does not keep is taken, and nothing changes
+pub owes_nothing : (quota : ℕ) (u : UpdaterState) (item : ℕ) → IsItem item → length (kept_of u) < quota → u.hint ≡ theta_hint u.view.numbers (base_of u) → theta_keeps u.hint item ≡ false → OwesInsist quota u item true u
+owes_nothing quota u item is_item below hint dropped = (
+  record { below = below; is_item = is_item },
+  record {
+    times = 0;
+    insists = filtered_now by_theta u u item (record { dropped = dropped; stays = refl });
+    takes = offered theta_keeps theta_early theta_hint u u item update.Filtered hint (λ is. dropped) (λ is. refl) (λ is. cc) (λ is. cc) (λ is. ⊎_elim (λ kept. cc) (λ handed. cc) is) (λ is. cc);
+  },
+)

@@ -1,9 +1,9 @@
 -- The place of a name, by a table of names.
-use Rattle.std.proofs.Common.{◌≡◌, ◌≢◌, ◌⊎◌, inl, inr, ⊎_elim, ℕ, zero, suc, ◌+◌, ◌-◌, ◌<◌, ◌≤◌, nat_lt, Bool, true, false, not, ◌||◌, cond, if◌then◌else◌, List, [], ◌∷◌, ◌++◌, length, get_or, take, drop, map, Option, Some, None, slice_get, Contains, IfSome, IfNone, refl, sym, ap, subst, ◌∙◌, arith, length-append, take-append-drop}
+use Rattle.std.proofs.Common.{◌≡◌, ◌≢◌, ◌⊎◌, inl, inr, ⊎_elim, ℕ, zero, suc, ◌+◌, ◌<◌, ◌≤◌, nat_lt, Bool, true, false, not, ◌||◌, cond, if◌then◌else◌, List, [], ◌∷◌, ◌++◌, length, get_or, map, Option, Some, None, slice_get, Contains, IfSome, IfNone, refl, sym, ap, subst, ◌∙◌, arith, length-append}
 use Rattle.std.specs.List.{position, position_or_len, list_any}
 use Rattle.std.specs.Str.{bytes_eq}
 use Rattle.std.proofs.lemmas.Grind.{common_steps}
-use Rattle.std.proofs.lemmas.List.{map-append, length-map, drop-drop}
+use Rattle.std.proofs.lemmas.List.{map-append, length-map}
 use Rattle.std.proofs.lemmas.List.Sums.{fails_before_first, position_or_len_is}
 use Rattle.std.proofs.Math.Seq.{take-append_seam, get_or-append_seam}
 use Rattle.std.proofs.lemmas.List.Quantifiers.{all_pairs_push, position-Some}
@@ -25,14 +25,6 @@ same_place f p xs =
 
 pub same_name : (name own : List ℕ) → bytes_eq name own ≡ true → own ≡ name
 same_name name own passes = sym ((bytes_eq-Decides name own).0 passes)
-
--- names of 8 to 16 bytes with the same start and the same end
-pub same_ends : (xs ys : List ℕ) → 8 ≤ length xs → length xs ≤ 16 → take 8 xs ≡ take 8 ys → drop (length xs - 8) xs ≡ drop (length xs - 8) ys → xs ≡ ys
-same_ends xs ys least most first last =
-    let far : (length xs - 8) + (16 - length xs) ≡ 8 = omega (arith, least, most) in
-    let rest : (l : List ℕ) → drop (16 - length xs) (drop (length xs - 8) l) ≡ drop 8 l = λ l. drop-drop (16 - length xs) (length xs - 8) l ∙ ap (λ (n : ℕ). drop n l) far in
-    let tails : drop 8 xs ≡ drop 8 ys = sym (rest xs) ∙ ap (drop (16 - length xs)) last ∙ rest ys in
-    sym (take-append-drop 8 xs) ∙ ap (λ (l : List ℕ). l ++ drop 8 xs) first ∙ ap (λ (l : List ℕ). take 8 ys ++ l) tails ∙ take-append-drop 8 ys
 
 pub name_passes : (name own : List ℕ) → own ≡ name → bytes_eq name own ≡ true
 name_passes name own same = (bytes_eq-Decides name own).1 (sym same)
@@ -73,6 +65,10 @@ its_place names name t different is =
     let first : position_or_len (bytes_eq name) names ≡ t =
     position_or_len_is (bytes_eq name) names t [] (omega (arith, within)) fails (λ _. name_passes name _ at) in
     sym (ap (λ n. cond (nat_lt n (length names)) (Some n) None) first ∙ cond-true (nat_lt t (length names)) (Some t) None (lt-ltb t (length names) within))
+
+pub its_place_if : (place : Option ℕ) (names : List (List ℕ)) (name : List ℕ) → AreDifferent names → IfSome place (λ t. slice_get names t ≡ Some name) → IfSome place (λ t. Some t ≡ place_of names name)
+its_place_if (Some t) names name different is = its_place names name t different is
+its_place_if None names name different is = tt
 
 -- ---- a table of the names so far
 

@@ -1,4 +1,5 @@
 pub mod Names
+pub mod Guesses
 pub mod Calls
 pub mod Desks
 pub mod Hosts

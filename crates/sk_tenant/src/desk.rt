@@ -1,14 +1,15 @@
 //! A desk: an updater of each tenant's hub, and how many items it keeps for a tenant at most.
-ghost use Rattle.std.specs.Prelude.{◌≡◌, ◌↔◌, ℕ, ◌<◌, ◌≤◌, false, length, slice_get, IfSome, IfNone, Contains};
+ghost use Rattle.std.specs.Prelude.{◌≡◌, ◌↔◌, ℕ, ◌<◌, ◌≤◌, false, Some, length, slice_get, IfSome, IfNone, Contains};
 ghost use Rattle.sk_model.specs.Limits.{most_kept};
 ghost use Rattle.sk_model.specs.Width.{IsItem};
 ghost use Rattle.sk_hub.specs.Updaters.{kept_of};
 ghost use Rattle.sk_tenant.specs.Names.{place_of};
-ghost use Rattle.sk_tenant.specs.Calls.{Adds, Insists, Asks, Helps, OwesAdd, OwesInsist, OwesAsk, OwesHelp};
+ghost use Rattle.sk_tenant.specs.Calls.{Adds, Insists, Asks, Helps, InsistsOnItem, OwesAdd, OwesInsist, OwesAsk, OwesHelp};
 ghost use Rattle.sk_tenant.specs.Desks.{IsDone, IsDesk};
 
 use crate::answers::Add;
 use crate::names::Names;
+use sk_compose::Composable;
 use sk_feed::insist;
 use sk_heap::HeapTheta;
 use sk_hub::{Help, Update, Updater};
@@ -49,6 +50,16 @@ impl Desk {
         self.names.place(name)
     }
 
+    /// The same place, if the name has 8 to 16 bytes and its ends are guessed: that takes no call. `None` says nothing.
+    #[inline(always)]
+    pub fn guess(&self, name: &[u8]) -> Option<u32>
+        ensures found { IfSome result (λ t. slice_get self.now.names t ≡ Some name.now) }
+        ensures value { IfSome result (λ t. Some t ≡ place_of self.now.names name.now) }
+        ensures tenants { IfSome result (λ t. t < length self.now.updaters) }
+    {
+        self.names.guess(name)
+    }
+
     /// Offers an item, from 1 to 2^63 - 1, for the tenant at place t. Another tenant's items and hub change no answer.
     pub fn add(&mut self, t: u32, item: u64) -> Add
         requires place { t < length self.old.updaters }
@@ -62,6 +73,7 @@ impl Desk {
 
     /// Offers an item as `add` does, until it is taken, and helps whenever the updater is busy, and once more if it is
     /// eager. It returns false at the quota, and waits while another seat of the hub propagates.
+    #[inline(always)]
     pub fn insist<R: Wait>(&mut self, rt: &R, t: u32, item: u64) -> bool
         requires place { t < length self.old.updaters }
         requires item { IsItem item }
@@ -88,15 +100,6 @@ impl Desk {
     {
         help_with(rt, &mut self.updaters[t as usize])
     }
-
-    /// How many items it has kept for the tenant at place t.
-    pub fn kept(&self, t: u32) -> u64
-        requires place { t < length self.now.updaters }
-        ensures value { (u : _) → slice_get self.now.updaters t ≡ Some u → result ≡ length (kept_of u) }
-        ensures whole { IsDesk self.now }
-    {
-        self.updaters[t as usize].taken()
-    }
 }
 
 // Offers an item to an updater, below the quota.
@@ -118,7 +121,8 @@ fn add_to(updater: &mut Updater<HeapTheta>, quota: u64, item: u64) -> Add
     }
 }
 
-// Offers an item to an updater until it is taken, below the quota. The merges of its sketch take no memory.
+// Offers an item to an updater until it is taken, below the quota. Most items are filtered, and then no call is made.
+#[inline(always)]
 fn insist_with<R: Wait>(rt: &R, updater: &mut Updater<HeapTheta>, quota: u64, item: u64) -> bool
     requires within { length (kept_of updater.old) ≤ quota }
     requires most { quota ≤ most_kept }
@@ -128,8 +132,22 @@ fn insist_with<R: Wait>(rt: &R, updater: &mut Updater<HeapTheta>, quota: u64, it
     if updater.taken() == quota {
         return false;
     }
+    if !HeapTheta::keeps(updater.hint(), item) {
+        return true;
+    }
+    insist_on(rt, updater, item);
+    true
+}
+
+// Offers an item to an updater until it is taken. The merges of its sketch take no memory.
+#[inline(never)]
+fn insist_on<R: Wait>(rt: &R, updater: &mut Updater<HeapTheta>, item: u64)
+    requires item { IsItem item }
+    requires room { length (kept_of updater.old) < most_kept }
+    ensures { InsistsOnItem updater.old item updater.new }
+{
     match insist(rt, updater, item) {
-        Ok(()) => true,
+        Ok(()) => {}
         Err(OutOfMemory) => unreachable!(),
     }
 }

@@ -1,72 +1,99 @@
 //! Where a name is sought first.
-ghost use Rattle.std.specs.Prelude.{◌<◌};
+ghost use Rattle.std.specs.Prelude.{◌≡◌, ◌≤◌, ℕ, List, true, Some, length, map, slice_get, IfOk, IfSome};
+ghost use Rattle.sk_tenant.specs.Names.{most_tenants};
+ghost use Rattle.sk_tenant.specs.Guesses.{AreGuesses};
 
+use crate::ends::{BOTH_ENDS, Ends};
 use indexmap::IndexSet;
+use sk_model::OutOfMemory;
+use std::alloc::Global;
 
-// A name has one of this many marks.
-const MARKS: usize = 4_096;
+// The ends of a name have one of this many marks.
+const MARKS: usize = 2_048;
 
-const MIXER: u64 = 0x9e37_79b9_7f4a_7c15;
-
-/// For each mark the place of a name that has it. Another name may have the same mark: then its place is no more than
-/// a wrong guess.
+/// For each mark the ends of a name that has it, and the place of that name. Of several names with the same mark it is
+/// the last.
 #[derive(Drop)]
 pub(crate) struct Guesses {
-    places: [u8; MARKS],
+    by_mark: Vec<Guess>,
+}
+
+// The ends of a name, and its place.
+#[derive(Clone, Copy)]
+struct Guess {
+    ends: Ends,
+    place: u32,
 }
 
 impl Guesses {
     /// Those for at most 64 names.
-    pub(crate) fn of(names: &IndexSet<Vec<u8>>) -> Guesses {
-        let mut places = [0; MARKS];
+    pub(crate) fn of(alloc: Global, names: &IndexSet<Vec<u8>>) -> Result<Guesses, OutOfMemory>
+        requires few { length names.now.keys ≤ most_tenants }
+        ensures { IfOk result (λ guesses. AreGuesses (map (λ own. own.items) names.now.keys) guesses.by_mark.items) }
+    {
+        let mut by_mark = no_guesses(alloc)?;
         'name: for place in 0..names.len() {
             if let Some(name) = names.get_index(place) {
-                places[mark_of(name)] = u8::try_from(place).unwrap_or(0);
+                put_guess(&mut by_mark, names, name.as_slice(), place as u32);
             }
         }
-        Guesses { places }
+        Ok(Guesses { by_mark })
     }
 
-    /// The place where this name stands if it is one of the names and no later one has its mark.
+    /// The place of this name, unless another one has its mark.
     #[inline(always)]
-    pub(crate) fn place(&self, name: &[u8]) -> u32 {
-        u32::from(self.places[mark_of(name)])
+    pub(crate) fn place(&self, names: &IndexSet<Vec<u8>>, name: &[u8]) -> Option<u32>
+        requires { AreGuesses (map (λ own. own.items) names.now.keys) self.now.by_mark.items }
+        ensures { IfSome result (λ t. slice_get (map (λ own. own.items) names.now.keys) t ≡ Some name.now) }
+    {
+        let ends = Ends::of(name);
+        let guess = &self.by_mark[ends.mark()];
+        if !guess.ends.are(&ends) {
+            return None;
+        }
+        if name.len() > BOTH_ENDS {
+            return compared(names, guess.place, name);
+        }
+        Some(guess.place)
     }
 }
 
-// A mark, by the first and the last bytes of a name and by how many it has.
-#[inline(always)]
-fn mark_of(name: &[u8]) -> usize
-    ensures { result < MARKS }
+// For each mark ends that no name has.
+fn no_guesses(alloc: Global) -> Result<Vec<Guess>, OutOfMemory>
+    ensures { IfOk result (λ by_mark. (names : List (List ℕ)) → AreGuesses names by_mark.items) }
 {
-    let (first, last) = ends_of(name);
-    let mixed = (first ^ name.len() as u64)
-        .wrapping_mul(MIXER)
-        .wrapping_add(last)
-        .wrapping_mul(MIXER);
-    (mixed >> 52) as usize
+    let unknown = Guess {
+        ends: Ends::of_none(),
+        place: 0,
+    };
+    Ok(vec![in alloc; unknown; MARKS]?)
 }
 
-// The first and the last bytes of a name, up to eight of each, which may be the same.
-#[inline(always)]
-fn ends_of(name: &[u8]) -> (u64, u64) {
-    match (name.first_chunk::<8>(), name.last_chunk::<8>()) {
-        (Some(first), Some(last)) => (u64::from_le_bytes(*first), u64::from_le_bytes(*last)),
-        _ => ends_of_short(name),
+// Puts the guess of the name at this place.
+fn put_guess(by_mark: &mut Vec<Guess>, names: &IndexSet<Vec<u8>>, name: &[u8], place: u32)
+    requires guesses { AreGuesses (map (λ own. own.items) names.now.keys) by_mark.old.items }
+    requires place { slice_get (map (λ own. own.items) names.now.keys) place ≡ Some name.now }
+    ensures { AreGuesses (map (λ own. own.items) names.now.keys) by_mark.new.items }
+{
+    let ends = Ends::of(name);
+    by_mark[ends.mark()] = Guess { ends, place };
+}
+
+// The place t, if the name there is this one.
+#[inline(never)]
+fn compared(names: &IndexSet<Vec<u8>>, t: u32, name: &[u8]) -> Option<u32>
+    ensures { IfSome result (λ t. slice_get (map (λ own. own.items) names.now.keys) t ≡ Some name.now) }
+{
+    let own = names.get_index(t as usize)?;
+    if are_equal(own.as_slice(), name) {
+        Some(t)
+    } else {
+        None
     }
 }
 
-// The same of a name of fewer than eight bytes.
-#[inline(always)]
-fn ends_of_short(name: &[u8]) -> (u64, u64) {
-    match (name.first_chunk::<4>(), name.last_chunk::<4>()) {
-        (Some(first), Some(last)) => (
-            u64::from(u32::from_le_bytes(*first)),
-            u64::from(u32::from_le_bytes(*last)) << 32,
-        ),
-        _ => (
-            u64::from(name.first().copied().unwrap_or(0)),
-            u64::from(name.last().copied().unwrap_or(0)) << 56,
-        ),
-    }
+fn are_equal(a: &[u8], b: &[u8]) -> bool
+    ensures { result ≡ true → a.now ≡ b.now }
+{
+    a == b
 }

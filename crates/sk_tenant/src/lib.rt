@@ -3,6 +3,7 @@
 
 mod answers;
 mod desk;
+mod ends;
 mod guesses;
 pub mod laws;
 mod names;

@@ -3,6 +3,7 @@ ghost use Rattle.std.specs.Prelude.{◌≡◌, ℕ, ◌-◌, ◌<◌, ◌≤◌,
 ghost use Rattle.sk_tenant.specs.Names.{place_of, bytes_of, most_tenants, AreDifferent, IsFirstTwice};
 
 use crate::answers::TenantStop;
+use crate::ends::{BOTH_ENDS, END};
 use crate::guesses::Guesses;
 use indexmap::IndexSet;
 use sk_model::OutOfMemory;
@@ -13,16 +14,13 @@ use std::sync::Arc;
 /// The most tenants.
 pub const MOST_TENANTS: usize = 64;
 
-// So many bytes of a name are compared at once.
-const END: usize = 8;
-
 /// The names of tenants, no two of them equal. All desks share one table, by which a name is found.
 #[derive(Drop)]
 pub struct Names {
     table: Arc<Table, Global>,
 }
 
-// Names, and where each is sought first.
+// Names, and where one is sought first.
 #[derive(Drop)]
 struct Table {
     names: IndexSet<Vec<u8>>,
@@ -33,13 +31,15 @@ impl Model for Names {
     ghost use Rattle.std.specs.Prelude.{ℕ, ◌≤◌, List, map, length};
     ghost use Rattle.std.specs.Arc.{arc_value};
     ghost use Rattle.sk_tenant.specs.Names.{most_tenants, AreDifferent};
+    ghost use Rattle.sk_tenant.specs.Guesses.{AreGuesses};
 
     ghost Value = { List (List ℕ) };
 
     ghost view = { λ n. map (λ name. name.items) (arc_value n.table).names.keys };
 
     ghost invariant = { λ n. (length (arc_value n.table).names.keys ≤ most_tenants)
-        × AreDifferent (map (λ name. name.items) (arc_value n.table).names.keys) };
+        × AreDifferent (map (λ name. name.items) (arc_value n.table).names.keys)
+        × AreGuesses (map (λ name. name.items) (arc_value n.table).names.keys) (arc_value n.table).guesses.by_mark.items };
 }
 
 impl Names {
@@ -50,7 +50,7 @@ impl Names {
         ensures twice { (i : ℕ) → result ≡ Err (TenantStop.Twice i) → IsFirstTwice (bytes_of names.items) i }
     {
         let names = set_of(alloc, names)?;
-        let guesses = Guesses::of(&names);
+        let guesses = Guesses::of(alloc, &names)?;
         match Arc::new(alloc, Table { names, guesses }) {
             Ok(table) => Ok(Names { table }),
             Err(_) => Err(TenantStop::OutOfMemory),
@@ -73,11 +73,25 @@ impl Names {
         ensures found { IfSome result (λ t. slice_get self.now t ≡ Some name.now) }
         ensures none { IfNone result (¬ Contains self.now name.now) }
     {
-        let guess = self.table.guesses.place(name);
-        if is_at(&self.table.names, guess, name) {
-            return Some(guess);
+        let table: &Table = &self.table;
+        match table.guesses.place(&table.names, name) {
+            Some(t) => Some(t),
+            None => sought(&table.names, name),
         }
-        sought(&self.table.names, name)
+    }
+
+    /// The place of the tenant with this name, if it has 8 to 16 bytes and its ends are guessed: that takes no call.
+    /// `None` says nothing.
+    #[inline(always)]
+    pub fn guess(&self, name: &[u8]) -> Option<u32>
+        ensures found { IfSome result (λ t. slice_get self.now t ≡ Some name.now) }
+        ensures value { IfSome result (λ t. Some t ≡ place_of self.now name.now) }
+    {
+        if name.len() < END || name.len() > BOTH_ENDS {
+            return None;
+        }
+        let table: &Table = &self.table;
+        table.guesses.place(&table.names, name)
     }
 
     /// The name of the tenant at place t.
@@ -99,63 +113,6 @@ impl Names {
     {
         self.table.names.len() as u32
     }
-}
-
-// Whether the name at place t is this one.
-#[inline(always)]
-fn is_at(names: &IndexSet<Vec<u8>>, t: u32, name: &[u8]) -> bool
-    ensures { result ≡ true → slice_get (map (λ own. own.items) names.now.keys) t ≡ Some name.now }
-{
-    match names.get_index(t as usize) {
-        Some(own) => are_equal(own.as_slice(), name),
-        None => false,
-    }
-}
-
-// Whether two names are equal. Those of 8 to 16 bytes are compared by their ends, which takes no call.
-#[inline(always)]
-#[tactic(auto, using(crate::proofs::Places::same_ends))]
-fn are_equal(a: &[u8], b: &[u8]) -> bool
-    ensures { result ≡ true → a.now ≡ b.now }
-{
-    if a.len() != b.len() {
-        return false;
-    }
-    if a.len() < END || a.len() > 2 * END {
-        return a == b;
-    }
-    have_equal_starts(a, b) && have_equal_ends(a, b)
-}
-
-// Whether two texts begin with the same eight bytes.
-#[inline(always)]
-fn have_equal_starts(a: &[u8], b: &[u8]) -> bool
-    ensures { result ≡ true → take 8 a.now ≡ take 8 b.now }
-{
-    match (a.first_chunk::<END>(), b.first_chunk::<END>()) {
-        (Some(a), Some(b)) => are_equal_words(*a, *b),
-        _ => false,
-    }
-}
-
-// Whether two texts, of as many bytes, end with the same eight.
-#[inline(always)]
-fn have_equal_ends(a: &[u8], b: &[u8]) -> bool
-    requires count { length a.now ≡ length b.now }
-    ensures { result ≡ true → drop (length a.now - 8) a.now ≡ drop (length a.now - 8) b.now }
-{
-    match (a.last_chunk::<END>(), b.last_chunk::<END>()) {
-        (Some(a), Some(b)) => are_equal_words(*a, *b),
-        _ => false,
-    }
-}
-
-// Whether eight bytes are the same, by the numbers that they spell: so it is one comparison.
-#[inline(always)]
-fn are_equal_words(a: [u8; END], b: [u8; END]) -> bool
-    ensures { result ≡ true → a ≡ b }
-{
-    u64::from_le_bytes(a) == u64::from_le_bytes(b)
 }
 
 // The place of a name, by its hash: seldom, so that `place` is short where it is called.

@@ -2,7 +2,7 @@ use Rattle.std.proofs.Common.{◌≡◌, rules, sym, ap, ◌∙◌, w64}
 use Rattle.std.specs.Int.{to_le_bytes}
 use Rattle.std.proofs.lemmas.Bool.{eqb-true}
 use Rattle.std.proofs.lemmas.Nat.{le_bytes_8}
-use Rattle.sk_tenant.proofs.names.are_equal_words.Goals as goal
+use Rattle.sk_tenant.proofs.ends.are_equal_words.Goals as goal
 
 -- each is the eight bytes of its number
 pub returns : goal.returns
