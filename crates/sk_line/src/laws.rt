@@ -6,7 +6,6 @@ ghost use Rattle.sk_hub.specs.Calls.{GoesOn};
 ghost use Rattle.sk_theta.specs.Sizes.{Sizes};
 ghost use Rattle.sk_line.specs.Requests.{client_request};
 ghost use Rattle.sk_line.specs.Serving.{Answered, AnswersLine, AnswersEach, items_kept, kept_since, answered_busy, items_offered, TakesOffered};
-ghost use Rattle.sk_line.specs.declared.answers.Answer.TheVariants as answer;
 ghost use Rattle.sk_line.specs.declared.requests.Request.TheVariants as request;
 
 /// After the answers to some lines an updater has also kept exactly the items of the adds that were answered

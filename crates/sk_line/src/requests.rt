@@ -1,6 +1,5 @@
 //! What a client asks for.
-ghost use Rattle.std.specs.Prelude.{◌≡◌, ◌<◌, ◌&&◌, length, take, codes, nat_lt};
-ghost use Rattle.std.specs.Str.{bytes_eq};
+ghost use Rattle.std.specs.Prelude.{◌≡◌, ◌<◌, length};
 ghost use Rattle.sk_line.specs.Requests.{client_request, is_add};
 
 /// What a line of a client asks for.

@@ -1,13 +1,12 @@
 //! A session: one client's requests, one after another.
-ghost use Rattle.std.specs.Prelude.{◌≡◌, ◌≢◌, ◌⊎◌, ℕ, List, Option, ◌+◌, ◌<◌, ◌≤◌, ◌++◌, [], length, true, Ok, Err, IfOk};
+ghost use Rattle.std.specs.Prelude.{◌≡◌, ◌≢◌, ◌⊎◌, ℕ, List, Option, ◌+◌, ◌<◌, ◌≤◌, [], length, true, Ok, Err, IfOk};
 ghost use Rattle.sk_compose.specs.Numbers.{k_of};
 ghost use Rattle.sk_hub.specs.Updaters.{kept_of};
-ghost use Rattle.sk_io.specs.Traffic.{Exchanges, left_of};
 ghost use Rattle.sk_lines.specs.declared.cutter.Next.TheVariants as next;
 ghost use Rattle.sk_model.specs.Causes.{HasCauseIn, Rose};
-ghost use Rattle.sk_model.specs.Limits.{most_kept, source_limit};
-ghost use Rattle.sk_read.specs.Reading.{HasRead, Goes, remaining_of};
-ghost use Rattle.sk_line.specs.Courses.{IsUnderWay, Proceeds, Comes};
+ghost use Rattle.sk_model.specs.Limits.{most_kept};
+ghost use Rattle.sk_read.specs.Reading.{HasRead, remaining_of};
+ghost use Rattle.sk_line.specs.Courses.{IsUnderWay, Proceeds, Advances, Comes};
 ghost use Rattle.sk_line.specs.Faults.{end_by};
 ghost use Rattle.sk_line.specs.Serving.{Answered};
 ghost use Rattle.sk_line.specs.Sessions.{SessionState, session_state, ComesTo, SessionEnds};
@@ -124,9 +123,7 @@ fn serve_next<L: Link, P: Pump<C>, C: ThetaWord, R: Wait>(
     requires room { length (kept_of u.old) + remaining_of reader.old ≤ most_kept }
     ensures goes { (a : SessionState) (answered : List Answered) (taken : List ℕ) → IsUnderWay shape.now a answered taken reader.old (session_state (L.traffic link.old) u.old (P.pumps pump.old))
         → Proceeds shape.now a reader.new (session_state (L.traffic link.new) u.new (P.pumps pump.new)) result }
-    ensures k { IfOk result (λ _. k_of u.new.view.numbers ≡ shape.now.k) }
-    ensures room { IfOk result (λ _. length (kept_of u.new) + remaining_of reader.new ≤ length (kept_of u.old) + remaining_of reader.old) }
-    ensures progress { IfOk result (λ _. remaining_of reader.new < remaining_of reader.old) }
+    ensures advances { IfOk result (λ _. Advances shape.now.k reader.old u.old reader.new u.new) }
     ensures most { reader.new.most ≡ reader.old.most }
     ensures memory { result ≢ Err End.OutOfMemory }
     ensures cause { HasCauseIn End.LinkFault (L.faults link.old) (L.faults link.new) result }
