@@ -1,6 +1,7 @@
 //! Items that are fed to an updater, which propagates itself when it is busy.
-ghost use Rattle.std.specs.Prelude.{◌≡◌, ◌+◌, ◌<◌, ◌≤◌, ◌∷◌, [], length};
+ghost use Rattle.std.specs.Prelude.{◌≡◌, ◌+◌, ◌<◌, ◌≤◌, ◌∷◌, [], length, take, false};
 ghost use Rattle.std.specs.Bool.{OnTrue, OnFalse};
+ghost use Rattle.sk_gate.specs.Views.{mine_of};
 ghost use Rattle.sk_hub.specs.Calls.{KeepsNone, Takes};
 ghost use Rattle.sk_hub.specs.Updaters.{kept_of};
 ghost use Rattle.sk_model.specs.Limits.{most_kept};
@@ -20,6 +21,18 @@ pub fn feed_all<C: Composable, R: Wait>(rt: &R, updater: &mut Updater<C>, items:
     'item: for item in items {
         feed_item(rt, updater, *item);
     }
+}
+
+/// Feeds items, in order, for as long as none has to wait, and returns how many were taken. If these are not all, the fill
+/// buffer is full, and the batch before it is not published yet.
+pub fn feed_some<C: Composable>(updater: &mut Updater<C>, items: &[u64]) -> usize
+    requires items { AreItems items.now }
+    requires room { length (kept_of updater.old) + length items.now ≤ most_kept }
+    ensures within { result ≤ length items.now }
+    ensures taken { Takes C.keeps_of C.hint_of updater.old (take result items.now) updater.new }
+    ensures waits { result < length items.now → (length updater.new.fill ≡ updater.new.size) × ((mine_of updater.new.view).ready ≡ false) }
+{
+    updater.update_each(items)
 }
 
 /// Offers an item until it is taken. In between the updater propagates, and waits a moment.

@@ -16,7 +16,7 @@ mod tenants;
 
 pub use count_min::{HowOften, how_often};
 pub use draining::drain_last_first;
-pub use feeding::{feed_all, feed_item};
+pub use feeding::{feed_all, feed_item, feed_some};
 pub use greatest::{Greatest, greatest_item};
 pub use joins::{estimate_again, estimate_items, estimate_of_both, list_of_both};
 pub use labels::read_to_blame;
