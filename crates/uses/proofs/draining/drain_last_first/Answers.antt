@@ -1,4 +1,4 @@
-use Rattle.std.proofs.Common.{◌≡◌, ◌≢◌, ◌<◌, All, length, ap, sym, subst, ◌∙◌, arith}
+use Rattle.std.proofs.Common.{◌≢◌, All, ap, subst, ◌∙◌, arith}
 use Rattle.sk_hub.specs.Drains.{HasTakenIn}
 use Rattle.sk_machine.specs.Coarse.{IsEntry}
 use Rattle.uses.proofs.draining.drain_last_first.Goals as goal
