@@ -119,6 +119,7 @@ fn read_all<S: Source, R: Threads + Wait + Sync>(
         stretch: LabelledStretch::new(alloc, names),
     };
     let mut full = LabelledStretch::new(alloc, names);
+    let desks = desks.as_mut_slice();
     read_stretches(rt, plan, &mut gatherer, &mut full, source, desks)?;
     feed_stretch(rt, desks, &full, plan.seed, threads_for(rt, desks.len()));
     Ok(())
@@ -179,10 +180,10 @@ fn read_stretches<'n, S: Source, R: Threads + Wait + Sync>(
     gatherer: &mut Gatherer<'n>,
     full: &mut LabelledStretch<'n>,
     source: &mut S,
-    desks: &mut Vec<Desk>,
+    desks: &mut [Desk],
 ) -> Result<(), LabelFault>
-    requires went { WentToDesks plan.now gatherer.old.stretch.names desks.old.items desks.old.items full.old gatherer.old.stretch true gatherer.old.reader (S.left source.old) (S.left source.old) }
-    ensures went { OnOk result (WentToDesks plan.now gatherer.old.stretch.names desks.old.items desks.new.items full.new gatherer.new.stretch false gatherer.new.reader (S.left source.old) (S.left source.new)) }
+    requires went { WentToDesks plan.now gatherer.old.stretch.names desks.old desks.old full.old gatherer.old.stretch true gatherer.old.reader (S.left source.old) (S.left source.old) }
+    ensures went { OnOk result (WentToDesks plan.now gatherer.old.stretch.names desks.old desks.new full.new gatherer.new.stretch false gatherer.new.reader (S.left source.old) (S.left source.new)) }
     ensures bound { OnOk result (gatherer.new.reader.most ≡ gatherer.old.reader.most) }
     ensures early { IfErr result (EndsBefore (desk_rules plan.now gatherer.old.stretch.names) gatherer.old.reader.most (setting (S.left source.old) None) (setting (S.left source.new) None)) }
     ensures quiet { result ≢ Err LabelFault.WriteFault }

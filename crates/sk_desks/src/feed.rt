@@ -24,7 +24,7 @@ use std::thread::{Threads, for_each_mut, join_mut};
 // Feeds a stretch to the desks, and meanwhile gathers the next one: a window, and others as long as the desks are fed.
 pub(crate) fn feed_and_gather<S: Source, R: Threads + Wait + Sync>(
     rt: &R,
-    desks: &mut Vec<Desk>,
+    desks: &mut [Desk],
     stretch: &LabelledStretch<'_>,
     seed: u32,
     threads: u32,
@@ -32,9 +32,9 @@ pub(crate) fn feed_and_gather<S: Source, R: Threads + Wait + Sync>(
     source: &mut S,
 ) -> Result<bool, LabelFault>
     requires threads { 0 < threads }
-    requires room { HaveRoom stretch.now.names (length (all_lines stretch.now.windows)) desks.old.items }
+    requires room { HaveRoom stretch.now.names (length (all_lines stretch.now.windows)) desks.old }
     requires started { (given : List (List ℕ)) × (taken : List ℕ) × HasRead gatherer.old.reader (S.left source.old) given taken }
-    ensures took { TakeBlocks seed desks.old.items stretch.now.windows desks.new.items }
+    ensures took { TakeBlocks seed desks.old stretch.now.windows desks.new }
     ensures gathers { Gathers gatherer.old.stretch.names gatherer.old.reader gatherer.new.reader (S.left source.old) (S.left source.new) (all_lines gatherer.new.stretch.windows) result }
     ensures names { gatherer.new.stretch.names ≡ gatherer.old.stretch.names }
     ensures cause { HasCauseIn LabelFault.ReadFault (S.faults source.old) (S.faults source.new) result }
@@ -65,7 +65,7 @@ pub(crate) fn feed_and_gather<S: Source, R: Threads + Wait + Sync>(
 // Feeds a stretch to the desks while other work is done here. `fed` says when they have taken it.
 fn feed_beside<R: Threads + Wait + Sync, F: FnMut() -> A, A>(
     rt: &R,
-    desks: &mut Vec<Desk>,
+    desks: &mut [Desk],
     stretch: &LabelledStretch<'_>,
     seed: u32,
     threads: u32,
@@ -73,17 +73,17 @@ fn feed_beside<R: Threads + Wait + Sync, F: FnMut() -> A, A>(
     work: &mut F,
 ) -> A
     requires threads { 0 < threads }
-    requires room { HaveRoom stretch.now.names (length (all_lines stretch.now.windows)) desks.old.items }
+    requires room { HaveRoom stretch.now.names (length (all_lines stretch.now.windows)) desks.old }
     requires work { F.pre work.old }
-    ensures took { TakeBlocks seed desks.old.items stretch.now.windows desks.new.items }
+    ensures took { TakeBlocks seed desks.old stretch.now.windows desks.new }
     ensures work { F.step work.old result work.new }
 {
     let (_, done) = join_mut(
         rt,
         &mut ||
             requires threads { 0 < threads }
-            requires room { HaveRoom stretch.now.names (length (all_lines stretch.now.windows)) desks.now.items }
-            ensures { TakeBlocks seed desks.entry.now.items stretch.entry.now.windows desks.exit.now.items }
+            requires room { HaveRoom stretch.now.names (length (all_lines stretch.now.windows)) desks.now }
+            ensures { TakeBlocks seed desks.entry.now stretch.entry.now.windows desks.exit.now }
         {
             feed_stretch(rt, desks, stretch, seed, threads);
             fed.store(true, Ordering::SeqCst);
@@ -95,21 +95,6 @@ fn feed_beside<R: Threads + Wait + Sync, F: FnMut() -> A, A>(
 
 // Feeds a stretch to the desks, at most this many in parallel: to each its block of each window.
 pub(crate) fn feed_stretch<R: Threads + Wait + Sync>(
-    rt: &R,
-    desks: &mut Vec<Desk>,
-    stretch: &LabelledStretch<'_>,
-    seed: u32,
-    threads: u32,
-)
-    requires threads { 0 < threads }
-    requires room { HaveRoom stretch.now.names (length (all_lines stretch.now.windows)) desks.old.items }
-    ensures { TakeBlocks seed desks.old.items stretch.now.windows desks.new.items }
-{
-    feed_each(rt, desks.as_mut_slice(), stretch, seed, threads);
-}
-
-// The same, of a slice of desks.
-fn feed_each<R: Threads + Wait + Sync>(
     rt: &R,
     desks: &mut [Desk],
     stretch: &LabelledStretch<'_>,

@@ -1,12 +1,12 @@
-use Rattle.std.proofs.Common.{◌≡◌, None, true, false, ℕ, List, length, get_or, refl, sym, ap, subst, ◌∙◌, arith}
-use Rattle.std.proofs.lemmas.List.{get_or_default}
+use Rattle.std.proofs.Common.{◌≡◌, None, true, false, ℕ, ◌++◌, List, length, take, get_or, refl, sym, ap, subst, ◌∙◌, arith}
+use Rattle.std.proofs.lemmas.List.{get_or_default, take-append-le, take_all}
 use Rattle.sk_fill.proofs.Readings.{if_ok_then}
 use Rattle.sk_label.specs.Rules.{AreFine}
 use Rattle.sk_tenant.specs.Desks.{DeskState}
 use Rattle.sk_desks.specs.Feeds.{TakesLines}
-use Rattle.sk_desks.specs.Windows.{HaveTaken, WentToDesks}
+use Rattle.sk_desks.specs.Windows.{AreUnused, HaveTaken, WentToDesks}
 use Rattle.sk_desks.proofs.ClerkLaws.{taken_alone}
-use Rattle.sk_label.specs.Goes.{setting, EndsBefore}
+use Rattle.sk_label.specs.Goes.{setting, EndsBefore, ReadsLines}
 use Rattle.sk_label.specs.declared.fault.LabelFault.{LabelFault}
 use Rattle.sk_label.specs.declared.fault.LabelFault.TheVariants as fault
 use Rattle.sk_label.proofs.QuietLaws.{reads_so, ends_at_start}
@@ -23,9 +23,10 @@ pub read_stretches-requires-clause-went : goal.read_stretches-requires-clause-we
 read_stretches-requires-clause-went g c κs within =
     let left = g.S.Source.left c.args.source.now in
     let named = c.new-2.ensures.names in
-    subst (λ (ns : List (List ℕ)). WentToDesks c.args.plan.now ns c.args.desks.now.items c.args.desks.now.items c.new-full.result c.new-2.result true c.in_ok-new.field-0 left left) (sym named)
-    (went_start c.args.plan.now c.args.names.now c.args.desks.now.items c.new-full.result c.new-2.result c.in_ok-new.field-0 left c.requires.unused (c.in_ok-new.ensures.read left)
-    c.new-full.ensures.windows c.new-full.ensures.names named)
+    let desks = c.as_mut_slice-desks.result.now in
+    let unused : AreUnused c.args.names.now desks = subst (AreUnused c.args.names.now) (sym c.as_mut_slice-desks.ensures.value) c.requires.unused in
+    subst (λ (ns : List (List ℕ)). WentToDesks c.args.plan.now ns desks desks c.new-full.result c.new-2.result true c.in_ok-new.field-0 left left) (sym named)
+    (went_start c.args.plan.now c.args.names.now desks c.new-full.result c.new-2.result c.in_ok-new.field-0 left unused (c.in_ok-new.ensures.read left) c.new-full.ensures.windows c.new-full.ensures.names named)
 
 pub returns-in_err-read_stretches-clause-early : goal.returns-in_err-read_stretches-clause-early
 returns-in_err-read_stretches-clause-early g c =
@@ -39,17 +40,22 @@ returns-in_err-read_stretches-clause-early g c =
 pub feed_stretch-requires-clause-room : goal.feed_stretch-requires-clause-room
 feed_stretch-requires-clause-room g c κs within =
     let w = c.read_stretches.new in
-    went_room c.args.plan.now c.new-2.result.names c.args.desks.now.items w.desks.items w.full w.gatherer.stretch false w.gatherer.reader
+    went_room c.args.plan.now c.new-2.result.names c.as_mut_slice-desks.result.now w.desks w.full w.gatherer.stretch false w.gatherer.reader
     (g.S.Source.left c.args.source.now) (g.S.Source.left w.source) c.in_ok-read_stretches.ensures.went
 
 pub returns-clause-read : goal.returns-clause-read
 returns-clause-read g c =
-    let w = c.read_stretches.new in let plan = c.args.plan.now in let names = c.args.names.now in let ns = c.new-2.result.names in let first = c.args.desks.now.items in let desks = c.feed_stretch.new.desks.items in
-    reads_so (λ lines. AreFine (desk_rules plan ns) lines × HaveTaken plan.seed first desks lines) (λ lines. AreFine (desk_rules plan names) lines × HaveTaken plan.seed first desks lines) c.args.most (g.S.Source.left c.args.source.now) (g.S.Source.left w.source)
-    (λ lines both. (fine_same plan names ns lines c.new-2.ensures.names both.0, both.1))
-    (went_all plan ns first w.desks.items w.full w.gatherer.stretch false w.gatherer.reader
-    (g.S.Source.left c.args.source.now) (g.S.Source.left w.source) c.in_ok-read_stretches.ensures.went c.args.most desks
-    (c.in_ok-read_stretches.ensures.bound ∙ c.in_ok-new.ensures.most) refl c.feed_stretch.ensures)
+    let w = c.read_stretches.new in let plan = c.args.plan.now in let names = c.args.names.now in let ns = c.new-2.result.names in
+    let old = g.S.Source.left c.args.source.now in let new = g.S.Source.left w.source in
+    let first = c.args.desks.now.items in let slice = c.as_mut_slice-desks.result.now in let desks = c.feed_stretch.new.desks in
+    let went = c.in_ok-read_stretches.ensures.went in
+    let is : slice ≡ first = c.as_mut_slice-desks.ensures.value in
+    let count : length desks ≡ c.args.desks.now.len = omega (arith, c.feed_stretch.ensures.count, went.took.count, ap length is, c.args.desks.now.ok) in
+    let whole : (rest : List DeskState) → take c.args.desks.now.len (desks ++ rest) ≡ desks = λ rest. take-append-le c.args.desks.now.len desks rest (omega (arith, count)) ∙ take_all c.args.desks.now.len desks (omega (arith, count)) in
+    subst (λ (ds : List DeskState). ReadsLines c.args.most (λ lines. AreFine (desk_rules plan names) lines × HaveTaken plan.seed first ds lines) old new) (sym (whole _))
+    (reads_so (λ lines. AreFine (desk_rules plan ns) lines × HaveTaken plan.seed slice desks lines) (λ lines. AreFine (desk_rules plan names) lines × HaveTaken plan.seed first desks lines) c.args.most old new
+    (λ lines both. (fine_same plan names ns lines c.new-2.ensures.names both.0, subst (λ (ds : List DeskState). HaveTaken plan.seed ds desks lines) is both.1))
+    (went_all plan ns slice w.desks w.full w.gatherer.stretch false w.gatherer.reader old new went c.args.most desks (c.in_ok-read_stretches.ensures.bound ∙ c.in_ok-new.ensures.most) refl c.feed_stretch.ensures))
 
 pub returns-then-len-eq1-clause-read : goal.returns-then-len-eq1-clause-read
 returns-then-len-eq1-clause-read g c =

@@ -14,7 +14,7 @@ use Rattle.sk_desks.proofs.command.read_stretches.Goals as goal
 pub feed_and_gather-requires-clause-room : goal.feed_and_gather-requires-clause-room
 feed_and_gather-requires-clause-room g c κs within =
     let l = c.stretch in
-    went_room c.args.plan.now c.args.gatherer.now.stretch.names c.args.desks.now.items l.desks.items l.full l.gatherer.stretch l.more l.gatherer.reader
+    went_room c.args.plan.now c.args.gatherer.now.stretch.names c.args.desks.now l.desks l.full l.gatherer.stretch l.more l.gatherer.reader
     (g.S.Source.left c.args.source.now) (g.S.Source.left l.source) l.invariant.went
 
 pub returns-in_err-more-clause-early : goal.returns-in_err-more-clause-early
@@ -24,7 +24,7 @@ returns-in_err-more-clause-early g c =
     let old = g.S.Source.left c.args.source.now in let mid = g.S.Source.left l.source in let new = g.S.Source.left c.feed_and_gather.new.source in
     let next = c.feed_and_gather.new.gatherer in
     let gathers = subst (λ (ns : List (List ℕ)). Gathers ns l.gatherer.reader next.reader mid new (all_lines next.stretch.windows) c.feed_and_gather.result) l.invariant.went.spare_names c.feed_and_gather.ensures.gathers in
-    let ends = went_wrong plan names c.args.desks.now.items l.desks.items l.full l.gatherer.stretch l.more l.gatherer.reader old mid l.invariant.went next.reader new (all_lines next.stretch.windows) c.feed_and_gather.result f gathers c.in_err-more.was in
+    let ends = went_wrong plan names c.args.desks.now l.desks l.full l.gatherer.stretch l.more l.gatherer.reader old mid l.invariant.went next.reader new (all_lines next.stretch.windows) c.feed_and_gather.result f gathers c.in_err-more.was in
     stop_is (λ (x : LabelFault). EndsBefore (desk_rules plan names) c.args.gatherer.now.reader.most (setting old None) (setting new None) x) f c.from_residual.result c.from_residual.ensures.1
     (subst (λ (m : ℕ). EndsBefore (desk_rules plan names) m (setting old None) (setting new None) f) l.invariant.bound ends)
 
@@ -36,11 +36,11 @@ returns-in_err-more-clause-quiet g c =
 pub stretch-preserved : goal.stretch-preserved
 stretch-preserved g c =
     let l = c.stretch in let more = c.in_ok-more.more in
-    let plan = c.args.plan.now in let names = c.args.gatherer.now.stretch.names in let first = c.args.desks.now.items in
+    let plan = c.args.plan.now in let names = c.args.gatherer.now.stretch.names in let first = c.args.desks.now in
     let old = g.S.Source.left c.args.source.now in let mid = g.S.Source.left l.source in let new = g.S.Source.left c.feed_and_gather.new.source in
-    let next = c.feed_and_gather.new.gatherer in let desks = c.feed_and_gather.new.desks.items in
+    let next = c.feed_and_gather.new.gatherer in let desks = c.feed_and_gather.new.desks in
     let gathers = subst (λ (ns : List (List ℕ)). Gathers ns l.gatherer.reader next.reader mid new (all_lines next.stretch.windows) c.feed_and_gather.result) l.invariant.went.spare_names c.feed_and_gather.ensures.gathers in
-    let went = went_more plan names first l.desks.items l.full l.gatherer.stretch l.more l.gatherer.reader old mid l.invariant.went desks next.stretch next.reader new c.feed_and_gather.result more
+    let went = went_more plan names first l.desks l.full l.gatherer.stretch l.more l.gatherer.reader old mid l.invariant.went desks next.stretch next.reader new c.feed_and_gather.result more
     c.feed_and_gather.ensures.took gathers (c.feed_and_gather.ensures.names ∙ l.invariant.went.spare_names) c.in_ok-more.was in
     record {
       went = subst (λ (w : LabelledWindows). WentToDesks plan names first desks c.swap.new.x w more next.reader old new) (sym c.swap.ensures.y_after)

@@ -3,7 +3,7 @@ use Rattle.sk_fill.specs.Blocks.{blocks_of}
 use Rattle.sk_fill.specs.Windows.{all_lines}
 use Rattle.sk_tenant.specs.Desks.{DeskState}
 use Rattle.sk_desks.specs.Feeds.{IsReadyFor, TakesLines}
-use Rattle.sk_desks.proofs.feed.feed_each.Goals as goal
+use Rattle.sk_desks.proofs.feed.feed_stretch.Goals as goal
 
 pub for_each_mut-requires-clause-accepts : goal.for_each_mut-requires-clause-accepts
 for_each_mut-requires-clause-accepts g c κs within = λ i p inside is.
