@@ -4,9 +4,13 @@ ghost use Rattle.sk_cms.specs.Counts.{IsMaskOf};
 ghost use Rattle.sk_cms.specs.Limits.{IsShape};
 ghost use Rattle.sk_cms.specs.Places.{places_of, ArePlacesOf};
 
+use crate::limits::{MOST_ROWS, MOST_WIDTH};
 use crate::sketch::place;
 use sk_model::OutOfMemory;
 use std::alloc::Global;
+
+// A sketch has at most this many cells.
+const MOST_CELLS: usize = MOST_ROWS as usize * MOST_WIDTH as usize;
 
 /// Where the cells of items lie in sketches of a shape, one item after another.
 #[derive(Drop)]
@@ -62,8 +66,8 @@ fn push_places(
     }
 }
 
-// The same by a loop over the rows. A place has 32 bits, but without the test LLVM would hash several rows at a time, by
-// products of halves, which takes longer.
+// The same by a loop over the rows. No place is past the last cell, but without the test LLVM would hash several rows at a
+// time, by products of halves, which takes longer.
 #[inline(always)]
 fn push_rows(
     places: &mut Vec<u32>,
@@ -81,7 +85,7 @@ fn push_rows(
 {
     'row: for r in 0..rows {
         let at = place(width, mask, r, x);
-        if at > u32::MAX as usize {
+        if at >= MOST_CELLS {
             return Err(OutOfMemory);
         }
         places.push_reserved(at as u32);
