@@ -6,7 +6,7 @@ use Rattle.sk_quant.specs.Ranks.{rank_error}
 use Rattle.sk_read.specs.declared.kind.Kind.TheVariants.{Raw}
 use Rattle.sk_fill.specs.Windows.{most_lines}
 use Rattle.sk_snap.specs.Quants.{quant_numbers}
-use Rattle.sk_tell.specs.Manners.{Manner, window_by}
+use Rattle.sk_tell.specs.Manners.{Manner, window_by, buffer_size_by}
 use Rattle.sk_rank.specs.declared.plan.Plan.{Plan}
 use Rattle.sk_rank.specs.Nearness.{error_in}
 use Rattle.sk_rank.specs.Texts.{rank_line}
@@ -26,7 +26,7 @@ rank_manner plan = record {
   column = 0;
   window = plan.window;
   updaters = plan.updaters;
-  size = plan.size;
+  size = buffer_size_by plan.window plan.size;
   numbers = quant_numbers plan.k plan.key;
   line = rank_line plan;
   lower = error_in plan.at plan.k plan.key;

@@ -10,7 +10,7 @@ pub struct Plan {
     /// The rank of this item is written: how many items are below it. An item is one more than the number that its line
     /// spells, so the rank of a number is that of one more than the number.
     pub at: u64,
-    /// How many items a buffer of each updater holds.
+    /// How many items a buffer of each updater holds; with no window at least 1,024.
     pub size: u32,
     /// How many updaters there are.
     pub updaters: u32,

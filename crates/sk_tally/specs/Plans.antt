@@ -6,7 +6,7 @@ use Rattle.sk_cms.specs.Limits.{IsShape}
 use Rattle.sk_cms.specs.Tallies.{cms_numbers}
 use Rattle.sk_read.specs.declared.kind.Kind.TheVariants.{Hash}
 use Rattle.sk_fill.specs.Windows.{most_lines}
-use Rattle.sk_tell.specs.Manners.{Manner, window_by}
+use Rattle.sk_tell.specs.Manners.{Manner, window_by, buffer_size_by}
 use Rattle.sk_tally.specs.declared.plan.Plan.{Plan}
 use Rattle.sk_tally.specs.Texts.{line_by}
 
@@ -28,7 +28,7 @@ tally_manner plan = record {
   column = plan.column;
   window = plan.window;
   updaters = plan.updaters;
-  size = plan.size;
+  size = buffer_size_by plan.window plan.size;
   numbers = cms_numbers plan.rows plan.width;
   line = tally_line plan;
   lower = times plan.item;

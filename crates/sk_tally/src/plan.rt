@@ -13,7 +13,7 @@ pub struct Plan {
     pub item: u64,
     /// The lines at 0, else the fields in this column, counted from 1, of the records.
     pub column: u32,
-    /// How many items a buffer of each updater holds.
+    /// How many items a buffer of each updater holds; with no window at least 1,024.
     pub size: u32,
     /// How many updaters there are.
     pub updaters: u32,

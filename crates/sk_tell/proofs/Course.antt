@@ -26,7 +26,7 @@ use Rattle.sk_tell.proofs.MomentLaws.{MomentsFrom}
 use Rattle.sk_snap.specs.History.{entries_in}
 use Rattle.sk_snap.specs.Versions.{Learnt, items_in}
 use Rattle.sk_tell.specs.declared.telling.Telling.{Telling}
-use Rattle.sk_tell.specs.Manners.{Manner, Holds, manner_by, window_by, share_of}
+use Rattle.sk_tell.specs.Manners.{Manner, Holds, manner_by, window_by, buffer_size_by, share_of}
 use Rattle.sk_tell.specs.Moments.{Moment, IsMoment}
 use Rattle.sk_learn.specs.Learning.{ReaderGoesOn, Knows}
 use Rattle.sk_tell.specs.Reports.{Showing, LearnsHub, Reports, Breaks, BreaksBy, due_line}
@@ -177,7 +177,7 @@ is_moment k windows last lines x r s count stands learns holds = record {
   lacks = λ i within. let within' : i < length x.updaters = omega (arith, stands.count) in
       at_some x.updaters i within' (λ d.
       let u = get_or x.updaters i d in let took = stands.took i d within' in let knows = learns.knows i d within' in
-      subst (λ l. LacksAtMost l (entries_by i (entries_in s.known)) (2 * k.telling.size)) took.kept
+      subst (λ l. LacksAtMost l (entries_by i (entries_in s.known)) (2 * buffer_size_by k.telling.window k.telling.size)) took.kept
       (subst (λ size. LacksAtMost (kept_of u) (entries_by i (entries_in s.known)) (2 * size)) took.size
       (lacks_two (handed_of u) u.fill (entries_by i (entries_in s.known)) u.last u.size (knows_all (manner_of k) windows r.reader s i u took learns.goes knows) knows.last knows.fill)));
   holds = holds_is k windows last x r s stands learns.goes holds;

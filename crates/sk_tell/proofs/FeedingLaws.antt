@@ -27,7 +27,7 @@ use Rattle.sk_ingest.proofs.QuietLaws.{quiet_early}
 use Rattle.sk_snap.specs.History.{entries_in, name_of}
 use Rattle.sk_model.specs.Limits.{IsFrom}
 use Rattle.sk_fill.specs.Windows.{most_lines}
-use Rattle.sk_tell.specs.Manners.{Manner, lines_of_window, intake_by, share_of}
+use Rattle.sk_tell.specs.Manners.{Manner, lines_of_window, intake_by, buffer_size_by, share_of}
 use Rattle.sk_tell.specs.Moments.{Moment, AreMoments}
 use Rattle.sk_tell.proofs.MomentLaws.{are_moments, no_moments}
 use Rattle.sk_tell.specs.Reports.{Showing, Breaks}
@@ -44,7 +44,7 @@ nothing_before u none = go (handed_of u) none
     go (x ∷ l) is = let no : length (x ∷ (l ++ u.fill)) ≡ 0 = ap length is in absurd (omega arith)
 
 -- before the first window
-pub stands_start : {A Q : Type 0} (k : Basis A Q) (a : Hub) (r : Showing Q) → IsOpened k.telling.updaters k.telling.size a → IsNewReader k.numbers a.heart.view.name r.reader → r.query ≡ k.telling.query → StandsBy k [] [] a r
+pub stands_start : {A Q : Type 0} (k : Basis A Q) (a : Hub) (r : Showing Q) → IsOpened k.telling.updaters (buffer_size_by k.telling.window k.telling.size) a → IsNewReader k.numbers a.heart.view.name r.reader → r.query ≡ k.telling.query → StandsBy k [] [] a r
 stands_start k a r opened new query = record {
   count = opened.count;
   took = λ i d within. let idle = opened.idle i d within in record {
@@ -60,7 +60,7 @@ stands_start k a r opened new query = record {
 
 -- ---- a source that was read
 
-module _ {A Q R : Type 0} (k : Basis A Q) (r s : R) (shown : R → Showing Q) (most : ℕ) (a : Hub) (opened : IsOpened k.telling.updaters k.telling.size a) (new : IsNewReader k.numbers a.heart.view.name (shown r).reader) (query : (shown r).query ≡ k.telling.query) (left left' : Option (List ℕ)) where
+module _ {A Q R : Type 0} (k : Basis A Q) (r s : R) (shown : R → Showing Q) (most : ℕ) (a : Hub) (opened : IsOpened k.telling.updaters (buffer_size_by k.telling.window k.telling.size) a) (new : IsNewReader k.numbers a.heart.view.name (shown r).reader) (query : (shown r).query ≡ k.telling.query) (left left' : Option (List ℕ)) where
   abbrev manner : Manner
   manner = manner_of k
 

@@ -1,5 +1,5 @@
 -- What a telling goes by, and within which limits.
-use Rattle.std.specs.Prelude.{◌≡◌, ℕ, ◌≤◌, Bool, true, List, Option, is_some, unwrap_or}
+use Rattle.std.specs.Prelude.{◌≡◌, ℕ, ◌≤◌, max, Bool, true, List, Option, None, Some, is_some, unwrap_or}
 use Rattle.sk_model.specs.Limits.{most_size, most_updaters, IsFrom}
 use Rattle.sk_read.specs.declared.items.Intake.{Intake}
 use Rattle.sk_read.specs.declared.kind.Kind.{Kind}
@@ -27,6 +27,15 @@ pub record Manner : Type 0 where
 abbrev pub Holds : Manner → List ℕ → Type 0
 Holds manner items = manner.lower items ≤ manner.upper items
 
+-- a buffer holds at least this many items if nothing is written before the end
+abbrev pub unread_size : ℕ
+unread_size = 1024
+
+-- how many items a buffer holds, if this many are asked for, with a window or without
+abbrev pub buffer_size_by : Option ℕ → ℕ → ℕ
+buffer_size_by None size = max size unread_size
+buffer_size_by (Some window) size = size
+
 -- the manner of what is asked, by the line and the two numbers of each query, for a sketch with these numbers
 abbrev pub manner_by : {A Q : Type 0} → List ℕ → (Q → List ℕ → List ℕ → List ℕ) → (Q → List ℕ → List ℕ → ℕ) → (Q → List ℕ → List ℕ → ℕ) → Telling A Q → Manner
 manner_by numbers line lower upper telling = record {
@@ -34,7 +43,7 @@ manner_by numbers line lower upper telling = record {
   column = telling.column;
   window = telling.window;
   updaters = telling.updaters;
-  size = telling.size;
+  size = buffer_size_by telling.window telling.size;
   numbers = numbers;
   line = line telling.query numbers;
   lower = lower telling.query numbers;

@@ -4,6 +4,7 @@ ghost use Rattle.sk_model.specs.Limits.{most_size, most_updaters, IsFrom};
 ghost use Rattle.sk_feed.specs.Hubs.{hub_of};
 ghost use Rattle.sk_snap.specs.History.{entries_in, name_of};
 ghost use Rattle.sk_tell.specs.Feeding.{IsOpened, IsNewReader};
+ghost use Rattle.sk_tell.specs.Manners.{buffer_size_by};
 
 use sk_hub::{Opened, open};
 use sk_model::OutOfMemory;
@@ -12,6 +13,22 @@ use sk_snap::{Sequential, VersionReader, Versioned};
 use sk_theta::Shape;
 use std::alloc::Global;
 use std::sync::Wait;
+
+// The least size of a buffer if nobody reads before the end: the larger a batch, the less a merge takes for each item.
+// A buffer takes 8 bytes an item.
+const UNREAD_SIZE: u32 = 1_024;
+
+// How many items a buffer holds, if this many are asked for, with or without interim lines.
+pub(crate) fn buffer_size(window: Option<u32>, size: u32) -> u32
+    requires size { IsFrom 1 most_size size }
+    ensures value { result ≡ buffer_size_by window size }
+    ensures within { IsFrom 1 most_size result }
+{
+    match window {
+        Some(_) => size,
+        None => size.max(UNREAD_SIZE),
+    }
+}
 
 // A hub over a sketch of no item, with this many updaters and buffers of this size, and the reader of the sketch.
 pub(crate) fn open_all<S: Sequential, W: Wait + Drop>(

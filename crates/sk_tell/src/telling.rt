@@ -5,14 +5,14 @@ ghost use Rattle.sk_model.specs.Causes.{AppendsPart, HasCause, HasCauseIn};
 ghost use Rattle.sk_model.specs.Limits.{source_limit, IsFrom};
 ghost use Rattle.sk_fill.specs.Windows.{most_lines};
 ghost use Rattle.sk_feed.specs.Hubs.{hub_of};
-ghost use Rattle.sk_tell.specs.Manners.{manner_by, window_by, intake_by, CanTell};
+ghost use Rattle.sk_tell.specs.Manners.{manner_by, window_by, intake_by, buffer_size_by, CanTell};
 ghost use Rattle.sk_tell.specs.Feeding.{IsOpened, IsNewReader, Fed};
 ghost use Rattle.sk_tell.specs.Endings.{setting, TellsOrEnds, EndsAt, ReadsUnits};
 
 use crate::ending::{finish, let_go};
 use crate::interim::Interim;
 use crate::line::Line;
-use crate::opening::open_all;
+use crate::opening::{buffer_size, open_all};
 use sk_hub::{Heart, Opened};
 use sk_ingest::ingest;
 use sk_io::{Sink, Source};
@@ -34,7 +34,7 @@ pub struct Telling<A, Q> {
     pub kind: Kind,
     /// The units: the lines at 0, else the fields in this column, counted from 1, of the records.
     pub column: u32,
-    /// How many items a buffer of each updater holds.
+    /// How many items a buffer of each updater holds, at least if no interim line is written.
     pub size: u32,
     /// How many updaters there are.
     pub updaters: u32,
@@ -108,7 +108,8 @@ where
     ensures writes { HasCauseIn Fault.WriteFault (O.faults out.old) (O.faults out.new) result }
     ensures stays { I.stands_on source.new ≡ I.stands_on source.old }
 {
-    let (opened, reader) = open_all(alloc, waits, telling.setup, telling.updaters, telling.size)?;
+    let size = buffer_size(telling.window, telling.size);
+    let (opened, reader) = open_all(alloc, waits, telling.setup, telling.updaters, size)?;
     let mut opened = opened;
     let mut reader = reader;
     match feed(
@@ -149,7 +150,7 @@ where
     S::Prepared: Send + Sync,
     requires can { CanTell S.fits S.keeps_of telling.now }
     requires bound { most ≤ source_limit }
-    requires opened { IsOpened telling.now.updaters telling.now.size (hub_of opened.old) }
+    requires opened { IsOpened telling.now.updaters (buffer_size_by telling.now.window telling.now.size) (hub_of opened.old) }
     requires reader { IsNewReader (S.numbers (S.opened telling.now.setup)) opened.old.heart.view.name reader.old }
     ensures fed { IfOk result (λ _. ReadsUnits telling.now.column most (Fed (manner_by (S.numbers (S.opened telling.now.setup)) Q.line Q.lower Q.upper telling.now)
         (O.written out.old) (O.written out.new) (hub_of opened.new) reader.new) (I.left source.old) (I.left source.new)) }
@@ -191,7 +192,7 @@ where
     S::Prepared: Send + Sync,
     requires can { CanTell S.fits S.keeps_of telling.now }
     requires bound { most ≤ source_limit }
-    requires opened { IsOpened telling.now.updaters telling.now.size (hub_of opened.old) }
+    requires opened { IsOpened telling.now.updaters (buffer_size_by telling.now.window telling.now.size) (hub_of opened.old) }
     requires reader { IsNewReader (S.numbers (S.opened telling.now.setup)) opened.old.heart.view.name report.old.reader.now }
     requires query { report.old.query.now ≡ telling.now.query }
     ensures fed { IfOk result (λ _. ReadsUnits telling.now.column most (Fed (manner_by (S.numbers (S.opened telling.now.setup)) Q.line Q.lower Q.upper telling.now)

@@ -3,6 +3,7 @@ use Rattle.sk_read.specs.declared.items.Intake.{Intake}
 use Rattle.sk_feed.specs.Hubs.{hub_of}
 use Rattle.sk_report.proofs.Results.{if_err_is}
 use Rattle.sk_ingest.proofs.QuietLaws.{quiet_early}
+use Rattle.sk_tell.specs.Manners.{buffer_size_by}
 use Rattle.sk_tell.specs.Reports.{showing}
 use Rattle.sk_tell.proofs.Course.{basis_of}
 use Rattle.sk_tell.proofs.FeedingLaws.{ended_early, fed_whole, quiet_whole}
@@ -10,7 +11,7 @@ use Rattle.sk_tell.proofs.OpeningLaws.{are_fresh}
 use Rattle.sk_tell.proofs.telling.feed_reported.Goals as goal
 
 pub ingest-requires-clause-fresh : goal.ingest-requires-clause-fresh
-ingest-requires-clause-fresh g c κs within = are_fresh c.args.telling.now.updaters c.args.telling.now.size (hub_of c.args.opened.now) c.requires.opened
+ingest-requires-clause-fresh g c κs within = are_fresh c.args.telling.now.updaters (buffer_size_by c.args.telling.now.window c.args.telling.now.size) (hub_of c.args.opened.now) c.requires.opened
 
 pub returns-in_err-ingest-clause-early : goal.returns-in_err-ingest-clause-early
 returns-in_err-ingest-clause-early g c =
