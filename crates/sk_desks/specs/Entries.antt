@@ -20,7 +20,7 @@ pub record LabelledWindows : Type 0 where
 
 -- as many bytes of lines as this make a window full, and it never has as many as these
 abbrev pub text_limit : ℕ
-text_limit = 4194304
+text_limit = 1048576
 
 abbrev pub most_bytes : ℕ
 most_bytes = 33554432

@@ -1,5 +1,5 @@
 -- Which plans a command over tenants accepts.
-use Rattle.std.specs.Prelude.{ℕ, ◌≤◌, List, length, false}
+use Rattle.std.specs.Prelude.{ℕ, ◌≤◌, List, length, false, max}
 use Rattle.sk_model.specs.Limits.{IsFrom, least_k, most_k, most_size, most_updaters}
 use Rattle.sk_theta.specs.Sizes.{Sizes}
 use Rattle.sk_tenant.specs.Names.{AreDifferent, most_tenants}
@@ -17,6 +17,10 @@ pub record AreNames (names : List (List ℕ)) : Type 0 where
   pub few : length names ≤ most_tenants
   pub different : AreDifferent names
 
+-- a buffer holds at least this many items
+abbrev pub least_buffer : ℕ
+least_buffer = 512
+
 -- the shape of each tenant's hub
 abbrev pub shape_of : Plan → Sizes
-shape_of plan = record { k = plan.k; b = plan.size; n = plan.updaters; seed = plan.seed; eager = false }
+shape_of plan = record { k = plan.k; b = max plan.size least_buffer; n = plan.updaters; seed = plan.seed; eager = false }

@@ -13,7 +13,7 @@ use Rattle.sk_desks.specs.Entries.{LabelledWindows}
 
 -- a window has at most this many lines
 abbrev pub window_lines : ℕ
-window_lines = 65536
+window_lines = 16384
 
 -- there are desks, none of them used
 pub record AreUnused (names : List (List ℕ)) (desks : List DeskState) : Type 0 where

@@ -1,16 +1,14 @@
 // Lines that are examined and given to the one desk at once.
-ghost use Rattle.std.specs.Prelude.{◌≡◌, ◌<◌, ◌∷◌, [], true, Some, length, slice_get, OnOk, IfErr, IfSome};
-ghost use Rattle.sk_label.specs.Labels.{is_labelled, label_of, item_text_of};
-ghost use Rattle.sk_desks.specs.Desks.{is_known};
+ghost use Rattle.std.specs.Prelude.{◌≡◌, ◌∷◌, [], OnOk, IfErr};
 ghost use Rattle.sk_desks.specs.Feeds.{HasRoom, HasTenants, TakesLines};
 ghost use Rattle.sk_desks.specs.Gathers.{IsOfTenant};
 ghost use Rattle.sk_desks.specs.Clerks.{StopsAtLine};
 
 use crate::calls::insist;
+use crate::examined::examine;
 use crate::plan::Plan;
-use crate::window::Labelled;
 use sk_hash::hash63;
-use sk_label::{LineStop, LineTaker, split, split_short};
+use sk_label::{LineStop, LineTaker};
 use sk_tenant::Desk;
 use std::sync::Wait;
 
@@ -54,49 +52,11 @@ fn give<R: Wait>(rt: &R, desk: &mut Desk, line: &[u8], seed: u32) -> Result<(), 
     ensures stopped { IfErr result (StopsAtLine desk.old.names line.now) }
     ensures names { desk.new.names ≡ desk.old.names }
 {
-    let Some(labelled) = guess_labelled(desk, line) else {
-        return give_examined(rt, desk, line, seed);
-    };
-    insist(rt, desk, labelled.tenant, hash63(seed, labelled.item_text));
-    Ok(())
-}
-
-// The tenant and the item of a line, if they are found by its first 16 bytes.
-#[inline(always)]
-fn guess_labelled<'a>(desk: &Desk, line: &'a [u8]) -> Option<Labelled<'a>>
-    ensures form { IfSome result (λ _. is_labelled line.now ≡ true) }
-    ensures tenant { IfSome result (λ r. slice_get desk.now.names r.tenant ≡ Some (label_of line.now)) }
-    ensures item { IfSome result (λ r. r.item_text.now ≡ item_text_of line.now) }
-    ensures known { IfSome result (λ _. is_known desk.now.names line.now ≡ true) }
-    ensures place { IfSome result (λ r. r.tenant < length desk.now.updaters) }
-{
-    let parts = split_short(line, 0, line.len())?;
-    let tenant = desk.guess(parts.label)?;
-    Some(Labelled {
-        tenant,
-        item_text: parts.item_text,
-    })
-}
-
-// The same as `give`, without a guess.
-#[inline(never)]
-fn give_examined<R: Wait>(rt: &R, desk: &mut Desk, line: &[u8], seed: u32) -> Result<(), LineStop>
-    requires tenants { HasTenants desk.old }
-    requires room { HasRoom 1 desk.old }
-    ensures took { OnOk result (TakesLines seed desk.old (line.now ∷ []) desk.new) }
-    ensures fine { OnOk result (IsOfTenant desk.old.names line.now) }
-    ensures stopped { IfErr result (StopsAtLine desk.old.names line.now) }
-    ensures names { desk.new.names ≡ desk.old.names }
-{
-    if line.is_empty() {
+    let found = examine(desk.names(), line, 0, line.len())?;
+    if found.item == line.len() {
         return Ok(());
     }
-    let Some(parts) = split(line) else {
-        return Err(LineStop::BadLine);
-    };
-    let Some(t) = desk.place(parts.label) else {
-        return Err(LineStop::Refused);
-    };
-    insist(rt, desk, t, hash63(seed, parts.item_text));
+    let item = hash63(seed, &line[found.item..]);
+    insist(rt, desk, found.tenant as u32, item);
     Ok(())
 }

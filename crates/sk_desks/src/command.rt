@@ -31,6 +31,9 @@ use std::num::NonZeroUsize;
 use std::sync::Wait;
 use std::thread::{Threads, available_parallelism};
 
+// Nobody asks before the end, and a larger batch finds more of a sketch in the cache. A buffer takes 8 bytes an item.
+const LEAST_BUFFER: u32 = 512;
+
 /// Counts the items of each of 1 to 64 tenants with different names, in a hub of its own: a line of a source of fewer than
 /// `most` bytes is a name, a space and an item. Once the source has ended it writes for each name, in order, the name and
 /// the estimate of its items.
@@ -82,7 +85,8 @@ fn open_desks(alloc: Global, plan: &Plan, names: Vec<String>) -> Result<Opening,
     ensures desks { IfOk result (λ opening. AreNewDesks opening.hosts (shape_of plan.now) most_kept opening.desks.items) }
     ensures of_hosts { IfOk result (λ opening. All (IsDeskOf opening.hosts) opening.desks.items) }
 {
-    let Ok(shape) = Shape::new(plan.k, plan.size, plan.updaters, plan.seed, false) else {
+    let size = plan.size.max(LEAST_BUFFER);
+    let Ok(shape) = Shape::new(plan.k, size, plan.updaters, plan.seed, false) else {
         unreachable!()
     };
     match Tenants::open(alloc, names, &shape, MOST_KEPT) {

@@ -19,8 +19,8 @@ pub(crate) struct Gatherer<'n> {
 }
 
 impl Gatherer<'_> {
-    /// Reads windows of lines in the place of those that it has, one at least, until the stretch is full or `enough` is
-    /// set, or returns `false` at the end of the source.
+    /// Reads windows of lines in the place of those that it has until the stretch is full, or long and `enough` is set, or
+    /// returns `false` at the end of the source.
     pub(crate) fn gather<S: Source>(
         &mut self,
         source: &mut S,
@@ -52,7 +52,7 @@ fn gather_stretch<S: Source>(
     ensures stays { S.stands_on source.new ≡ S.stands_on source.old }
 {
     'window: while stretch.gather(reader, source)? {
-        if stretch.is_full() || enough.load(Ordering::SeqCst) {
+        if stretch.is_full() || stretch.is_long() && enough.load(Ordering::SeqCst) {
             return Ok(true);
         }
     }

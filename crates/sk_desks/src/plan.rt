@@ -5,7 +5,7 @@
 pub struct Plan {
     /// How many hashes the sketch of a tenant keeps.
     pub k: u32,
-    /// How many items a buffer of each updater holds.
+    /// How many items a buffer of each updater holds, 512 at least.
     pub size: u32,
     /// By which seed an item is hashed.
     pub seed: u32,

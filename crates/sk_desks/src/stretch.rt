@@ -17,6 +17,9 @@ use std::marker::Model;
 // A stretch has at most this many windows.
 const MOST_WINDOWS: usize = 4;
 
+// As many are worth starting threads.
+const LONG: usize = 3;
+
 /// Windows of lines, each line empty or of a tenant, that are fed together.
 #[derive(Drop)]
 pub(crate) struct LabelledStretch<'n> {
@@ -58,6 +61,11 @@ impl<'n> LabelledStretch<'n> {
         ensures names { All (λ w. w.names ≡ self.now.names) result.now }
     {
         &self.windows[..self.used]
+    }
+
+    /// Whether it has as many windows as are worth starting threads.
+    pub(crate) fn is_long(&self) -> bool {
+        self.used >= LONG
     }
 
     pub(crate) fn is_empty(&self) -> bool {

@@ -2,11 +2,12 @@
 ghost use Rattle.std.specs.Prelude.{◌≡◌, ◌<◌, ◌≤◌, ◌+◌, ◌++◌, ◌∷◌, ◌^◌, [], List, All, length, slice_get, slice_index_or, slice_range, true, Some, OnOk, IfOk, IfErr, IfSome, IfNone, vec_len, vec_capacity};
 ghost use Rattle.sk_lines.specs.Spans.{AreBehind, lines_at};
 ghost use Rattle.sk_label.specs.Labels.{is_labelled, label_of, item_text_of};
-ghost use Rattle.sk_desks.specs.Entries.{IsEntry, IsLabelledBy, IsMoved, lines_in, lines_moved, most_bytes, text_limit};
+ghost use Rattle.sk_desks.specs.Entries.{IsEntry, IsMoved, lines_in, lines_moved, most_bytes, text_limit};
 ghost use Rattle.sk_desks.specs.Gathers.{IsOfTenant, RefusesAs, StopsWithin};
 ghost use Rattle.sk_desks.specs.Windows.{window_lines};
 
-use sk_label::{LabelFault, split, split_short};
+use crate::examined::examine;
+use sk_label::LabelFault;
 use sk_lines::{GROUP, Span};
 use sk_model::OutOfMemory;
 use sk_tenant::Names;
@@ -14,10 +15,10 @@ use std::alloc::Global;
 use std::marker::Model;
 
 // A window has at most this many lines.
-const MOST_LINES: usize = 65_536;
+const MOST_LINES: usize = 16_384;
 
 // As many bytes of lines as this make a window full, so that a stretch of long lines stays small.
-const FULL_BYTES: usize = 4_194_304;
+const FULL_BYTES: usize = 1_048_576;
 
 // Where a line lies in the text of a window, where its item begins in the line, and the place of its tenant. An empty
 // line has no item.
@@ -26,13 +27,6 @@ struct Entry {
     from: u32,
     to: u32,
     item: u32,
-    tenant: u32,
-}
-
-// Where the item of a line begins, at its end if there is none, and the place of its tenant.
-#[derive(Clone, Copy)]
-struct Label {
-    item: usize,
     tenant: u32,
 }
 
@@ -237,72 +231,13 @@ fn note_line(
     ensures fine { OnOk result (IsOfTenant names.now (slice_range text.now from to)) }
     ensures refused { IfErr result (RefusesAs names.now (slice_range text.now from to) number) }
 {
-    let label = find_label(names, text, from, to, number)?;
-    Ok(Entry {
-        from: from as u32,
-        to: to as u32,
-        item: label.item as u32,
-        tenant: label.tenant,
-    })
-}
-
-// Where the item of the line of this number begins, which lies in a text, and whose it is.
-#[inline(always)]
-fn find_label(
-    names: &Names,
-    text: &[u8],
-    from: usize,
-    to: usize,
-    number: u64,
-) -> Result<Label, LabelFault>
-    requires order { from ≤ to }
-    requires within { to ≤ length text.now }
-    ensures fine { OnOk result (IsOfTenant names.now (slice_range text.now from to)) }
-    ensures label { IfOk result (λ label. IsLabelledBy names.now (slice_range text.now from to) label.tenant label.item) }
-    ensures refused { IfErr result (RefusesAs names.now (slice_range text.now from to) number) }
-{
-    match guess_label(names, text, from, to) {
-        Some(label) => Ok(label),
-        None => examine(names, &text[from..to], number),
+    match examine(names, text, from, to) {
+        Ok(line) => Ok(Entry {
+            from: from as u32,
+            to: to as u32,
+            item: line.item as u32,
+            tenant: line.tenant as u32,
+        }),
+        Err(why) => Err(why.at(number)),
     }
-}
-
-// The same without a call, if the line is of the tenant that is guessed by its first 16 bytes: nearly each line with a
-// name of 8 to 15 bytes.
-#[inline(always)]
-fn guess_label(names: &Names, text: &[u8], from: usize, to: usize) -> Option<Label>
-    requires order { from ≤ to }
-    requires within { to ≤ length text.now }
-    ensures fine { IfSome result (λ _. IsOfTenant names.now (slice_range text.now from to)) }
-    ensures label { IfSome result (λ label. IsLabelledBy names.now (slice_range text.now from to) label.tenant label.item) }
-{
-    let parts = split_short(text, from, to)?;
-    let tenant = names.guess(parts.label)?;
-    Some(Label {
-        item: parts.label.len() + 1,
-        tenant,
-    })
-}
-
-// Where the item of the line of this number begins, and whose it is, if it is empty, or has the form and the name of
-// a tenant. Not inlined, so that the loop over lines stays short.
-#[inline(never)]
-fn examine(names: &Names, line: &[u8], number: u64) -> Result<Label, LabelFault>
-    ensures fine { OnOk result (IsOfTenant names.now line.now) }
-    ensures label { IfOk result (λ label. IsLabelledBy names.now line.now label.tenant label.item) }
-    ensures refused { IfErr result (RefusesAs names.now line.now number) }
-{
-    if line.is_empty() {
-        return Ok(Label { item: 0, tenant: 0 });
-    }
-    let Some(parts) = split(line) else {
-        return Err(LabelFault::BadLine(number));
-    };
-    let Some(tenant) = names.place(parts.label) else {
-        return Err(LabelFault::Refused(number));
-    };
-    Ok(Label {
-        item: parts.label.len() + 1,
-        tenant,
-    })
 }

@@ -6,7 +6,7 @@ use Rattle.std.specs.Simd.Lanes.{zip2, mask_l, top, chunk}
 use Rattle.std.proofs.lemmas.Simd.{bit_mask_l, bitmask_splat, length-chunk, get_or-chunk}
 use Rattle.std.proofs.Math.ListN.{get_or-map}
 use Rattle.std.proofs.lemmas.List.{get_or_past, get_or-take, get_or-drop}
-use Rattle.std.proofs.lemmas.List.Sums.{position_or_len_is}
+use Rattle.std.proofs.lemmas.List.Sums.{position_or_len_is, passes_at_first}
 use Rattle.std.proofs.lemmas.Bool.{cases_lt, ne_eqb}
 use Rattle.std.proofs.lemmas.Nat.Bits.{bit_at-trailing_zeros, bit_at-zero}
 use Rattle.sk_label.specs.Labels.{is_space}
@@ -87,3 +87,16 @@ module _ (text : List ℕ) (from to marks : ℕ) (block : (k : ℕ) → (bit_at 
       let set : bit_at marks k ≡ 1 = (block k).1 (omega (arith, less, here.0), sym (byte_of_line k (omega (arith, less, inside))) ∙ is) in
       omega (arith, set, h.2 k less)) in
       sym (position_or_len_is is_space line low 0 (omega (arith, size, inside)) below (λ _. eq-eqb (get_or line low 0) 32 (byte_of_line low inside ∙ here.1)))
+
+  -- without a mark at a place of the line its first space is not among the first 16 bytes
+  pub none_in_text : from ≤ to → to ≤ length text → ((k : ℕ) → k < to - from → k < 16 → bit_at marks k ≡ 0)
+      → position_or_len is_space (slice_range text from to) < to - from → 16 ≤ position_or_len is_space (slice_range text from to)
+  none_in_text order within clear inside =
+      let line : List ℕ = slice_range text from to in
+      let first : ℕ = position_or_len is_space line in
+      let size : length line ≡ to - from = length-take (to - from) (drop from text) ∙ omega (arith, order, within, length-drop from text) in
+      let is : get_or line first 0 ≡ 32 = eqb-true (get_or line first 0) 32 (passes_at_first is_space line 0 (omega (arith, size, inside))) in
+      ⊎_elim
+      (λ (near : first < 16). absurd (omega (arith, clear first inside near, (block first).1 (near, sym (byte_of_line first inside) ∙ is))))
+      (λ (far : 16 ≤ first). far)
+      (cases_lt first 16)

@@ -1,5 +1,5 @@
 // The two parts of a line.
-ghost use Rattle.std.specs.Prelude.{◌≡◌, ◌≤◌, true, length, slice_range, is_some, IfSome};
+ghost use Rattle.std.specs.Prelude.{◌≡◌, ◌≤◌, ◌+◌, true, length, slice_range, is_some, IfSome, IfNone};
 ghost use Rattle.std.specs.List.{position_or_len};
 ghost use Rattle.sk_label.specs.Labels.{is_space, label_of, item_text_of, is_labelled};
 
@@ -24,8 +24,8 @@ pub fn split(line: &[u8]) -> Option<Parts<'_>>
     split_at(line, first_space(line))
 }
 
-/// The two parts of a line that lies in a text from one place up to another, if its first space is among its first 16
-/// bytes, and the text has 16 from its start on. Else `None`, which says nothing of the line.
+/// The two parts of a line that lies in a text from one place up to another, if its label has fewer than 16 bytes, and the
+/// text has 16 from its start on: that takes one comparison. Else `None`, as for a line that is none of two parts.
 #[inline(always)]
 pub fn split_short(text: &[u8], from: usize, to: usize) -> Option<Parts<'_>>
     requires order { from ≤ to }
@@ -33,6 +33,8 @@ pub fn split_short(text: &[u8], from: usize, to: usize) -> Option<Parts<'_>>
     ensures form { IfSome result (λ _. is_labelled (slice_range text.now from to) ≡ true) }
     ensures label { IfSome result (λ parts. parts.label.now ≡ label_of (slice_range text.now from to)) }
     ensures item { IfSome result (λ parts. parts.item_text.now ≡ item_text_of (slice_range text.now from to)) }
+    ensures none { IfNone result (from + 16 ≤ length text.now → is_labelled (slice_range text.now from to) ≡ true
+        → 16 ≤ length (label_of (slice_range text.now from to))) }
 {
     let at = first_space_in(text, from, to)?;
     split_at(&text[from..to], at)

@@ -1,5 +1,5 @@
 // Where the first space of a line stands.
-ghost use Rattle.std.specs.Prelude.{◌≡◌, ◌≢◌, ◌↔◌, ℕ, ◌+◌, ◌<◌, ◌≤◌, ◌-◌, false, length, slice_index, slice_range, IfSome};
+ghost use Rattle.std.specs.Prelude.{◌≡◌, ◌≢◌, ◌↔◌, ℕ, ◌+◌, ◌<◌, ◌≤◌, ◌-◌, false, length, slice_index, slice_range, IfSome, IfNone};
 ghost use Rattle.std.specs.Int.{bit_at};
 ghost use Rattle.std.specs.List.{position_or_len};
 ghost use Rattle.sk_label.specs.Labels.{is_space};
@@ -33,13 +33,18 @@ pub(crate) fn first_space_in(text: &[u8], from: usize, to: usize) -> Option<usiz
     requires within { to ≤ length text.now }
     ensures place { IfSome result (λ at. at ≡ position_or_len is_space (slice_range text.now from to)) }
     ensures inside { IfSome result (λ at. at < to - from) }
+    ensures none { IfNone result (from + 16 ≤ length text.now → position_or_len is_space (slice_range text.now from to) < to - from
+        → 16 ≤ position_or_len is_space (slice_range text.now from to)) }
 {
     if text.len() - from < BLOCK {
         return None;
     }
     let spaces = spaces_of_block(text, from);
+    if spaces == 0 {
+        return None;
+    }
     let at = spaces.trailing_zeros() as usize;
-    if spaces == 0 || to - from <= at {
+    if to - from <= at {
         return None;
     }
     Some(at)

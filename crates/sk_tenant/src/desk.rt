@@ -50,14 +50,13 @@ impl Desk {
         self.names.place(name)
     }
 
-    /// The same place, if the name has 8 to 16 bytes and its ends are guessed: that takes no call. `None` says nothing.
+    /// The names of the tenants, in order.
     #[inline(always)]
-    pub fn guess(&self, name: &[u8]) -> Option<u32>
-        ensures found { IfSome result (λ t. slice_get self.now.names t ≡ Some name.now) }
-        ensures value { IfSome result (λ t. Some t ≡ place_of self.now.names name.now) }
-        ensures tenants { IfSome result (λ t. t < length self.now.updaters) }
+    pub fn names(&self) -> &Names
+        ensures value { result.now ≡ self.now.names }
+        ensures tenants { length result.now ≡ length self.now.updaters }
     {
-        self.names.guess(name)
+        &self.names
     }
 
     /// Offers an item, from 1 to 2^63 - 1, for the tenant at place t. Another tenant's items and hub change no answer.

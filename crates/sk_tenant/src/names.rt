@@ -1,9 +1,8 @@
 //! The names of tenants, which all desks share.
-ghost use Rattle.std.specs.Prelude.{◌≡◌, ℕ, ◌-◌, ◌<◌, ◌≤◌, true, Some, length, take, drop, map, slice_get, IfOk, IfSome, IfNone, Contains};
+ghost use Rattle.std.specs.Prelude.{◌≡◌, ℕ, ◌<◌, ◌≤◌, true, Some, length, map, slice_get, IfOk, IfSome, IfNone, Contains};
 ghost use Rattle.sk_tenant.specs.Names.{place_of, bytes_of, most_tenants, AreDifferent, IsFirstTwice};
 
 use crate::answers::TenantStop;
-use crate::ends::{BOTH_ENDS, END};
 use crate::guesses::Guesses;
 use indexmap::IndexSet;
 use sk_model::OutOfMemory;
@@ -66,7 +65,7 @@ impl Names {
         })
     }
 
-    /// The place of the tenant with this name.
+    /// The place of the tenant with this name. Of 8 to 16 bytes it is mostly found without a call.
     #[inline(always)]
     pub fn place(&self, name: &[u8]) -> Option<u32>
         ensures value { result ≡ place_of self.now name.now }
@@ -78,20 +77,6 @@ impl Names {
             Some(t) => Some(t),
             None => sought(&table.names, name),
         }
-    }
-
-    /// The place of the tenant with this name, if it has 8 to 16 bytes and its ends are guessed: that takes no call.
-    /// `None` says nothing.
-    #[inline(always)]
-    pub fn guess(&self, name: &[u8]) -> Option<u32>
-        ensures found { IfSome result (λ t. slice_get self.now t ≡ Some name.now) }
-        ensures value { IfSome result (λ t. Some t ≡ place_of self.now name.now) }
-    {
-        if name.len() < END || name.len() > BOTH_ENDS {
-            return None;
-        }
-        let table: &Table = &self.table;
-        table.guesses.place(&table.names, name)
     }
 
     /// The name of the tenant at place t.

@@ -49,7 +49,8 @@ usage:
       --k K        2 to 4096 (128); a larger one takes more memory, and less may be off
       --key S      which coins are tossed, 0 to 281474976710655 (0)
       --file NAME  reads this file in place of the standard input
-      --b B        how many items an updater hands over at once, 1 to 4096 (64)
+      --b B        how many items an updater hands over at once, 1 to 4096 (64); at least
+                   1024 without --window
       --window W   writes the same of what was handed over by then after each W lines too
       --updaters, --propagator as for count
   sketchd replay [--file NAME]
@@ -70,14 +71,16 @@ usage:
       --rows N     1 to 16; with more rows a count is less often far too high
       --width N    how many cells a row has, 1 to 1048576; with more a count is nearer
       --item WORD  what is counted, not empty
-      --b B        how many items an updater hands over at once, 1 to 4096 (64)
+      --b B        how many items an updater hands over at once, 1 to 4096 (64); at least
+                   1024 without --window
       --window W   writes the same of what was handed over by then after each W lines too
       --seed, --csv, --file, --updaters, --propagator as for count
   sketchd tenants --names A,B,.. [--k K] [--b B] [--seed S] [--updaters N] [--file NAME]
       reads lines NAME ITEM, and writes for each name, once all are read, the estimate of how many
       distinct items its lines have
       --names A,B,.. whose lines are counted: 1 to 64 names, all different, without spaces
-      --b B        how many items an updater hands over at once, 1 to 4096 (64)
+      --b B        how many items an updater hands over at once, 1 to 4096 (64); at least
+                   512
       --k, --seed, --updaters, --file as for count
   sketchd window --span N --last N [--k K] [--b B] [--seed S] [--file NAME]
       reads lines MOMENT ITEM, a moment being a number from 0 to 281474976710655, and writes for
