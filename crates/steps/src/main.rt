@@ -1,16 +1,18 @@
 //! Takes n steps of a table with one updater, or updates of a sketch and of a hub, for `bench/steps` to time.
-//! The words are a kind (`asks`, `turns` or `exchanges`, `sketch` or `hub`, and of Count-Min `tallies` or
-//! `tallyhub`) and a number; without words nothing is done. `lines 0` and `numbers 0` count the lines of the standard
+//! The words are a kind (`asks`, `turns` or `exchanges`, `sketch` or `hub`, of Count-Min `tallies` or `tallyhub`, of
+//! quantiles `quantiles` or `quantilehub`) and a number; without words nothing is done. `lines 0` and `numbers 0` count the lines of the standard
 //! input by the sketch alone, and `reads N` reads N ranks while four updaters run, and prints how many items these
 //! took. `scale THREADS DISTINCT N` takes N updates of a hub by that many threads, and prints what is published in
 //! the end.
 #![tactic(auto)]
 
 mod direct;
+mod quantiles;
 mod ranks;
 mod scale;
 mod tallies;
 mod updates;
+mod versions;
 
 ghost use Rattle.std.specs.Prelude.{◌≡◌, true, false, IfOk};
 ghost use Rattle.sk_gate.specs.Views.{leads};
@@ -163,6 +165,8 @@ fn main(rt: HostRuntime) -> ExitCode {
         "hub" => return outcome(updates::hub(&rt, alloc, distinct, count)),
         "tallies" => return outcome(tallies::sketch(alloc, distinct, count)),
         "tallyhub" => return outcome(tallies::hub(&rt, alloc, distinct, count)),
+        "quantiles" => return outcome(quantiles::sketch(alloc, distinct, count)),
+        "quantilehub" => return outcome(quantiles::hub(&rt, alloc, distinct, count)),
         "reads" => return print_taken(&rt, ranks::reads(&rt, alloc, count)),
         _ => return ExitCode::FAILURE,
     }

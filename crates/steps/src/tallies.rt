@@ -1,11 +1,9 @@
-// Updates of a Count-Min sketch alone, and of a hub over its versions with one updater that helps itself.
-use crate::updates::{BUFFER, K, item_at, update_each};
+// Updates of a Count-Min sketch alone, and of a hub over its versions.
+use crate::updates::item_at;
+use crate::versions;
 use sk_cms::limits::MOST_COUNTED;
-use sk_cms::{CmsSetup, CountMin, VersionedCms};
+use sk_cms::{CmsSetup, CountMin};
 use sk_compose::OutOfMemory;
-use sk_hub::open;
-use sk_model::limits::MOST_KEPT;
-use sk_theta::Shape;
 use std::alloc::Global;
 use std::sync::Wait;
 
@@ -27,18 +25,9 @@ pub fn sketch(alloc: Global, distinct: u64, count: u64) -> Result<(), OutOfMemor
 
 /// Updates a hub `count` times.
 pub fn hub<R: Wait>(rt: &R, alloc: Global, distinct: u64, count: u64) -> Result<(), OutOfMemory> {
-    let Ok(shape) = Shape::new(K, BUFFER, 1, 0, false) else {
-        return Err(OutOfMemory);
-    };
     let setup = CmsSetup {
         rows: ROWS,
         width: WIDTH,
     };
-    let (sketch, _reader) = VersionedCms::new(alloc, rt, setup)?;
-    let mut opened = open(alloc, &shape, sketch)?;
-    let mut updater = opened.updaters.remove(0);
-    if count <= MOST_KEPT - updater.taken() {
-        update_each(rt, &mut updater, distinct, count);
-    }
-    Ok(())
+    versions::hub::<CountMin, &R, R>(rt, rt, alloc, setup, distinct, count)
 }
