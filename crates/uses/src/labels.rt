@@ -1,11 +1,12 @@
 //! Labelled lines, and what an operator would say of each end of their reading.
-ghost use Rattle.std.specs.Prelude.{[], IfSome};
+ghost use Rattle.std.specs.Prelude.{[], ◌≡◌, ◌≤◌, true, length, IfSome, IfNone};
 ghost use Rattle.sk_model.specs.Causes.{HasCauseIn};
 ghost use Rattle.sk_model.specs.Limits.{source_limit};
+ghost use Rattle.sk_label.specs.Labels.{is_labelled, label_of};
 ghost use Rattle.uses.specs.Said.{Says};
 
 use sk_io::Source;
-use sk_label::{LabelFault, LineTaker, read_labelled};
+use sk_label::{LabelFault, LineTaker, read_labelled, split_short};
 use sk_model::limits::SOURCE_LIMIT;
 use std::alloc::Global;
 
@@ -22,4 +23,13 @@ pub fn read_to_blame<S: Source, T: LineTaker>(
     ensures writes { HasCauseIn LabelFault.WriteFault (T.faults taker.old) (T.faults taker.new) result }
 {
     read_labelled(alloc, SOURCE_LIMIT, source, taker)
+}
+
+/// The label of a line. Of 16 bytes and more only a line that has none, or a label of as many, gives `None`.
+pub fn short_label(line: &[u8]) -> Option<&[u8]>
+    ensures label { IfSome result (λ label. label.now ≡ label_of line.now) }
+    ensures none { IfNone result (16 ≤ length line.now → is_labelled line.now ≡ true → 16 ≤ length (label_of line.now)) }
+{
+    let parts = split_short(line, 0, line.len())?;
+    Some(parts.label)
 }

@@ -19,7 +19,7 @@ pub use draining::drain_last_first;
 pub use feeding::{feed_all, feed_item, feed_some};
 pub use greatest::{Greatest, greatest_item};
 pub use joins::{estimate_again, estimate_items, estimate_of_both, list_of_both};
-pub use labels::read_to_blame;
+pub use labels::{read_to_blame, short_label};
 pub use lines::{Measured, Threes, measure_lines, measure_text};
 pub use panes::{feed_and_reply, finish_again, reply_now};
 pub use ranks::rank_source;
