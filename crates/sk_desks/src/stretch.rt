@@ -15,10 +15,10 @@ use std::alloc::Global;
 use std::marker::Model;
 
 // A stretch has at most this many windows.
-const MOST_WINDOWS: usize = 4;
+const MOST_WINDOWS: usize = 12;
 
 // As many are worth starting threads.
-const LONG: usize = 3;
+const LONG: usize = 8;
 
 /// Windows of lines, each line empty or of a tenant, that are fed together.
 #[derive(Drop)]
