@@ -2,6 +2,7 @@ mod gate;
 mod hub;
 mod image;
 mod ingest;
+mod programs;
 mod ranks;
 mod read;
 mod schedules;

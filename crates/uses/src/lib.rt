@@ -27,6 +27,3 @@ pub use schedule::replay;
 pub use sk_model::OutOfMemory;
 pub use streams::{Counted, count_streams};
 pub use tenants::{Answered, count_two_tenants};
-
-#[cfg(test)]
-mod tests;

@@ -1,7 +1,7 @@
 use Rattle.std.proofs.Common.{◌∷◌, [], length, sym, ap, subst, arith, length-append}
 use Rattle.std.proofs.lemmas.List.Elements.{All-nil, All-push}
 use Rattle.sk_model.specs.Width.{IsItem, AreItems}
-use Rattle.uses.proofs.tests.numbers_from.Goals as goal
+use Rattle.sk_calls.proofs.tests.programs.numbers_from.Goals as goal
 
 pub number-init : goal.number-init
 number-init c = record {

@@ -1,6 +1,6 @@
 use Rattle.std.proofs.Common.{◌≡◌, ◌+◌, length}
 use Rattle.sk_model.specs.Width.{AreItems}
-use Rattle.uses.proofs.tests.numbers_from.Given as goal
+use Rattle.sk_calls.proofs.tests.programs.numbers_from.Given as goal
 
 abbrev pub invariant-number : goal.invariant-number
 invariant-number l = record {

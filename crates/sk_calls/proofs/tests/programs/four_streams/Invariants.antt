@@ -1,7 +1,7 @@
 use Rattle.std.proofs.Common.{◌≡◌, ◌≤◌, length, All}
 use Rattle.sk_model.specs.Limits.{most_kept}
 use Rattle.sk_model.specs.Width.{AreItems}
-use Rattle.uses.proofs.tests.four_streams.Given as goal
+use Rattle.sk_calls.proofs.tests.programs.four_streams.Given as goal
 
 abbrev pub invariant-stream : goal.invariant-stream
 invariant-stream l = record {

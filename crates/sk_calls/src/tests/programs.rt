@@ -1,25 +1,24 @@
+//! The short programs of the library's callers, run.
 ghost use Rattle.std.specs.Prelude.{◌≡◌, ◌≤◌, [], length, All, IfOk};
 ghost use Rattle.sk_model.specs.Entries.{items_of_entries};
 ghost use Rattle.sk_model.specs.Limits.{least_k, most_k, most_kept};
 ghost use Rattle.sk_model.specs.Width.{AreItems};
 ghost use Rattle.sk_theta.specs.Kept.{StandsFor};
 
-use super::*;
+use super::expect;
 use sk_core::{Answer, Event, State};
 use sk_heap::HeapTheta;
 use sk_io::{MemSink, MemSource};
+use sk_model::OutOfMemory;
 use sk_tenant::Add;
 use sk_theta::{Reply, Shape, unpack};
 use sk_window::{Advance, Frame, Panes, Started};
 use std::alloc::Global;
-use std::fmt::Debug;
-use std::process::Abort;
 use std::test::Fail;
-
-// An `assert_eq!` that costs the proof of a test one call.
-fn expect<R: Abort, T: PartialEq + Debug + Copy>(rt: &R, got: T, want: T) {
-    assert_eq!(rt; got, want);
-}
+use uses::{
+    Measured, count_streams, count_two_tenants, estimate_again, estimate_items, estimate_of_both,
+    feed_and_reply, greatest_item, list_of_both, measure_text, rank_source, replay,
+};
 
 #[tactic(auto, unfolding(sk_model::specs::Entries::items_of_entries))]
 fn sketch(alloc: Global, k: u32) -> Result<HeapTheta, OutOfMemory>
