@@ -5,12 +5,8 @@ use Rattle.std.proofs.lemmas.List.{drop-drop, drop-append-le, take-append-le, ta
 use Rattle.std.proofs.lemmas.List.Elements.{All-head, All-tail}
 use Rattle.sk_lines.specs.Spans.{AreBehind, lines_at}
 use Rattle.sk_lines.specs.declared.spans.Span.{Span}
-use Rattle.sk_label.specs.Faults.{fault_at}
 use Rattle.sk_label.specs.declared.fault.LabelFault.{LabelFault}
-use Rattle.sk_label.specs.declared.fault.LineStop.{LineStop}
-use Rattle.sk_label.specs.declared.fault.LineStop.TheVariants as stop
 use Rattle.sk_desks.specs.declared.window.Entry.{Entry}
-use Rattle.sk_desks.specs.Clerks.{StopsAtLine}
 use Rattle.sk_desks.specs.Entries.{IsLabelledBy, IsEntry, IsMoved, lines_in, lines_moved}
 use Rattle.sk_desks.specs.Gathers.{IsOfTenant, RefusesAs, StopsWithin}
 
@@ -64,15 +60,6 @@ lines_are from xs ys spans behind =
     map_same (λ (span : Span). (from ≤ span.from) × (span.from ≤ span.to) × (span.to ≤ length ys))
     (λ (span : Span). slice_range (xs ++ drop from ys) (length xs + (span.from - from)) (length xs + (span.to - from))) (λ (span : Span). slice_range ys span.from span.to) spans
     (λ span is. range_moved xs ys from span.from span.to is.0 is.1) behind
-
--- ---- one line
-
--- one that is refused, with its number
-pub refuses_at : (names : List (List ℕ)) (line : List ℕ) (n : ℕ) (why : LineStop) → StopsAtLine names line why → RefusesAs names line n (fault_at why n)
-refuses_at names line n stop.BadLine stops = (refl, stops.0, stops.1)
-refuses_at names line n stop.Refused stops = (refl, stops.0, stops.1, stops.2)
-refuses_at names line n stop.OutOfMemory stops = absurd stops
-refuses_at names line n stop.WriteFault stops = absurd stops
 
 -- ---- one line more
 

@@ -66,10 +66,6 @@ its_place names name t different is =
     position_or_len_is (bytes_eq name) names t [] (omega (arith, within)) fails (λ _. name_passes name _ at) in
     sym (ap (λ n. cond (nat_lt n (length names)) (Some n) None) first ∙ cond-true (nat_lt t (length names)) (Some t) None (lt-ltb t (length names) within))
 
-pub its_place_if : (place : Option ℕ) (names : List (List ℕ)) (name : List ℕ) → AreDifferent names → IfSome place (λ t. slice_get names t ≡ Some name) → IfSome place (λ t. Some t ≡ place_of names name)
-its_place_if (Some t) names name different is = its_place names name t different is
-its_place_if None names name different is = tt
-
 -- ---- a table of the names so far
 
 either_passes : (a b : Bool) → (a || b) ≡ true → (a ≡ true) ⊎ (b ≡ true)

@@ -1,9 +1,9 @@
 //! Takes n steps of a table with one updater, or updates of a sketch and of a hub, for `bench/steps` to time.
 //! The words are a kind (`asks`, `turns` or `exchanges`, `sketch` or `hub`, of Count-Min `tallies` or `tallyhub`, of
-//! quantiles `quantiles` or `quantilehub`) and a number; without words nothing is done. `lines 0` and `numbers 0` count the lines of the standard
-//! input by the sketch alone, and `reads N` reads N ranks while four updaters run, and prints how many items these
-//! took. `scale THREADS DISTINCT N` takes N updates of a hub by that many threads, and prints what is published in
-//! the end.
+//! quantiles `quantiles` or `quantilehub`) and a number; without words nothing is done. `lines 0` and `numbers 0` count
+//! the lines of the standard input by the sketch alone, and `reads N` reads N ranks while four updaters run, and prints
+//! how many items these took. `scale THREADS DISTINCT N` takes N updates of a hub by that many threads, and prints what
+//! is published in the end.
 #![tactic(auto)]
 
 mod direct;

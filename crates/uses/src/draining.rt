@@ -21,7 +21,8 @@ pub fn drain_last_first<C: Composable, R: Wait>(
     first: Updater<C>,
     last: Updater<C>,
 ) -> Result<u64, OutOfMemory>
-    requires tables { (first.table ≡ heart.old.table) × (last.table ≡ heart.old.table) }
+    requires table_of_first { first.table ≡ heart.old.table }
+    requires table_of_last { last.table ≡ heart.old.table }
     requires order { first.number < last.number }
     requires two { heart.old.updaters ≡ 2 }
     ensures word { IfOk result (λ word. word ≡ C.packed_of heart.old.view.numbers heart.new.view.seen) }
