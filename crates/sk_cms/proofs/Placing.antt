@@ -137,7 +137,7 @@ rest_more cells ats n =
 -- ---- what an item adds
 
 -- at the places of an item that is what `update` leaves in the cells
-raised_is : (rows width x : ℕ) (cells : List ℕ) → fold raised_once cells (places_of rows width x) ≡ raised rows width x cells
+pub raised_is : (rows width x : ℕ) (cells : List ℕ) → fold raised_once cells (places_of rows width x) ≡ raised rows width x cells
 unfolding places_of raised
 raised_is zero width x cells = refl
 raised_is (suc r) width x cells =

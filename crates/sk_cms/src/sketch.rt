@@ -1,9 +1,9 @@
 //! The sketch.
-ghost use Rattle.std.specs.Prelude.{◌≡◌, ◌+◌, ◌*◌, ◌<◌, ◌≤◌, ◌^◌, ℕ, List, [], ◌∷◌, ◌++◌, length, slice_index, slice_set, fold, All, IfOk, IsTrue, IsFalse};
+ghost use Rattle.std.specs.Prelude.{◌≡◌, ◌+◌, ◌*◌, ◌<◌, ◌≤◌, ◌^◌, ℕ, List, [], ◌∷◌, ◌++◌, length, slice_index, slice_set, fold, flat_map, All, IfOk, IsTrue, IsFalse};
 ghost use Rattle.sk_cms.specs.Counts.{joined, no_counts, counted, raised, IsCountOf, IsMaskOf};
 ghost use Rattle.sk_cms.specs.Estimate.{cell_of, least_of, times};
 ghost use Rattle.sk_cms.specs.Limits.{most_counted, IsShape};
-ghost use Rattle.sk_cms.specs.Places.{raised_once, ArePlacesOf};
+ghost use Rattle.sk_cms.specs.Places.{places_of, raised_once, ArePlacesOf};
 ghost use Rattle.sk_cms.specs.Tallies.{put_all};
 
 use crate::limits::MOST_COUNTED;
@@ -73,6 +73,22 @@ impl CountMin {
             x,
         );
         self.count += 1;
+    }
+
+    /// Puts items to the end of the list, in order.
+    pub fn update_all(&mut self, items: &[u64])
+        requires { self.old.count + length items.now ≤ most_counted }
+        ensures left { self.new ≡ put_all self.old items.now }
+    {
+        raise_all(
+            &mut self.low,
+            &mut self.high,
+            self.rows,
+            u64::from(self.width),
+            self.mask,
+            items,
+        );
+        self.count += items.len() as u64;
     }
 
     // Where the cells of items lie.
@@ -157,6 +173,54 @@ fn raise(low: &mut [u8], high: &mut [u64], rows: u32, width: u64, mask: u64, x: 
     'row: for r in 0..rows {
         let at = place(width, mask, r, x);
         raise_at(low, high, at);
+    }
+}
+
+// Puts one more into the cells of each item. Four rows are common, and as a fixed number of turns they take less time
+// than as any number.
+fn raise_all(
+    low: &mut [u8],
+    high: &mut [u64],
+    rows: u32,
+    width: u64,
+    mask: u64,
+    items: &[u64],
+)
+    requires shape { IsShape rows width }
+    requires mask { IsMaskOf width mask }
+    requires low { length low.old ≡ rows * width }
+    requires high { length high.old ≡ rows * width }
+    requires few { length items.now ≤ most_counted }
+    requires small { All (λ cell. cell ≤ most_counted) (joined low.old high.old) }
+    ensures cells { joined low.new high.new ≡ fold raised_once (joined low.old high.old) (flat_map (places_of rows width) items.now) }
+{
+    if rows == 4 {
+        raise_items(low, high, 4, width, mask, items);
+    } else {
+        raise_items(low, high, rows, width, mask, items);
+    }
+}
+
+// The same by a loop.
+#[inline(always)]
+fn raise_items(
+    low: &mut [u8],
+    high: &mut [u64],
+    rows: u32,
+    width: u64,
+    mask: u64,
+    items: &[u64],
+)
+    requires shape { IsShape rows width }
+    requires mask { IsMaskOf width mask }
+    requires low { length low.old ≡ rows * width }
+    requires high { length high.old ≡ rows * width }
+    requires few { length items.now ≤ most_counted }
+    requires small { All (λ cell. cell ≤ most_counted) (joined low.old high.old) }
+    ensures cells { joined low.new high.new ≡ fold raised_once (joined low.old high.old) (flat_map (places_of rows width) items.now) }
+{
+    'item: for x in items {
+        raise(low, high, rows, width, mask, *x);
     }
 }
 
