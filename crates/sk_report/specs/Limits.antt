@@ -7,4 +7,4 @@ most_numbers = 64
 
 -- a window has this many lines if no other number is asked for
 abbrev pub usual_window : ℕ
-usual_window = 65536
+usual_window = 2048
