@@ -13,8 +13,8 @@ use sk_read::{Fault, Kind, LineReader};
 use std::alloc::Global;
 use std::marker::Model;
 
-// As many bytes of lines as this make a stretch full, so that one of long lines stays small.
-const FULL_BYTES: usize = 16_777_216;
+// As many bytes of lines as this make a stretch full, so that one of long lines stays in a processor's cache.
+const FULL_BYTES: usize = 1_048_576;
 
 /// Windows that are fed together.
 #[derive(Drop)]

@@ -62,6 +62,7 @@ impl Window {
     }
 
     /// Puts a line to the end.
+    #[inline(always)]
     pub fn push(&mut self, line: &[u8]) -> Result<(), OutOfMemory>
         requires room { is_full self.old ≡ false }
         requires short { length line.now ≤ LINE_LIMIT }
@@ -132,6 +133,7 @@ impl Window {
     }
 
     /// How many lines it has.
+    #[inline(always)]
     pub fn len(&self) -> u32
         ensures value { result ≡ length self.now.lines }
         ensures within { result ≤ self.now.most }
@@ -159,6 +161,7 @@ impl Window {
     }
 
     /// Whether it takes no further line.
+    #[inline(always)]
     pub fn is_full(&self) -> bool
         ensures { result ≡ is_full self.now }
     {
@@ -166,6 +169,7 @@ impl Window {
     }
 
     // Whether its lines have as many bytes as make it full: a page alone never has.
+    #[inline(always)]
     fn has_full_bytes(&self) -> bool
         ensures yes { result ≡ true → full_bytes ≤ length (concat self.now.lines) }
         ensures no { result ≡ false → length (concat self.now.lines) < full_bytes }
@@ -231,6 +235,7 @@ impl Window {
 }
 
 // How many bytes the lines of a page have without what ended them.
+#[inline(never)]
 fn bytes_of(page: &Page) -> usize
     ensures { result ≡ length (concat page.now.lines) }
 {
