@@ -13,11 +13,6 @@ use Rattle.sk_read.specs.Columns.{Refuses, Breaks}
 use Rattle.sk_read.specs.Faults.{IsOfTaker}
 use Rattle.sk_model.specs.Limits.{line_limit}
 
--- what is known of a call, of its value or its fault
-pub took : {A : Type 0} (r : Result A Fault) (P R : Type 0) (Q S T : Fault → Type 0) → OnOk r R → (R → P) → IfErr r S → IfErr r T → ((f : Fault) → S f → T f → Q f) → MatchResult r (λ _. P) Q
-took (Ok a) P R Q S T good so why bad then = so good
-took (Err e) P R Q S T good so why bad then = then e why bad
-
 pub fields_more : (column : ℕ) (rows : List Row) (row : Row) → fields_in column (rows ++ row ∷ []) ≡ fields_in column rows ++ field_of column row ∷ []
 fields_more column rows row = map-append (field_of column) rows (row ∷ [])
 

@@ -11,21 +11,25 @@ use Rattle.memchr.specs.Find.{is_byte3, Passes, Nowhere, NoneBefore}
 use Rattle.std.proofs.lemmas.Bool.{cases_lt, cases_Bool, ne_eqb}
 use Rattle.std.proofs.lemmas.Nat.Bits.{bit_at-zero, bit_at-lt, bit_at_or}
 use Rattle.sk_read.specs.declared.records.delimiters.Ahead.{Ahead}
-use Rattle.sk_read.specs.Delimiters.{IsDelimiter, IsNextDelimiter, Knows}
+use Rattle.sk_read.specs.Delimiters.{IsDelimiter, IsFirst, IsNextDelimiter, Knows}
 
--- bit k of a mask says so of the byte at a place of a block
+-- bit k of a mask says so of the byte at a place, of this many
+abbrev pub IsMask : ℕ → (ℕ → Type 0) → List ℕ → ℕ → ℕ → Type 0
+IsMask n P bytes at marks = (k : ℕ) → (bit_at marks k ≡ 1) ↔ ((k < n) × P (slice_index bytes (at + k)))
+
+-- the same of a block
 abbrev pub IsMaskOf : (ℕ → Type 0) → List ℕ → ℕ → ℕ → Type 0
-IsMaskOf P bytes at marks = (k : ℕ) → (bit_at marks k ≡ 1) ↔ ((k < 64) × P (slice_index bytes (at + k)))
+IsMaskOf P bytes at marks = IsMask 64 P bytes at marks
 
 told : (x byte : ℕ) (b : Bool) → eqb x byte ≡ b → (cond {A = ℕ} b 1 0 ≡ 1) ↔ (x ≡ byte)
 told x byte true e = (λ h. eqb-true x byte e, λ h. refl)
 told x byte false e = (λ h. absurd (omega arith), λ h. absurd (cc (e, eq-eqb x byte h)))
 
--- a bit of the mask of a block's bytes of one kind
-byte_bit : (bytes : List ℕ) (at byte : ℕ) → at + 64 ≤ length bytes → 0 < byte → IsMaskOf (λ (x : ℕ). x ≡ byte) bytes at (mask_l (map (λ x. eqb x byte) (chunk at 64 bytes)))
-byte_bit bytes at byte within some k =
-    let block : List ℕ = chunk at 64 bytes in
-    let long : length block ≡ 64 = length-chunk at 64 bytes within in
+-- a bit of the mask of the bytes of one kind
+byte_bit : (n : ℕ) (bytes : List ℕ) (at byte : ℕ) → at + n ≤ length bytes → 0 < byte → IsMask n (λ (x : ℕ). x ≡ byte) bytes at (mask_l (map (λ x. eqb x byte) (chunk at n bytes)))
+byte_bit n bytes at byte within some k =
+    let block : List ℕ = chunk at n bytes in
+    let long : length block ≡ n = length-chunk at n bytes within in
     let bits : List Bool = map (λ x. eqb x byte) block in
     let none : eqb 0 byte ≡ false = ne_eqb 0 byte (λ is. omega (arith, is, some)) in
     let here : get_or bits k false ≡ eqb (get_or block k 0) byte = ap (get_or bits k) (sym none) ∙ get_or-map (λ x. eqb x byte) block k 0 in
@@ -33,19 +37,23 @@ byte_bit bytes at byte within some k =
     let t = told (get_or block k 0) byte _ refl in (
       λ set.
           let is : get_or block k 0 ≡ byte = t.0 (sym bit ∙ set) in
-          elim (cases_lt k 64) [
-            | inl inside ↦ (inside, sym (get_or-chunk at 64 bytes k 0 inside) ∙ is)
+          elim (cases_lt k n) [
+            | inl inside ↦ (inside, sym (get_or-chunk at n bytes k 0 inside) ∙ is)
             | inr past ↦ absurd (omega (arith, is, some, get_or_past block k 0 (omega (arith, long, past))))
           ],
-      λ at_place. bit ∙ t.1 (get_or-chunk at 64 bytes k 0 at_place.0 ∙ at_place.1),
+      λ at_place. bit ∙ t.1 (get_or-chunk at n bytes k 0 at_place.0 ∙ at_place.1),
     )
+
+pub bytes_of_lanes : (n : ℕ) (bytes : List ℕ) (at byte : ℕ) → n ≤ 64 → at + n ≤ length bytes → 0 < byte → byte < 256 →
+    IsMask n (λ (x : ℕ). x ≡ byte) bytes at (mask_l (map (top 7) (zip2 (λ a b. cond (eqb a b) 255 0) (chunk at n bytes) (replicate n byte))) % 2 ^ 64)
+bytes_of_lanes n bytes at byte few within some small =
+    subst (IsMask n (λ (x : ℕ). x ≡ byte) bytes at)
+    (sym (bitmask_splat w8 eqb (chunk at n bytes) n byte (length-chunk at n bytes within) few))
+    (byte_bit n bytes at byte within some)
 
 pub bytes_of_block : (bytes : List ℕ) (at byte : ℕ) → at + 64 ≤ length bytes → 0 < byte → byte < 256 →
     IsMaskOf (λ (x : ℕ). x ≡ byte) bytes at (mask_l (map (top 7) (zip2 (λ a b. cond (eqb a b) 255 0) (chunk at 64 bytes) (replicate 64 byte))) % 2 ^ 64)
-bytes_of_block bytes at byte within some small =
-    subst (IsMaskOf (λ (x : ℕ). x ≡ byte) bytes at)
-    (sym (bitmask_splat w8 eqb (chunk at 64 bytes) 64 byte (length-chunk at 64 bytes within) (omega arith)))
-    (byte_bit bytes at byte within some)
+bytes_of_block bytes at byte within some small = bytes_of_lanes 64 bytes at byte (omega arith) within some small
 
 pub max_is : (a b : ℕ) → max a b ≡ 1 → (a ≡ 1) ⊎ (b ≡ 1)
 max_is a b is = elim (cases_lt a b) [
@@ -54,8 +62,8 @@ max_is a b is = elim (cases_lt a b) [
 ]
 
 -- two masks in one
-pub both_masks : (P Q : ℕ → Type 0) (bytes : List ℕ) (at a b : ℕ) → IsMaskOf P bytes at a → IsMaskOf Q bytes at b → IsMaskOf (λ (x : ℕ). P x ⊎ Q x) bytes at (bit_or a b)
-both_masks P Q bytes at a b p q k = (
+pub both_lanes : (n : ℕ) (P Q : ℕ → Type 0) (bytes : List ℕ) (at a b : ℕ) → IsMask n P bytes at a → IsMask n Q bytes at b → IsMask n (λ (x : ℕ). P x ⊎ Q x) bytes at (bit_or a b)
+both_lanes n P Q bytes at a b p q k = (
   λ set. elim (max_is (bit_at a k) (bit_at b k) (sym (bit_at_or a b k) ∙ set)) [
     | inl one ↦ let here = (p k).0 one in (here.0, inl here.1)
     | inr one ↦ let here = (q k).0 one in (here.0, inr here.1)
@@ -65,6 +73,78 @@ both_masks P Q bytes at a b p q k = (
     | inr is ↦ omega (arith, bit_at_or a b k, (q k).1 (here.0, is), bit_at-lt a k)
   ],
 )
+
+pub both_masks : (P Q : ℕ → Type 0) (bytes : List ℕ) (at a b : ℕ) → IsMaskOf P bytes at a → IsMaskOf Q bytes at b → IsMaskOf (λ (x : ℕ). P x ⊎ Q x) bytes at (bit_or a b)
+both_masks P Q bytes at a b p q = both_lanes 64 P Q bytes at a b p q
+
+-- from one place up to another there is no byte of a kind
+pub record IsNowhere (P : ℕ → Type 0) (text : List ℕ) (from at : ℕ) : Type 0 where
+  pub order : from ≤ at
+  pub within : at ≤ length text
+  pub none : (i : ℕ) → from ≤ i → i < at → ¬ P (slice_index text i)
+
+pub nowhere_yet : (P : ℕ → Type 0) (text : List ℕ) (from : ℕ) → from ≤ length text → IsNowhere P text from from
+nowhere_yet P text from within = record { order = omega arith; within = within; none = λ i after before. absurd (omega (arith, after, before)) }
+
+pub nowhere_next : (P : ℕ → Type 0) (text : List ℕ) (from at : ℕ) → IsNowhere P text from at → at < length text → ¬ P (slice_index text at) → IsNowhere P text from (at + 1)
+nowhere_next P text from at nowhere inside other = record {
+  order = omega (arith, nowhere.order);
+  within = omega (arith, inside);
+  none = λ i after before is. elim (cases_lt i at) [
+    | inl early ↦ nowhere.none i after early is
+    | inr late ↦ let here : i ≡ at = omega (arith, late, before) in other (subst (λ (j : ℕ). P (slice_index text j)) here is)
+  ];
+}
+
+pub first_found : (P : ℕ → Type 0) (text : List ℕ) (from at : ℕ) → IsNowhere P text from at → (at < length text → P (slice_index text at)) → IsFirst P text from at
+first_found P text from at nowhere here = record { from = nowhere.order; within = nowhere.within; none = nowhere.none; here = here }
+
+-- the lowest mark is the first
+pub first_of_mask : (n : ℕ) (P : ℕ → Type 0) (text : List ℕ) (from at marks k : ℕ) → at + n ≤ length text → IsNowhere P text from at → IsMask n P text at marks → bit_at marks k ≡ 1 →
+    ((j : ℕ) → j < k → bit_at marks j ≡ 0) → IsFirst P text from (at + k)
+first_of_mask n P text from at marks k fits nowhere mask set below =
+    let here = (mask k).0 set in
+    record {
+      from = omega (arith, nowhere.order);
+      within = omega (arith, here.0, fits);
+      none = λ i after before is. elim (cases_lt i at) [
+        | inl early ↦ nowhere.none i after early is
+        | inr late ↦
+            let place : i ≡ at + (i - at) = omega (arith, late) in
+            let marked = (mask (i - at)).1 (omega (arith, before, here.0, late), subst (λ (j : ℕ). P (slice_index text j)) place is) in
+            omega (arith, marked, below (i - at) (omega (arith, before, late)))
+      ];
+      here = λ _. here.1;
+    }
+
+-- if nothing is marked, there is none in so many bytes more
+pub nowhere_more : (n : ℕ) (P : ℕ → Type 0) (text : List ℕ) (from at marks : ℕ) → at + n ≤ length text → IsNowhere P text from at → IsMask n P text at marks → marks ≡ 0 → IsNowhere P text from (at + n)
+nowhere_more n P text from at marks fits nowhere mask zero = record {
+  order = omega (arith, nowhere.order);
+  within = fits;
+  none = λ i after before is. elim (cases_lt i at) [
+    | inl early ↦ nowhere.none i after early is
+    | inr late ↦
+        let place : i ≡ at + (i - at) = omega (arith, late) in
+        let marked = (mask (i - at)).1 (omega (arith, before, late), subst (λ (j : ℕ). P (slice_index text j)) place is) in
+        omega (arith, marked, ap (λ (m : ℕ). bit_at m (i - at)) zero, bit_at-zero (i - at))
+  ];
+}
+
+-- the first one after those places is the first
+pub first_behind : (P : ℕ → Type 0) (text : List ℕ) (from at place : ℕ) → IsNowhere P text from at → IsFirst P text at place → IsFirst P text from place
+first_behind P text from at place nowhere first = record {
+  from = omega (arith, nowhere.order, first.from);
+  within = first.within;
+  none = λ i after before is. elim (cases_lt i at) [
+    | inl early ↦ nowhere.none i after early is
+    | inr late ↦ first.none i late before is
+  ];
+  here = first.here;
+}
+
+pub first_delimiter : (text : List ℕ) (from place : ℕ) → IsNextDelimiter text from place → IsFirst IsDelimiter text from place
+first_delimiter text from place next = record { from = next.from; within = next.within; none = next.none; here = next.here }
 
 none_marked : (k : ℕ) → bit_at 0 k ≡ 1 → ⊥
 none_marked k set = omega (arith, bit_at-zero k)

@@ -1,8 +1,9 @@
 -- Fields of a column that are given many together.
-use Rattle.std.proofs.Common.{◌≡◌, ℕ, ◌+◌, ◌<◌, ◌≤◌, List, [], ◌∷◌, ◌++◌, length, take, drop, map, slice_range, set, Option, Some, None, Result, Ok, Err, refl, sym, ap, ◌∙◌, subst, arith, append_assoc, length-append}
+use Rattle.std.proofs.Common.{◌≡◌, ℕ, ◌+◌, ◌-◌, ◌<◌, ◌≤◌, List, [], ◌∷◌, ◌++◌, length, take, drop, map, slice_range, set, Option, Some, None, Result, Ok, Err, inl, inr, refl, sym, ap, ◌∙◌, subst, arith, append_assoc, length-append, length-drop}
+use Rattle.std.proofs.lemmas.Bool.{cases_lt}
 use Rattle.std.specs.Prelude.{MatchResult}
-use Rattle.std.proofs.lemmas.List.{map-append, take_more_set}
-use Rattle.std.proofs.lemmas.List.Elements.{All-push, All-drop}
+use Rattle.std.proofs.lemmas.List.{map-append, length-map, take_more_set, take_all, take-append-le, drop-append-le}
+use Rattle.std.proofs.lemmas.List.Elements.{All-push, All-drop, All-head, All-tail}
 use Rattle.std.proofs.Math.Seq.{drop-append_seam}
 use Rattle.csv.specs.Reading.{default_config, records}
 use Rattle.sk_lines.specs.Spans.{AreBehind, lines_at}
@@ -10,6 +11,7 @@ use Rattle.sk_lines.specs.declared.spans.Span.{Span}
 use Rattle.sk_model.specs.Limits.{line_limit, most_kept}
 use Rattle.sk_model.specs.Lines.{AreWithin}
 use Rattle.sk_model.specs.Missing.{Begins}
+use Rattle.sk_model.proofs.Missing.{begins_length}
 use Rattle.sk_read.specs.declared.fault.Fault.{Fault}
 use Rattle.sk_read.specs.declared.fault.Fault.TheVariants as fault
 use Rattle.sk_read.specs.declared.records.column.ColumnReader.{ColumnReader}
@@ -113,13 +115,8 @@ cut_room rows given all following few split = omega (arith, few, ap length split
 
 sound_either : (t : ColumnReader) (rows following : List Row) (r : Option Fault) → HasSeenOrRefused t rows following r → AreSoundRows t.column rows
 sound_either t rows following None has = has.sound
+sound_either t rows following (Some fault.OutOfMemory) has = has
 sound_either t rows following (Some f) has = has.0
-
--- the records of a group are sound
-pub cut_sound : (old new : ColumnReader) (text : List ℕ) (from to : ℕ) (spans : List Span) (r : Option Fault) (cuts : CutsGroup old new text from to spans r) (rows : List Row) → new.column ≡ old.column →
-    length rows + length (records default_config (drop from text)) ≤ most_kept → HasSeen old rows → AreSoundRows old.column (rows ++ cuts.some)
-cut_sound old new text from to spans r cuts rows column few has =
-    subst (λ (n : ℕ). AreSoundRows n (rows ++ cuts.some)) column (sound_either new (rows ++ cuts.some) (records default_config (drop to text)) r (cuts.has rows few has))
 
 -- so none of their fields is too long
 pub cut_short : (column : ℕ) (rows some : List Row) (units : List (List ℕ)) → units ≡ fields_in column some → AreSoundRows column (rows ++ some) → AreWithin line_limit units
@@ -145,6 +142,114 @@ refused_after column Gave Stopped rows given some rest all row f split next soun
     ) in
     ends_at Gave Stopped column rows all (given ++ some) row f begins (subst (AreSoundRows column) same sound)
     (subst (λ (l : List Row). Refuses column Gave Stopped l row f) same (refused_row column Gave Stopped ((rows ++ given) ++ some) row f refused gave))
+
+-- a record that is refused by its fields is the first of those that follow
+pub refused_next : (t : ColumnReader) (rows following : List Row) (row : Row) (f : Fault) → AreSoundRows t.column rows → Begins (row ∷ []) following → RefusesRow t.column rows row f → HasSeenOrRefused t rows following (Some f)
+refused_next t rows following row fault.OutOfMemory sound begins refused = absurd refused.1
+refused_next t rows following row f sound begins refused = (sound, (row, begins, refused))
+
+-- why the records after a group were not taken
+ends_after : (t : ColumnReader) (Gave : List (List ℕ) → Type 0) (Stopped : Fault → List (List ℕ) → List ℕ → Type 0) (rows given some rest all : List Row) (f : Fault) → all ≡ given ++ (some ++ rest) →
+    HasSeenOrRefused t ((rows ++ given) ++ some) rest (Some f) → Gave (fields_in t.column ((rows ++ given) ++ some)) → Breaks t.column Gave Stopped rows all f
+ends_after t Gave Stopped rows given some rest all fault.OutOfMemory split sound gave =
+    let same : (rows ++ given) ++ some ≡ rows ++ (given ++ some) = append_assoc rows given some in
+    inl (record {
+      some = given ++ some;
+      begins = (rest, split ∙ sym (append_assoc given some rest));
+      sound = subst (AreSoundRows t.column) same sound;
+      gave = subst (λ (l : List Row). Gave (fields_in t.column l)) same gave;
+    })
+ends_after t Gave Stopped rows given some rest all f split ends gave = refused_after t.column Gave Stopped rows given some rest all ends.1.0 f split ends.1.1 ends.0 ends.1.2 gave
+
+module _ (old new : ColumnReader) (text bytes : List ℕ) (from to : ℕ) (spans : List Span) (r : Option Fault) (cuts : CutsGroup old new text bytes from to spans r) (same : new.column ≡ old.column) where
+  cut_sound : (rows : List Row) → length rows + length (records default_config (drop from text)) ≤ most_kept → HasSeen old rows → AreSoundRows old.column (rows ++ cuts.some)
+  cut_sound rows few has =
+      subst (λ (n : ℕ). AreSoundRows n (rows ++ cuts.some)) same (sound_either new (rows ++ cuts.some) (records default_config (drop to text)) r (cuts.has rows few has))
+
+  module _ (Gave : List (List ℕ) → Type 0) (rows given all : List Row) (few : length rows + length all ≤ most_kept) (split : all ≡ given ++ records default_config (drop from text)) (has : HasRows old Gave (rows ++ given)) where
+    room : length (rows ++ given) + length (records default_config (drop from text)) ≤ most_kept
+    room = cut_room rows given all (records default_config (drop from text)) few split
+
+    sound : AreSoundRows old.column ((rows ++ given) ++ cuts.some)
+    sound = cut_sound (rows ++ given) room (seen old Gave (rows ++ given) has)
+
+    number : length (fields_in old.column (rows ++ given)) ≡ old.number
+    number = omega (arith, has.number, length_fields old.column (rows ++ given))
+
+    both : all ≡ given ++ (cuts.some ++ records default_config (drop to text))
+    both = split ∙ ap (λ (l : List Row). given ++ l) cuts.split
+
+    pub group_short : AreWithin line_limit (lines_at spans bytes)
+    group_short = cut_short old.column (rows ++ given) cuts.some (lines_at spans bytes) cuts.fields sound
+
+    pub group_room : old.number + length spans ≤ most_kept
+    group_room = omega (
+      arith,
+      has.number,
+      room,
+      ap length cuts.split,
+      length-append cuts.some (records default_config (drop to text)),
+      ap length cuts.fields,
+      length-map spans (λ (s : Span). slice_range bytes s.from s.to),
+      length_fields old.column cuts.some,
+    )
+
+    -- a taker that stops at one of its fields ends the taking there
+    pub group_stops : (Later : List (List ℕ) → Type 0) (Stopped : Fault → List (List ℕ) → List ℕ → Type 0) (f : Fault) →
+        ((units : List (List ℕ)) → length units ≡ old.number → Gave units → StopsAmong Stopped f units (lines_at spans bytes)) → Breaks old.column Later Stopped rows all f
+    group_stops Later Stopped f stops =
+        stopped_among old.column Later Stopped rows given cuts.some (records default_config (drop to text)) all (lines_at spans bytes) f both cuts.fields sound
+        (stops (fields_in old.column (rows ++ given)) number has.gave)
+
+    module _ (Later : List (List ℕ) → Type 0) (went : (units : List (List ℕ)) → length units ≡ old.number → Gave units → Later (units ++ lines_at spans bytes)) where
+      gave : Later (fields_in new.column ((rows ++ given) ++ cuts.some))
+      gave = subst (λ (n : ℕ). Later (fields_in n ((rows ++ given) ++ cuts.some))) (sym same)
+          (cut_gave old.column Later (rows ++ given) cuts.some (lines_at spans bytes) cuts.fields (went (fields_in old.column (rows ++ given)) number has.gave))
+
+      -- so does what is refused after it
+      pub group_ends : (Stopped : Fault → List (List ℕ) → List ℕ → Type 0) (f : Fault) → r ≡ Some f → Breaks old.column Later Stopped rows all f
+      group_ends Stopped f is =
+          let rest = records default_config (drop to text) in
+          let ends = subst (HasSeenOrRefused new ((rows ++ given) ++ cuts.some) rest) is (cuts.has (rows ++ given) room (seen old Gave (rows ++ given) has)) in
+          subst (λ (n : ℕ). Breaks n Later Stopped rows all f) same (ends_after new Later Stopped rows given cuts.some rest all f both ends gave)
+
+      -- and else its fields were given
+      pub group_given : r ≡ None → HasRows new Later (rows ++ (given ++ cuts.some))
+      group_given is =
+          let rest = records default_config (drop to text) in
+          let ends : HasSeen new ((rows ++ given) ++ cuts.some) = subst (HasSeenOrRefused new ((rows ++ given) ++ cuts.some) rest) is (cuts.has (rows ++ given) room (seen old Gave (rows ++ given) has)) in
+          subst (HasRows new Later) (append_assoc rows given cuts.some) (has_seen new Later ((rows ++ given) ++ cuts.some) ends gave)
+
+    pub group_split : all ≡ (given ++ cuts.some) ++ records default_config (drop to text)
+    group_split = both ∙ sym (append_assoc given cuts.some (records default_config (drop to text)))
+
+-- ---- fields that are put after others
+
+slice_front : (bytes more : List ℕ) (from to : ℕ) → to ≤ length bytes → slice_range (bytes ++ more) from to ≡ slice_range bytes from to
+slice_front bytes more from to within = elim (cases_lt from to) [
+  | inl some ↦ ap (take (to - from)) (drop-append-le from bytes more (omega (arith, some, within))) ∙ take-append-le (to - from) (drop from bytes) more (omega (arith, within, length-drop from bytes))
+  | inr none ↦ let zero : to - from ≡ 0 = omega (arith, none) in ap (λ (n : ℕ). take n (drop from (bytes ++ more))) zero ∙ sym (ap (λ (n : ℕ). take n (drop from bytes)) zero)
+]
+
+-- they stay where they are
+pub lines_stay : (spans : List Span) (bytes later : List ℕ) → AreBehind 0 spans bytes → Begins bytes later → lines_at spans later ≡ lines_at spans bytes
+lines_stay [] bytes later within begins = refl
+lines_stay (s ∷ spans) bytes later within begins =
+    let here = All-head (λ (s : Span). (0 ≤ s.from) × (s.from ≤ s.to) × (s.to ≤ length bytes)) s spans within in
+    let rest = lines_stay spans bytes later (All-tail (λ (s : Span). (0 ≤ s.from) × (s.from ≤ s.to) × (s.to ≤ length bytes)) s spans within) begins in
+    let first : slice_range later s.from s.to ≡ slice_range bytes s.from s.to = ap (λ (l : List ℕ). slice_range l s.from s.to) begins.1 ∙ slice_front bytes begins.0 s.from s.to here.2 in
+    ap (λ (l : List ℕ). l ∷ lines_at spans later) first ∙ ap (λ (l : List (List ℕ)). slice_range bytes s.from s.to ∷ l) rest
+
+pub behind_stay : (spans : List Span) (bytes later : List ℕ) → AreBehind 0 spans bytes → Begins bytes later → AreBehind 0 spans later
+behind_stay spans bytes later within begins i d inside =
+    let here = within i d inside in
+    (here.0, here.1, omega (arith, here.2, begins_length bytes later begins))
+
+-- what was put after some bytes lies there
+pub slice_last : (bytes field later : List ℕ) → later ≡ bytes ++ field → slice_range later (length bytes) (length later) ≡ field
+slice_last bytes field later is =
+    let size : length later - length bytes ≡ length field = omega (arith, ap length is, length-append bytes field) in
+    ap (λ (n : ℕ). take n (drop (length bytes) later)) size ∙ ap (λ (l : List ℕ). take (length field) (drop (length bytes) l)) is ∙ ap (take (length field)) (drop-append_seam bytes field) ∙ take_all (length field) field (omega arith)
 
 -- what holds if there is no error
 pub when_ok : {A : Type 0} (r : Result A Fault) (a : A) (P : Type 0) (Q : Fault → Type 0) → MatchResult r (λ _. P) Q → r ≡ Ok a → P

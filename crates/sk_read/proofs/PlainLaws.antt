@@ -28,7 +28,8 @@ read_on fields field text = next_record default_config st.InField fields field t
 abbrev pub Completes : Option Read → Row → List ℕ → Type 0
 Completes read row rest = (state : State) × (settled state ≡ st.StartRecord) × (read ≡ Some (row, state, rest))
 
-inside_step : (c : ℕ) → ¬ IsDelimiter c → step default_config st.InField c ≡ (st.InField, act.Copy)
+-- a byte inside a field joins it
+pub inside_step : (c : ℕ) → ¬ IsDelimiter c → step default_config st.InField c ≡ (st.InField, act.Copy)
 inside_step c inside = rw (ne_eqb c 44 (λ is. inside (inr is)), ne_eqb c 13 (λ is. inside (inl (inr is))), ne_eqb c 10 (λ is. inside (inl (inl is)))) refl
 
 -- bytes inside a field join it

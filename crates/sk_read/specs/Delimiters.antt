@@ -8,6 +8,16 @@ use Rattle.sk_read.specs.declared.records.delimiters.Ahead.{Ahead}
 abbrev pub IsDelimiter : ℕ → Type 0
 IsDelimiter byte = IsEnd byte ⊎ (byte ≡ 44)
 
+abbrev pub IsQuote : ℕ → Type 0
+IsQuote byte = byte ≡ 34
+
+-- the first byte of a kind from a place on, or the end of the text
+pub record IsFirst (P : ℕ → Type 0) (text : List ℕ) (at place : ℕ) : Type 0 where
+  pub from : at ≤ place
+  pub within : place ≤ length text
+  pub none : (i : ℕ) → at ≤ i → i < place → ¬ P (slice_index text i)
+  pub here : place < length text → P (slice_index text place)
+
 -- the first of them from a place on, or the end of the text
 pub record IsNextDelimiter (text : List ℕ) (at place : ℕ) : Type 0 where
   pub from : at ≤ place

@@ -12,6 +12,7 @@ mod plain;
 mod quoted;
 mod quotes;
 mod scan;
+mod seek;
 
 use crate::fault::Fault;
 use crate::records::column::ColumnReader;

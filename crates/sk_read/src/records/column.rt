@@ -1,11 +1,13 @@
 // The records of a text, their lengths, and the fields in a column of them.
-ghost use Rattle.std.specs.Prelude.{◌≡◌, ◌≢◌, ◌↔◌, ◌≤◌, ◌<◌, ◌+◌, ℕ, List, [], ◌∷◌, ◌++◌, Ok, Some, None, OnOk, IfErr, MatchResult, All, length, take, drop, true, false};
+ghost use Rattle.std.specs.Prelude.{◌≡◌, ◌≢◌, ◌↔◌, ◌≤◌, ◌<◌, ◌+◌, ℕ, List, [], ◌∷◌, ◌++◌, Ok, Some, None, OnOk, IfOk, IfErr, MatchResult, All, length, take, drop, slice_index, true, false};
 ghost use Rattle.csv.specs.Reading.{default_config, records};
 ghost use Rattle.sk_model.specs.Limits.{most_kept, line_limit};
 ghost use Rattle.sk_read.specs.Records.{Row, field_of, width_of};
-ghost use Rattle.sk_read.specs.Columns.{first_width, HasRows, IsFieldOf, Refuses, Breaks};
-ghost use Rattle.sk_read.specs.Groups.{HasSeen, RefusesRow, KnowsAfter, CutsGroup};
+ghost use Rattle.sk_read.specs.Columns.{first_width, HasRows, IsFieldOf, Breaks};
+ghost use Rattle.sk_read.specs.Groups.{HasSeen, HasSeenOrRefused, RefusesRow, KnowsAfter, CutsGroup, TakesRow};
 ghost use Rattle.sk_lines.specs.Spans.{AreBehind};
+ghost use Rattle.sk_model.specs.Missing.{Begins};
+ghost use Rattle.sk_read.specs.Scan.{IsEnd};
 
 use crate::fault::Fault;
 use crate::records::delimiters::Ahead;
@@ -38,8 +40,8 @@ impl Place {
     };
 }
 
-// Records that were cut together: how many, where the next line begins, and why the record there is refused, if it
-// is.
+// Records that were cut together: how many, where the next line begins, and why the record there was not taken, if it
+// was not.
 #[derive(Clone, Copy)]
 struct Group {
     count: usize,
@@ -118,7 +120,7 @@ impl ColumnReader {
         requires room { (rows : List Row) × (length rows + length (records default_config (drop place.start text.now)) ≤ most_kept) × HasSeen self.old rows }
         ensures few { result.count ≤ GROUP }
         ensures within { AreBehind 0 (take result.count spans.new) text.now }
-        ensures cuts { CutsGroup self.old self.new text.now place.start result.next.start (take result.count spans.new) result.refused }
+        ensures cuts { CutsGroup self.old self.new text.now text.now place.start result.next.start (take result.count spans.new) result.refused }
         ensures known { KnowsAfter text.now result.next }
         ensures progress { result.refused ≡ None → place.start < length text.now → place.start < result.next.start }
         ensures column { self.new.column ≡ self.old.column }
@@ -151,7 +153,7 @@ impl ColumnReader {
         }
     }
 
-    // The same, record by record.
+    // The same, by its records: their fields are gathered, and given many together.
     fn give_records<T: UnitTaker>(
         &mut self,
         alloc: Global,
@@ -165,36 +167,92 @@ impl ColumnReader {
         ensures column { self.new.column ≡ self.old.column }
         ensures taker { T.stands_on taker.new ≡ T.stands_on taker.old }
     {
-        let mut field = Vec::new(alloc);
+        let mut held = Vec::new(alloc);
+        let mut spans = [Span::EMPTY; GROUP];
         let mut at = 0;
-        'row: while at < text.len() {
-            if is_line_end(text[at]) {
-                at += 1;
-            } else {
-                let found = read_record(text, at, self.column, &mut field)?;
-                self.give_field(&field, found.width, taker)?;
-                at = found.end;
+        'group: while at < text.len() {
+            let before = self.number;
+            let group = self.read_group(text, at, &mut held, &mut spans);
+            taker.take_all(&held, &spans[..group.count], before)?;
+            if let Some(fault) = group.refused {
+                return Err(fault);
             }
+            at = group.next.start;
         }
         Ok(())
     }
 
-    // Gives a field to the taker, that of a record of `width` fields.
-    fn give_field<T: UnitTaker>(
+    // Reads the next records, until there is no room for the place of one more field, one is refused, memory runs out
+    // or the text ends. Their fields replace what `held` has.
+    fn read_group(
         &mut self,
-        field: &[u8],
-        width: usize,
-        taker: &mut T,
-    ) -> Result<(), Fault>
-        requires room { (start : _) × (rows : List Row) × (length rows < most_kept) × HasRows self.old (T.went start taker.old) rows }
-        ensures goes { (start : _) (rows : List Row) (row : Row) → length rows < most_kept → HasRows self.old (T.went start taker.old) rows → IsFieldOf self.old.column row width field.now
-            → MatchResult result (λ _. HasRows self.new (T.went start taker.new) (rows ++ row ∷ []))
-            (λ fault. Refuses self.old.column (T.went start taker.new) (T.stopped start taker.new) rows row fault) }
+        text: &[u8],
+        start: usize,
+        held: &mut Vec<u8>,
+        spans: &mut [Span; GROUP],
+    ) -> Group
+        requires room { (rows : List Row) × (length rows + length (records default_config (drop start text.now)) ≤ most_kept) × HasSeen self.old rows }
+        ensures few { result.count ≤ GROUP }
+        ensures within { AreBehind 0 (take result.count spans.new) held.new.items }
+        ensures cuts { CutsGroup self.old self.new text.now held.new.items start result.next.start (take result.count spans.new) result.refused }
+        ensures progress { result.refused ≡ None → start < length text.now → start < result.next.start }
         ensures column { self.new.column ≡ self.old.column }
-        ensures taker { T.stands_on taker.new ≡ T.stands_on taker.old }
     {
-        self.admit(width, field.len())?;
-        taker.take(field, self.number)
+        held.clear();
+        let mut next = Place {
+            start,
+            ahead: Ahead::NONE,
+        };
+        let mut count = 0;
+        'row: while next.start < text.len() && count < GROUP {
+            if is_line_end(text[next.start]) {
+                next.start += 1;
+            } else {
+                let (field, end) = match self.read_row(text, next.start, held) {
+                    Ok(found) => found,
+                    Err(fault) => {
+                        return Group {
+                            count,
+                            next,
+                            refused: Some(fault),
+                        };
+                    }
+                };
+                spans[count] = field;
+                count += 1;
+                next.start = end;
+            }
+        }
+        Group {
+            count,
+            next,
+            refused: None,
+        }
+    }
+
+    // Reads the record at a place, puts its field after those that are held, and takes it unless it is refused. Returns
+    // where its field lies, and where the text after it begins.
+    #[inline(always)]
+    fn read_row(
+        &mut self,
+        text: &[u8],
+        start: usize,
+        held: &mut Vec<u8>,
+    ) -> Result<(Span, usize), Fault>
+        requires inside { start < length text.now }
+        requires begins { ¬ IsEnd (slice_index text.now start) }
+        requires room { (rows : List Row) × (length rows + length (records default_config (drop start text.now)) ≤ most_kept) × HasSeen self.old rows }
+        ensures took { IfOk result (λ found. TakesRow self.old self.new text.now held.new.items start found.1 found.0) }
+        ensures refused { IfErr result (λ why. (rows : List Row) → length rows + length (records default_config (drop start text.now)) ≤ most_kept → HasSeen self.old rows
+            → HasSeenOrRefused self.new rows (records default_config (drop start text.now)) (Some why)) }
+        ensures more { Begins held.old.items held.new.items }
+        ensures column { self.new.column ≡ self.old.column }
+    {
+        let from = held.len();
+        let found = read_record(text, start, self.column, held)?;
+        let to = held.len();
+        self.admit(found.width, to - from)?;
+        Ok((Span { from, to }, found.end))
     }
 
     // Takes the next record, of `width` fields, of which that in the column has `len` bytes, unless it is refused.

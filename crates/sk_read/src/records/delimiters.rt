@@ -66,7 +66,7 @@ fn scan_blocks(text: &[u8], at: usize, from: usize) -> Ahead
 }
 
 // The same, by a search from that place on.
-fn last_delimiter(text: &[u8], at: usize) -> usize
+pub(crate) fn last_delimiter(text: &[u8], at: usize) -> usize
     requires { at ≤ length text.now }
     ensures { IsNextDelimiter text.now at result }
 {
@@ -124,7 +124,7 @@ pub(crate) fn marks_of_block(bytes: &[u8], at: usize, byte: u8) -> u64
 
 // The place of the lowest mark.
 #[inline(always)]
-fn lowest_mark(marks: u64) -> usize
+pub(crate) fn lowest_mark(marks: u64) -> usize
     requires { marks ≢ 0 }
     ensures bound { result < 64 }
     ensures set { bit_at marks result ≡ 1 }

@@ -8,7 +8,7 @@ use Rattle.sk_read.specs.declared.records.column.ColumnReader.{ColumnReader}
 use Rattle.sk_read.specs.Records.{Row, field_of, AreSoundRows}
 use Rattle.sk_read.specs.Groups.{HasSeen, RefusesRow}
 use Rattle.sk_read.proofs.ColumnLaws.{one_more_row}
-use Rattle.sk_read.proofs.FieldGroups.{one_more_place, one_more_within, when_ok}
+use Rattle.sk_read.proofs.FieldGroups.{one_more_place, one_more_within, refused_next, when_ok}
 use Rattle.sk_read.proofs.PlainLaws.{line_records, empty_records, room_more, field_of_line}
 use Rattle.sk_read.proofs.records.column.ColumnReader.cut_group.Goals.{then-line-next+in_default, else-line-next}
 use Rattle.sk_read.proofs.records.column.ColumnReader.cut_group.Goals as goal
@@ -46,10 +46,10 @@ returns-in-Err-clause-cuts c =
       fields = inv.fields;
       has = λ rows few has.
           let seen = inv.has rows few has in
-          let refused = c.in-Err.ensures.goes (rows ++ inv.some) is.row (slice_range text span.from span.to) (room_more most_kept rows all inv.some rest is.row few more) seen field size in (
-            subst (λ (n : ℕ). AreSoundRows n (rows ++ inv.some)) (sym c.admit.ensures.column) seen.sound,
-            (is.row, (rest, next), subst (λ (n : ℕ). RefusesRow n (rows ++ inv.some) is.row c.in-Err.fault) (sym c.admit.ensures.column) refused),
-          );
+          let refused = c.in-Err.ensures.goes (rows ++ inv.some) is.row (slice_range text span.from span.to) (room_more most_kept rows all inv.some rest is.row few more) seen field size in
+          refused_next c.admit.new.self (rows ++ inv.some) (records default_config (drop c.line.next.start text)) is.row c.in-Err.fault
+          (subst (λ (n : ℕ). AreSoundRows n (rows ++ inv.some)) (sym c.admit.ensures.column) seen.sound) (rest, next)
+          (subst (λ (n : ℕ). RefusesRow n (rows ++ inv.some) is.row c.in-Err.fault) (sym c.admit.ensures.column) refused);
     }
 
 pub line-preserved : goal.line-preserved

@@ -5,8 +5,8 @@ use Rattle.sk_read.specs.Records.{Row}
 use Rattle.sk_read.specs.Columns.{HasRows}
 use Rattle.sk_read.proofs.records.column.ColumnReader.give_records.Given as goal
 
-abbrev pub invariant-row : goal.invariant-row
-invariant-row g l = record {
+abbrev pub invariant-group : goal.invariant-group
+invariant-group g l = record {
   given : List Row;
   split : records default_config l.fn.text ≡ given ++ records default_config (drop l.at l.fn.text);
   has : (start : _) (rows : List Row) → length rows + length (records default_config l.fn.text) ≤ most_kept → HasRows l.initial.self (g.T.UnitTaker.went start l.initial.taker) rows →
@@ -15,5 +15,5 @@ invariant-row g l = record {
   standing : g.T.UnitTaker.stands_on l.taker ≡ g.T.UnitTaker.stands_on l.initial.taker;
 }
 
-abbrev pub decreases-row : goal.decreases-row
-decreases-row g l = length l.fn.text - l.at
+abbrev pub decreases-group : goal.decreases-group
+decreases-group g l = length l.fn.text - l.at
