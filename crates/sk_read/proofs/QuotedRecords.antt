@@ -9,7 +9,7 @@ use Rattle.csv.specs.Reading.{default_config, records}
 use Rattle.csv.specs.declared.parser.Action.TheVariants as act
 use Rattle.csv.specs.declared.parser.State.{State}
 use Rattle.csv.specs.declared.parser.State.TheVariants as st
-use Rattle.sk_model.proofs.Lists.{slice_more}
+use Rattle.sk_model.proofs.Lists.{slice_more, slice_none}
 use Rattle.sk_read.specs.declared.fault.Fault.{Fault}
 use Rattle.sk_read.specs.Delimiters.{IsDelimiter, IsFirst, IsQuote}
 use Rattle.sk_read.specs.Records.{Row, field_of}
@@ -156,6 +156,13 @@ quoted_field text start at to more inside quote leaves first =
       goes = λ below comma row. opens row ∙ goes_on text at to first below comma row more;
       ends = λ other row. opens row ∙ ends_there text at to first other row more;
     }
+
+-- the same if nothing comes after them
+pub whole_field : (text : List ℕ) (start at : ℕ) (more : List ℕ) → start < length text → slice_index text start ≡ 34 → LeavesQuotes text (start + 1) at more → (at < length text → IsDelimiter (slice_index text at)) →
+    IsField text start at more
+whole_field text start at more inside quote leaves ends =
+    let here : IsFirst IsDelimiter text at at = record { from = omega arith; within = leaves.within; none = λ i from before. absurd (omega (arith, from, before)); here = ends } in
+    subst (IsField text start at) (ap (λ (l : List ℕ). more ++ l) (slice_none text at) ∙ append-nil more) (quoted_field text start at at more inside quote leaves here)
 
 -- these bytes join the field at hand, from one place between quotes up to another
 pub record StaysQuoted (text : List ℕ) (start at : ℕ) (more : List ℕ) : Type 0 where

@@ -85,7 +85,19 @@ fn read_field(text: &[u8], start: usize, keeps: bool, held: &mut Vec<u8>) -> Res
         return read_plain(text, start, keeps, held);
     }
     let close = read_quoted(text, start + 1, keeps, held)?;
+    if ends_field(text, close) {
+        return Ok(close);
+    }
     read_plain(text, close, keeps, held)
+}
+
+// Whether a comma, an LF or CR, or the end of the text is at a place.
+#[inline(always)]
+fn ends_field(text: &[u8], at: usize) -> bool
+    requires { at ≤ length text.now }
+    ensures { result ≡ true → at < length text.now → IsDelimiter (slice_index text.now at) }
+{
+    at == text.len() || text[at] == b',' || is_line_end(text[at])
 }
 
 // The same with what is left of a field from a place outside quotes on.

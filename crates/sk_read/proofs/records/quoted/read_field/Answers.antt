@@ -1,5 +1,5 @@
 use Rattle.std.proofs.Common.{◌++◌, slice_range}
-use Rattle.sk_read.proofs.QuotedRecords.{if_ok, plain_field, quoted_field, kept_more}
+use Rattle.sk_read.proofs.QuotedRecords.{if_ok, plain_field, quoted_field, whole_field, kept_more}
 use Rattle.sk_read.proofs.records.quoted.read_field.Goals as goal
 
 pub returns-then-text-start-ne34-clause-read : goal.returns-then-text-start-ne34-clause-read
@@ -7,6 +7,11 @@ returns-then-text-start-ne34-clause-read c =
     let text = c.args.text.now in
     let start = c.args.start in
     if_ok c.read_plain.result _ _ (λ end read. (slice_range text start end, read.0, plain_field text start end read.1 c.requires c.if-text-start-ne34.true)) c.read_plain.ensures.read
+
+pub returns-then-ends_field-clause-read : goal.returns-then-ends_field-clause-read
+returns-then-ends_field-clause-read c =
+    let leaves = c.in_ok-close.ensures.read in
+    (leaves.0, leaves.1, whole_field c.args.text.now c.args.start c.in_ok-close.close leaves.0 c.requires c.if-text-start-ne34.false leaves.2 (c.ends_field.ensures c.if-ends_field.true))
 
 pub returns-clause-read : goal.returns-clause-read
 returns-clause-read c =
