@@ -52,7 +52,9 @@ where
     Ok(())
 }
 
-// The same in one thread: a method of a trait, as a taker's, starts none.
+// The same in one thread: a method of a trait, as a taker's, starts none. A taker that puts units into a window one
+// by one seldom needs it.
+#[inline(never)]
 pub(crate) fn pass_in_turn<C: Composable, P: Report<C>, R: Wait>(
     rt: &R,
     plan: &Intake,

@@ -10,7 +10,7 @@ use std::marker::Model;
 use std::sync::Wait;
 
 // After the first there are no more than have this many bytes, about: a page that is touched for the first time is dear.
-const FULL_BYTES: usize = 16_777_216;
+const FULL_BYTES: usize = 8_388_608;
 
 // The stretches that were given last.
 #[derive(Drop)]

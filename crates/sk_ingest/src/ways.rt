@@ -19,6 +19,9 @@ use std::thread::{Threads, available_parallelism};
 // A window of fewer lines is fed sooner than threads are started.
 const LEAST_IN_THREADS: u32 = 4_096;
 
+// So is a stretch of fewer lines, if these have fewer bytes.
+const LEAST_BYTES: usize = 262_144;
+
 // Feeds a window to all updaters, one after another: to each its block.
 pub(crate) fn feed_window<C: Composable, R: Wait>(
     rt: &R,
@@ -127,5 +130,5 @@ fn feed_windows_in_turn<C: Composable, R: Wait>(
 
 // Whether a stretch is fed sooner than threads are started.
 pub(crate) fn is_short(stretch: &Stretch) -> bool {
-    stretch.lines() < LEAST_IN_THREADS as usize
+    stretch.lines() < LEAST_IN_THREADS as usize && stretch.size() < LEAST_BYTES
 }

@@ -43,6 +43,7 @@ impl<C: Composable, P: Report<C>, R: Wait> UnitTaker for Windowed<'_, '_, '_, '_
 
     ghost stands_on = { λ s. record { kind = Some s.plan.kind; borrows = s.window.ghost_name ∷ s.opened.ghost_name ∷ s.report.ghost_name ∷ []; numbers = [] } };
 
+    #[inline(always)]
     fn take(&mut self, unit: &[u8], number: u64) -> Result<(), Fault> {
         let plan = self.plan;
         take_unit(
@@ -67,6 +68,7 @@ impl<C: Composable, P: Report<C>, R: Wait> UnitTaker for Windowed<'_, '_, '_, '_
 }
 
 // Puts a unit into the window. If that is full then, it is fed and reported.
+#[inline(always)]
 fn take_unit<C: Composable, P: Report<C>, R: Wait>(
     rt: &R,
     plan: &Intake,
