@@ -46,8 +46,12 @@ fn public_verification(rt: HostRuntime) {
         }
         key.push(i).expect(&rt, "room for a byte");
     }
-    assert_eq!(rt; all.len(), 4096);
-    assert_eq!(rt; murmur128(0, all.as_slice()).0 & 0xffff_ffff, 0x6384_ba69);
+    expect(&rt, all.len(), 4096);
+    expect(
+        &rt,
+        murmur128(0, all.as_slice()).0 & 0xffff_ffff,
+        0x6384_ba69,
+    );
 }
 
 // The values come from a C program written after the public reference code: byte i of the key of
@@ -106,12 +110,16 @@ fn hashes_as_text(rt: HostRuntime) {
         (9_223_372_036_854_775_807, b"7fffffffffffffff\n"),
     ];
     for (hash, want) in rows {
-        assert_eq!(rt; hash_line(hash).as_slice(), want);
-        assert_eq!(rt; read_hash(want, ITEM_DIGITS), None);
-        assert_eq!(rt; read_hash(&want[..ITEM_DIGITS], ITEM_DIGITS), Some(hash));
+        expect(&rt, hash_line(hash).as_slice(), want);
+        expect(&rt, read_hash(want, ITEM_DIGITS), None);
+        expect(
+            &rt,
+            read_hash(&want[..ITEM_DIGITS], ITEM_DIGITS),
+            Some(hash),
+        );
     }
     let others: [&[u8]; 4] = [b"", b"00000000000", b"CBD8A7B341BD", b"00000000000g"];
     for digits in others {
-        assert_eq!(rt; read_hash(digits, 12), None);
+        expect(&rt, read_hash(digits, 12), None);
     }
 }

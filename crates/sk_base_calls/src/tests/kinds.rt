@@ -5,6 +5,7 @@ ghost use Rattle.sk_model.specs.Sketch.{packed_of, unpacked};
 ghost use Rattle.sk_compose.specs.Numbers.{k_of};
 ghost use Rattle.sk_model.specs.Width.{AreItems};
 
+use super::expect;
 use sk_compose::{Buffer, Composable, Parcel, ThetaKind, ThetaWord};
 use sk_heap::HeapTheta;
 use sk_model::OutOfMemory;
@@ -125,14 +126,15 @@ fn a_repeat_in_a_batch_counts_once(rt: HostRuntime) -> Result<(), Fail> {
     assert!(rt; batch.is_full());
     assert!(rt; Theta::early(sketch.hint()));
     merge_surely(&rt, &mut sketch, 0, &batch);
-    assert_eq!(rt;
+    expect(
+        &rt,
         unpack(Composable::packed(&sketch), 2),
-        Reply { count: 2, theta: 5 }
+        Reply { count: 2, theta: 5 },
     );
-    assert_eq!(rt; sketch.hint(), 5);
+    expect(&rt, sketch.hint(), 5);
     assert!(rt; !Theta::early(5) && Theta::keeps(5, 4) && !Theta::keeps(5, 5));
     batch.clear();
-    assert_eq!(rt; batch.len(), 0);
+    expect(&rt, batch.len(), 0);
     Ok(())
 }
 
@@ -142,14 +144,15 @@ fn a_repeat_counts_once_in_a_heap(rt: HostRuntime) -> Result<(), Fail> {
     let mut sketch = HeapTheta::new(rt.alloc(), 2)?;
     let batch = three_items(rt.alloc(), [3, 5, 3])?;
     Composable::merge(&mut sketch, &rt, 0, &batch)?;
-    assert_eq!(rt;
+    expect(
+        &rt,
         unpack(Composable::packed(&sketch), 2),
-        Reply { count: 2, theta: 5 }
+        Reply { count: 2, theta: 5 },
     );
-    assert_eq!(rt; sketch.hint(), 5);
+    expect(&rt, sketch.hint(), 5);
     assert!(rt; !HeapTheta::keeps(5, 5));
     assert!(rt; HeapTheta::early(ITEM_END));
-    assert_eq!(rt; ThetaWord::k(&sketch), 2);
+    expect(&rt, ThetaWord::k(&sketch), 2);
     Ok(())
 }
 
@@ -165,15 +168,19 @@ fn a_refused_batch_is_merged_when_it_comes_again(rt: HostRuntime) -> Result<(), 
     let Err(OutOfMemory) = teller.merge(&rt, 0, &batch) else {
         panic!(rt; "the first merge was not refused");
     };
-    assert_eq!(rt; (batch.items(), teller.packed()), ([7, 9, 7].as_slice(), 0));
+    expect(
+        &rt,
+        (batch.items(), teller.packed()),
+        ([7, 9, 7].as_slice(), 0),
+    );
     teller.merge(&rt, 0, &batch)?;
     let mut parcel = Parcel {
         buffer: batch,
         told: Some(teller.told()),
     };
     parcel.buffer.clear();
-    assert_eq!(rt; (parcel.buffer.len(), parcel.told), (0, Some(3)));
-    assert_eq!(rt; reply(&teller), Reply { count: 2, theta: 9 });
+    expect(&rt, (parcel.buffer.len(), parcel.told), (0, Some(3)));
+    expect(&rt, reply(&teller), Reply { count: 2, theta: 9 });
     Ok(())
 }
 
@@ -201,16 +208,17 @@ fn reply<C: ThetaWord>(sketch: &C) -> Reply
 #[tactic(auto, unfolding(sk_model::specs::Entries::items_of_entries))]
 fn a_kind_of_theta_answers_count_and_theta(rt: HostRuntime) -> Result<(), Fail> {
     let mut sketch = Theta::new(rt.alloc(), 2)?;
-    assert_eq!(rt;
+    expect(
+        &rt,
         reply(&sketch),
         Reply {
             count: 0,
-            theta: ITEM_END
-        }
+            theta: ITEM_END,
+        },
     );
     sketch.update(1);
     sketch.update(2);
-    assert_eq!(rt; reply(&sketch), Reply { count: 2, theta: 2 });
-    assert_eq!(rt; ThetaWord::k(&sketch), 2);
+    expect(&rt, reply(&sketch), Reply { count: 2, theta: 2 });
+    expect(&rt, ThetaWord::k(&sketch), 2);
     Ok(())
 }

@@ -3,6 +3,7 @@ ghost use Rattle.std.specs.List.{flat_map};
 ghost use Rattle.sk_model.specs.Lines.{lines_of, open_lines_of};
 ghost use Rattle.sk_lines.specs.Cutter.{Follows, IsLongAfter};
 
+use super::expect;
 use sk_io::{BoundFault, MemSource};
 use sk_lines::{Ending, Lines, MOST_LIMIT, MOST_PIECE, Next};
 use sk_model::OutOfMemory;
@@ -148,7 +149,7 @@ fn lines_at_the_limit(rt: HostRuntime) -> Result<(), Fail> {
     ];
     for (text, want) in rows {
         let lines = shown(rt.alloc(), 4, &[text])?;
-        assert_eq!(rt; lines.as_slice(), want);
+        expect(&rt, lines.as_slice(), want);
     }
     Ok(())
 }
@@ -176,7 +177,7 @@ fn lines_at_the_limit_of_records(rt: HostRuntime) -> Result<(), Fail> {
     ];
     for (end, want) in rows {
         let lines = shown_behind(rt.alloc(), 65_536, end)?;
-        assert_eq!(rt; lines.as_slice(), want);
+        expect(&rt, lines.as_slice(), want);
     }
     Ok(())
 }
@@ -185,18 +186,18 @@ fn lines_at_the_limit_of_records(rt: HostRuntime) -> Result<(), Fail> {
 fn a_long_line_is_known_by_its_first_byte_too_many(rt: HostRuntime) -> Result<(), Fail> {
     let mut lines = Lines::new(rt.alloc(), 4)?;
     lines.feed(b"ab\r\nabcd");
-    assert_eq!(rt; lines.next(), Next::Line);
-    assert_eq!(rt; (lines.number(), lines.ending()), (1, Ending::CrLf));
+    expect(&rt, lines.next(), Next::Line);
+    expect(&rt, (lines.number(), lines.ending()), (1, Ending::CrLf));
     let answer = lines.next();
-    assert_eq!(rt; answer, Next::More);
+    expect(&rt, answer, Next::More);
     if answer == Next::More {
         lines.feed(b"\r");
         let answer = lines.next();
-        assert_eq!(rt; answer, Next::More);
+        expect(&rt, answer, Next::More);
         if answer == Next::More {
             lines.feed(b"x");
-            assert_eq!(rt; lines.next(), Next::Long(2));
-            assert_eq!(rt; lines.next(), Next::Long(2));
+            expect(&rt, lines.next(), Next::Long(2));
+            expect(&rt, lines.next(), Next::Long(2));
         }
     }
     Ok(())
@@ -219,15 +220,15 @@ fn lines_of_a_source_that_fails(rt: HostRuntime) -> Result<(), Fail> {
     let alloc = rt.alloc();
     let mut source = MemSource::new(b"ab\ncde".to_vec(alloc)?, 4, [1].to_vec(alloc)?);
     let mut lines = Lines::new(alloc, 4)?;
-    assert_eq!(rt; lines.feed_from(&mut source, 9), Ok(4));
-    assert_eq!(rt; lines.next(), Next::Line);
+    expect(&rt, lines.feed_from(&mut source, 9), Ok(4));
+    expect(&rt, lines.next(), Next::Line);
     if lines.next() == Next::More {
         let answer = lines.feed_from(&mut source, 9);
-        assert_eq!(rt; answer, Err(BoundFault::ReadFault));
+        expect(&rt, answer, Err(BoundFault::ReadFault));
         if answer.is_err() {
-            assert_eq!(rt; lines.rest(), b"c".as_slice());
-            assert_eq!(rt; lines.feed_from(&mut source, 1), Ok(1));
-            assert_eq!(rt; lines.rest(), b"cd".as_slice());
+            expect(&rt, lines.rest(), b"c".as_slice());
+            expect(&rt, lines.feed_from(&mut source, 1), Ok(1));
+            expect(&rt, lines.rest(), b"cd".as_slice());
         }
     }
     Ok(())
@@ -238,9 +239,9 @@ fn lines_of_a_source_that_fails(rt: HostRuntime) -> Result<(), Fail> {
 fn a_piece_more_keeps_the_ending(rt: HostRuntime) -> Result<(), Fail> {
     let mut lines = Lines::new(rt.alloc(), 4)?;
     lines.feed(b"ab\r\n");
-    assert_eq!(rt; lines.next(), Next::Line);
+    expect(&rt, lines.next(), Next::Line);
     if lines.next() == Next::More {
-        assert_eq!(rt; ending_behind(&mut lines, b"cd"), Ending::CrLf);
+        expect(&rt, ending_behind(&mut lines, b"cd"), Ending::CrLf);
     }
     Ok(())
 }
@@ -257,9 +258,9 @@ fn lines_by_their_bytes(rt: HostRuntime) -> Result<(), Fail> {
     for (most, count, rest) in rows {
         let mut lines = Lines::new(rt.alloc(), 16)?;
         lines.feed(b"a\r\nbb\n\nccc");
-        assert_eq!(rt; lines.next_run(most), count);
-        assert_eq!(rt; lines.rest(), rest);
-        assert_eq!(rt; lines.front().len() + lines.rest().len(), 10);
+        expect(&rt, lines.next_run(most), count);
+        expect(&rt, lines.rest(), rest);
+        expect(&rt, lines.front().len() + lines.rest().len(), 10);
     }
     Ok(())
 }

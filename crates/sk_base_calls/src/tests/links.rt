@@ -5,6 +5,7 @@ ghost use Rattle.sk_model.specs.Causes.{HasCause};
 ghost use Rattle.sk_io.specs.Memory.{IsNew};
 ghost use Rattle.sk_io.specs.Traffic.{Ended, IsUntouched, Exchanges, Pass, Receives, text_of};
 
+use super::expect;
 use super::streams::piece_of;
 use sk_io::{Door, DoorFault, Failed, Link, MemDoor, MemLink, OnLink, OutOfMemory, send_all};
 use std::alloc::Global;
@@ -74,16 +75,16 @@ fn a_link_counts_reads_and_writes_together(rt: HostRuntime) -> Result<(), Fail> 
     let fails = [1, 4].to_vec(alloc)?;
     let mut link = MemLink::new(alloc, b"hello".to_vec(alloc)?, 4, 3, fails)?;
     let mut piece = [0; 8];
-    assert_eq!(rt; link.read(&mut piece), Ok(3));
-    assert_eq!(rt; link.write(b"replies"), Err(Failed));
-    assert_eq!(rt; link.write(b"replies"), Ok(3));
-    assert_eq!(rt; link.read(&mut piece), Ok(2));
-    assert_eq!(rt; link.read(&mut piece), Err(Failed));
-    assert_eq!(rt; piece, *b"lol\0\0\0\0\0");
+    expect(&rt, link.read(&mut piece), Ok(3));
+    expect(&rt, link.write(b"replies"), Err(Failed));
+    expect(&rt, link.write(b"replies"), Ok(3));
+    expect(&rt, link.read(&mut piece), Ok(2));
+    expect(&rt, link.read(&mut piece), Err(Failed));
+    expect(&rt, piece, *b"lol\0\0\0\0\0");
     // The room takes one byte more, and then none.
-    assert_eq!(rt; send_all(&mut link, b"lies"), Err(Failed));
-    assert_eq!(rt; link.read(&mut piece), Ok(0));
-    assert_eq!(rt; link.written(), b"repl".as_slice());
+    expect(&rt, send_all(&mut link, b"lies"), Err(Failed));
+    expect(&rt, link.read(&mut piece), Ok(0));
+    expect(&rt, link.written(), b"repl".as_slice());
     Ok(())
 }
 
@@ -108,11 +109,11 @@ fn door_of(alloc: Global, fails: Vec<u64>) -> Result<MemDoor, OutOfMemory>
 fn a_door_gives_its_links_in_order(rt: HostRuntime) -> Result<(), Fail> {
     let alloc = rt.alloc();
     let mut door = door_of(alloc, Vec::new(alloc))?;
-    assert_eq!(rt; echo_two(&mut door, 7000), Ok(()));
-    assert_eq!(rt; door.written(0), b"one".as_slice());
-    assert_eq!(rt; door.written(1), b"fo".as_slice());
+    expect(&rt, echo_two(&mut door, 7000), Ok(()));
+    expect(&rt, door.written(0), b"one".as_slice());
+    expect(&rt, door.written(1), b"fo".as_slice());
     // No link is left.
-    assert_eq!(rt; echo_two(&mut door, 7000), Err(DoorFault::Failed));
+    expect(&rt, echo_two(&mut door, 7000), Err(DoorFault::Failed));
     Ok(())
 }
 
@@ -122,7 +123,7 @@ fn a_door_listens_at_its_port(rt: HostRuntime) -> Result<(), Fail> {
     let alloc = rt.alloc();
     for (fails, port, listens) in [(9, 7000, Some(7000)), (1, 1, Some(1)), (0, 7000, None)] {
         let mut door = door_of(alloc, [fails].to_vec(alloc)?)?;
-        assert_eq!(rt; door.port(), None);
+        expect(&rt, door.port(), None);
         let _ = door.listen(port, 2);
         assert_eq!(rt; door.port(), listens, "at {port}, call {fails} fails");
     }

@@ -3,6 +3,7 @@ ghost use Rattle.std.specs.Prelude.{◌<◌, ◌≤◌};
 ghost use Rattle.sk_quant.specs.Limits.{key_end};
 ghost use Rattle.sk_make.specs.Made.{most_made};
 
+use super::expect;
 use sk_io::Source;
 use sk_make::MakeSource;
 use sk_quant::limits::KEY_END;
@@ -38,11 +39,20 @@ fn the_first_numbers_of_keys(rt: HostRuntime) -> Result<(), Fail> {
     let last = b"276778140392789\n185953603250213\n14137090636248\n105281133985854\n";
     for piece in [1u8, 7, 64] {
         let piece = usize::from(piece).clamp(1, 64);
-        assert_eq!(rt; text_of(alloc, 4, 0, piece)?.as_slice(), zero.as_slice());
-        assert_eq!(rt; text_of(alloc, 4, 7, piece)?.as_slice(), seven.as_slice());
-        assert_eq!(rt;
+        expect(
+            &rt,
+            text_of(alloc, 4, 0, piece)?.as_slice(),
+            zero.as_slice(),
+        );
+        expect(
+            &rt,
+            text_of(alloc, 4, 7, piece)?.as_slice(),
+            seven.as_slice(),
+        );
+        expect(
+            &rt,
             text_of(alloc, 4, KEY_END - 1, piece)?.as_slice(),
-            last.as_slice()
+            last.as_slice(),
         );
     }
     Ok(())

@@ -185,7 +185,7 @@ fn fractions_and_estimates_as_text(rt: HostRuntime) -> Result<(), Fail> {
     for (n, d, want) in rows {
         let mut text = b"estimate ".to_vec(rt.alloc())?;
         push_fraction(&mut text, n, d)?;
-        assert_eq!(rt; &text[9..], want);
+        expect(&rt, &text[9..], want);
         let mut into = [b' '; 64];
         let len = put_fraction(&mut into, n, d);
         expect(&rt, &into[..len], want);

@@ -4,6 +4,7 @@ ghost use Rattle.std.specs.Io.KnownBytes.{Consumes, ReadConsumes};
 ghost use Rattle.sk_model.specs.Causes.{HasCause, Rose};
 ghost use Rattle.sk_io.specs.Files.{told_file, IsMissing, Opens};
 
+use super::expect;
 use super::streams::{drained, piece_of};
 use sk_io::{Failed, FileShelf, MemShelf, OnShelf, OpenFile, Opener, Shelf};
 use std::alloc::Global;
@@ -72,13 +73,13 @@ fn a_shelf_in_memory_opens_what_it_has(rt: HostRuntime) -> Result<(), Fail> {
     let reads = [1].to_vec(alloc)?;
     let mut shelf = MemShelf::new(two_files(alloc)?, opens, reads);
     let mut piece = [0; 4];
-    assert_eq!(rt; prefix_of(&mut shelf, "two", &mut piece), Ok(4));
-    assert_eq!(rt; piece, *b"seco");
-    assert_eq!(rt; prefix_of(&mut shelf, "two", &mut piece), Err(Failed));
-    assert_eq!(rt; prefix_of(&mut shelf, "one", &mut piece), Err(Failed));
-    assert_eq!(rt; prefix_of(&mut shelf, "three", &mut piece), Err(Failed));
+    expect(&rt, prefix_of(&mut shelf, "two", &mut piece), Ok(4));
+    expect(&rt, piece, *b"seco");
+    expect(&rt, prefix_of(&mut shelf, "two", &mut piece), Err(Failed));
+    expect(&rt, prefix_of(&mut shelf, "one", &mut piece), Err(Failed));
+    expect(&rt, prefix_of(&mut shelf, "three", &mut piece), Err(Failed));
     let text = text_of(alloc, &mut shelf, "one")?;
-    assert_eq!(rt; text.as_slice(), b"first".as_slice());
+    expect(&rt, text.as_slice(), b"first".as_slice());
     Ok(())
 }
 
@@ -91,7 +92,7 @@ fn a_shelf_keeps_the_names_that_were_opened(rt: HostRuntime) -> Result<(), Fail>
     let mut shelf = MemShelf::new(two_files(alloc)?, fails, Vec::new(alloc));
     for i in 0..=names.len() {
         let kept = shelf.opened().ok_or("no memory")?;
-        assert_eq!(rt; kept.len(), i);
+        expect(&rt, kept.len(), i);
         assert!(rt;
             kept.iter()
                 .zip(&names)
@@ -111,14 +112,14 @@ fn two_files_of_a_shelf_are_read_in_turn(rt: HostRuntime) -> Result<(), Fail> {
     let mut one = shelf.open("one").map_err(|_| "no file")?;
     let mut two = shelf.open("two").map_err(|_| "no file")?;
     let mut piece = [0; 4];
-    assert_eq!(rt; piece_on(&mut shelf, &mut one, &mut piece), Ok(4));
-    assert_eq!(rt; piece, *b"firs");
-    assert_eq!(rt; piece_on(&mut shelf, &mut two, &mut piece), Ok(4));
-    assert_eq!(rt; piece, *b"seco");
+    expect(&rt, piece_on(&mut shelf, &mut one, &mut piece), Ok(4));
+    expect(&rt, piece, *b"firs");
+    expect(&rt, piece_on(&mut shelf, &mut two, &mut piece), Ok(4));
+    expect(&rt, piece, *b"seco");
     let text = drained(alloc, &mut OnShelf::new(&mut shelf, &mut one))?;
-    assert_eq!(rt; text.as_slice(), b"t".as_slice());
+    expect(&rt, text.as_slice(), b"t".as_slice());
     let text = drained(alloc, &mut OnShelf::new(&mut shelf, &mut two))?;
-    assert_eq!(rt; text.as_slice(), b"nd".as_slice());
+    expect(&rt, text.as_slice(), b"nd".as_slice());
     Ok(())
 }
 
@@ -129,7 +130,7 @@ fn a_shelf_of_files_opens_what_is_there(rt: HostRuntime) -> Result<(), Fail> {
     let (mut shelf, opened) = asked_for(&rt, "shelf.txt");
     let mut file = opened.map_err(|_| "no file")?;
     let text = drained(alloc, &mut OnShelf::new(&mut shelf, &mut file))?;
-    assert_eq!(rt; text.as_slice(), b"red fish blue fish\n".as_slice());
+    expect(&rt, text.as_slice(), b"red fish blue fish\n".as_slice());
     // The second opens, but a folder gives no bytes.
     for name in ["missing.txt", "."] {
         let answer = prefix_of(&mut shelf, name, &mut [0; 1]);

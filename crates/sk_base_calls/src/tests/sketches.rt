@@ -3,6 +3,7 @@ ghost use Rattle.std.specs.Prelude.{◌<◌, ◌≤◌};
 ghost use Rattle.sk_model.specs.Width.{IsItem};
 ghost use Rattle.sk_model.specs.Limits.{least_k, most_k};
 
+use super::expect;
 use sk_heap::HeapTheta;
 use sk_model::plain;
 use sk_theta::{BadShape, ITEM_END, Reply, Shape, Theta, unpack};
@@ -19,8 +20,8 @@ fn plain_lists_and_estimates_are_those_worked_by_hand(rt: HostRuntime) -> Result
         (4, &[], &[], (0, 1)),
     ];
     for (k, hashes, kept, estimate) in rows {
-        assert_eq!(rt; plain::k_smallest(alloc, k, hashes)?.as_slice(), kept);
-        assert_eq!(rt; plain::estimate(alloc, k, hashes)?, estimate);
+        expect(&rt, plain::k_smallest(alloc, k, hashes)?.as_slice(), kept);
+        expect(&rt, plain::estimate(alloc, k, hashes)?, estimate);
     }
     Ok(())
 }
@@ -28,12 +29,12 @@ fn plain_lists_and_estimates_are_those_worked_by_hand(rt: HostRuntime) -> Result
 #[test]
 fn two_of_two_give_the_upper_one_as_theta(rt: HostRuntime) -> Result<(), Fail> {
     let mut sketch = Theta::new(rt.alloc(), 2)?;
-    assert_eq!(rt; (sketch.count(), sketch.theta()), (0, ITEM_END));
+    expect(&rt, (sketch.count(), sketch.theta()), (0, ITEM_END));
     assert!(rt; sketch.update(5));
     assert!(rt; sketch.update(3));
     assert!(rt; !sketch.update(3));
-    assert_eq!(rt; sketch.fraction(), (9_223_372_036_854_775_808, 5));
-    assert_eq!(rt; sketch.list()?.as_slice(), [3, 5].as_slice());
+    expect(&rt, sketch.fraction(), (9_223_372_036_854_775_808, 5));
+    expect(&rt, sketch.list()?.as_slice(), [3, 5].as_slice());
     Ok(())
 }
 
@@ -41,13 +42,13 @@ fn two_of_two_give_the_upper_one_as_theta(rt: HostRuntime) -> Result<(), Fail> {
 fn a_word_reads_back(rt: HostRuntime) -> Result<(), Fail> {
     let mut sketch = Theta::new(rt.alloc(), 2)?;
     sketch.update(1);
-    assert_eq!(rt; sketch.packed(), 1);
+    expect(&rt, sketch.packed(), 1);
     let (count, theta) = (1, ITEM_END);
-    assert_eq!(rt; unpack(sketch.packed(), 2), Reply { count, theta });
+    expect(&rt, unpack(sketch.packed(), 2), Reply { count, theta });
     sketch.update(2);
-    assert_eq!(rt; sketch.packed(), 2);
+    expect(&rt, sketch.packed(), 2);
     let (count, theta) = (2, 2);
-    assert_eq!(rt; unpack(sketch.packed(), 2), Reply { count, theta });
+    expect(&rt, unpack(sketch.packed(), 2), Reply { count, theta });
     Ok(())
 }
 
@@ -62,14 +63,15 @@ fn the_least_theta_is_k(rt: HostRuntime) -> Result<(), Fail> {
             heap.update(hash);
         }
         let theta = u64::from(k);
-        assert_eq!(rt;
+        expect(
+            &rt,
             (array.count(), array.theta(), array.packed()),
-            (k, theta, theta)
+            (k, theta, theta),
         );
-        assert_eq!(rt; heap.packed(), theta);
-        assert_eq!(rt; unpack(theta, k), Reply { count: k, theta });
+        expect(&rt, heap.packed(), theta);
+        expect(&rt, unpack(theta, k), Reply { count: k, theta });
         let numerator = u128::from(k - 1) * u128::from(ITEM_END);
-        assert_eq!(rt; array.fraction(), (numerator, theta));
+        expect(&rt, array.fraction(), (numerator, theta));
     }
     Ok(())
 }
@@ -77,15 +79,15 @@ fn the_least_theta_is_k(rt: HostRuntime) -> Result<(), Fail> {
 #[test]
 fn a_reply_gives_the_fraction(rt: HostRuntime) {
     let reply = Reply { count: 2, theta: 5 };
-    assert_eq!(rt; reply.fraction(2), (9_223_372_036_854_775_808, 5));
-    assert_eq!(rt; reply.fraction(3), (2, 1));
+    expect(&rt, reply.fraction(2), (9_223_372_036_854_775_808, 5));
+    expect(&rt, reply.fraction(3), (2, 1));
 }
 
 #[test]
 fn a_batch_counts_a_repeat_once(rt: HostRuntime) -> Result<(), Fail> {
     let mut sketch = Theta::new(rt.alloc(), 2)?;
     sketch.merge(&[3, 5, 3]);
-    assert_eq!(rt; (sketch.count(), sketch.theta()), (2, 5));
+    expect(&rt, (sketch.count(), sketch.theta()), (2, 5));
     Ok(())
 }
 
@@ -97,25 +99,33 @@ fn the_first_number_out_of_its_limits_is_the_error(rt: HostRuntime) {
     let Ok(shape) = Shape::new(1_048_576, 4_096, 64, 7, true) else {
         return
     };
-    assert_eq!(rt; (shape.k(), shape.b(), shape.n()), (1_048_576, 4_096, 64));
-    assert_eq!(rt; (shape.seed(), shape.eager()), (7, true));
+    expect(
+        &rt,
+        (shape.k(), shape.b(), shape.n()),
+        (1_048_576, 4_096, 64),
+    );
+    expect(&rt, (shape.seed(), shape.eager()), (7, true));
 }
 
 #[test]
 fn a_worked_sketch_shows_its_heap_and_table(rt: HostRuntime) -> Result<(), Fail> {
     let mut sketch = HeapTheta::new(rt.alloc(), 2)?;
-    assert_eq!(rt; (sketch.count(), sketch.theta()), (0, ITEM_END));
+    expect(&rt, (sketch.count(), sketch.theta()), (0, ITEM_END));
     assert!(rt; sketch.update(5));
     assert!(rt; sketch.update(3));
     assert!(rt; sketch.update(4));
     assert!(rt; !sketch.update(3));
-    assert_eq!(rt; sketch.heap(), [4, 3].as_slice());
-    assert_eq!(rt; sketch.table(), [0, 4, 5, 0].as_slice());
+    expect(&rt, sketch.heap(), [4, 3].as_slice());
+    expect(&rt, sketch.table(), [0, 4, 5, 0].as_slice());
     assert!(rt; !sketch.update(8));
-    assert_eq!(rt; sketch.fraction(), (9_223_372_036_854_775_808, 4));
-    assert_eq!(rt; sketch.list()?.as_slice(), [3, 4].as_slice());
-    assert_eq!(rt; unpack(sketch.packed(), 2), Reply { count: 2, theta: 4 });
-    assert_eq!(rt; sketch.k(), 2);
+    expect(&rt, sketch.fraction(), (9_223_372_036_854_775_808, 4));
+    expect(&rt, sketch.list()?.as_slice(), [3, 4].as_slice());
+    expect(
+        &rt,
+        unpack(sketch.packed(), 2),
+        Reply { count: 2, theta: 4 },
+    );
+    expect(&rt, sketch.k(), 2);
     Ok(())
 }
 
@@ -124,11 +134,11 @@ fn a_worked_sketch_shows_its_heap_and_table(rt: HostRuntime) -> Result<(), Fail>
 fn entries_move_back_after_one_that_goes(rt: HostRuntime) -> Result<(), Fail> {
     let mut sketch = HeapTheta::new(rt.alloc(), 2)?;
     sketch.merge(&[8, 3]);
-    assert_eq!(rt; sketch.table(), [0, 9, 4, 0].as_slice());
+    expect(&rt, sketch.table(), [0, 9, 4, 0].as_slice());
     assert!(rt; sketch.update(1));
-    assert_eq!(rt; sketch.table(), [0, 2, 4, 0].as_slice());
+    expect(&rt, sketch.table(), [0, 2, 4, 0].as_slice());
     assert!(rt; sketch.update(2));
-    assert_eq!(rt; sketch.table(), [0, 2, 0, 3].as_slice());
+    expect(&rt, sketch.table(), [0, 2, 0, 3].as_slice());
     assert!(rt; !sketch.update(1));
     Ok(())
 }
@@ -138,9 +148,9 @@ fn entries_move_back_after_one_that_goes(rt: HostRuntime) -> Result<(), Fail> {
 fn entries_move_back_before_one_that_stays(rt: HostRuntime) -> Result<(), Fail> {
     let mut sketch = HeapTheta::new(rt.alloc(), 3)?;
     sketch.merge(&[19, 5, 10]);
-    assert_eq!(rt; sketch.table(), [0, 0, 20, 6, 11, 0, 0, 0].as_slice());
+    expect(&rt, sketch.table(), [0, 0, 20, 6, 11, 0, 0, 0].as_slice());
     assert!(rt; sketch.update(3));
-    assert_eq!(rt; sketch.table(), [0, 0, 6, 0, 11, 4, 0, 0].as_slice());
+    expect(&rt, sketch.table(), [0, 0, 6, 0, 11, 4, 0, 0].as_slice());
     Ok(())
 }
 
@@ -151,12 +161,12 @@ fn joined_and_cleared_sketches_are_of_their_lists(rt: HostRuntime) -> Result<(),
     sketch.merge(&[9, 2]);
     other.merge(&[7, 2, 4, 11]);
     sketch.join(&other);
-    assert_eq!(rt; sketch.list()?.as_slice(), [2, 4, 7].as_slice());
-    assert_eq!(rt; other.list()?.as_slice(), [2, 4, 7].as_slice());
+    expect(&rt, sketch.list()?.as_slice(), [2, 4, 7].as_slice());
+    expect(&rt, other.list()?.as_slice(), [2, 4, 7].as_slice());
     sketch.clear();
-    assert_eq!(rt; (sketch.count(), sketch.theta()), (0, ITEM_END));
+    expect(&rt, (sketch.count(), sketch.theta()), (0, ITEM_END));
     sketch.join(&other);
-    assert_eq!(rt; sketch.list()?.as_slice(), [2, 4, 7].as_slice());
+    expect(&rt, sketch.list()?.as_slice(), [2, 4, 7].as_slice());
     Ok(())
 }
 

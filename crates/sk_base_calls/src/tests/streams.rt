@@ -5,6 +5,7 @@ ghost use Rattle.std.specs.Io.KnownBytes.{Appends, IsAtEnd, ReadConsumes};
 ghost use Rattle.sk_model.specs.Causes.{HasCause};
 ghost use Rattle.sk_io.specs.Standard.{writer_of};
 
+use super::expect;
 use sk_io::{
     BoundFault, Failed, MemSink, MemSource, Outlet, Sink, Source, StdSink, StdSource, SureSource,
     read_within, write_all,
@@ -35,13 +36,14 @@ fn reads_in_pieces_and_fails_at_its_numbers(rt: HostRuntime) -> Result<(), Fail>
     let mut source = MemSource::new(b"hello".to_vec(alloc)?, 3, [1, 3].to_vec(alloc)?);
     let mut buf = [0; 4];
     for answer in [Ok(3), Err(Failed), Ok(2), Err(Failed), Ok(0)] {
-        assert_eq!(rt; source.read(&mut buf), answer);
+        expect(&rt, source.read(&mut buf), answer);
     }
-    assert_eq!(rt; buf, [b'l', b'o', b'l', 0]);
+    expect(&rt, buf, [b'l', b'o', b'l', 0]);
     let mut source = MemSource::new(b"hello".to_vec(alloc)?, 3, [0, 2].to_vec(alloc)?);
-    assert_eq!(rt;
+    expect(
+        &rt,
         drained(alloc, &mut source)?.as_slice(),
-        b"hello".as_slice()
+        b"hello".as_slice(),
     );
     Ok(())
 }
@@ -52,12 +54,13 @@ fn a_sure_source_gives_all(rt: HostRuntime) -> Result<(), Fail> {
     let mut source = SureSource::new(b"estimate".to_vec(alloc)?);
     let mut buf = [0; 5];
     for answer in [Ok(5), Ok(3), Ok(0)] {
-        assert_eq!(rt; source.read(&mut buf), answer);
+        expect(&rt, source.read(&mut buf), answer);
     }
     let mut source = SureSource::new(b"estimate".to_vec(alloc)?);
-    assert_eq!(rt;
+    expect(
+        &rt,
         drained(alloc, &mut source)?.as_slice(),
-        b"estimate".as_slice()
+        b"estimate".as_slice(),
     );
     Ok(())
 }
@@ -76,9 +79,9 @@ fn reads_within_a_bound(rt: HostRuntime) -> Result<(), Fail> {
         (9, Ok(0)),
     ];
     for (room, answer) in rows {
-        assert_eq!(rt; read_within(&mut source, &mut piece, room), answer);
+        expect(&rt, read_within(&mut source, &mut piece, room), answer);
     }
-    assert_eq!(rt; piece, *b"emat");
+    expect(&rt, piece, *b"emat");
     Ok(())
 }
 
@@ -86,8 +89,8 @@ fn reads_within_a_bound(rt: HostRuntime) -> Result<(), Fail> {
 fn writes_until_the_room_is_full(rt: HostRuntime) -> Result<(), Fail> {
     let alloc = rt.alloc();
     let mut sink = MemSink::new(alloc, 5, 2, Vec::new(alloc))?;
-    assert_eq!(rt; write_all(&mut sink, b"estimate"), Err(Failed));
-    assert_eq!(rt; sink.written(), b"estim".as_slice());
+    expect(&rt, write_all(&mut sink, b"estimate"), Err(Failed));
+    expect(&rt, sink.written(), b"estim".as_slice());
     Ok(())
 }
 
@@ -95,10 +98,10 @@ fn writes_until_the_room_is_full(rt: HostRuntime) -> Result<(), Fail> {
 fn writes_fail_at_their_numbers(rt: HostRuntime) -> Result<(), Fail> {
     let alloc = rt.alloc();
     let mut sink = MemSink::new(alloc, 8, 3, [1].to_vec(alloc)?)?;
-    assert_eq!(rt; sink.write(b"estimate"), Ok(3));
-    assert_eq!(rt; sink.write(b"imate"), Err(Failed));
-    assert_eq!(rt; write_all(&mut sink, b"imate"), Ok(()));
-    assert_eq!(rt; sink.written(), b"estimate".as_slice());
+    expect(&rt, sink.write(b"estimate"), Ok(3));
+    expect(&rt, sink.write(b"imate"), Err(Failed));
+    expect(&rt, write_all(&mut sink, b"imate"), Ok(()));
+    expect(&rt, sink.written(), b"estimate".as_slice());
     Ok(())
 }
 
@@ -117,11 +120,11 @@ pub fn piece_of<S: Source>(source: &mut S, piece: &mut [u8]) -> Result<usize, Fa
 fn a_file_is_written_and_read_back(rt: HostRuntime) -> Result<(), Fail> {
     let alloc = rt.alloc();
     let mut sink = StdSink::new(File::create(&rt, "streams.txt")?);
-    assert_eq!(rt; handed_on(&mut sink, b"one fish two fish\n"), Ok(()));
+    expect(&rt, handed_on(&mut sink, b"one fish two fish\n"), Ok(()));
     let mut source = StdSource::new(File::open(&rt, "streams.txt")?);
     let text = drained(alloc, &mut source)?;
-    assert_eq!(rt; text.as_slice(), b"one fish two fish\n".as_slice());
-    assert_eq!(rt; sink.write(b"\n"), Ok(1));
+    expect(&rt, text.as_slice(), b"one fish two fish\n".as_slice());
+    expect(&rt, sink.write(b"\n"), Ok(1));
     fs::remove_file(&rt, "streams.txt")?;
     Ok(())
 }
@@ -130,13 +133,13 @@ fn a_file_is_written_and_read_back(rt: HostRuntime) -> Result<(), Fail> {
 fn errors_of_std_are_faults(rt: HostRuntime) -> Result<(), Fail> {
     fs::write(&rt, "closed.txt", "x")?;
     let mut sink = StdSink::new(File::open(&rt, "closed.txt")?);
-    assert_eq!(rt; sink.write(b"y"), Err(Failed));
+    expect(&rt, sink.write(b"y"), Err(Failed));
     let mut byte = [0; 1];
     let mut sink = StdSink::new(byte.as_mut_slice());
-    assert_eq!(rt; sink.write(b"yz"), Ok(1));
-    assert_eq!(rt; sink.write(b"z"), Err(Failed));
+    expect(&rt, sink.write(b"yz"), Ok(1));
+    expect(&rt, sink.write(b"z"), Err(Failed));
     let mut source = StdSource::new(File::create(&rt, "closed.txt")?);
-    assert_eq!(rt; source.read(&mut [0; 1]), Err(Failed));
+    expect(&rt, source.read(&mut [0; 1]), Err(Failed));
     fs::remove_file(&rt, "closed.txt")?;
     Ok(())
 }
@@ -172,7 +175,7 @@ impl Write for Clogged {
 #[test]
 fn a_flush_that_fails_is_a_fault(rt: HostRuntime) -> Result<(), Fail> {
     let mut sink = StdSink::new(Clogged);
-    assert_eq!(rt; sink.write(b"estimate"), Err(Failed));
-    assert_eq!(rt; handed_on(&mut sink, b"estimate"), Err(Failed));
+    expect(&rt, sink.write(b"estimate"), Err(Failed));
+    expect(&rt, handed_on(&mut sink, b"estimate"), Err(Failed));
     Ok(())
 }

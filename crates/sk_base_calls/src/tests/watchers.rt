@@ -1,6 +1,7 @@
 // Watchers on a board.
 ghost use Rattle.std.specs.Prelude.{◌-◌, ◌==◌, [], ◌∷◌, slice_index};
 
+use super::expect;
 use sk_theta::{ITEM_END, Reply};
 use sk_watch::{Alarm, Board, Watcher};
 use std::test::Fail;
@@ -41,12 +42,12 @@ fn fakes_go_one_after_another(rt: HostRuntime) -> Result<(), Fail> {
     boxes.push(Some(Box::new(alloc, Fake { left: 2 })?))?;
     boxes.push(Some(Box::new(alloc, Fake { left: 3 })?))?;
     let mut board = Board::new(boxes);
-    assert_eq!(rt; board.live(), 7);
-    assert_eq!(rt; board.tell(FEW), 1);
-    assert_eq!(rt; board.tell(FEW), 2);
-    assert_eq!(rt; board.live(), 4);
-    assert_eq!(rt; board.tell(FEW), 4);
-    assert_eq!(rt; board.live(), 0);
+    expect(&rt, board.live(), 7);
+    expect(&rt, board.tell(FEW), 1);
+    expect(&rt, board.tell(FEW), 2);
+    expect(&rt, board.live(), 4);
+    expect(&rt, board.tell(FEW), 4);
+    expect(&rt, board.live(), 0);
     Ok(())
 }
 
@@ -61,10 +62,10 @@ fn an_alarm_goes_at_its_mark(rt: HostRuntime) -> Result<(), Fail> {
     let mut board = Board::new(boxes);
     board.arm(1, 4, 3);
     board.arm(2, 4, 2);
-    assert_eq!(rt; board.live(), 14);
-    assert_eq!(rt; board.tell(FEW), 4);
+    expect(&rt, board.live(), 14);
+    expect(&rt, board.tell(FEW), 4);
     board.drop_at(1);
-    assert_eq!(rt; board.live(), 8);
+    expect(&rt, board.live(), 8);
     Ok(())
 }
 

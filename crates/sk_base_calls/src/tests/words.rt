@@ -1,4 +1,5 @@
 // Words of a command line.
+use super::expect;
 use sk_io::words_of;
 use std::env::FillError;
 use std::rt::Env;
@@ -38,7 +39,7 @@ fn words_of_any_length(rt: HostRuntime) -> Result<(), Fail> {
     let alloc = rt.alloc();
     for len in [0usize, 1, 256, 257, 512, 5_000] {
         let words = words_of(&OneWord { byte: b'x', len }, alloc)?;
-        assert_eq!(rt; words.len(), 1);
+        expect(&rt, words.len(), 1);
         assert!(rt; words.first().is_some_and(|word| word.len() == len));
     }
     Ok(())
@@ -49,7 +50,7 @@ fn a_word_that_is_no_text_is_empty(rt: HostRuntime) -> Result<(), Fail> {
     let alloc = rt.alloc();
     for len in [1usize, 257] {
         let words = words_of(&OneWord { byte: 0xff, len }, alloc)?;
-        assert_eq!(rt; words.len(), 1);
+        expect(&rt, words.len(), 1);
         assert!(rt; words.first().is_some_and(|word| word.is_empty()));
     }
     Ok(())
