@@ -11,6 +11,7 @@ mod telling;
 mod text;
 
 pub use line::Line;
+pub use opening::buffer_size;
 pub use sk_read::Fault;
 pub use telling::{Handles, Telling, tell};
 pub use text::write_labelled;

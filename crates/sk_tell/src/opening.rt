@@ -18,8 +18,8 @@ use std::sync::Wait;
 // A buffer takes 8 bytes an item.
 const UNREAD_SIZE: u32 = 1_024;
 
-// How many items a buffer holds, if this many are asked for, with or without interim lines.
-pub(crate) fn buffer_size(window: Option<u32>, size: u32) -> u32
+/// How many items a buffer holds, if this many are asked for, with or without interim lines.
+pub fn buffer_size(window: Option<u32>, size: u32) -> u32
     requires size { IsFrom 1 most_size size }
     ensures value { result ≡ buffer_size_by window size }
     ensures within { IsFrom 1 most_size result }
