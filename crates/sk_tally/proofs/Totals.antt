@@ -42,7 +42,7 @@ tallies_all plan units h reader text some told =
 pub writes_tally : (plan : Plan) (old new : Setting) (h : HeartState) (reader : Learnt) (units : List (List ℕ)) → 0 < plan.updaters → TellsAll (tally_manner plan) old new h reader units → WritesTally plan old new units
 writes_tally plan old new h reader units some all = record { text = all.text; written = all.written; tallies = tallies_all plan units h reader all.text some all.exactly }
 
-no_text : (plan : Plan) (moments : List Moment) → length moments ≡ 0 → interim_text (tally_manner plan) moments ≡ []
+pub no_text : (plan : Plan) (moments : List Moment) → length moments ≡ 0 → interim_text (tally_manner plan) moments ≡ []
 unfolding interim_text
 no_text plan [] none = refl
 no_text plan (m ∷ moments) none = absurd (omega (arith, none))

@@ -1,3 +1,4 @@
 pub mod Texts
 pub mod Plans
 pub mod Headline
+pub mod Whole

@@ -5,6 +5,7 @@ pub mod laws;
 mod line;
 mod plan;
 mod tallying;
+mod whole;
 
 pub use plan::Plan;
 pub use sk_read::Fault;

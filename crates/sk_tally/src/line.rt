@@ -51,7 +51,7 @@ impl Line<CountMin> for TallyOf {
 }
 
 // Writes how many items there are, and how often one of them stands among them.
-fn write_line<O: Sink>(out: &mut O, tally: Tally) -> Result<(), Failed>
+pub(crate) fn write_line<O: Sink>(out: &mut O, tally: Tally) -> Result<(), Failed>
     ensures ok { OnOk result (Appends (O.written out.old) (O.written out.new) (count_line tally.n tally.least)) }
     ensures part { OnErr result (AppendsPart (O.written out.old) (O.written out.new) (count_line tally.n tally.least)) }
     ensures cause { HasCause (O.faults out.old) (O.faults out.new) result }

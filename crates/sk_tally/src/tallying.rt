@@ -8,6 +8,7 @@ ghost use Rattle.sk_tally.specs.Headline.{Tallies};
 
 use crate::line::TallyOf;
 use crate::plan::Plan;
+use crate::whole::tally_whole;
 use sk_cms::CmsSetup;
 use sk_io::{Sink, Source};
 use sk_read::{Fault, Kind};
@@ -35,6 +36,9 @@ pub fn tally<S: Source, O: Sink, R: Threads + Wait + Sync>(
     ensures writes { HasCauseIn Fault.WriteFault (O.faults out.old) (O.faults out.new) result }
     ensures stays { S.stands_on source.new ≡ S.stands_on source.old }
 {
+    if plan.window.is_none() {
+        return tally_whole(rt, alloc, plan, most, source, out);
+    }
     let telling = Telling {
         setup: CmsSetup {
             rows: plan.rows,
