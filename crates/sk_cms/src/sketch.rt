@@ -178,14 +178,7 @@ fn raise(low: &mut [u8], high: &mut [u64], rows: u32, width: u64, mask: u64, x: 
 
 // Puts one more into the cells of each item. Four rows are common, and as a fixed number of turns they take less time
 // than as any number.
-fn raise_all(
-    low: &mut [u8],
-    high: &mut [u64],
-    rows: u32,
-    width: u64,
-    mask: u64,
-    items: &[u64],
-)
+fn raise_all(low: &mut [u8], high: &mut [u64], rows: u32, width: u64, mask: u64, items: &[u64])
     requires shape { IsShape rows width }
     requires mask { IsMaskOf width mask }
     requires low { length low.old ≡ rows * width }
@@ -203,14 +196,7 @@ fn raise_all(
 
 // The same by a loop.
 #[inline(always)]
-fn raise_items(
-    low: &mut [u8],
-    high: &mut [u64],
-    rows: u32,
-    width: u64,
-    mask: u64,
-    items: &[u64],
-)
+fn raise_items(low: &mut [u8], high: &mut [u64], rows: u32, width: u64, mask: u64, items: &[u64])
     requires shape { IsShape rows width }
     requires mask { IsMaskOf width mask }
     requires low { length low.old ≡ rows * width }
