@@ -1,13 +1,13 @@
 -- Lines of one length.
-use Rattle.std.proofs.Common.{◌≡◌, ◌≢◌, ℕ, ◌+◌, ◌-◌, ◌<◌, ◌≤◌, ◌%◌, ◌^◌, ◌==◌, Bool, true, false, cond, List, ◌++◌, length, map, take, get_or, set, slice_index, slice_range, replicate, refl, sym, ap, ◌∙◌, subst, arith, eqb-true, nat_lt, lt-ltb, ⊎_elim, w8}
+use Rattle.std.proofs.Common.{◌≡◌, ◌≢◌, ℕ, ◌+◌, ◌-◌, ◌<◌, ◌≤◌, ◌%◌, ◌^◌, ◌==◌, Bool, true, false, cond, List, ◌++◌, length, map, take, get_or, set, slice_index, slice_range, replicate, refl, sym, ap, ◌∙◌, subst, arith, eqb-true, nat_lt, lt-ltb, ltb-true, ltb-false, ⊎_elim, w8}
 use Rattle.std.specs.Int.{bit_at}
 use Rattle.std.specs.Str.Lines.{strip_carriage_return}
-use Rattle.std.specs.Simd.Lanes.{zip2, mask_l, top, chunk}
-use Rattle.std.proofs.lemmas.Simd.{tops_compared, bit_mask_l, mask_l-mod, length-zip2, get_or-zip2, length-chunk, get_or-chunk}
+use Rattle.std.specs.Simd.Lanes.{zip2, mask_l, sel_l, top, chunk}
+use Rattle.std.proofs.lemmas.Simd.{tops_compared, bit_mask_l, mask_l-mod, length-zip2, get_or-zip2, length-chunk, get_or-chunk, length-sel_l, get_or-sel_l}
 use Rattle.std.proofs.lemmas.List.{get_or_past, get_or-replicate, length-replicate, get_or_append_left, take_more_set}
 use Rattle.std.proofs.lemmas.Bool.{cases_lt}
 use Rattle.std.proofs.lemmas.Nat.Bits.{bit_at-zero}
-use Rattle.sk_lines.specs.Even.{IsPlain, AreFloors}
+use Rattle.sk_lines.specs.Even.{IsPlain, AreFloors, IsLowered}
 use Rattle.sk_lines.specs.Spans.{AreLines, IsLine}
 use Rattle.sk_lines.specs.declared.spans.Span.{Span}
 use Rattle.sk_lines.proofs.Ends.{lines_more}
@@ -30,7 +30,7 @@ floors len n is =
     }
 
 -- where no lane is marked as below another, none is
-none_below : (xs ys : List ℕ) → length xs ≡ 16 → length ys ≡ 16 → mask_l (map (top 7) (zip2 (λ a b. cond (nat_lt a b) 255 0) xs ys)) % 2 ^ 64 ≡ 0 → (k : ℕ) → k < 16 → slice_index ys k ≤ slice_index xs k
+pub none_below : (xs ys : List ℕ) → length xs ≡ 16 → length ys ≡ 16 → mask_l (map (top 7) (zip2 (λ a b. cond (nat_lt a b) 255 0) xs ys)) % 2 ^ 64 ≡ 0 → (k : ℕ) → k < 16 → slice_index ys k ≤ slice_index xs k
 none_below xs ys sx sy none k inside =
     let marked : List Bool = zip2 nat_lt xs ys in
     let long : length marked ≡ 16 = length-zip2 nat_lt xs ys (sx ∙ sym sy) ∙ sx in
@@ -64,6 +64,39 @@ plain_block bytes at within none i from below =
     let place : at + k ≡ i = omega arith in
     let byte : slice_index bytes (at + k) ≡ slice_index bytes i = ap (slice_index bytes) place in
     omega (arith, byte, none_below (chunk at 16 bytes) (replicate 16 14) (length-chunk at 16 bytes within) (length-replicate {A = ℕ} 16 14) none k inside, get_or-replicate {A = ℕ} 16 k 14 0 inside, get_or-chunk at 16 bytes k 0 inside)
+
+-- ---- four lines together
+
+least_of : (b : Bool) (x y : ℕ) → nat_lt x y ≡ b → (cond b x y ≤ x) × (cond b x y ≤ y)
+least_of true x y less = (omega arith, omega (arith, ltb-true x y less))
+least_of false x y most = (omega (arith, ltb-false x y most), omega arith)
+
+-- the lesser of each two lanes
+pub lesser : (xs bytes : List ℕ) (at : ℕ) → length xs ≡ 16 → at + 16 ≤ length bytes
+    → IsLowered (sel_l (map (top 7) (zip2 (λ a b. cond (nat_lt a b) 255 0) xs (chunk at 16 bytes))) xs (chunk at 16 bytes)) xs bytes at
+lesser xs bytes at wide within =
+    let ys : List ℕ = chunk at 16 bytes in
+    let long : length ys ≡ 16 = length-chunk at 16 bytes within in
+    let marked : List Bool = zip2 nat_lt xs ys in
+    let size : length marked ≡ 16 = length-zip2 nat_lt xs ys (wide ∙ sym long) ∙ wide in
+    let tops : map (top 7) (zip2 (λ a b. cond (nat_lt a b) 255 0) xs ys) ≡ marked = tops_compared w8 nat_lt xs ys in
+    let lane : (k : ℕ) → k < 16 → get_or (sel_l marked xs ys) k 0 ≡ cond (nat_lt (get_or xs k 0) (get_or ys k 0)) (get_or xs k 0) (get_or ys k 0) =
+    λ k inside. get_or-sel_l marked xs ys k 0 (omega (arith, size)) (omega (arith, wide)) (omega (arith, long))
+    ∙ ap (λ (b : Bool). cond b (get_or xs k 0) (get_or ys k 0)) (get_or-zip2 nat_lt xs ys k 0 0 false (omega (arith, wide)) (omega (arith, long))) in
+    subst (λ (marks : List Bool). IsLowered (sel_l marks xs ys) xs bytes at) (sym tops)
+    (record {
+      wide = length-sel_l marked xs ys (size ∙ sym wide) (size ∙ sym long) ∙ size;
+      lane = λ k inside. omega (arith, lane k inside, (least_of _ (get_or xs k 0) (get_or ys k 0) refl).0);
+      byte = λ k inside. omega (arith, lane k inside, (least_of _ (get_or xs k 0) (get_or ys k 0) refl).1, get_or-chunk at 16 bytes k 0 inside);
+    })
+
+-- a short line by the least of some blocks, of which its own is one
+pub short_plain : (bytes floors least : List ℕ) (at len : ℕ) → len ≤ 16 → AreFloors len floors → slice_index bytes (at + len) ≡ 10
+    → ((k : ℕ) → k < 16 → slice_index floors k ≤ slice_index least k) → ((k : ℕ) → k < 16 → slice_index least k ≤ slice_index bytes (at + k)) → IsPlain bytes at len
+short_plain bytes floors least at len short are lf above below = record {
+  lf = lf;
+  plain = λ k inside. omega (arith, are.line k inside (omega arith), above k (omega arith), below k (omega arith));
+}
 
 -- ---- a line
 
@@ -107,3 +140,15 @@ even_more bytes limit from at len count spans lines inside within short plain =
     subst (λ (n : ℕ). AreLines bytes limit from (take (count + 1) (set spans count span)) n) behind
     (subst (λ (ss : List Span). AreLines bytes limit from ss (at + len + 1)) (sym (take_more_set spans count span inside))
     (lines_more bytes limit from at (at + len) (take count spans) span lines (plain_line bytes limit at len within short plain)))
+
+-- the same by the place and the spans that come of it
+pub even_then : (bytes : List ℕ) (limit from at len count next after : ℕ) (spans new : List Span) → AreLines bytes limit from (take count spans) at → count < length spans → at + len < length bytes → len ≤ limit → IsPlain bytes at len
+    → new ≡ set spans count (record { from = at; to = at + len }) → after ≡ at + (len + 1) → next ≡ count + 1 → AreLines bytes limit from (take next new) after
+even_then bytes limit from at len count next after spans new lines inside within short plain is place more =
+    let span : Span = record { from = at; to = at + len } in
+    subst (λ (n : ℕ). AreLines bytes limit from (take n new) after) (sym more)
+    (subst (λ (ss : List Span). AreLines bytes limit from (take (count + 1) ss) after) (sym is)
+    (subst (λ (n : ℕ). AreLines bytes limit from (take (count + 1) (set spans count span)) n) (sym place) (even_more bytes limit from at len count spans lines inside within short plain)))
+
+pub plain_at : (bytes : List ℕ) (at len place : ℕ) → at ≡ place → IsPlain bytes at len → IsPlain bytes place len
+plain_at bytes at len place same plain = subst (λ (n : ℕ). IsPlain bytes n len) same plain

@@ -10,3 +10,16 @@ pub record IsPlain (bytes : List ℕ) (at len : ℕ) : Type 0 where
 pub record AreFloors (len : ℕ) (floors : List ℕ) : Type 0 where
   pub wide : length floors ≡ 16
   pub line : (k : ℕ) → k < len → k < 16 → slice_index floors k ≡ 14
+
+-- four such lines follow one another
+pub record AreFourPlain (bytes : List ℕ) (at len : ℕ) : Type 0 where
+  pub first : IsPlain bytes at len
+  pub second : IsPlain bytes (at + (len + 1)) len
+  pub third : IsPlain bytes (at + (len + 1) + (len + 1)) len
+  pub fourth : IsPlain bytes (at + (len + 1) + (len + 1) + (len + 1)) len
+
+-- no lane is above one of these, or above the byte of a block
+pub record IsLowered (least lanes bytes : List ℕ) (at : ℕ) : Type 0 where
+  pub wide : length least ≡ 16
+  pub lane : (k : ℕ) → k < 16 → slice_index least k ≤ slice_index lanes k
+  pub byte : (k : ℕ) → k < 16 → slice_index least k ≤ slice_index bytes (at + k)

@@ -1,7 +1,7 @@
 // The next lines of a text, many together.
-ghost use Rattle.std.specs.Prelude.{◌≡◌, ◌≢◌, ◌⊎◌, ◌+◌, ◌<◌, ◌≤◌, ℕ, length, take, slice_index, IfSome, true};
+ghost use Rattle.std.specs.Prelude.{◌≡◌, ◌≢◌, ◌⊎◌, ◌+◌, ◌*◌, ◌^◌, ◌<◌, ◌≤◌, ℕ, length, take, set, slice_index, IfSome, true};
 ghost use Rattle.sk_lines.specs.Spans.{AreLines, IsLongLine};
-ghost use Rattle.sk_lines.specs.Even.{IsPlain, AreFloors};
+ghost use Rattle.sk_lines.specs.Even.{IsPlain, AreFourPlain, AreFloors, IsLowered};
 
 use crate::marks::{BLOCK, LF, lfs_of_block};
 use crate::spans::{GROUP, Span, cut_lines, find_ends};
@@ -12,6 +12,9 @@ const WIDE: usize = 16;
 
 // Lines that have more bytes are not foreseen.
 const LONGEST: usize = 63;
+
+// How many lines are cut together.
+const TOGETHER: usize = 4;
 
 // If fewer lines are as long as the first, the ends of all are sought: a group of few lines costs more.
 const FEWEST: usize = 32;
@@ -94,17 +97,97 @@ fn cut_even_lines(
 {
     let floors = floors_of(len);
     let room = most.min(GROUP);
-    let mut count = 0;
-    let mut at = from;
+    let (mut count, mut at) = cut_fours(bytes, from, len, room, spans);
     'line: while count < room && is_plain_line(bytes, at, len, floors) {
-        spans[count] = Span {
-            from: at,
-            to: at + len,
-        };
+        at = put_line(spans, count, at, len);
         count += 1;
-        at += len + 1;
     }
     (count, at)
+}
+
+// The same of short lines, while four more have that length: they are looked at together.
+#[inline(always)]
+fn cut_fours(
+    bytes: &[u8],
+    from: usize,
+    len: usize,
+    room: usize,
+    spans: &mut [Span; GROUP],
+) -> (usize, usize)
+    requires padded { BLOCK ≤ length bytes.now }
+    requires within { from ≤ length bytes.now }
+    requires room { room ≤ GROUP }
+    requires few { len ≤ 63 }
+    ensures few { result.0 ≤ room }
+    ensures within { result.1 ≤ length bytes.now }
+    ensures lines { (limit : ℕ) → len ≤ limit → AreLines bytes.now limit from (take result.0 spans.new) result.1 }
+{
+    if len > WIDE {
+        return (0, from);
+    }
+    let floors = floors_of(len);
+    let mut count = 0;
+    let mut at = from;
+    'four: while count + TOGETHER <= room && are_plain_lines(bytes, at, len, floors) {
+        at = put_line(spans, count, at, len);
+        at = put_line(spans, count + 1, at, len);
+        at = put_line(spans, count + 2, at, len);
+        at = put_line(spans, count + 3, at, len);
+        count += TOGETHER;
+    }
+    (count, at)
+}
+
+// Writes where a line lies, and returns the place after it.
+#[inline(always)]
+fn put_line(spans: &mut [Span; GROUP], count: usize, at: usize, len: usize) -> usize
+    requires room { count < GROUP }
+    requires fits { at + len + BLOCK < 2 ^ 64 }
+    ensures span { spans.new ≡ set spans.old count (record { from = at; to = at + len }) }
+    ensures after { result ≡ at + (len + 1) }
+{
+    spans[count] = Span {
+        from: at,
+        to: at + len,
+    };
+    at + (len + 1)
+}
+
+// Whether as many bytes, and no more, are each of the next four lines, and a whole block comes after them.
+#[inline(always)]
+fn are_plain_lines(bytes: &[u8], at: usize, len: usize, floors: u8x16) -> bool
+    requires padded { BLOCK ≤ length bytes.now }
+    requires within { at ≤ length bytes.now }
+    requires few { len ≤ 16 }
+    requires floors { AreFloors len floors }
+    ensures within { result ≡ true → at + 4 * (len + 1) + BLOCK ≤ length bytes.now }
+    ensures plain { result ≡ true → AreFourPlain bytes.now at len }
+{
+    let second = at + (len + 1);
+    let third = second + (len + 1);
+    let fourth = third + (len + 1);
+    if fourth + len >= bytes.len() - BLOCK {
+        return false;
+    }
+    if bytes[at + len] != LF
+        || bytes[second + len] != LF
+        || bytes[third + len] != LF
+        || bytes[fourth + len] != LF
+    {
+        return false;
+    }
+    let least = lowered(u8x16::from_slice(&bytes[at..]), bytes, second);
+    let least = lowered(lowered(least, bytes, third), bytes, fourth);
+    least.simd_lt(floors).to_bitmask() == 0
+}
+
+// The lesser of each lane and the byte of a block.
+#[inline(always)]
+fn lowered(lanes: u8x16, bytes: &[u8], at: usize) -> u8x16
+    requires { at + 16 ≤ length bytes.now }
+    ensures { IsLowered result lanes bytes.now at }
+{
+    lanes.simd_min(u8x16::from_slice(&bytes[at..]))
 }
 
 // The floors of the first bytes of a line.

@@ -8,7 +8,7 @@ ghost use Rattle.sk_model.specs.Width.{IsItem, number_end};
 
 use crate::short_numbers::are_short_numbers;
 use crate::wide::read_number_at;
-use sk_hash::hash63;
+use sk_hash::{hash63, hash63_at};
 use sk_lines::{Span, are_digits, read_number};
 use sk_model::limits::NUMBER_END;
 
@@ -43,7 +43,7 @@ impl Kind {
         ensures below { IfSome result IsItem }
     {
         match self {
-            Kind::Hash(seed) => Some(hash63(seed, &text[span.from..span.to])),
+            Kind::Hash(seed) => Some(hash63_at(seed, text, span.from, span.to)),
             Kind::Raw => item_of_number(read_number_at(text, span.from, span.to, NUMBER_END)),
         }
     }

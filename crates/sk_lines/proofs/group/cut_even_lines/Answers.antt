@@ -1,23 +1,25 @@
-use Rattle.std.proofs.Common.{◌<◌, ◌+◌, ◌∙◌, length, arith}
-use Rattle.std.proofs.lemmas.List.{length-set}
-use Rattle.sk_lines.specs.declared.spans.Span.{Span}
-use Rattle.sk_lines.proofs.Ends.{no_lines}
-use Rattle.sk_lines.proofs.Even.{even_more}
+use Rattle.std.proofs.Common.{◌+◌, refl, arith}
+use Rattle.sk_lines.proofs.Even.{even_then}
 use Rattle.sk_lines.proofs.group.cut_even_lines.Goals as goal
 
 pub line-init : goal.line-init
-line-init c = record { size = c.told-spans; few = omega arith; most = omega arith; within = c.requires.within; lines = no_lines c.args.bytes.now c.args.limit c.args.from }
+line-init c = record {
+  size = c.cut_fours-count.array_long;
+  few = omega (arith, c.cut_fours-count.ensures.few, c.min-room.ensures);
+  most = omega (arith, c.cut_fours-count.ensures.few, c.min-room.ensures);
+  within = c.cut_fours-count.ensures.within;
+  lines = c.cut_fours-count.ensures.lines c.args.limit c.requires.short;
+}
 
 pub line-preserved : goal.line-preserved
 line-preserved c =
     let within = c.is_plain_line.ensures.within c.if-is_plain_line.true in
-    let plain = c.is_plain_line.ensures.plain c.if-is_plain_line.true in
-    let span : Span = record { from = c.line.at; to = c.line.at + c.args.len } in
-    let inside : c.line.count < length c.line.spans = omega (arith, c.line.invariant.size, c.line-test.true, c.min-room.ensures) in
     record {
-      size = length-set c.line.spans c.line.count span ∙ c.line.invariant.size;
+      size = c.put_line-at.array_long;
       few = omega (arith, c.line-test.true, c.min-room.ensures);
       most = omega (arith, c.line-test.true, c.min-room.ensures);
-      within = omega (arith, within);
-      lines = even_more c.args.bytes.now c.args.limit c.args.from c.line.at c.args.len c.line.count c.line.spans c.line.invariant.lines inside (omega (arith, within)) c.requires.short plain;
+      within = omega (arith, within, c.put_line-at.ensures.after);
+      lines = even_then c.args.bytes.now c.args.limit c.args.from c.line.at c.args.len c.line.count (c.line.count + 1) c.put_line-at.result c.line.spans c.put_line-at.new.spans
+          c.line.invariant.lines (omega (arith, c.line.invariant.size, c.line-test.true, c.min-room.ensures)) (omega (arith, within)) c.requires.short (c.is_plain_line.ensures.plain c.if-is_plain_line.true)
+          c.put_line-at.ensures.span c.put_line-at.ensures.after refl;
     }
