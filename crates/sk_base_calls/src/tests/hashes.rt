@@ -1,5 +1,5 @@
 use super::expect;
-use sk_hash::{hash48, hash63, murmur128};
+use sk_hash::{hash48, hash63, hash63_at, murmur128};
 use sk_lines::{hash_line, read_hash};
 use sk_model::limits::ITEM_DIGITS;
 
@@ -99,6 +99,10 @@ fn both_halves_at_some_lengths(rt: HostRuntime) {
             (first, second),
             "of {len} bytes"
         );
+        let end = key.len();
+        key.extend_from_slice(&[0xff; 16])
+            .expect(&rt, "room for bytes after the key");
+        expect(&rt, hash63_at(seed, key.as_slice(), 0, end), first >> 1);
     }
 }
 
