@@ -7,7 +7,7 @@ use Rattle.std.proofs.lemmas.Simd.{tops_compared, bit_mask_l, mask_l-mod, length
 use Rattle.std.proofs.lemmas.List.{get_or_past, get_or-replicate, length-replicate, get_or_append_left, take_more_set}
 use Rattle.std.proofs.lemmas.Bool.{cases_lt}
 use Rattle.std.proofs.lemmas.Nat.Bits.{bit_at-zero}
-use Rattle.sk_lines.specs.Even.{IsPlain, AreFloors, IsLowered}
+use Rattle.sk_lines.specs.Even.{IsPlain, ArePlainBetween, AreFloors, IsLowered}
 use Rattle.sk_lines.specs.Spans.{AreLines, IsLine}
 use Rattle.sk_lines.specs.declared.spans.Span.{Span}
 use Rattle.sk_lines.proofs.Ends.{lines_more}
@@ -90,12 +90,56 @@ lesser xs bytes at wide within =
       byte = λ k inside. omega (arith, lane k inside, (least_of _ (get_or xs k 0) (get_or ys k 0) refl).1, get_or-chunk at 16 bytes k 0 inside);
     })
 
--- a short line by the least of some blocks, of which its own is one
-pub short_plain : (bytes floors least : List ℕ) (at len : ℕ) → len ≤ 16 → AreFloors len floors → slice_index bytes (at + len) ≡ 10
-    → ((k : ℕ) → k < 16 → slice_index floors k ≤ slice_index least k) → ((k : ℕ) → k < 16 → slice_index least k ≤ slice_index bytes (at + k)) → IsPlain bytes at len
-short_plain bytes floors least at len short are lf above below = record {
+-- a line by the least of some blocks, of which its first one is one, and by its other bytes
+pub least_plain : (bytes floors least : List ℕ) (at len : ℕ) → AreFloors len floors → slice_index bytes (at + len) ≡ 10
+    → ((k : ℕ) → k < 16 → slice_index floors k ≤ slice_index least k) → ((k : ℕ) → k < 16 → slice_index least k ≤ slice_index bytes (at + k))
+    → ((k : ℕ) → 16 ≤ k → k < len → 14 ≤ slice_index bytes (at + k)) → IsPlain bytes at len
+least_plain bytes floors least at len are lf above below rest = record {
   lf = lf;
-  plain = λ k inside. omega (arith, are.line k inside (omega arith), above k (omega arith), below k (omega arith));
+  plain = λ k inside. ⊎_elim
+      (λ (early : k < 16). omega (arith, are.line k inside early, above k early, below k early))
+      (λ (late : 16 ≤ k). rest k late inside)
+      (cases_lt k 16);
+}
+
+-- the bytes of a block that is not below the least of some
+pub block_above : (bytes least : List ℕ) (at place : ℕ) → length least ≡ 16 → mask_l (map (top 7) (zip2 (λ a b. cond (nat_lt a b) 255 0) least (replicate 16 14))) % 2 ^ 64 ≡ 0
+    → ((k : ℕ) → k < 16 → slice_index least k ≤ slice_index bytes (at + place + k)) → (k : ℕ) → place ≤ k → k < place + 16 → 14 ≤ slice_index bytes (at + k)
+block_above bytes least at place wide none below k from before =
+    let j : ℕ = k - place in
+    let inside : j < 16 = omega arith in
+    let same : at + place + j ≡ at + k = omega arith in
+    omega (arith, none_below least (replicate 16 14) wide (length-replicate {A = ℕ} 16 14) none j inside, get_or-replicate {A = ℕ} 16 j 14 0 inside, below j inside, ap (slice_index bytes) same)
+
+pub none_between : (bytes : List ℕ) (at len n : ℕ) → ArePlainBetween bytes at len n n
+none_between bytes at len n = record {
+  first = λ k from before. absurd (omega (arith, from, before));
+  second = λ k from before. absurd (omega (arith, from, before));
+  third = λ k from before. absurd (omega (arith, from, before));
+  fourth = λ k from before. absurd (omega (arith, from, before));
+}
+
+-- a byte of one part or of another that begins no later than where the first ends
+either_part : (P : ℕ → Type 0) (from middle start to k : ℕ) → start ≤ middle → ((j : ℕ) → from ≤ j → j < middle → P j) → ((j : ℕ) → start ≤ j → j < to → P j) → from ≤ k → k < to → P k
+either_part P from middle start to k meets early late above before = ⊎_elim
+    (λ (first : k < middle). early k above first)
+    (λ (other : middle ≤ k). late k (omega (arith, other, meets)) before)
+    (cases_lt k middle)
+
+pub more_between : (bytes : List ℕ) (at len from middle start to : ℕ) → start ≤ middle → ArePlainBetween bytes at len from middle → ArePlainBetween bytes at len start to → ArePlainBetween bytes at len from to
+more_between bytes at len from middle start to meets early late = record {
+  first = λ k. either_part (λ (i : ℕ). 14 ≤ slice_index bytes (at + i)) from middle start to k meets early.first late.first;
+  second = λ k. either_part (λ (i : ℕ). 14 ≤ slice_index bytes (at + (len + 1) + i)) from middle start to k meets early.second late.second;
+  third = λ k. either_part (λ (i : ℕ). 14 ≤ slice_index bytes (at + (len + 1) + (len + 1) + i)) from middle start to k meets early.third late.third;
+  fourth = λ k. either_part (λ (i : ℕ). 14 ≤ slice_index bytes (at + (len + 1) + (len + 1) + (len + 1) + i)) from middle start to k meets early.fourth late.fourth;
+}
+
+pub fewer_between : (bytes : List ℕ) (at len from to less : ℕ) → less ≤ to → ArePlainBetween bytes at len from to → ArePlainBetween bytes at len from less
+fewer_between bytes at len from to less few all = record {
+  first = λ k above before. all.first k above (omega (arith, few, before));
+  second = λ k above before. all.second k above (omega (arith, few, before));
+  third = λ k above before. all.third k above (omega (arith, few, before));
+  fourth = λ k above before. all.fourth k above (omega (arith, few, before));
 }
 
 -- ---- a line

@@ -18,6 +18,13 @@ pub record AreFourPlain (bytes : List ℕ) (at len : ℕ) : Type 0 where
   pub third : IsPlain bytes (at + (len + 1) + (len + 1)) len
   pub fourth : IsPlain bytes (at + (len + 1) + (len + 1) + (len + 1)) len
 
+-- from one place in each of four such lines up to another no byte is LF or CR
+pub record ArePlainBetween (bytes : List ℕ) (at len from to : ℕ) : Type 0 where
+  pub first : (k : ℕ) → from ≤ k → k < to → 14 ≤ slice_index bytes (at + k)
+  pub second : (k : ℕ) → from ≤ k → k < to → 14 ≤ slice_index bytes (at + (len + 1) + k)
+  pub third : (k : ℕ) → from ≤ k → k < to → 14 ≤ slice_index bytes (at + (len + 1) + (len + 1) + k)
+  pub fourth : (k : ℕ) → from ≤ k → k < to → 14 ≤ slice_index bytes (at + (len + 1) + (len + 1) + (len + 1) + k)
+
 -- no lane is above one of these, or above the byte of a block
 pub record IsLowered (least lanes bytes : List ℕ) (at : ℕ) : Type 0 where
   pub wide : length least ≡ 16

@@ -1,7 +1,7 @@
 // The next lines of a text, many together.
 ghost use Rattle.std.specs.Prelude.{◌≡◌, ◌≢◌, ◌⊎◌, ◌+◌, ◌*◌, ◌^◌, ◌<◌, ◌≤◌, ℕ, length, take, set, slice_index, IfSome, true};
 ghost use Rattle.sk_lines.specs.Spans.{AreLines, IsLongLine};
-ghost use Rattle.sk_lines.specs.Even.{IsPlain, AreFourPlain, AreFloors, IsLowered};
+ghost use Rattle.sk_lines.specs.Even.{IsPlain, AreFourPlain, ArePlainBetween, AreFloors, IsLowered};
 
 use crate::marks::{BLOCK, LF, lfs_of_block};
 use crate::spans::{GROUP, Span, cut_lines, find_ends};
@@ -105,7 +105,7 @@ fn cut_even_lines(
     (count, at)
 }
 
-// The same of short lines, while four more have that length: they are looked at together.
+// The same while four more have that length: they are looked at together.
 #[inline(always)]
 fn cut_fours(
     bytes: &[u8],
@@ -122,9 +122,6 @@ fn cut_fours(
     ensures within { result.1 ≤ length bytes.now }
     ensures lines { (limit : ℕ) → len ≤ limit → AreLines bytes.now limit from (take result.0 spans.new) result.1 }
 {
-    if len > WIDE {
-        return (0, from);
-    }
     let floors = floors_of(len);
     let mut count = 0;
     let mut at = from;
@@ -158,7 +155,7 @@ fn put_line(spans: &mut [Span; GROUP], count: usize, at: usize, len: usize) -> u
 fn are_plain_lines(bytes: &[u8], at: usize, len: usize, floors: u8x16) -> bool
     requires padded { BLOCK ≤ length bytes.now }
     requires within { at ≤ length bytes.now }
-    requires few { len ≤ 16 }
+    requires few { len ≤ 63 }
     requires floors { AreFloors len floors }
     ensures within { result ≡ true → at + 4 * (len + 1) + BLOCK ≤ length bytes.now }
     ensures plain { result ≡ true → AreFourPlain bytes.now at len }
@@ -178,7 +175,48 @@ fn are_plain_lines(bytes: &[u8], at: usize, len: usize, floors: u8x16) -> bool
     }
     let least = lowered(u8x16::from_slice(&bytes[at..]), bytes, second);
     let least = lowered(lowered(least, bytes, third), bytes, fourth);
-    least.simd_lt(floors).to_bitmask() == 0
+    if least.simd_lt(floors).to_bitmask() != 0 {
+        return false;
+    }
+    are_plain_between(bytes, at, len)
+}
+
+// Whether no byte of four lines of this length after the first 16 of each is LF or CR.
+#[inline(always)]
+fn are_plain_between(bytes: &[u8], at: usize, len: usize) -> bool
+    requires few { len ≤ 63 }
+    requires within { at + 4 * (len + 1) + BLOCK ≤ length bytes.now }
+    ensures { result ≡ true → ArePlainBetween bytes.now at len 16 len }
+{
+    let mut done = WIDE;
+    'block: while done < len {
+        let place = done.min(len - WIDE);
+        if !are_plain_blocks(bytes, at, len, place) {
+            return false;
+        }
+        done += WIDE;
+    }
+    true
+}
+
+// Whether none of 16 bytes from a place on in each of four lines is LF or CR.
+#[inline(always)]
+fn are_plain_blocks(bytes: &[u8], at: usize, len: usize, place: usize) -> bool
+    requires few { len ≤ 63 }
+    requires inside { place + 16 ≤ len }
+    requires within { at + 4 * (len + 1) + BLOCK ≤ length bytes.now }
+    ensures { result ≡ true → ArePlainBetween bytes.now at len place (place + 16) }
+{
+    let second = at + (len + 1);
+    let third = second + (len + 1);
+    let fourth = third + (len + 1);
+    let least = lowered(
+        u8x16::from_slice(&bytes[at + place..]),
+        bytes,
+        second + place,
+    );
+    let least = lowered(lowered(least, bytes, third + place), bytes, fourth + place);
+    least.simd_lt(u8x16::splat(PLAIN)).to_bitmask() == 0
 }
 
 // The lesser of each lane and the byte of a block.

@@ -3,9 +3,6 @@ use Rattle.sk_lines.proofs.Ends.{no_lines}
 use Rattle.sk_lines.proofs.Even.{even_then, plain_at}
 use Rattle.sk_lines.proofs.group.cut_fours.Goals as goal
 
-pub returns-then-len-gt-WIDE-clause-lines : goal.returns-then-len-gt-WIDE-clause-lines
-returns-then-len-gt-WIDE-clause-lines c = λ limit _. no_lines c.args.bytes.now limit c.args.from
-
 pub four-init : goal.four-init
 four-init c = record { size = c.told-spans; few = omega arith; within = c.requires.within; lines = λ limit _. no_lines c.args.bytes.now limit c.args.from }
 
