@@ -88,7 +88,12 @@ fn give<C: Composable, R: Abort>(rt: &R, updater: &mut Updater<C>, items: &[(u64
 fn flush<C: Composable>(updater: &mut Updater<C>) -> Flush
     ensures { updater.new.table ≡ updater.old.table }
 {
-    updater.flush()
+    // By cases, of which each is proved in a step.
+    match updater.flush() {
+        Flush::Empty => Flush::Empty,
+        Flush::Busy => Flush::Busy,
+        Flush::Handed => Flush::Handed,
+    }
 }
 
 fn settle<C: Composable>(updater: &mut Updater<C>) -> Settle
@@ -113,9 +118,10 @@ fn admit<C: Composable, R: Abort>(rt: &R, alloc: Global, heart: &mut Heart<C>, b
 fn expect_full<C: Composable, R: Abort>(rt: &R, alloc: Global, heart: &mut Heart<C>)
     ensures { heart.new.table ≡ heart.old.table }
 {
-    let Admit::Full = heart.admit(alloc, 1) else {
-        panic!(rt; "not all updaters were admitted");
-    };
+    match heart.admit(alloc, 1) {
+        Admit::Full => {}
+        Admit::Admitted(_) | Admit::OutOfMemory => panic!(rt; "not all updaters were admitted"),
+    }
 }
 
 fn drain<C: Composable, R: Wait>(

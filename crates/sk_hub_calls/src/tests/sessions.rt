@@ -161,35 +161,46 @@ fn a_long_request_and_a_fault_end_it(rt: HostRuntime) -> Result<(), Fail> {
     Ok(())
 }
 
-#[test]
-fn pumps_publish(rt: HostRuntime) -> Result<(), Fail> {
-    let alloc = rt.alloc();
-    let course = Course {
-        text: b"add hello\nadd hello\nask\nsync\nas",
-        piece: 5,
-        fails: &[],
-        most: 1_000,
-        end: End::Closed,
-        replies: b"kept\nkept\nestimate 1/1\nsynced\nbad\n",
-    };
-    let shape = shape_of(64, true)?;
-    let (mut heart, mut updater) = hub(alloc, &shape)?;
+// What each pump is to publish.
+const PUBLISHED: Course<'static> = Course {
+    text: b"add hello\nadd hello\nask\nsync\nas",
+    piece: 5,
+    fails: &[],
+    most: 1_000,
+    end: End::Closed,
+    replies: b"kept\nkept\nestimate 1/1\nsynced\nbad\n",
+};
+
+fn check_with_the_heart<R: Abort + Wait>(
+    rt: &R,
+    alloc: Global,
+    shape: &Shape,
+) -> Result<(), OutOfMemory> {
+    let (mut heart, mut updater) = hub(alloc, shape)?;
+    let mut pump = HeartPump::new(&mut heart);
+    check(rt, alloc, &PUBLISHED, &mut updater, &mut pump, shape)
+}
+
+fn check_with_help<R: Abort + Wait>(
+    rt: &R,
+    alloc: Global,
+    shape: &Shape,
+) -> Result<(), OutOfMemory> {
+    let (_heart, mut updater) = hub(alloc, shape)?;
     check(
-        &rt,
+        rt,
         alloc,
-        &course,
-        &mut updater,
-        &mut HeartPump::new(&mut heart),
-        &shape,
-    )?;
-    let (_heart, mut updater) = hub(alloc, &shape)?;
-    check(
-        &rt,
-        alloc,
-        &course,
+        &PUBLISHED,
         &mut updater,
         &mut HelpPump::new(),
-        &shape,
-    )?;
+        shape,
+    )
+}
+
+#[test]
+fn pumps_publish(rt: HostRuntime) -> Result<(), Fail> {
+    let shape = shape_of(64, true)?;
+    check_with_the_heart(&rt, rt.alloc(), &shape)?;
+    check_with_help(&rt, rt.alloc(), &shape)?;
     Ok(())
 }

@@ -74,11 +74,11 @@ fn expect_ranks<R: Wait + Abort>(
     expect(rt, reader.read(rt, Below { x }), rank(0, 0, 0));
     let told = merge_two(rt, alloc, &mut sketch, items[0], items[1])?;
     reader.learn(told);
-    assert_eq!(rt; reader.read(rt, Below { x }), want[0]);
+    expect(rt, reader.read(rt, Below { x }), want[0]);
     let told = merge_two(rt, alloc, &mut sketch, items[2], items[3])?;
     reader.learn(told);
-    assert_eq!(rt; reader.read(rt, Below { x }), want[1]);
-    assert_eq!(rt; Composable::packed(&sketch), 4);
+    expect(rt, reader.read(rt, Below { x }), want[1]);
+    expect(rt, Composable::packed(&sketch), 4);
     Ok(())
 }
 
@@ -157,7 +157,7 @@ fn expect_theta<R: Wait + Abort>(
 {
     let sketch = HeapTheta::new(alloc, 2)?;
     let (sketch, n) = reader.read(rt, JoinInto { sketch });
-    assert_eq!(rt; (n, sketch.count(), sketch.theta()), want);
+    expect(rt, (n, sketch.count(), sketch.theta()), want);
     Ok(())
 }
 
@@ -173,6 +173,6 @@ fn a_reader_joins_the_smallest(rt: HostRuntime) -> Result<(), Fail> {
     Composable::merge(&mut sketch, &rt, 0, &batch)?;
     reader.learn(Composable::told(&mut sketch));
     expect_theta(&rt, alloc, &mut reader, (3, 2, 5))?;
-    assert_eq!(&rt; Composable::hint(&sketch), 5);
+    expect(&rt, Composable::hint(&sketch), 5);
     Ok(())
 }

@@ -1,5 +1,6 @@
-ghost use Rattle.std.specs.Prelude.{◌≡◌, ◌≤◌, ◌+◌, IfSome, length, false};
+ghost use Rattle.std.specs.Prelude.{◌≡◌, ◌≤◌, ◌+◌, IfSome, IsErrOf, length, false};
 
+use super::expect;
 use sk_image::*;
 use sk_io::{MemSink, MemSource, Sink, Source, SureSource};
 use std::alloc::Global;
@@ -115,6 +116,17 @@ fn lines_of_version_2_out_of_place_are_named(rt: HostRuntime) -> Result<(), Fail
     expect_bad(&rt, rt.alloc(), "theta2 k=2 seed=0\n", &rows)
 }
 
+fn expect_estimate(
+    rt: &impl Abort,
+    alloc: Global,
+    text: &str,
+    fraction: (u128, u64),
+) -> Result<(), Fail> {
+    let image = image_of(alloc, text)?;
+    assert!(rt; image.fraction() == fraction, "at {text:?}");
+    Ok(())
+}
+
 // The estimate of each version has its own end of the hashes; with fewer than k of them it is their number.
 #[test]
 fn estimates_of_images(rt: HostRuntime) -> Result<(), Fail> {
@@ -138,8 +150,7 @@ fn estimates_of_images(rt: HostRuntime) -> Result<(), Fail> {
         ),
     ];
     for (text, fraction) in rows {
-        let image = image_of(rt.alloc(), text)?;
-        assert!(rt; image.fraction() == fraction, "at {text:?}");
+        expect_estimate(&rt, rt.alloc(), text, fraction)?;
     }
     Ok(())
 }
@@ -154,11 +165,25 @@ fn written(alloc: Global, image: &Image) -> Result<Vec<u8>, Fail> {
 #[test]
 fn an_image_has_what_its_text_says(rt: HostRuntime) -> Result<(), Fail> {
     let old = image_of(rt.alloc(), TWO)?;
-    assert_eq!(rt; (old.version, old.k, old.seed), (1, 2, 0));
-    assert_eq!(rt; old.hashes.as_slice(), [3, 5].as_slice());
+    expect(&rt, (old.version, old.k, old.seed), (1, 2, 0));
+    expect(&rt, old.hashes.as_slice(), [3, 5].as_slice());
     let wide = image_of(rt.alloc(), WIDE)?;
-    assert_eq!(rt; (wide.version, wide.k, wide.seed), (2, 2, 0));
-    assert_eq!(rt; wide.hashes.as_slice(), [4, 6].as_slice());
+    expect(&rt, (wide.version, wide.k, wide.seed), (2, 2, 0));
+    expect(&rt, wide.hashes.as_slice(), [4, 6].as_slice());
+    Ok(())
+}
+
+fn expect_joined(
+    rt: &impl Abort,
+    alloc: Global,
+    left: &str,
+    right: &str,
+    both: &str,
+) -> Result<(), Fail> {
+    match join(alloc, &image_of(alloc, left)?, &image_of(alloc, right)?) {
+        Ok(image) => assert_eq!(rt; written(alloc, &image)?.as_slice(), both.as_bytes()),
+        Err(stop) => assert!(rt; false, "{stop:?} at {left:?} and {right:?}"),
+    }
     Ok(())
 }
 
@@ -186,12 +211,16 @@ fn images_are_joined_and_written(rt: HostRuntime) -> Result<(), Fail> {
         ("theta2 k=2 seed=0\nend 0\n", WIDE, WIDE),
     ];
     for (left, right, both) in rows {
-        match join(alloc, &image_of(alloc, left)?, &image_of(alloc, right)?) {
-            Ok(image) => assert_eq!(rt; written(alloc, &image)?.as_slice(), both.as_bytes()),
-            Err(stop) => assert!(rt; false, "{stop:?} at {left:?} and {right:?}"),
-        }
+        expect_joined(&rt, alloc, left, right, both)?;
     }
     Ok(())
+}
+
+fn expect_mixed(rt: &impl Abort, alloc: Global, left: &Image, right: &Image, text: &str) {
+    assert!(rt;
+        join(alloc, left, right) == Err(JoinStop::Mixed),
+        "at {text:?}"
+    );
 }
 
 #[test]
@@ -204,14 +233,8 @@ fn images_of_other_sketches_are_mixed(rt: HostRuntime) -> Result<(), Fail> {
         "theta2 k=2 seed=0\nend 0\n",
     ] {
         let other = image_of(alloc, text)?;
-        assert!(rt;
-            join(alloc, &image, &other) == Err(JoinStop::Mixed),
-            "at {text:?}"
-        );
-        assert!(rt;
-            join(alloc, &other, &image) == Err(JoinStop::Mixed),
-            "at {text:?}"
-        );
+        expect_mixed(&rt, alloc, &image, &other, text);
+        expect_mixed(&rt, alloc, &other, &image, text);
     }
     Ok(())
 }
@@ -222,7 +245,13 @@ fn read_fails<S: Source>(alloc: Global, source: &mut S, most: u64) -> bool
     ensures few { IfSome (S.left source.old) (λ text.
         IfSome (S.left source.new) (λ rest. length text ≤ length rest + most)) }
 {
-    matches!(read(alloc, source, most), Err(ReadStop::ReadFault))
+    is_read_fault(&read(alloc, source, most))
+}
+
+fn is_read_fault(answer: &Result<Image, ReadStop>) -> bool
+    ensures { result ≡ false → ¬ IsErrOf answer.now ReadStop.ReadFault }
+{
+    matches!(answer, Err(ReadStop::ReadFault))
 }
 
 // Whether a write of an image fails. If not, no fault is counted.
@@ -232,19 +261,32 @@ fn write_fails<O: Sink>(alloc: Global, out: &mut O, image: &Image) -> bool
     write(alloc, out, image) == Err(WriteStop::Failed)
 }
 
+// Reads a text where as many bytes as these are too much, and expects this reason why it is none.
+fn expect_stop(
+    rt: &impl Abort,
+    alloc: Global,
+    text: &str,
+    most: u64,
+    stop: Option<ReadStop>,
+) -> Result<(), Fail> {
+    let answer = read_below(alloc, text, most)?;
+    assert!(rt; answer.err() == stop, "at {text:?} below {most}");
+    Ok(())
+}
+
 #[test]
 fn faults_and_limits(rt: HostRuntime) -> Result<(), Fail> {
     let alloc = rt.alloc();
-    assert!(rt; read_below(alloc, TWO, 51)?.is_ok());
-    assert!(rt; read_below(alloc, TWO, 50)? == Err(ReadStop::TooMuch));
-    assert!(rt; read_below(alloc, "bad\n", 4)? == Err(ReadStop::BadImage(1)));
-    assert!(rt; read_below(alloc, "bad\n", 3)? == Err(ReadStop::TooMuch));
+    expect_stop(&rt, alloc, TWO, 51, None)?;
+    expect_stop(&rt, alloc, TWO, 50, Some(ReadStop::TooMuch))?;
+    expect_stop(&rt, alloc, "bad\n", 4, Some(ReadStop::BadImage(1)))?;
+    expect_stop(&rt, alloc, "bad\n", 3, Some(ReadStop::TooMuch))?;
     let mut source = MemSource::new(TWO.as_bytes().to_vec(alloc)?, 7, [2].to_vec(alloc)?);
-    assert!(rt; read_fails(alloc, &mut source, 100));
-    assert!(rt; !read_fails(alloc, &mut source, 100));
+    expect(&rt, read_fails(alloc, &mut source, 100), true);
+    expect(&rt, read_fails(alloc, &mut source, 100), false);
     let image = image_of(alloc, TWO)?;
     let mut out = MemSink::new(alloc, 20, 9, Vec::new(alloc))?;
-    assert!(rt; write_fails(alloc, &mut out, &image));
-    assert_eq!(rt; out.written(), &TWO.as_bytes()[..20]);
+    expect(&rt, write_fails(alloc, &mut out, &image), true);
+    expect(&rt, out.written(), &TWO.as_bytes()[..20]);
     Ok(())
 }

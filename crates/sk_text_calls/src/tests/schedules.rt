@@ -4,13 +4,18 @@ ghost use Rattle.sk_core.specs.Texts.{answer_text};
 use sk_core::*;
 use sk_model::OutOfMemory;
 use std::alloc::Global;
+use std::process::Abort;
 use std::test::Fail;
 
-// What a first line starts.
+// What a first line starts, with updaters or without.
 fn start(alloc: Global, line: &str) -> Result<Option<State>, OutOfMemory> {
-    if let Some((k, b, n)) = read_machine(line.as_bytes()) {
-        return Ok(Some(State::new(alloc, k, b, n)?));
+    match read_machine(line.as_bytes()) {
+        Some((k, b, n)) => Ok(Some(State::new(alloc, k, b, n)?)),
+        None => start_vacant(alloc, line),
     }
+}
+
+fn start_vacant(alloc: Global, line: &str) -> Result<Option<State>, OutOfMemory> {
     match read_vacant(line.as_bytes()) {
         Some((k, n)) => Ok(Some(State::vacant(alloc, k, n)?)),
         None => Ok(None),
@@ -52,6 +57,18 @@ fn replay(alloc: Global, first: &str, lines: &[&str]) -> Result<String, Fail> {
         }
     }
     Ok(String::from_utf8(text).unwrap_or(String::new(alloc)))
+}
+
+fn expect_answers(
+    rt: &impl Abort,
+    alloc: Global,
+    first: &str,
+    lines: &[&str],
+    want: &str,
+) -> Result<(), Fail> {
+    let said = replay(alloc, first, lines)?;
+    assert_eq!(rt; said.as_str(), want, "{first}, {lines:?}");
+    Ok(())
 }
 
 // Of each schedule its first line, its events, and the answers to them.
@@ -136,8 +153,7 @@ fn schedules_are_answered(rt: HostRuntime) -> Result<(), Fail> {
         ),
     ];
     for (first, lines, want) in rows {
-        let said = replay(rt.alloc(), first, lines)?;
-        assert_eq!(rt; said.as_str(), want, "{first}");
+        expect_answers(&rt, rt.alloc(), first, lines, want)?;
     }
     Ok(())
 }
@@ -179,10 +195,18 @@ fn events_out_of_their_place_are_not_enabled(rt: HostRuntime) -> Result<(), Fail
         "offer 0 1 2",
     ];
     for line in lines {
-        let said = replay(alloc, "machine 2 1 1", &[line])?;
-        assert_eq!(rt; said.as_str(), "bad", "{line}");
+        expect_answers(&rt, alloc, "machine 2 1 1", &[line], "bad")?;
     }
     Ok(())
+}
+
+fn expect_offered(
+    rt: &impl Abort,
+    state: &mut State,
+    item: u64,
+    answer: Result<Answer, NotEnabled>,
+) {
+    assert!(rt; state.step(&Event::Offer(0, item)) == answer, "{item}");
 }
 
 #[test]
@@ -195,46 +219,46 @@ fn offers_at_the_ends_of_the_items(rt: HostRuntime) -> Result<(), Fail> {
         (2, Err(NotEnabled)),
         (1 << 63, Ok(Answer::Filtered)),
     ] {
-        assert!(rt; state.step(&Event::Offer(0, item)) == answer, "{item}");
+        expect_offered(&rt, &mut state, item, answer);
     }
     Ok(())
+}
+
+fn expect_machine(rt: &impl Abort, line: &str, numbers: Option<(u32, u32, u32)>) {
+    assert!(rt; read_machine(line.as_bytes()) == numbers, "{line}");
+}
+
+fn expect_vacant(rt: &impl Abort, line: &str, numbers: Option<(u32, u32)>) {
+    assert!(rt; read_vacant(line.as_bytes()) == numbers, "{line}");
 }
 
 #[test]
 fn a_first_line_has_its_limits(rt: HostRuntime) {
     for (line, numbers) in [
-        ("machine 2 1 1", (2, 1, 1)),
-        ("machine 1048576 4096 64", (1_048_576, 4_096, 64)),
-        ("machine 0000000000000000002 1 1", (2, 1, 1)),
+        ("machine 2 1 1", Some((2, 1, 1))),
+        ("machine 1048576 4096 64", Some((1_048_576, 4_096, 64))),
+        ("machine 0000000000000000002 1 1", Some((2, 1, 1))),
+        ("machine 1 1 1", None),
+        ("machine 1048577 1 1", None),
+        ("machine 2 0 1", None),
+        ("machine 2 1 65", None),
+        ("machine 2 1", None),
+        ("machine 2 1 1 ", None),
+        ("machine 00000000000000000002 1 1", None),
+        ("vacant 2 1", None),
     ] {
-        assert!(rt; read_machine(line.as_bytes()) == Some(numbers), "{line}");
+        expect_machine(&rt, line, numbers);
     }
     for (line, numbers) in [
-        ("vacant 2 2", (2, 2)),
-        ("vacant 1048576 64", (1_048_576, 64)),
+        ("vacant 2 2", Some((2, 2))),
+        ("vacant 1048576 64", Some((1_048_576, 64))),
+        ("vacant 1 1", None),
+        ("vacant 1048577 1", None),
+        ("vacant 2 65", None),
+        ("vacant 2", None),
+        ("vacant 2 1 1", None),
+        ("machine 2 1", None),
     ] {
-        assert!(rt; read_vacant(line.as_bytes()) == Some(numbers), "{line}");
-    }
-    for line in [
-        "machine 1 1 1",
-        "machine 1048577 1 1",
-        "machine 2 0 1",
-        "machine 2 1 65",
-        "machine 2 1",
-        "machine 2 1 1 ",
-        "machine 00000000000000000002 1 1",
-        "vacant 2 1",
-    ] {
-        assert!(rt; read_machine(line.as_bytes()).is_none());
-    }
-    for line in [
-        "vacant 1 1",
-        "vacant 1048577 1",
-        "vacant 2 65",
-        "vacant 2",
-        "vacant 2 1 1",
-        "machine 2 1",
-    ] {
-        assert!(rt; read_vacant(line.as_bytes()).is_none());
+        expect_vacant(&rt, line, numbers);
     }
 }
