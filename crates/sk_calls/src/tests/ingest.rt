@@ -5,6 +5,7 @@ ghost use Rattle.sk_theta.specs.Kept.{StandsFor};
 
 mod sources;
 
+use super::expect;
 use sk_compose::Composable;
 use sk_feed::feed_block;
 use sk_fill::{Block, Window};
@@ -25,18 +26,18 @@ fn a_window_of_two_lines_gives_them_back(rt: HostRuntime) -> Result<(), Fail> {
     assert!(rt; !window.is_full());
     window.push(b"5")?;
     assert!(rt; window.is_full());
-    assert_eq!(rt; window.line(0), b"hello".as_slice());
-    assert_eq!(rt; window.item(0, Kind::Raw), None);
-    assert_eq!(rt; window.item(1, Kind::Raw), Some(6));
+    expect(&rt, window.line(0), b"hello".as_slice());
+    expect(&rt, window.item(0, Kind::Raw), None);
+    expect(&rt, window.item(1, Kind::Raw), Some(6));
     window.clear();
-    assert!(rt; window.is_empty());
+    expect(&rt, window.is_empty(), true);
     Ok(())
 }
 
 #[test]
 fn five_lines_in_two_blocks(rt: HostRuntime) {
-    assert_eq!(rt; Block::of(5, 0, 2), Block { from: 0, to: 2 });
-    assert_eq!(rt; Block::of(5, 1, 2), Block { from: 2, to: 5 });
+    expect(&rt, Block::of(5, 0, 2), Block { from: 0, to: 2 });
+    expect(&rt, Block::of(5, 1, 2), Block { from: 2, to: 5 });
 }
 
 // ---- a hub whose one updater keeps two items in a buffer
@@ -87,10 +88,10 @@ fn a_block_without_help_ends_at_a_busy_line(rt: HostRuntime) -> Result<(), Fail>
     let window = five_lines(&rt, rt.alloc())?;
     let mut hub = hub_of(rt.alloc(), false, sketch(rt.alloc(), 8)?)?;
     let mut updater = hub.updaters.remove(0);
-    assert_eq!(rt; feed(&rt, &mut updater, &window, 0, false)?, 4);
-    assert_eq!(rt; unpack(hub.token.ask(), 8).count, 0);
-    assert_eq!(rt; feed(&rt, &mut updater, &window, 4, true)?, 5);
-    assert_eq!(rt; unpack(hub.token.ask(), 8).count, 2);
+    expect(&rt, feed(&rt, &mut updater, &window, 0, false)?, 4);
+    expect(&rt, unpack(hub.token.ask(), 8).count, 0);
+    expect(&rt, feed(&rt, &mut updater, &window, 4, true)?, 5);
+    expect(&rt, unpack(hub.token.ask(), 8).count, 2);
     Ok(())
 }
 
@@ -99,7 +100,7 @@ fn an_eager_updater_publishes_each_item(rt: HostRuntime) -> Result<(), Fail> {
     let window = five_lines(&rt, rt.alloc())?;
     let mut hub = hub_of(rt.alloc(), true, sketch(rt.alloc(), 8)?)?;
     let mut updater = hub.updaters.remove(0);
-    assert_eq!(rt; feed(&rt, &mut updater, &window, 0, true)?, 5);
-    assert_eq!(rt; unpack(hub.token.ask(), 8).count, 5);
+    expect(&rt, feed(&rt, &mut updater, &window, 0, true)?, 5);
+    expect(&rt, unpack(hub.token.ask(), 8).count, 5);
     Ok(())
 }

@@ -1,6 +1,7 @@
 // Windows of the last intervals.
 ghost use Rattle.std.specs.Prelude.{◌≡◌};
 
+use super::expect;
 use sk_theta::{ITEM_END, Reply, Shape};
 use sk_window::{Advance, Frame, Panes, Started};
 use std::test::Fail;
@@ -21,14 +22,14 @@ fn intervals_without_items_are_closed(rt: HostRuntime) -> Result<(), Fail> {
         mut panes,
         updaters,
     } = Panes::new(&rt, alloc, shape, frame)?;
-    assert_eq!(&rt; panes.reply()?, NONE);
+    expect(&rt, panes.reply()?, NONE);
     let Advance::Same(updaters) = panes.advance(9, updaters) else {
         return Ok(());
     };
     let Advance::Moved(reply, _updaters) = panes.advance(31, updaters) else {
         return Ok(());
     };
-    assert_eq!(&rt; reply, NONE);
-    assert_eq!(&rt; panes.running(), 3);
+    expect(&rt, reply, NONE);
+    expect(&rt, panes.running(), 3);
     Ok(())
 }

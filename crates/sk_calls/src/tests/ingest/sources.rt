@@ -2,6 +2,7 @@
 ghost use Rattle.std.specs.Prelude.{[], None, ⊤};
 
 use super::sketch;
+use crate::tests::expect;
 use sk_compose::Composable;
 use sk_hub::Opened;
 use sk_ingest::{Fault, Intake, Kind, Report, Stop, word_of_source};
@@ -102,7 +103,7 @@ fn count<R: Threads + Wait + Abort + Sync>(
 }
 
 // The run ends so, and the report saw so much: of each pair the line, and the published count.
-fn expect(
+fn expect_seen(
     rt: &(impl Threads + Wait + Abort + Sync),
     alloc: Global,
     run: Run,
@@ -114,39 +115,72 @@ fn expect(
         Ok(word) => Ok(unpack(word, 8).count),
         Err(fault) => Err(fault),
     };
-    assert_eq!(rt; counted, ends);
-    assert_eq!(rt; report.seen.len(), seen.len());
-    for (got, want) in report.seen.iter().zip(seen) {
-        assert_eq!(rt; got.0, want.0);
-        assert_eq!(rt; got.1, want.1);
-    }
+    expect(rt, counted, ends);
+    expect(rt, report.seen.as_slice(), seen);
     Ok(())
 }
 
 #[test]
 fn full_windows_are_reported(rt: HostRuntime) -> Result<(), Fail> {
-    let alloc = rt.alloc();
-    expect(&rt, alloc, PLAIN, Ok(5), &[(5, 2)])?;
-    let mut run = PLAIN;
-    run.propagator = true;
-    expect(&rt, alloc, run, Ok(5), &[(5, 4)])?;
-    run.interim = false;
-    expect(&rt, alloc, run, Ok(5), &[])?;
-    run.interim = true;
-    run.eager = true;
-    expect(&rt, alloc, run, Ok(5), &[(5, 5)])?;
-    run.window = 2;
-    expect(&rt, alloc, run, Ok(5), &[(2, 2), (4, 4)])?;
-    run = PLAIN;
-    run.eager = true;
-    expect(&rt, alloc, run, Ok(5), &[(5, 5)])?;
-    run.window = 2;
-    expect(&rt, alloc, run, Ok(5), &[(2, 2), (4, 4)])?;
-    run.read_fails = 2;
-    expect(&rt, alloc, run, Err(Fault::ReadFault), &[(2, 2), (4, 4)])?;
-    run.read_fails = 1_000_000;
-    run.report_fails = 2;
-    expect(&rt, alloc, run, Err(Fault::WriteFault), &[(2, 2)])
+    let beside = Run {
+        propagator: true,
+        ..PLAIN
+    };
+    let eager = Run {
+        eager: true,
+        ..PLAIN
+    };
+    let twos = Run { window: 2, ..eager };
+    let rows: [(Run, Result<u32, Fault>, &[(u64, u32)]); 9] = [
+        (PLAIN, Ok(5), &[(5, 2)]),
+        (beside, Ok(5), &[(5, 4)]),
+        (
+            Run {
+                interim: false,
+                ..beside
+            },
+            Ok(5),
+            &[],
+        ),
+        (
+            Run {
+                eager: true,
+                ..beside
+            },
+            Ok(5),
+            &[(5, 5)],
+        ),
+        (
+            Run {
+                propagator: true,
+                ..twos
+            },
+            Ok(5),
+            &[(2, 2), (4, 4)],
+        ),
+        (eager, Ok(5), &[(5, 5)]),
+        (twos, Ok(5), &[(2, 2), (4, 4)]),
+        (
+            Run {
+                read_fails: 2,
+                ..twos
+            },
+            Err(Fault::ReadFault),
+            &[(2, 2), (4, 4)],
+        ),
+        (
+            Run {
+                report_fails: 2,
+                ..twos
+            },
+            Err(Fault::WriteFault),
+            &[(2, 2)],
+        ),
+    ];
+    for (run, ends, seen) in rows {
+        expect_seen(&rt, rt.alloc(), run, ends, seen)?;
+    }
+    Ok(())
 }
 
 // The number n is item n + 1, so the 8 smallest of 1 to 300 are the items 2 to 9, and the word is the last of them.
@@ -159,7 +193,7 @@ fn updaters_change_no_last_word(rt: HostRuntime) -> Result<(), Fail> {
         run.interim = false;
         run.updaters = updaters;
         let (word, _) = count(&rt, rt.alloc(), &run)?;
-        assert_eq!(rt; word, Ok(9));
+        expect(&rt, word, Ok(9));
     }
     Ok(())
 }
