@@ -1,15 +1,7 @@
-mod gate;
-mod hub;
-mod image;
 mod ingest;
 mod programs;
 mod ranks;
-mod read;
-mod schedules;
-mod sessions;
 mod tenants;
-mod versions;
-mod waking;
 mod windows;
 
 use std::fmt::Debug;

@@ -1,5 +1,0 @@
-use Rattle.std.proofs.Common.{◌≡◌}
-use Rattle.sk_calls.proofs.tests.hub.give.Given as goal
-
-abbrev pub invariant-item : goal.invariant-item
-invariant-item g l = l.updater.table ≡ l.fn.updater.table

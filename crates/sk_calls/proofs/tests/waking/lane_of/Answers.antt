@@ -1,4 +1,0 @@
-use Rattle.sk_calls.proofs.tests.waking.lane_of.Goals as goal
-
-pub returns : goal.returns
-returns c = c.in_ok-lane.ensures.open.up_to

@@ -1,0 +1,5 @@
+use Rattle.std.proofs.Common.{◌≡◌}
+use Rattle.sk_hub_calls.proofs.tests.hub.beside.update_until_busy.Given as goal
+
+abbrev pub invariant-item : goal.invariant-item
+invariant-item g l = l.updater.table ≡ l.fn.updater.table
