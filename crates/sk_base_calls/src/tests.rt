@@ -19,3 +19,13 @@ use std::process::Abort;
 fn expect<R: Abort, T: PartialEq + Debug + Copy>(rt: &R, got: T, want: T) {
     assert_eq!(rt; got, want);
 }
+
+// The same in a loop, of which a failure shows the case.
+fn expect_at<R: Abort, T: PartialEq + Debug + Copy, C: Debug + Copy>(
+    rt: &R,
+    case: C,
+    got: T,
+    want: T,
+) {
+    assert_eq!(rt; got, want, "at {case:?}");
+}

@@ -1,7 +1,15 @@
-use super::expect;
+use super::{expect, expect_at};
 use sk_hash::{hash48, hash63, hash63_at, murmur128};
 use sk_lines::{hash_line, read_hash};
 use sk_model::limits::ITEM_DIGITS;
+use std::alloc::Global;
+use std::process::Abort;
+
+fn expect_hashes(rt: &impl Abort, text: &str, first: u64, item: u64, item48: u64) {
+    expect_at(rt, text, murmur128(0, text.as_bytes()).0, first);
+    expect_at(rt, text, hash63(0, text.as_bytes()), item);
+    expect_at(rt, text, hash48(0, text.as_bytes()), item48);
+}
 
 #[test]
 fn known_hashes(rt: HostRuntime) {
@@ -27,9 +35,7 @@ fn known_hashes(rt: HostRuntime) {
         ),
     ];
     for (text, first, item, item48) in cases {
-        assert_eq!(rt; murmur128(0, text.as_bytes()).0, first, "of {text}");
-        assert_eq!(rt; hash63(0, text.as_bytes()), item, "of {text}");
-        assert_eq!(rt; hash48(0, text.as_bytes()), item48, "of {text}");
+        expect_hashes(&rt, text, first, item, item48);
     }
 }
 
@@ -54,11 +60,36 @@ fn public_verification(rt: HostRuntime) {
     );
 }
 
-// The values come from a C program written after the public reference code: byte i of the key of
-// length n is (131 n + 37 i + i² / 3) mod 256.
+// The key of a length: its byte i is (131 n + 37 i + i² / 3) mod 256.
+fn key_of(rt: &impl Abort, alloc: Global, len: u8) -> Vec<u8> {
+    let len = u32::from(len);
+    let mut key = Vec::new(alloc);
+    for i in 0..len {
+        let byte = (131 * len + 37 * i + i * i / 3) % 256;
+        key.push(byte as u8).expect(rt, "room for a byte");
+    }
+    key
+}
+
+// Expects the hash of the key of a length, alone and in front of more bytes.
+fn expect_halves(rt: &impl Abort, alloc: Global, len: u8, seed: u32, halves: (u64, u64)) {
+    let mut key = key_of(rt, alloc, len);
+    expect_at(rt, len, murmur128(seed, key.as_slice()), halves);
+    let end = key.len();
+    key.extend_from_slice(&[0xff; 16])
+        .expect(rt, "room for bytes after the key");
+    expect_at(
+        rt,
+        len,
+        hash63_at(seed, key.as_slice(), 0, end),
+        halves.0 >> 1,
+    );
+}
+
+// The values come from a C program written after the public reference code.
 #[test]
 fn both_halves_at_some_lengths(rt: HostRuntime) {
-    let cases: [(u32, u32, u64, u64); 8] = [
+    let cases: [(u8, u32, u64, u64); 8] = [
         (1, 0x9e37_79b9, 0x65d4_3364_376b_b8c1, 0x0458_6555_c9a1_cc74),
         (3, 0xdaa6_6d2b, 0x116c_1b00_c457_da34, 0x0c46_8be8_2410_390e),
         (7, 0x5384_540f, 0xb409_5d7e_67cb_ce87, 0x4438_4b9a_82bd_5bc6),
@@ -89,20 +120,7 @@ fn both_halves_at_some_lengths(rt: HostRuntime) {
         ),
     ];
     for (len, seed, first, second) in cases {
-        let mut key = Vec::new(rt.alloc());
-        for i in 0..len {
-            let byte = (131 * len + 37 * i + i * i / 3) % 256;
-            key.push(byte as u8).expect(&rt, "room for a byte");
-        }
-        assert_eq!(rt;
-            murmur128(seed, key.as_slice()),
-            (first, second),
-            "of {len} bytes"
-        );
-        let end = key.len();
-        key.extend_from_slice(&[0xff; 16])
-            .expect(&rt, "room for bytes after the key");
-        expect(&rt, hash63_at(seed, key.as_slice(), 0, end), first >> 1);
+        expect_halves(&rt, rt.alloc(), len, seed, (first, second));
     }
 }
 

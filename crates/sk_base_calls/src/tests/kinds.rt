@@ -123,8 +123,8 @@ fn three_items(alloc: Global, items: [u64; 3]) -> Result<Buffer, OutOfMemory>
 fn a_repeat_in_a_batch_counts_once(rt: HostRuntime) -> Result<(), Fail> {
     let mut sketch = Theta::new(rt.alloc(), 2)?;
     let mut batch = three_items(rt.alloc(), [3, 5, 3])?;
-    assert!(rt; batch.is_full());
-    assert!(rt; Theta::early(sketch.hint()));
+    expect(&rt, batch.is_full(), true);
+    expect(&rt, Theta::early(sketch.hint()), true);
     merge_surely(&rt, &mut sketch, 0, &batch);
     expect(
         &rt,
@@ -132,7 +132,8 @@ fn a_repeat_in_a_batch_counts_once(rt: HostRuntime) -> Result<(), Fail> {
         Reply { count: 2, theta: 5 },
     );
     expect(&rt, sketch.hint(), 5);
-    assert!(rt; !Theta::early(5) && Theta::keeps(5, 4) && !Theta::keeps(5, 5));
+    let of_five = (Theta::early(5), Theta::keeps(5, 4), Theta::keeps(5, 5));
+    expect(&rt, of_five, (false, true, false));
     batch.clear();
     expect(&rt, batch.len(), 0);
     Ok(())
@@ -143,15 +144,15 @@ fn a_repeat_in_a_batch_counts_once(rt: HostRuntime) -> Result<(), Fail> {
 fn a_repeat_counts_once_in_a_heap(rt: HostRuntime) -> Result<(), Fail> {
     let mut sketch = HeapTheta::new(rt.alloc(), 2)?;
     let batch = three_items(rt.alloc(), [3, 5, 3])?;
-    Composable::merge(&mut sketch, &rt, 0, &batch)?;
+    expect(&rt, Composable::merge(&mut sketch, &rt, 0, &batch), Ok(()));
     expect(
         &rt,
         unpack(Composable::packed(&sketch), 2),
         Reply { count: 2, theta: 5 },
     );
     expect(&rt, sketch.hint(), 5);
-    assert!(rt; !HeapTheta::keeps(5, 5));
-    assert!(rt; HeapTheta::early(ITEM_END));
+    expect(&rt, HeapTheta::keeps(5, 5), false);
+    expect(&rt, HeapTheta::early(ITEM_END), true);
     expect(&rt, ThetaWord::k(&sketch), 2);
     Ok(())
 }
@@ -173,7 +174,7 @@ fn a_refused_batch_is_merged_when_it_comes_again(rt: HostRuntime) -> Result<(), 
         (batch.items(), teller.packed()),
         ([7, 9, 7].as_slice(), 0),
     );
-    teller.merge(&rt, 0, &batch)?;
+    expect(&rt, teller.merge(&rt, 0, &batch), Ok(()));
     let mut parcel = Parcel {
         buffer: batch,
         told: Some(teller.told()),

@@ -3,11 +3,13 @@ ghost use Rattle.std.specs.List.{flat_map};
 ghost use Rattle.sk_model.specs.Lines.{lines_of, open_lines_of};
 ghost use Rattle.sk_lines.specs.Cutter.{Follows, IsLongAfter};
 
-use super::expect;
+use super::streams::source_of;
+use super::{expect, expect_at};
 use sk_io::{BoundFault, MemSource};
 use sk_lines::{Ending, Lines, MOST_LIMIT, MOST_PIECE, Next};
 use sk_model::OutOfMemory;
 use std::alloc::Global;
+use std::process::Abort;
 use std::test::Fail;
 
 // Why the lines of a text are not all there.
@@ -102,20 +104,22 @@ fn shown(alloc: Global, limit: usize, pieces: &[&[u8]]) -> Result<Vec<u8>, Fail>
     requires most { limit ≤ MOST_LIMIT }
     requires sizes { All (λ piece. length piece.now ≤ MOST_PIECE) pieces.now }
 {
-    let mut text = Vec::new(alloc);
     match lines_of_pieces(alloc, limit, pieces) {
-        Ok(lines) => {
-            for line in &lines {
-                if line.len() > 10 {
-                    text.extend_from_slice(format!(in alloc; "{}", line.len())?.as_bytes())?;
-                } else {
-                    text.extend_from_slice(line)?;
-                }
-                text.push(b'|')?;
-            }
+        Ok(lines) => joined(alloc, &lines),
+        Err(Stop::Long(n)) => Ok(format!(in alloc; "long {n}")?.into_bytes()),
+        Err(Stop::OutOfMemory) => Err(OutOfMemory.into()),
+    }
+}
+
+fn joined(alloc: Global, lines: &[Vec<u8>]) -> Result<Vec<u8>, Fail> {
+    let mut text = Vec::new(alloc);
+    for line in lines {
+        if line.len() > 10 {
+            text.extend_from_slice(format!(in alloc; "{}", line.len())?.as_bytes())?;
+        } else {
+            text.extend_from_slice(line)?;
         }
-        Err(Stop::Long(n)) => text.extend_from_slice(format!(in alloc; "long {n}")?.as_bytes())?,
-        Err(Stop::OutOfMemory) => text.extend_from_slice(b"out of memory")?,
+        text.push(b'|')?;
     }
     Ok(text)
 }
@@ -126,7 +130,7 @@ fn every_cut_gives_the_same_lines(rt: HostRuntime) -> Result<(), Fail> {
     for cut in 0..=text.len() {
         let (front, back) = text.split_at(cut);
         let lines = shown(rt.alloc(), 65_536, &[front, back])?;
-        assert_eq!(rt; lines.as_slice(), b"|a|a|".as_slice(), "cut at {cut}");
+        expect_at(&rt, cut, lines.as_slice(), b"|a|a|".as_slice());
     }
     Ok(())
 }
@@ -182,24 +186,30 @@ fn lines_at_the_limit_of_records(rt: HostRuntime) -> Result<(), Fail> {
     Ok(())
 }
 
+// Expects that the next line is not complete.
+fn expect_more(rt: &impl Abort, lines: &mut Lines)
+    requires { lines.old.ended ≡ false }
+    ensures hungry { lines.new.hungry ≡ true }
+    ensures ended { lines.new.ended ≡ false }
+{
+    match lines.next() {
+        Next::More => {}
+        Next::Line | Next::Long(_) => panic!(rt; "a line is complete or too long"),
+    }
+}
+
 #[test]
 fn a_long_line_is_known_by_its_first_byte_too_many(rt: HostRuntime) -> Result<(), Fail> {
     let mut lines = Lines::new(rt.alloc(), 4)?;
     lines.feed(b"ab\r\nabcd");
     expect(&rt, lines.next(), Next::Line);
     expect(&rt, (lines.number(), lines.ending()), (1, Ending::CrLf));
-    let answer = lines.next();
-    expect(&rt, answer, Next::More);
-    if answer == Next::More {
-        lines.feed(b"\r");
-        let answer = lines.next();
-        expect(&rt, answer, Next::More);
-        if answer == Next::More {
-            lines.feed(b"x");
-            expect(&rt, lines.next(), Next::Long(2));
-            expect(&rt, lines.next(), Next::Long(2));
-        }
-    }
+    expect_more(&rt, &mut lines);
+    lines.feed(b"\r");
+    expect_more(&rt, &mut lines);
+    lines.feed(b"x");
+    expect(&rt, lines.next(), Next::Long(2));
+    expect(&rt, lines.next(), Next::Long(2));
     Ok(())
 }
 
@@ -214,23 +224,32 @@ fn ending_behind(lines: &mut Lines, piece: &[u8]) -> Ending
     lines.ending()
 }
 
+// Expects that the next read of a source fails.
+fn expect_read_fault(rt: &impl Abort, lines: &mut Lines, source: &mut MemSource)
+    requires hungry { lines.old.hungry ≡ true }
+    requires not_ended { lines.old.ended ≡ false }
+    ensures hungry { lines.new.hungry ≡ true }
+    ensures ended { lines.new.ended ≡ false }
+{
+    match lines.feed_from(source, 9) {
+        Err(BoundFault::ReadFault) => {}
+        Err(BoundFault::TooMuch) | Ok(_) => panic!(rt; "the read did not fail"),
+    }
+}
+
 // A read that fails in mid-stream leaves what is held, and the next continues after it.
 #[test]
 fn lines_of_a_source_that_fails(rt: HostRuntime) -> Result<(), Fail> {
     let alloc = rt.alloc();
-    let mut source = MemSource::new(b"ab\ncde".to_vec(alloc)?, 4, [1].to_vec(alloc)?);
+    let mut source = source_of(alloc, b"ab\ncde", 4, &[1])?;
     let mut lines = Lines::new(alloc, 4)?;
     expect(&rt, lines.feed_from(&mut source, 9), Ok(4));
     expect(&rt, lines.next(), Next::Line);
-    if lines.next() == Next::More {
-        let answer = lines.feed_from(&mut source, 9);
-        expect(&rt, answer, Err(BoundFault::ReadFault));
-        if answer.is_err() {
-            expect(&rt, lines.rest(), b"c".as_slice());
-            expect(&rt, lines.feed_from(&mut source, 1), Ok(1));
-            expect(&rt, lines.rest(), b"cd".as_slice());
-        }
-    }
+    expect_more(&rt, &mut lines);
+    expect_read_fault(&rt, &mut lines, &mut source);
+    expect(&rt, lines.rest(), b"c".as_slice());
+    expect(&rt, lines.feed_from(&mut source, 1), Ok(1));
+    expect(&rt, lines.rest(), b"cd".as_slice());
     Ok(())
 }
 
@@ -240,9 +259,8 @@ fn a_piece_more_keeps_the_ending(rt: HostRuntime) -> Result<(), Fail> {
     let mut lines = Lines::new(rt.alloc(), 4)?;
     lines.feed(b"ab\r\n");
     expect(&rt, lines.next(), Next::Line);
-    if lines.next() == Next::More {
-        expect(&rt, ending_behind(&mut lines, b"cd"), Ending::CrLf);
-    }
+    expect_more(&rt, &mut lines);
+    expect(&rt, ending_behind(&mut lines, b"cd"), Ending::CrLf);
     Ok(())
 }
 

@@ -5,10 +5,11 @@ ghost use Rattle.sk_model.specs.Causes.{HasCause};
 ghost use Rattle.sk_io.specs.Memory.{IsNew};
 ghost use Rattle.sk_io.specs.Traffic.{Ended, IsUntouched, Exchanges, Pass, Receives, text_of};
 
-use super::expect;
 use super::streams::piece_of;
+use super::{expect, expect_at};
 use sk_io::{Door, DoorFault, Failed, Link, MemDoor, MemLink, OnLink, OutOfMemory, send_all};
 use std::alloc::Global;
+use std::process::Abort;
 use std::test::Fail;
 
 // Reads a link once, as a function does that reads from any source.
@@ -110,11 +111,29 @@ fn a_door_gives_its_links_in_order(rt: HostRuntime) -> Result<(), Fail> {
     let alloc = rt.alloc();
     let mut door = door_of(alloc, Vec::new(alloc))?;
     // That both links were closed is known after it.
-    assert_eq!(rt; echo_two(&mut door, 7000), Ok(()));
+    match echo_two(&mut door, 7000) {
+        Ok(()) => {}
+        Err(fault) => panic!(rt; "{fault:?} at the first two links"),
+    }
     expect(&rt, door.written(0), b"one".as_slice());
     expect(&rt, door.written(1), b"fo".as_slice());
     // No link is left.
     expect(&rt, echo_two(&mut door, 7000), Err(DoorFault::Failed));
+    Ok(())
+}
+
+// Expects the port at which a door listens that is given this one, while this call of it fails.
+fn expect_port(
+    rt: &impl Abort,
+    alloc: Global,
+    fails: u64,
+    port: u16,
+    listens: Option<u16>,
+) -> Result<(), OutOfMemory> {
+    let mut door = door_of(alloc, [fails].to_vec(alloc)?)?;
+    expect(rt, door.port(), None);
+    let _ = door.listen(port, 2);
+    expect_at(rt, (port, fails), door.port(), listens);
     Ok(())
 }
 
@@ -123,11 +142,14 @@ fn a_door_gives_its_links_in_order(rt: HostRuntime) -> Result<(), Fail> {
 fn a_door_listens_at_its_port(rt: HostRuntime) -> Result<(), Fail> {
     let alloc = rt.alloc();
     for (fails, port, listens) in [(9, 7000, Some(7000)), (1, 1, Some(1)), (0, 7000, None)] {
-        let mut door = door_of(alloc, [fails].to_vec(alloc)?)?;
-        expect(&rt, door.port(), None);
-        let _ = door.listen(port, 2);
-        assert_eq!(rt; door.port(), listens, "at {port}, call {fails} fails");
+        expect_port(&rt, alloc, fails, port, listens)?;
     }
+    Ok(())
+}
+
+fn expect_failure_at(rt: &impl Abort, alloc: Global, call: u64) -> Result<(), OutOfMemory> {
+    let mut door = door_of(alloc, [call].to_vec(alloc)?)?;
+    expect_at(rt, call, echo_two(&mut door, 7000), Err(DoorFault::Failed));
     Ok(())
 }
 
@@ -135,12 +157,7 @@ fn a_door_listens_at_its_port(rt: HostRuntime) -> Result<(), Fail> {
 fn a_door_fails_at_its_numbers(rt: HostRuntime) -> Result<(), Fail> {
     let alloc = rt.alloc();
     for call in 0..3 {
-        let mut door = door_of(alloc, [call].to_vec(alloc)?)?;
-        assert_eq!(rt;
-            echo_two(&mut door, 7000),
-            Err(DoorFault::Failed),
-            "at call {call}"
-        );
+        expect_failure_at(&rt, alloc, call)?;
     }
     Ok(())
 }

@@ -2,6 +2,7 @@ use super::expect;
 use sk_lines::{ESTIMATE_LINE_LEN, push_fraction, put_estimate_line, put_fraction, read_number};
 use sk_read::{are_short_numbers, read_number_at};
 use std::alloc::Global;
+use std::process::Abort;
 use std::test::Fail;
 
 // 2^48.
@@ -9,6 +10,11 @@ const LOW_END: u64 = 281_474_976_710_656;
 
 // The numbers that are read as items are below it.
 const END: u64 = 9_223_372_036_854_775_807;
+
+fn expect_number(rt: &impl Abort, bytes: &[u8], below: u64, want: Option<u64>) {
+    assert!(rt; below >= 1);
+    expect(rt, read_number(bytes, below), want);
+}
 
 #[test]
 fn numbers_at_their_limits(rt: HostRuntime) {
@@ -29,8 +35,7 @@ fn numbers_at_their_limits(rt: HostRuntime) {
         (b"99999999999999999999", u64::MAX, None),
     ];
     for (bytes, below, want) in rows {
-        assert!(rt; below >= 1);
-        expect(&rt, read_number(bytes, below), want);
+        expect_number(&rt, bytes, below, want);
     }
 }
 
@@ -79,6 +84,18 @@ fn numbers_at_places_of_a_text(rt: HostRuntime) {
     }
 }
 
+// Expects this number in a part of a text.
+fn expect_part(
+    rt: &impl Abort,
+    text: &[u8],
+    (from, to): (usize, usize),
+    below: u64,
+    want: Option<u64>,
+) {
+    assert!(rt; from <= to && to <= text.len() && below >= 1);
+    expect(rt, read_number_at(text, from, to, below), want);
+}
+
 #[test]
 fn numbers_of_a_text_at_their_limits(rt: HostRuntime) {
     let text = b"--------------------------------0009223372036854775807 18446744073709551615";
@@ -97,8 +114,7 @@ fn numbers_of_a_text_at_their_limits(rt: HostRuntime) {
         (55, 75, u64::MAX, None),
     ];
     for (from, to, below, want) in rows {
-        assert!(rt; from <= to && to <= text.len() && below >= 1);
-        expect(&rt, read_number_at(text, from, to, below), want);
+        expect_part(&rt, text, (from, to), below, want);
     }
 }
 

@@ -43,8 +43,40 @@ fn rank_in(alloc: Global, k: u32, key: u64, items: &[u64], x: u64) -> Result<Ran
     })
 }
 
-fn expect(rt: &impl Abort, got: Rank, n: u64, below: u64, within: u64) {
-    assert_eq!(rt; got, Rank { n, below, within });
+// Expects what the sketch of a list answers: how many items it was given, how many are below x, and within what.
+fn expect(
+    rt: &impl Abort,
+    sketch: (Global, u32, u64),
+    items: &[u64],
+    x: u64,
+    want: (u64, u64, u64),
+) -> Result<(), OutOfMemory>
+    requires least { least_quantile_k ≤ sketch.1 }
+    requires most { sketch.1 ≤ most_quantile_k }
+    requires key { sketch.2 < key_end }
+    requires few { length items.now ≤ most_items }
+{
+    let rank = rank_in(sketch.0, sketch.1, sketch.2, items, x)?;
+    assert_eq!(rt; (rank.n, rank.below, rank.within), want);
+    Ok(())
+}
+
+// The same of the middle of 1 to 1,000, of which it says no more than its error allows.
+fn expect_middle(
+    rt: &impl Abort,
+    sketch: (Global, u32, u64),
+    items: &[u64],
+    want: (u64, u64),
+) -> Result<(), OutOfMemory>
+    requires least { least_quantile_k ≤ sketch.1 }
+    requires most { sketch.1 ≤ most_quantile_k }
+    requires key { sketch.2 < key_end }
+    requires few { length items.now ≤ most_items }
+{
+    let rank = rank_in(sketch.0, sketch.1, sketch.2, items, 501)?;
+    assert_eq!(rt; (rank.n, rank.below, rank.within), (1_000, want.0, want.1));
+    assert!(rt; rank.below.abs_diff(500) <= rank.within);
+    Ok(())
 }
 
 #[test]
@@ -52,9 +84,9 @@ fn small_lists_have_one_answer_whichever_way_the_coin_falls(rt: HostRuntime) -> 
     let alloc = rt.alloc();
     for key in [0u32, 1] {
         let key = u64::from(key);
-        expect(&rt, rank_in(alloc, 2, key, &[], 3)?, 0, 0, 0);
-        expect(&rt, rank_in(alloc, 2, key, &[1, 2, 3], 3)?, 3, 2, 0);
-        expect(&rt, rank_in(alloc, 2, key, &[1, 2, 3, 4], 3)?, 4, 2, 1);
+        expect(&rt, (alloc, 2, key), &[], 3, (0, 0, 0))?;
+        expect(&rt, (alloc, 2, key), &[1, 2, 3], 3, (3, 2, 0))?;
+        expect(&rt, (alloc, 2, key), &[1, 2, 3, 4], 3, (4, 2, 1))?;
     }
     Ok(())
 }
@@ -63,8 +95,8 @@ fn small_lists_have_one_answer_whichever_way_the_coin_falls(rt: HostRuntime) -> 
 #[test]
 fn the_coin_of_the_key_decides(rt: HostRuntime) -> Result<(), Fail> {
     let alloc = rt.alloc();
-    expect(&rt, rank_in(alloc, 2, 0, &[4, 2, 3, 1], 2)?, 4, 2, 1);
-    expect(&rt, rank_in(alloc, 2, 1, &[4, 2, 3, 1], 2)?, 4, 0, 1);
+    expect(&rt, (alloc, 2, 0), &[4, 2, 3, 1], 2, (4, 2, 1))?;
+    expect(&rt, (alloc, 2, 1), &[4, 2, 3, 1], 2, (4, 0, 1))?;
     Ok(())
 }
 
@@ -97,32 +129,44 @@ fn a_thousand_numbers_under_ten_keys(rt: HostRuntime) -> Result<(), Fail> {
     let items = numbers(alloc, 1_000)?;
     let below = [504, 504, 496, 496, 504, 496, 496, 504, 496, 504];
     for key in 0..10u32 {
-        let coarse = rank_in(alloc, 2, u64::from(key), &items, 501)?;
-        expect(&rt, coarse, 1_000, 512, 1_780);
-        assert!(rt; coarse.below.abs_diff(500) <= coarse.within);
-        let fine = rank_in(alloc, 64, u64::from(key), &items, 501)?;
-        expect(&rt, fine, 1_000, below[key as usize], 17);
-        assert!(rt; fine.below.abs_diff(500) <= fine.within);
+        let want = (below[key as usize], 17);
+        let key = u64::from(key);
+        expect_middle(&rt, (alloc, 2, key), &items, (512, 1_780))?;
+        expect_middle(&rt, (alloc, 64, key), &items, want)?;
     }
     Ok(())
+}
+
+// Expects of so many squares how many are below x, and within what.
+fn expect_squares(
+    rt: &impl Abort,
+    sketch: (Global, u32, u64),
+    count: u32,
+    x: u64,
+    want: (u64, u64),
+) -> Result<(), OutOfMemory>
+    requires least { least_quantile_k ≤ sketch.1 }
+    requires most { sketch.1 ≤ most_quantile_k }
+    requires key { sketch.2 < key_end }
+    requires few { count ≤ most_items }
+{
+    let items = squares(sketch.0, count)?;
+    expect(rt, sketch, &items, x, (u64::from(count), want.0, want.1))
 }
 
 // Another program computed these answers.
 #[test]
 fn squares_that_repeat(rt: HostRuntime) -> Result<(), Fail> {
     let alloc = rt.alloc();
-    let rank = rank_in(alloc, LEAST_QUANTILE_K, 5, &squares(alloc, 300)?, 400)?;
-    expect(&rt, rank, 300, 276, 485);
-    let rank = rank_in(alloc, 2, KEY_END - 1, &squares(alloc, 1_023)?, 500)?;
-    expect(&rt, rank, 1_023, 735, 1_793);
-    let rank = rank_in(alloc, 5, 2, &squares(alloc, 777)?, 100)?;
-    expect(&rt, rank, 777, 28, 493);
-    let rank = rank_in(alloc, 64, 1, &squares(alloc, 5_000)?, 300)?;
-    expect(&rt, rank, 5_000, 1_533, 209);
-    let rank = rank_in(alloc, 128, 0, &squares(alloc, 20_000)?, 700)?;
-    expect(&rt, rank, 20_000, 13_740, 496);
-    let rank = rank_in(alloc, MOST_QUANTILE_K, 9, &squares(alloc, 20_000)?, 123)?;
-    expect(&rt, rank, 20_000, 2_631, 4);
+    let sketch = (alloc, LEAST_QUANTILE_K, 5);
+    expect_squares(&rt, sketch, 300, 400, (276, 485))?;
+    let sketch = (alloc, 2, KEY_END - 1);
+    expect_squares(&rt, sketch, 1_023, 500, (735, 1_793))?;
+    expect_squares(&rt, (alloc, 5, 2), 777, 100, (28, 493))?;
+    expect_squares(&rt, (alloc, 64, 1), 5_000, 300, (1_533, 209))?;
+    expect_squares(&rt, (alloc, 128, 0), 20_000, 700, (13_740, 496))?;
+    let sketch = (alloc, MOST_QUANTILE_K, 9);
+    expect_squares(&rt, sketch, 20_000, 123, (2_631, 4))?;
     Ok(())
 }
 

@@ -13,6 +13,7 @@ use sk_io::{
 use std::alloc::Global;
 use std::fs::File;
 use std::io::{ErrorKind, Write};
+use std::process::Abort;
 use std::test::Fail;
 use std::{fs, io};
 
@@ -30,22 +31,44 @@ pub fn drained<S: Source>(alloc: Global, source: &mut S) -> Result<Vec<u8>, Fail
     Ok(all)
 }
 
+// A source of a text in pieces of that many bytes, whose reads of these numbers fail.
+pub fn source_of(alloc: Global, text: &[u8], piece: usize, fails: &[u64]) -> Result<MemSource, Fail>
+    requires { 0 < piece }
+{
+    let text = text.to_vec(alloc)?;
+    Ok(MemSource::new(text, piece, fails.to_vec(alloc)?))
+}
+
 #[test]
 fn reads_in_pieces_and_fails_at_its_numbers(rt: HostRuntime) -> Result<(), Fail> {
     let alloc = rt.alloc();
-    let mut source = MemSource::new(b"hello".to_vec(alloc)?, 3, [1, 3].to_vec(alloc)?);
+    let mut source = source_of(alloc, b"hello", 3, &[1, 3])?;
     let mut buf = [0; 4];
-    for answer in [Ok(3), Err(Failed), Ok(2), Err(Failed), Ok(0)] {
-        expect(&rt, source.read(&mut buf), answer);
-    }
+    expect(&rt, source.read(&mut buf), Ok(3));
+    expect(&rt, source.read(&mut buf), Err(Failed));
+    expect(&rt, source.read(&mut buf), Ok(2));
+    expect(&rt, source.read(&mut buf), Err(Failed));
+    expect(&rt, source.read(&mut buf), Ok(0));
     expect(&rt, buf, [b'l', b'o', b'l', 0]);
-    let mut source = MemSource::new(b"hello".to_vec(alloc)?, 3, [0, 2].to_vec(alloc)?);
-    expect(
-        &rt,
-        drained(alloc, &mut source)?.as_slice(),
-        b"hello".as_slice(),
-    );
     Ok(())
+}
+
+// Expects that a source gives this text in all.
+pub fn expect_all<S: Source>(
+    rt: &impl Abort,
+    alloc: Global,
+    source: &mut S,
+    text: &[u8],
+) -> Result<(), Fail> {
+    expect(rt, drained(alloc, source)?.as_slice(), text);
+    Ok(())
+}
+
+#[test]
+fn reads_after_reads_that_fail(rt: HostRuntime) -> Result<(), Fail> {
+    let alloc = rt.alloc();
+    let mut source = source_of(alloc, b"hello", 3, &[0, 2])?;
+    expect_all(&rt, alloc, &mut source, b"hello")
 }
 
 #[test]
@@ -53,34 +76,26 @@ fn a_sure_source_gives_all(rt: HostRuntime) -> Result<(), Fail> {
     let alloc = rt.alloc();
     let mut source = SureSource::new(b"estimate".to_vec(alloc)?);
     let mut buf = [0; 5];
-    for answer in [Ok(5), Ok(3), Ok(0)] {
-        expect(&rt, source.read(&mut buf), answer);
-    }
+    expect(&rt, source.read(&mut buf), Ok(5));
+    expect(&rt, source.read(&mut buf), Ok(3));
+    expect(&rt, source.read(&mut buf), Ok(0));
     let mut source = SureSource::new(b"estimate".to_vec(alloc)?);
-    expect(
-        &rt,
-        drained(alloc, &mut source)?.as_slice(),
-        b"estimate".as_slice(),
-    );
-    Ok(())
+    expect_all(&rt, alloc, &mut source, b"estimate")
 }
 
 #[test]
 fn reads_within_a_bound(rt: HostRuntime) -> Result<(), Fail> {
     let alloc = rt.alloc();
-    let mut source = MemSource::new(b"estimate".to_vec(alloc)?, 8, [1].to_vec(alloc)?);
+    let mut source = source_of(alloc, b"estimate", 8, &[1])?;
     let mut piece = [0; 4];
-    let rows = [
-        (3, Ok(3)),
-        (9, Err(BoundFault::ReadFault)),
-        (0, Err(BoundFault::TooMuch)),
-        (9, Ok(4)),
-        (9, Ok(1)),
-        (9, Ok(0)),
-    ];
-    for (room, answer) in rows {
-        expect(&rt, read_within(&mut source, &mut piece, room), answer);
-    }
+    let read_fault = Err(BoundFault::ReadFault);
+    expect(&rt, read_within(&mut source, &mut piece, 3), Ok(3));
+    expect(&rt, read_within(&mut source, &mut piece, 9), read_fault);
+    let too_much = Err(BoundFault::TooMuch);
+    expect(&rt, read_within(&mut source, &mut piece, 0), too_much);
+    expect(&rt, read_within(&mut source, &mut piece, 9), Ok(4));
+    expect(&rt, read_within(&mut source, &mut piece, 9), Ok(1));
+    expect(&rt, read_within(&mut source, &mut piece, 9), Ok(0));
     expect(&rt, piece, *b"emat");
     Ok(())
 }
@@ -122,8 +137,7 @@ fn a_file_is_written_and_read_back(rt: HostRuntime) -> Result<(), Fail> {
     let mut sink = StdSink::new(File::create(&rt, "streams.txt")?);
     expect(&rt, handed_on(&mut sink, b"one fish two fish\n"), Ok(()));
     let mut source = StdSource::new(File::open(&rt, "streams.txt")?);
-    let text = drained(alloc, &mut source)?;
-    expect(&rt, text.as_slice(), b"one fish two fish\n".as_slice());
+    expect_all(&rt, alloc, &mut source, b"one fish two fish\n")?;
     expect(&rt, sink.write(b"\n"), Ok(1));
     fs::remove_file(&rt, "streams.txt")?;
     Ok(())
