@@ -71,7 +71,7 @@ fn key_of(rt: &impl Abort, alloc: Global, len: u8) -> Vec<u8> {
     key
 }
 
-// Expects the hash of the key of a length, alone and in front of more bytes.
+// Expects the hash of the key of a length, alone and before more bytes.
 fn expect_halves(rt: &impl Abort, alloc: Global, len: u8, seed: u32, halves: (u64, u64)) {
     let mut key = key_of(rt, alloc, len);
     expect_at(rt, len, murmur128(seed, key.as_slice()), halves);
