@@ -8,7 +8,7 @@ ghost use Rattle.sk_quant.specs.Order.{in_order};
 ghost use Rattle.sk_quant.specs.Stored.{lists_of, held_in, CanCarry};
 
 use crate::coins::Coins;
-use crate::ordered::{Ordered, put_in_order};
+use crate::ordered::{OrderedBase, put_in_order};
 
 // Keeps of each two items the first, by coin 0, or the second.
 fn halve(items: &mut Vec<u64>, coin: usize)
@@ -93,7 +93,7 @@ fn compact(
     base: &mut Vec<u64>,
     levels: &mut [Vec<u64>],
     coins: &mut Coins,
-    ordered: Option<&Ordered>,
+    ordered: Option<&OrderedBase>,
 )
     requires few { vec_len base.old ≤ 2 * k }
     requires room { 2 * k ≤ vec_capacity base.old }
@@ -136,7 +136,7 @@ pub fn put_all(
     levels: &mut [Vec<u64>],
     coins: &mut Coins,
     items: &[u64],
-    ordered: Option<&Ordered>,
+    ordered: Option<&OrderedBase>,
 )
     requires few { (1 ≤ length items.now) × (vec_len base.old + length items.now ≤ 2 * k) }
     requires room { 2 * k ≤ vec_capacity base.old }

@@ -1,19 +1,19 @@
-//! A full base in order, worked out once for all sketches that hold it.
-ghost use Rattle.std.specs.Prelude.{◌≡◌, ◌≤◌, IsTrue, vec_len, vec_capacity};
+//! Full bases in order, worked out once for all sketches that hold them.
+ghost use Rattle.std.specs.Prelude.{◌≡◌, ◌<◌, ◌≤◌, IsTrue, vec_len, vec_capacity};
 ghost use Rattle.sk_quant.specs.Order.{in_order};
 
 use sk_model::OutOfMemory;
 use std::alloc::Global;
 use std::marker::Model;
 
-/// Items, and the same in order. Contracts see it as the items.
+// The items of a full base, and the same in order. Contracts see it as the items.
 #[derive(Drop)]
-pub struct Ordered {
+pub(crate) struct OrderedBase {
     items: Vec<u64>,
     rising: Vec<u64>,
 }
 
-impl Model for Ordered {
+impl Model for OrderedBase {
     ghost use Rattle.std.specs.Prelude.{◌≡◌, ℕ, List};
     ghost use Rattle.sk_quant.specs.Order.{in_order};
 
@@ -24,16 +24,16 @@ impl Model for Ordered {
     ghost invariant = { λ o. o.rising.items ≡ in_order o.items.items };
 }
 
-impl Ordered {
+impl OrderedBase {
     // What two lists have together, in order.
-    pub(crate) fn of(alloc: Global, first: &[u64], last: &[u64]) -> Result<Ordered, OutOfMemory> {
+    fn of(alloc: Global, first: &[u64], last: &[u64]) -> Result<OrderedBase, OutOfMemory> {
         let mut items = Vec::with_capacity(alloc, first.len() + last.len())?;
         items.extend_from_slice(first)?;
         items.extend_from_slice(last)?;
         let mut rising = Vec::with_capacity(alloc, items.len())?;
         rising.extend_from_slice(&items)?;
         rising.sort_unstable();
-        Ok(Ordered { items, rising })
+        Ok(OrderedBase { items, rising })
     }
 
     // Whether it is of these.
@@ -51,8 +51,39 @@ impl Ordered {
     }
 }
 
+/// The bases that items fill, one after another, each with its items in order.
+#[derive(Drop)]
+pub struct Ordered {
+    bases: Vec<OrderedBase>,
+}
+
+impl Ordered {
+    // A base that these items fill up, and each that as many more items as it has room for fill after it.
+    pub(crate) fn of(
+        alloc: Global,
+        room: usize,
+        base: &[u64],
+        first: &[u64],
+        rest: &[u64],
+    ) -> Result<Ordered, OutOfMemory>
+        requires { 0 < room }
+    {
+        let mut bases = Vec::new(alloc);
+        bases.push(OrderedBase::of(alloc, base, first)?)?;
+        'bases: for items in rest.chunks_exact(room) {
+            bases.push(OrderedBase::of(alloc, &[], items)?)?;
+        }
+        Ok(Ordered { bases })
+    }
+}
+
+// The base at this place of what was prepared, if it has one.
+pub(crate) fn base_at(prepared: Option<&Ordered>, place: usize) -> Option<&OrderedBase> {
+    prepared?.bases.get(place)
+}
+
 // Puts items in order, which takes no sort if that was done.
-pub(crate) fn put_in_order(items: &mut Vec<u64>, ordered: Option<&Ordered>)
+pub(crate) fn put_in_order(items: &mut Vec<u64>, ordered: Option<&OrderedBase>)
     ensures items { items.new.items ≡ in_order items.old.items }
     ensures len { vec_len items.new ≡ vec_len items.old }
     ensures room { vec_capacity items.old ≤ vec_capacity items.new }

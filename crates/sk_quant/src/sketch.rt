@@ -11,7 +11,7 @@ ghost use Rattle.sk_quant.specs.Stored.{lists_of};
 use crate::coins::Coins;
 use crate::compaction::{put, put_all};
 use crate::limits::LEVEL_COUNT;
-use crate::ordered::Ordered;
+use crate::ordered::{Ordered, OrderedBase, base_at};
 use crate::ranks::{error_of, rank, rank_in_levels};
 use sk_model::OutOfMemory;
 use std::alloc::Global;
@@ -76,14 +76,16 @@ impl Quant {
         self.count += 1;
     }
 
-    /// Puts the base that these items fill in order, for all sketches that hold what this one does: each then
+    /// Puts each base that these items fill in order, for all sketches that hold what this one does: each then
     /// takes them without a sort of its own. It returns nothing if they fill none.
     pub fn prepare(&self, alloc: Global, items: &[u64]) -> Result<Option<Ordered>, OutOfMemory> {
-        let room = 2 * self.k as usize - self.base.len();
-        if items.len() < room {
+        let room = 2 * self.k as usize;
+        let left = room - self.base.len();
+        if items.len() < left {
             return Ok(None);
         }
-        let ordered = Ordered::of(alloc, self.base.as_slice(), &items[..room])?;
+        let (first, rest) = items.split_at(left);
+        let ordered = Ordered::of(alloc, room, self.base.as_slice(), first, rest)?;
         Ok(Some(ordered))
     }
 
@@ -93,13 +95,15 @@ impl Quant {
         ensures left { self.new ≡ updated_all self.old items.now }
     {
         let mut at = 0;
+        let mut filled = 0;
         'fill: while at < items.len() {
-            at += self.fill(&items[at..], prepared);
+            at += self.fill(&items[at..], base_at(prepared, filled));
+            filled += 1;
         }
     }
 
     // Puts items to the end of the list until the base is full, or else all of them, and returns how many.
-    fn fill(&mut self, items: &[u64], prepared: Option<&Ordered>) -> usize
+    fn fill(&mut self, items: &[u64], ordered: Option<&OrderedBase>) -> usize
         requires some { 1 ≤ length items.now }
         requires room { self.old.count + length items.now ≤ most_items }
         ensures left { self.new ≡ updated_all self.old (take result items.now) }
@@ -113,7 +117,7 @@ impl Quant {
             &mut self.levels,
             &mut self.coins,
             &items[..taken],
-            prepared,
+            ordered,
         );
         self.count += taken as u64;
         taken

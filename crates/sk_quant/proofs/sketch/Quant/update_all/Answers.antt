@@ -26,4 +26,5 @@ fill-preserved c =
           ∙ ap (λ (l : List ℕ). updated_all (updated_all c.args.self.now (take at items)) (take n l)) rest
           ∙ updated_more c.args.self.now items at n;
       within = omega (arith, c.fill-at.ensures.most, ap (λ (l : List ℕ). length l) rest, length-drop at items, c.fill.invariant.within);
+      few = omega (arith, c.fill-at.ensures.some, c.fill.invariant.few);
     }

@@ -6,6 +6,7 @@ abbrev pub invariant-fill : goal.invariant-fill
 invariant-fill l = record {
   left : l.self ≡ updated_all l.fn.self (take l.at l.items);
   within : l.at ≤ length l.items;
+  few : l.filled ≤ l.at;
 }
 
 abbrev pub decreases-fill : goal.decreases-fill

@@ -2,7 +2,7 @@ use Rattle.std.proofs.Common.{◌≡◌, ℕ, List, ◌++◌, sym, ap, ◌∙◌
 use Rattle.std.proofs.lemmas.List.Sorted.{IsNonDecreasingBy-from_sort}
 use Rattle.sk_quant.specs.Order.{in_order}
 use Rattle.sk_quant.proofs.Orders.{in_order_of_permutation}
-use Rattle.sk_quant.proofs.ordered.Ordered.of.Goals as goal
+use Rattle.sk_quant.proofs.ordered.OrderedBase.of.Goals as goal
 
 pub invariant_of-result : goal.invariant_of-result
 invariant_of-result c =
