@@ -8,3 +8,5 @@ pub mod OneByOneLaws
 pub mod SupplyLaws
 pub mod LaneLaws
 pub mod TakerLaws
+pub mod ItemWindows
+pub mod ItemizedLaws

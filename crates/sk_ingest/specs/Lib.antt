@@ -4,3 +4,4 @@ pub mod Takers
 pub mod FedAndRead
 pub mod Supplies
 pub mod Lanes
+pub mod ItemWindows

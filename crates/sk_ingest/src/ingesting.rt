@@ -10,6 +10,7 @@ ghost use Rattle.sk_feed.specs.Hubs.{hub_of, IsHub};
 ghost use Rattle.sk_ingest.specs.Ingests.{terms_of, Ingests, StopsAtUnit, EndsEarly};
 ghost use Rattle.sk_ingest.specs.Takers.{IsAlone, UnitsWent, unreported};
 
+use crate::itemized::ingest_fields;
 use crate::one_by_one::OneByOne;
 use crate::passing::Round;
 use crate::report::Report;
@@ -59,6 +60,9 @@ where
     }
     if is_read_ahead(rt, plan, opened.updaters.len()) {
         return ingest_stretches(rt, alloc, plan, source, opened);
+    }
+    if !plan.interim && plan.column > 0 {
+        return ingest_fields(rt, alloc, plan, source, opened);
     }
     let window = Window::new(alloc, plan.window)?;
     let feeders = feeders_for(rt, alloc, plan, opened.updaters.len())?;

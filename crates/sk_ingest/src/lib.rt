@@ -1,7 +1,10 @@
 //! A source that is read to its end and fed to the updaters of a hub, each full window reported.
 #![tactic(auto)]
 
+mod held_blocks;
 mod ingesting;
+mod item_window;
+mod itemized;
 mod lanes;
 pub mod laws;
 mod one_by_one;

@@ -120,7 +120,7 @@ fn take_lines<C: Composable, R: Wait>(
 
 // Feeds items, in order.
 #[inline(always)]
-fn feed_items<C: Composable, R: Wait>(
+pub(crate) fn feed_items<C: Composable, R: Wait>(
     rt: &R,
     heart: &mut Heart<C>,
     u: &mut Updater<C>,

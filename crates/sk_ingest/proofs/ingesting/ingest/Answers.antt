@@ -1,4 +1,4 @@
-use Rattle.std.proofs.Common.{[], refl, inl, inr}
+use Rattle.std.proofs.Common.{◌≡◌, [], false, refl, inl, inr, rules}
 use Rattle.sk_read.specs.declared.fault.Fault.TheVariants as fault
 use Rattle.sk_read.specs.Units.{units_by}
 use Rattle.sk_read.specs.Reads.{ReadsAll, Ends}
@@ -49,6 +49,30 @@ returns-then-is_read_ahead-clause-refused g c =
     let old = g.S.Source.left c.args.source.now in let new = g.S.Source.left c.ingest_stretches.new.source in
     if_err_then c.ingest_stretches.result (λ why. EndsEarly (unreported k.keeps_of k.hint_of plan) (units_by plan.column) old new hub tt tt why) (λ why. EndsEarly t (units_by plan.column) old new hub r r why) c.ingest_stretches.ensures.refused
     (λ why ends. early_quietly t (units_by plan.column) old new hub tt tt r why (c.is_read_ahead.ensures.unreported c.if-is_read_ahead.true) ends)
+
+pub ingest_fields-requires-clause-start : goal.ingest_fields-requires-clause-start
+ingest_fields-requires-clause-start g c =
+    let k = g.C.Composable in let hub = hub_of c.args.opened.now in
+    windows_start (unreported k.keeps_of k.hint_of c.args.plan.now) hub tt c.requires.window.0 c.requires.hub (few_none c.args.opened.now.heart.view.numbers hub.updaters c.requires.fresh)
+
+pub returns-then-plan-gt0-clause-ok : goal.returns-then-plan-gt0-clause-ok
+returns-then-plan-gt0-clause-ok g c =
+    let k = g.C.Composable in let p = g.P.Report in let plan = c.args.plan.now in let hub = hub_of c.args.opened.now in let r = c.args.report.now in
+    let t = terms_of k.keeps_of k.hint_of p.reports p.breaks plan in let u = unreported k.keeps_of k.hint_of plan in let last = hub_of c.ingest_fields.new.opened in
+    let old = g.S.Source.left c.args.source.now in let new = g.S.Source.left c.ingest_fields.new.source in
+    let off : plan.interim ≡ false = search rules in
+    if_ok_then c.ingest_fields.result (λ n. ReadsAll (units_by plan.column) plan.most n (λ units. Ingests u units hub tt last tt) old new) (λ n. ReadsAll (units_by plan.column) plan.most n (λ units. Ingests t units hub r last r) old new) c.ingest_fields.ensures.ok
+    (λ n reads. all_by (units_by plan.column) plan.most n (λ units. Ingests u units hub tt last tt) (λ units. Ingests t units hub r last r) old new
+    (λ units went. ingests_quietly t units hub last tt tt r off went) reads)
+
+pub returns-then-plan-gt0-clause-refused : goal.returns-then-plan-gt0-clause-refused
+returns-then-plan-gt0-clause-refused g c =
+    let k = g.C.Composable in let p = g.P.Report in let plan = c.args.plan.now in let hub = hub_of c.args.opened.now in let r = c.args.report.now in
+    let t = terms_of k.keeps_of k.hint_of p.reports p.breaks plan in
+    let old = g.S.Source.left c.args.source.now in let new = g.S.Source.left c.ingest_fields.new.source in
+    let off : plan.interim ≡ false = search rules in
+    if_err_then c.ingest_fields.result (λ why. EndsEarly (unreported k.keeps_of k.hint_of plan) (units_by plan.column) old new hub tt tt why) (λ why. EndsEarly t (units_by plan.column) old new hub r r why) c.ingest_fields.ensures.refused
+    (λ why ends. early_quietly t (units_by plan.column) old new hub tt tt r why off ends)
 
 pub returns-in_err-window-clause-refused : goal.returns-in_err-window-clause-refused
 returns-in_err-window-clause-refused g c =
