@@ -1,6 +1,7 @@
 //! One short proved caller for each handle of the library.
 #![tactic(auto)]
 
+mod batches;
 mod count_min;
 mod draining;
 mod feeding;
@@ -14,6 +15,7 @@ mod schedule;
 mod streams;
 mod tenants;
 
+pub use batches::word_with_batch;
 pub use count_min::{HowOften, how_often};
 pub use draining::drain_last_first;
 pub use feeding::{feed_all, feed_item, feed_some};

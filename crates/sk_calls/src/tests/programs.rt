@@ -18,6 +18,7 @@ use std::test::Fail;
 use uses::{
     Measured, count_streams, count_two_tenants, estimate_again, estimate_items, estimate_of_both,
     feed_and_reply, greatest_item, list_of_both, measure_text, rank_source, replay,
+    word_with_batch,
 };
 
 #[tactic(auto, unfolding(sk_model::specs::Entries::items_of_entries))]
@@ -75,6 +76,43 @@ fn sketches_join_and_are_filled_again(rt: HostRuntime) -> Result<(), Fail> {
         [3, 5, 7, 9].as_slice(),
     );
     expect(&rt, estimate_again(&mut one, &[8, 6]), (2, 1));
+    Ok(())
+}
+
+// Six hundred numbers, the greatest first: they are merged in two pieces.
+fn falling(alloc: Global) -> Result<Vec<u64>, OutOfMemory>
+    ensures { IfOk result (λ numbers. AreItems numbers.items) }
+{
+    let mut numbers = Vec::new(alloc);
+    'number: for i in 0..600 {
+        numbers.push(600 - i)?;
+    }
+    Ok(numbers)
+}
+
+#[test]
+fn batches_are_merged_into_a_sorted_array(rt: HostRuntime) -> Result<(), Fail> {
+    let alloc = rt.alloc();
+    // The word of few items is their count, and each counts once.
+    expect(
+        &rt,
+        word_with_batch(alloc, 8, &[5, 3, 9, 3], &[7, 5, 7])?,
+        4,
+    );
+    // That of more is the greatest of the k least.
+    expect(&rt, word_with_batch(alloc, 3, &[9, 2], &[7, 2, 4, 11])?, 7);
+    expect(&rt, word_with_batch(alloc, 3, &[2, 4, 7], &[9, 8])?, 7);
+    let numbers = falling(alloc)?;
+    expect(
+        &rt,
+        word_with_batch(alloc, 4, numbers.as_slice(), &[2, 1])?,
+        4,
+    );
+    expect(
+        &rt,
+        word_with_batch(alloc, 550, &[], numbers.as_slice())?,
+        550,
+    );
     Ok(())
 }
 
