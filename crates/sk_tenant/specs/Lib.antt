@@ -4,3 +4,4 @@ pub mod Calls
 pub mod Desks
 pub mod Hosts
 pub mod Openings
+pub mod Sketches

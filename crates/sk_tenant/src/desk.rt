@@ -9,11 +9,11 @@ ghost use Rattle.sk_tenant.specs.Desks.{IsDone, IsDesk};
 
 use crate::answers::Add;
 use crate::names::Names;
+use crate::sketch::TenantTheta;
 use sk_compose::Composable;
 use sk_feed::insist;
 use sk_hub::{Help, Update, Updater};
 use sk_model::OutOfMemory;
-use sk_sorted::SortedTheta;
 use std::marker::Model;
 use std::sync::Wait;
 
@@ -25,7 +25,7 @@ pub struct Desk {
     pub(crate) number: u32,
     pub(crate) quota: u64,
     // each at the place of its tenant
-    pub(crate) updaters: Vec<Updater<SortedTheta>>,
+    pub(crate) updaters: Vec<Updater<TenantTheta>>,
 }
 
 impl Model for Desk {
@@ -102,7 +102,7 @@ impl Desk {
 }
 
 // Offers an item to an updater, below the quota.
-fn add_to(updater: &mut Updater<SortedTheta>, quota: u64, item: u64) -> Add
+fn add_to(updater: &mut Updater<TenantTheta>, quota: u64, item: u64) -> Add
     requires within { length (kept_of updater.old) ≤ quota }
     requires most { quota ≤ most_kept }
     requires item { IsItem item }
@@ -122,7 +122,7 @@ fn add_to(updater: &mut Updater<SortedTheta>, quota: u64, item: u64) -> Add
 
 // Offers an item to an updater until it is taken, below the quota. Most items are filtered, and then no call is made.
 #[inline(always)]
-fn insist_with<R: Wait>(rt: &R, updater: &mut Updater<SortedTheta>, quota: u64, item: u64) -> bool
+fn insist_with<R: Wait>(rt: &R, updater: &mut Updater<TenantTheta>, quota: u64, item: u64) -> bool
     requires within { length (kept_of updater.old) ≤ quota }
     requires most { quota ≤ most_kept }
     requires item { IsItem item }
@@ -131,7 +131,7 @@ fn insist_with<R: Wait>(rt: &R, updater: &mut Updater<SortedTheta>, quota: u64, 
     if updater.taken() == quota {
         return false;
     }
-    if !SortedTheta::keeps(updater.hint(), item) {
+    if !TenantTheta::keeps(updater.hint(), item) {
         return true;
     }
     insist_on(rt, updater, item);
@@ -140,7 +140,7 @@ fn insist_with<R: Wait>(rt: &R, updater: &mut Updater<SortedTheta>, quota: u64, 
 
 // Offers an item to an updater until it is taken. The merges of its sketch take no memory.
 #[inline(never)]
-fn insist_on<R: Wait>(rt: &R, updater: &mut Updater<SortedTheta>, item: u64)
+fn insist_on<R: Wait>(rt: &R, updater: &mut Updater<TenantTheta>, item: u64)
     requires item { IsItem item }
     requires room { length (kept_of updater.old) < most_kept }
     ensures { InsistsOnItem updater.old item updater.new }
@@ -152,14 +152,14 @@ fn insist_on<R: Wait>(rt: &R, updater: &mut Updater<SortedTheta>, item: u64)
 }
 
 // Asks an updater.
-fn ask_of(updater: &mut Updater<SortedTheta>) -> u64
+fn ask_of(updater: &mut Updater<TenantTheta>) -> u64
     ensures { OwesAsk updater.old result updater.new }
 {
     updater.ask()
 }
 
 // Lets an updater propagate once.
-fn help_with<R: Wait>(rt: &R, updater: &mut Updater<SortedTheta>) -> Help
+fn help_with<R: Wait>(rt: &R, updater: &mut Updater<TenantTheta>) -> Help
     ensures { OwesHelp updater.old result updater.new }
 {
     updater.help(rt)

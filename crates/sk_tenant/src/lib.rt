@@ -8,6 +8,7 @@ mod guesses;
 pub mod laws;
 mod names;
 mod opening;
+mod sketch;
 mod tenants;
 
 pub use answers::{Add, Opening, TenantStop};

@@ -8,15 +8,15 @@ ghost use Rattle.sk_tenant.specs.Openings.{AreNewHubs, DealsHub, AreDealt, AreUn
 use crate::answers::{Opening, TenantStop};
 use crate::desk::Desk;
 use crate::names::Names;
+use crate::sketch::TenantTheta;
 use crate::tenants::Tenants;
 use sk_hub::{Heart, Opened, Updater, open};
 use sk_model::OutOfMemory;
-use sk_sorted::SortedTheta;
 use sk_theta::Shape;
 use std::alloc::Global;
 
 // The updaters of each desk.
-type Lists = Vec<Vec<Updater<SortedTheta>>>;
+type Lists = Vec<Vec<Updater<TenantTheta>>>;
 
 impl Tenants {
     /// A hub of this shape for each of 1 to 64 names, and a desk for each of its updaters. A desk keeps at most `quota`
@@ -59,7 +59,7 @@ fn open_hubs(
     alloc: Global,
     shape: &Shape,
     count: u32,
-) -> Result<(Vec<Heart<SortedTheta>>, Lists), OutOfMemory>
+) -> Result<(Vec<Heart<TenantTheta>>, Lists), OutOfMemory>
     ensures { IfOk result (λ made. AreNewHubs shape.now count made.0.items (map (λ list. list.items) made.1.items)) }
 {
     let mut hearts = Vec::with_capacity(alloc, count as usize)?;
@@ -86,11 +86,11 @@ fn open_hub(
     alloc: Global,
     shape: &Shape,
     lists: &mut Lists,
-) -> Result<Heart<SortedTheta>, OutOfMemory>
+) -> Result<Heart<TenantTheta>, OutOfMemory>
     requires count { length lists.old.items ≡ shape.now.n }
     ensures { IfOk result (λ heart. DealsHub shape.now heart (map (λ list. list.items) lists.old.items) (map (λ list. list.items) lists.new.items)) }
 {
-    let sketch = SortedTheta::new(alloc, shape.k())?;
+    let sketch = TenantTheta::new(alloc, shape.k())?;
     let Opened {
         heart,
         updaters,
@@ -101,7 +101,7 @@ fn open_hub(
 }
 
 // Each list gets the updater at its place.
-fn deal(lists: &mut Lists, updaters: Vec<Updater<SortedTheta>>) -> Result<(), OutOfMemory>
+fn deal(lists: &mut Lists, updaters: Vec<Updater<TenantTheta>>) -> Result<(), OutOfMemory>
     requires count { length updaters.items ≡ length lists.old.items }
     ensures { OnOk result (AreDealt updaters.items (map (λ list. list.items) lists.old.items) (map (λ list. list.items) lists.new.items)) }
 {

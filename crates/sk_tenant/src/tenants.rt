@@ -8,8 +8,8 @@ ghost use Rattle.sk_tenant.specs.Hosts.{AreTenants, IsDeskOf, DrainsDesk, HasTak
 
 use crate::desk::Desk;
 use crate::names::Names;
+use crate::sketch::TenantTheta;
 use sk_hub::{Drain, Heart, Updater};
-use sk_sorted::SortedTheta;
 use std::marker::Model;
 use std::sync::Wait;
 
@@ -20,7 +20,7 @@ pub struct Tenants {
     pub(crate) k: u32,
     pub(crate) n: u32,
     // each at the place of its tenant
-    pub(crate) hearts: Vec<Heart<SortedTheta>>,
+    pub(crate) hearts: Vec<Heart<TenantTheta>>,
 }
 
 impl Model for Tenants {
@@ -79,8 +79,8 @@ impl Tenants {
 // Each heart takes in the updater at its place.
 fn drain_each<R: Wait>(
     rt: &R,
-    hearts: &mut Vec<Heart<SortedTheta>>,
-    updaters: Vec<Updater<SortedTheta>>,
+    hearts: &mut Vec<Heart<TenantTheta>>,
+    updaters: Vec<Updater<TenantTheta>>,
 )
     requires tenants { length updaters.items ≡ length hearts.old.items }
     requires tables { (t : ℕ) (h : HeartState) (u : UpdaterState) → t < length hearts.old.items
@@ -96,7 +96,7 @@ fn drain_each<R: Wait>(
 }
 
 // A heart takes in an updater. The merges of its sketch take no memory.
-fn drain_one<R: Wait>(rt: &R, heart: &mut Heart<SortedTheta>, updater: Updater<SortedTheta>)
+fn drain_one<R: Wait>(rt: &R, heart: &mut Heart<TenantTheta>, updater: Updater<TenantTheta>)
     requires table { updater.table ≡ heart.old.table }
     ensures { IsDrained heart.old updater heart.new }
 {

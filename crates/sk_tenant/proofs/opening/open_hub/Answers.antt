@@ -2,6 +2,7 @@ use Rattle.std.proofs.Common.{◌≡◌, ◌∷◌, [], ap, subst, ◌∙◌, ar
 use Rattle.std.proofs.lemmas.List.{length-map}
 use Rattle.sk_model.specs.Entries.{items_of_entries}
 use Rattle.sk_hub.specs.Starts.{IsNewHeart}
+use Rattle.sk_tenant.specs.Sketches.{sketch_of}
 use Rattle.sk_tenant.proofs.Dealt.{new_updater}
 use Rattle.sk_tenant.proofs.opening.open_hub.Goals as goal
 
@@ -12,10 +13,10 @@ open-requires c = record { fresh = c.in_ok-sketch.ensures.stands }
 pub returns : goal.returns
 returns c =
     let shape = c.args.shape.now in let h = c.in_ok-heart.field-0.heart in let us = c.in_ok-heart.field-0.updaters.items in
-    let same : c.in_ok-sketch.sketch.k ∷ [] ≡ shape.k ∷ [] = ap (λ k. k ∷ []) (c.in_ok-sketch.ensures.numbers ∙ c.k.ensures.value) in record {
+    let same : (sketch_of c.in_ok-sketch.sketch).k ∷ [] ≡ shape.k ∷ [] = ap (λ k. k ∷ []) (c.in_ok-sketch.ensures.numbers ∙ c.k.ensures.value) in record {
       hub = subst (λ numbers. IsNewHeart shape.n numbers [] shape.eager h) same c.in_ok-heart.ensures.heart;
       dealt_updaters = us;
       dealt = c.in_ok-deal.ensures;
-      new_ones = λ i u within. new_updater shape (c.in_ok-sketch.sketch.k ∷ []) h us same c.in_ok-heart.ensures.heart c.in_ok-heart.ensures.count c.in_ok-heart.ensures.updaters i u
+      new_ones = λ i u within. new_updater shape ((sketch_of c.in_ok-sketch.sketch).k ∷ []) h us same c.in_ok-heart.ensures.heart c.in_ok-heart.ensures.count c.in_ok-heart.ensures.updaters i u
           (omega (arith, within, c.in_ok-heart.ensures.count, c.requires.count, length-map c.args.lists.now.items (λ list. list.items)));
     }
