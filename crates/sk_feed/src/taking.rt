@@ -93,14 +93,13 @@ impl<C: Composable> TakesStretches for Vec<Updater<C>> {
         _n: usize,
     ) -> Result<bool, OutOfMemory> {
         feed_windows_in_turn(rt, self, windows, kind)?;
-        Ok(take_turns(self.as_slice()))
+        Ok(take_turns::<C>())
     }
 }
 
-/// Whether updaters are fed one after another: in threads they would only wait for one another. So it is while each item
-/// that they keep is handed over, and with a sketch by versions, of which most of the work is its merge, by one at a time.
-pub fn take_turns<C: Composable>(updaters: &[Updater<C>]) -> bool {
-    C::TAKES_MEMORY || are_eager(updaters)
+/// Whether updaters are fed one after another: with a sketch by versions most of the work is the merge, by one at a time.
+pub fn take_turns<C: Composable>() -> bool {
+    C::TAKES_MEMORY
 }
 
 /// Whether each item that updaters keep is handed over.

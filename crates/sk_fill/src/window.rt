@@ -82,8 +82,8 @@ impl Window {
         Ok(())
     }
 
-    // Puts a line to the end that was read, with the others if it can lie there.
-    pub(crate) fn push_line(&mut self, line: &[u8]) -> Result<(), OutOfMemory>
+    /// Puts a line to the end that was read, with the others if it can lie there.
+    pub fn push_line(&mut self, line: &[u8]) -> Result<(), OutOfMemory>
         requires room { is_full self.old ≡ false }
         requires short { length line.now ≤ LINE_LIMIT }
         requires plain { HasNoLf line.now }
@@ -97,10 +97,10 @@ impl Window {
         self.push(line)
     }
 
-    // Whether lines of `bytes` bytes in all, with what ended them, can come after the others, and do not fill it by
-    // their bytes.
+    /// Whether lines of `bytes` bytes in all, with what ended them, can come after the others, and do not fill it by
+    /// their bytes.
     #[inline(always)]
-    pub(crate) fn has_room_for(&self, bytes: usize) -> bool
+    pub fn has_room_for(&self, bytes: usize) -> bool
         ensures apart { result ≡ true → self.now.apart ≡ 0 }
         ensures small { result ≡ true → self.now.bytes + bytes < full_bytes }
         ensures bytes { result ≡ true → length (concat self.now.lines) ≤ self.now.bytes }
@@ -108,8 +108,8 @@ impl Window {
         self.spans.is_empty() && self.page.size().saturating_add(bytes) < FULL_BYTES
     }
 
-    // Appends the `count` lines of a run, each with what ended it.
-    pub(crate) fn push_run(&mut self, run: &[u8], count: usize) -> Result<(), OutOfMemory>
+    /// Appends the `count` lines of a run, each with what ended it.
+    pub fn push_run(&mut self, run: &[u8], count: usize) -> Result<(), OutOfMemory>
         requires run { IsRun count run.now }
         requires apart { self.old.apart ≡ 0 }
         requires room { length self.old.lines + count ≤ self.old.most }
@@ -142,15 +142,15 @@ impl Window {
         (self.page.len() + self.spans.len()) as u32
     }
 
-    // How many lines more it takes.
-    pub(crate) fn room(&self) -> u32
+    /// How many lines more it takes.
+    pub fn room(&self) -> u32
         ensures { length self.now.lines + result ≡ self.now.most }
     {
         self.most - self.len()
     }
 
-    // About how many bytes its lines have.
-    pub(crate) fn size(&self) -> usize {
+    /// About how many bytes its lines have.
+    pub fn size(&self) -> usize {
         self.page.size().saturating_add(self.text.len())
     }
 

@@ -15,6 +15,7 @@ use crate::lanes::{feed_in_lanes, feed_in_one_lane};
 use crate::supply::ENOUGH;
 use crate::ways::{feed_stretch, is_short};
 use sk_compose::Composable;
+use sk_feed::take_turns;
 use sk_fill::{Stretch, fill_stretch};
 use sk_hub::Opened;
 use sk_io::Source;
@@ -90,9 +91,4 @@ where
         return feed_in_one_lane(rt, alloc, plan.kind, updaters, reader, source, stretch);
     }
     feed_in_lanes(rt, alloc, plan.kind, updaters, reader, source, stretch)
-}
-
-// Whether updaters are fed one after another: with a sketch by versions most of the work is the merge, by one at a time.
-fn take_turns<C: Composable>() -> bool {
-    C::TAKES_MEMORY
 }

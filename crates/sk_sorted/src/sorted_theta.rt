@@ -8,7 +8,7 @@ ghost use Rattle.sk_model.specs.Limits.{least_k, most_k};
 use crate::least::least_of_both;
 use crate::piece::{PIECE, sort_below};
 use sk_model::OutOfMemory;
-use sk_theta::{ITEM_END, Reply};
+use sk_theta::{ITEM_END, Reply, theta_among};
 use std::alloc::Global;
 use std::marker::Model;
 
@@ -113,17 +113,5 @@ impl SortedTheta {
             theta: self.theta,
         };
         reply.packed(self.k)
-    }
-}
-
-// Theta as the kept hashes give it.
-fn theta_among(kept: &[u64], k: usize) -> u64
-    requires { 1 ≤ k }
-    ensures { result ≡ theta_kept k kept.now }
-{
-    if kept.len() < k {
-        ITEM_END
-    } else {
-        kept[k - 1]
     }
 }

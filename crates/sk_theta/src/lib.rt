@@ -6,7 +6,7 @@ mod place;
 mod reply;
 mod sizes;
 
-pub use array::Theta;
+pub use array::{Theta, theta_among};
 pub use reply::{Reply, unpack};
 pub use sizes::{BadShape, Shape};
 pub use sk_model::OutOfMemory;
