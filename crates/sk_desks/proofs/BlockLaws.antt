@@ -1,10 +1,13 @@
 -- Blocks of windows that desks took.
-use Rattle.std.proofs.Common.{◌≡◌, ℕ, zero, suc, ◌+◌, ◌-◌, ◌<◌, ◌≤◌, List, [], ◌∷◌, ◌++◌, length, get_or, take, drop, slice_range, flat_map, length-drop, IsPermutation, refl, sym, ap, subst, ◌∙◌, arith, append-nil, append_assoc}
+use Rattle.std.proofs.Common.{◌≡◌, ℕ, zero, suc, ◌+◌, ◌-◌, ◌<◌, ◌≤◌, List, [], ◌∷◌, ◌++◌, length, get_or, take, drop, take-add, slice_range, flat_map, All, IsPermutation, refl, sym, ap, subst, ◌∙◌, arith, append-nil, append_assoc}
 use Rattle.std.specs.List.{range_with_len}
 use Rattle.std.proofs.lemmas.Grind.{flat_map-append}
-use Rattle.std.proofs.lemmas.List.{get_or-drop, take_more}
+use Rattle.std.proofs.lemmas.List.{get_or-map, take_at, drop_at, drop-drop, length-map}
+use Rattle.std.proofs.lemmas.List.Elements.{All-take, All-drop}
 use Rattle.std.proofs.lemmas.List.Sorted.{IsPermutation-refl, IsPermutation-trans, IsPermutation-append_left, IsPermutation-append_right, IsPermutation-append_comm}
 use Rattle.sk_model.specs.Limits.{most_kept}
+use Rattle.sk_lines.specs.Spans.{lines_at}
+use Rattle.sk_lines.specs.declared.spans.Span.{Span}
 use Rattle.sk_fill.specs.Blocks.{block_of, blocks_of}
 use Rattle.sk_fill.specs.Windows.{all_lines}
 use Rattle.sk_fill.proofs.Joined.{blocks_joined}
@@ -24,19 +27,31 @@ no_lines seed d lines from =
     let none : slice_range lines from from ≡ [] = ap (λ (n : ℕ). take n (drop from lines)) zero in
     subst (λ (l : List (List ℕ)). TakesLines seed d l d) (sym none) (takes_no_line seed d)
 
-range_more : (lines : List (List ℕ)) (from at : ℕ) → from ≤ at → at < length lines → slice_range lines from (at + 1) ≡ slice_range lines from at ++ get_or lines at [] ∷ []
-range_more lines from at low inside =
-    let size : (at + 1) - from ≡ (at - from) + 1 = omega arith in
-    let here : from + (at - from) ≡ at = omega arith in
-    ap (λ (n : ℕ). take n (drop from lines)) size
-    ∙ take_more (drop from lines) (at - from) [] (omega (arith, length-drop from lines))
-    ∙ ap (λ (l : List ℕ). take (at - from) (drop from lines) ++ l ∷ []) (get_or-drop from lines (at - from) [] ∙ ap (λ (n : ℕ). get_or lines n []) here)
+-- ---- a group of them more
 
-pub line_more : (seed : ℕ) (d e d' : DeskState) (lines : List (List ℕ)) (from at : ℕ) (line : List ℕ) → from ≤ at → at < length lines → line ≡ get_or lines at [] → TakesLines seed d (slice_range lines from at) e → TakesLines seed e (line ∷ []) d' →
-    TakesLines seed d (slice_range lines from (at + 1)) d'
-line_more seed d e d' lines from at line low inside its before after =
-    subst (λ (l : List (List ℕ)). TakesLines seed d l d') (ap (λ (l : List ℕ). slice_range lines from at ++ l ∷ []) its ∙ sym (range_more lines from at low inside))
-    (takes_more seed d e d' (slice_range lines from at) (line ∷ []) before after)
+pub line_of_group : (text : List ℕ) (spans : List Span) (i : ℕ) (d : Span) (P : List ℕ → Type 0) → i < length spans → All P (lines_at spans text) → P (slice_range text (get_or spans i d).from (get_or spans i d).to)
+line_of_group text spans i d P within all =
+    let f : Span → List ℕ = λ span. slice_range text span.from span.to in
+    subst P (get_or-map f spans i d (f d) within) (all i (f d) (omega (arith, within, length-map spans f)))
+
+module _ (lines rest rest' group : List (List ℕ)) (at count : ℕ) (is : rest ≡ drop at lines) (parted : rest ≡ group ++ rest') (size : length group ≡ count) where
+  pub group_is : group ≡ take count (drop at lines)
+  group_is = sym (take_at group rest' count size) ∙ ap (take count) (sym parted ∙ is)
+
+  pub group_rest : rest' ≡ drop (at + count) lines
+  group_rest = sym (drop_at group rest' count size) ∙ ap (drop count) (sym parted ∙ is) ∙ drop-drop count at lines
+
+  pub group_more : (from : ℕ) → from ≤ at → slice_range lines from (at + count) ≡ slice_range lines from at ++ group
+  group_more from low =
+      let both : (at + count) - from ≡ (at - from) + count = omega (arith, low) in
+      let here : from + (at - from) ≡ at = omega (arith, low) in
+      ap (λ (n : ℕ). take n (drop from lines)) both
+      ∙ take-add (at - from) count (drop from lines)
+      ∙ ap (λ (l : List (List ℕ)). take (at - from) (drop from lines) ++ take count l) (drop-drop (at - from) from lines ∙ ap (λ (n : ℕ). drop n lines) here)
+      ∙ ap (λ (l : List (List ℕ)). take (at - from) (drop from lines) ++ l) (sym group_is)
+
+  pub group_fine : (P : List ℕ → Type 0) → All P lines → All P group
+  group_fine P all = subst (All P) (sym group_is) (All-take P count (drop at lines) (All-drop P at lines all))
 
 -- ---- windows, one more
 

@@ -1,7 +1,7 @@
 -- Lines that a clerk gave to the one desk that there is.
-use Rattle.std.proofs.Common.{◌≡◌, ℕ, ◌+◌, ◌-◌, ◌<◌, false, not, None, Result, Ok, Err, OnOk, List, [], ◌∷◌, ◌++◌, length, get_or, slice_range, set, refl, sym, ap, subst, ◌∙◌, arith, append-nil, length-set, get_or-set_same}
+use Rattle.std.proofs.Common.{◌≡◌, ℕ, ◌+◌, ◌-◌, ◌<◌, ◌≤◌, false, not, None, Result, Ok, Err, OnOk, List, [], ◌∷◌, ◌++◌, length, length-drop, length-take, get_or, take, drop, slice_range, set, refl, sym, ap, subst, ◌∙◌, arith, append-nil, length-set, get_or-set_same}
 use Rattle.std.proofs.KnownBytes.{Appends-nil}
-use Rattle.std.proofs.lemmas.List.{get_or_default, take_all}
+use Rattle.std.proofs.lemmas.List.{get_or_default, take_all, drop-drop, drop-take}
 use Rattle.sk_model.specs.Limits.{most_kept}
 use Rattle.sk_label.specs.Labels.{is_labelled}
 use Rattle.sk_label.specs.Stops.{Takes, StopsBy}
@@ -82,7 +82,16 @@ taken_alone seed first desks d' lines one is took = record {
         let zero : 0 ≡ i = omega (arith, within, one) in
         subst (λ (n : ℕ). TakesLines seed (get_or first n d) (block_of lines n (length first)) (get_or desks n d)) zero (here d)
 
--- ---- a line as a text of its own
+-- ---- a line that lies in a text
 
 pub whole_line : (line : List ℕ) → slice_range line 0 (length line) ≡ line
 whole_line line = take_all (length line - 0) line (omega arith)
+
+pub range_size : (text : List ℕ) (from to : ℕ) → from ≤ to → to ≤ length text → length (slice_range text from to) ≡ to - from
+range_size text from to order within = length-take (to - from) (drop from text) ∙ omega (arith, length-drop from text, order, within)
+
+pub range_rest : (text : List ℕ) (from to n : ℕ) → n ≤ to - from → slice_range text (from + n) to ≡ drop n (slice_range text from to)
+range_rest text from to n few =
+    let m : ℕ = to - (from + n) in
+    let size : to - from ≡ n + m = omega (arith, few) in
+    sym (ap (λ (k : ℕ). drop n (take k (drop from text))) size ∙ drop-take n m (drop from text) ∙ ap (take m) (drop-drop n from text))

@@ -11,10 +11,6 @@ use Rattle.sk_desks.specs.Feeds.{IsUnused, TakeBlocks}
 use Rattle.sk_desks.specs.Desks.{desk_rules}
 use Rattle.sk_desks.specs.Entries.{LabelledWindows}
 
--- a window has at most this many lines
-abbrev pub window_lines : ℕ
-window_lines = 16384
-
 -- there are desks, none of them used
 pub record AreUnused (names : List (List ℕ)) (desks : List DeskState) : Type 0 where
   pub some : 1 ≤ length desks

@@ -1,13 +1,6 @@
 // Lines that are examined and given to the one desk at once.
-ghost use Rattle.std.specs.Prelude.{◌≡◌, ◌∷◌, [], OnOk, IfErr};
-ghost use Rattle.sk_desks.specs.Feeds.{HasRoom, HasTenants, TakesLines};
-ghost use Rattle.sk_desks.specs.Gathers.{IsOfTenant};
-ghost use Rattle.sk_desks.specs.Clerks.{StopsAtLine};
-
-use crate::calls::insist;
-use crate::examined::examine;
+use crate::calls::give;
 use crate::plan::Plan;
-use sk_hash::hash63;
 use sk_label::{LineStop, LineTaker};
 use sk_tenant::Desk;
 use std::sync::Wait;
@@ -38,25 +31,6 @@ impl<R: Wait> LineTaker for Clerk<'_, '_, R> {
 
     #[inline(always)]
     fn take(&mut self, line: &[u8]) -> Result<(), LineStop> {
-        give(self.rt, self.desk, line, self.plan.seed)
+        give(self.rt, self.desk, line, 0, line.len(), self.plan.seed)
     }
-}
-
-// Gives the item of a line, if it has one, to its tenant.
-#[inline(always)]
-fn give<R: Wait>(rt: &R, desk: &mut Desk, line: &[u8], seed: u32) -> Result<(), LineStop>
-    requires tenants { HasTenants desk.old }
-    requires room { HasRoom 1 desk.old }
-    ensures took { OnOk result (TakesLines seed desk.old (line.now ∷ []) desk.new) }
-    ensures fine { OnOk result (IsOfTenant desk.old.names line.now) }
-    ensures stopped { IfErr result (StopsAtLine desk.old.names line.now) }
-    ensures names { desk.new.names ≡ desk.old.names }
-{
-    let found = examine(desk.names(), line, 0, line.len())?;
-    if found.item == line.len() {
-        return Ok(());
-    }
-    let item = hash63(seed, &line[found.item..]);
-    insist(rt, desk, found.tenant as u32, item);
-    Ok(())
 }

@@ -1,21 +1,22 @@
 // Lines of windows, fed to desks.
-ghost use Rattle.std.specs.Prelude.{◌≡◌, ℕ, ◌<◌, ◌≤◌, ◌+◌, ◌-◌, List, ◌∷◌, [], length, map, All, slice_range, slice_index_or};
+ghost use Rattle.std.specs.Prelude.{◌≡◌, ℕ, ◌<◌, ◌≤◌, ◌+◌, ◌-◌, List, ◌∷◌, [], length, map, All, slice_range};
 ghost use Rattle.sk_model.specs.Causes.{HasCauseIn};
 ghost use Rattle.sk_model.specs.Limits.{most_updaters};
+ghost use Rattle.sk_lines.specs.Spans.{AreBehind, lines_at};
 ghost use Rattle.sk_read.specs.Reading.{HasRead};
 ghost use Rattle.sk_fill.specs.Blocks.{block_of, blocks_of};
 ghost use Rattle.sk_fill.specs.Windows.{all_lines};
-ghost use Rattle.sk_desks.specs.Gathers.{Gathers};
+ghost use Rattle.sk_desks.specs.Gathers.{Gathers, IsOfTenant};
 ghost use Rattle.sk_desks.specs.Feeds.{HasRoom, HaveRoom, HasTenants, TakesLines, TakeBlocks};
 
-use crate::calls::insist;
+use crate::calls::give;
 use crate::gatherer::Gatherer;
 use crate::stretch::LabelledStretch;
 use crate::window::LabelledWindow;
 use sk_fill::Block;
-use sk_hash::hash63;
 use sk_io::Source;
 use sk_label::LabelFault;
+use sk_lines::{GROUP, Span};
 use sk_tenant::Desk;
 use std::sync::Wait;
 use std::sync::atomic::{AtomicBool, Ordering};
@@ -172,22 +173,41 @@ fn feed_lines<R: Wait>(
     requires room { HasRoom (to - from) desk.old }
     ensures { TakesLines seed desk.old (slice_range window.now.lines from to) desk.new }
 {
-    'line: for at in from..to {
-        feed_line(rt, desk, window, at, seed);
+    let mut spans = [Span::EMPTY; GROUP];
+    let mut lines = window.lines_from(from);
+    let mut at = from;
+    'group: while at < to {
+        let (text, count) = lines.next_lines(&mut spans, (to - at) as usize);
+        feed_group(rt, desk, text, &spans[..count], seed);
+        at += count as u32;
     }
 }
 
-// Feeds the item of the line at a place to the updater of its tenant.
-#[inline(always)]
-fn feed_line<R: Wait>(rt: &R, desk: &mut Desk, window: &LabelledWindow<'_>, at: u32, seed: u32)
-    requires within { at < length window.now.lines }
+// Feeds lines that lie in a text, each of them empty or of a tenant.
+fn feed_group<R: Wait>(rt: &R, desk: &mut Desk, text: &[u8], spans: &[Span], seed: u32)
+    requires within { AreBehind 0 spans.now text.now }
+    requires fine { All (IsOfTenant desk.old.names) (lines_at spans.now text.now) }
     requires tenants { HasTenants desk.old }
-    requires names { desk.old.names ≡ window.now.names }
-    requires room { HasRoom 1 desk.old }
-    ensures { TakesLines seed desk.old (slice_index_or window.now.lines at [] ∷ []) desk.new }
+    requires room { HasRoom (length spans.now) desk.old }
+    ensures { TakesLines seed desk.old (lines_at spans.now text.now) desk.new }
 {
-    let Some(line) = window.item(at) else {
-        return;
-    };
-    insist(rt, desk, line.tenant, hash63(seed, line.item_text));
+    'line: for i in 0..spans.len() {
+        feed_line(rt, desk, text, spans[i], seed);
+    }
+}
+
+// Feeds the item of a line to the updater of its tenant.
+#[inline(always)]
+fn feed_line<R: Wait>(rt: &R, desk: &mut Desk, text: &[u8], span: Span, seed: u32)
+    requires order { span.from ≤ span.to }
+    requires within { span.to ≤ length text.now }
+    requires fine { IsOfTenant desk.old.names (slice_range text.now span.from span.to) }
+    requires tenants { HasTenants desk.old }
+    requires room { HasRoom 1 desk.old }
+    ensures { TakesLines seed desk.old (slice_range text.now span.from span.to ∷ []) desk.new }
+{
+    match give(rt, desk, text, span.from, span.to, seed) {
+        Ok(()) => {}
+        Err(_) => unreachable!(),
+    }
 }

@@ -1,9 +1,10 @@
 // Lines of a source that are examined as they come, and gathered in a window.
 ghost use Rattle.std.specs.Prelude.{◌≡◌, ◌+◌, ◌<◌, ◌≤◌, ◌++◌, ℕ, List, Option, [], length, true, false, Ok};
+ghost use Rattle.std.specs.List.{concat};
 ghost use Rattle.sk_model.specs.Causes.{HasCauseIn};
+ghost use Rattle.sk_fill.specs.Windows.{full_bytes};
 ghost use Rattle.sk_read.specs.Reading.{HasRead, remaining_of};
-ghost use Rattle.sk_desks.specs.Windows.{window_lines};
-ghost use Rattle.sk_desks.specs.Entries.{text_limit, most_bytes};
+ghost use Rattle.sk_desks.specs.Entries.{HasRoomFor, window_lines};
 ghost use Rattle.sk_desks.specs.Gathers.{Gathers, TakesHeld};
 
 use crate::window::LabelledWindow;
@@ -19,7 +20,6 @@ pub(crate) fn gather_window<S: Source>(
     source: &mut S,
 ) -> Result<bool, LabelFault>
     requires empty { window.old.lines ≡ [] }
-    requires no_bytes { window.old.bytes ≡ 0 }
     requires started { (given : List (List ℕ)) × (taken : List ℕ) × HasRead reader.old (S.left source.old) given taken }
     ensures gathers { Gathers window.old.names reader.old reader.new (S.left source.old) (S.left source.new) window.new.lines result }
     ensures names { window.new.names ≡ window.old.names }
@@ -40,7 +40,7 @@ fn take_held(window: &mut LabelledWindow<'_>, reader: &mut LineReader) -> Result
     requires started { (left : Option (List ℕ)) × (given : List (List ℕ)) × (taken : List ℕ) × HasRead reader.old left (given ++ window.old.lines) taken }
     ensures takes { TakesHeld window.old.names window.old.lines window.new.lines reader.old reader.new result }
     ensures room { result ≡ Ok false → length window.new.lines + GROUP ≤ window_lines }
-    ensures few { result ≡ Ok false → window.new.bytes < text_limit }
+    ensures few { result ≡ Ok false → length (concat window.new.lines) < full_bytes }
     ensures names { window.new.names ≡ window.old.names }
 {
     let mut spans = [Span::EMPTY; GROUP];
@@ -59,8 +59,7 @@ fn take_group(
     spans: &mut [Span; GROUP],
 ) -> Result<bool, LabelFault>
     requires started { (left : Option (List ℕ)) × (given : List (List ℕ)) × (taken : List ℕ) × HasRead reader.old left (given ++ window.old.lines) taken }
-    requires room { length window.old.lines + GROUP ≤ window_lines }
-    requires small { window.old.bytes + (length reader.old.cutter.front + length reader.old.cutter.rest) < most_bytes }
+    requires room { HasRoomFor GROUP (length reader.old.cutter.front + length reader.old.cutter.rest) window.old }
     ensures takes { TakesHeld window.old.names window.old.lines window.new.lines reader.old reader.new result }
     ensures progress { result ≡ Ok true → remaining_of reader.new < remaining_of reader.old }
     ensures none { result ≡ Ok false → window.new ≡ window.old }

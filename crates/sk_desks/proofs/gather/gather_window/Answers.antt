@@ -1,8 +1,10 @@
 use Rattle.std.proofs.Common.{◌≡◌, ◌≤◌, ◌∷◌, [], ◌++◌, List, ℕ, length, Bool, true, false, Ok, Err, OnOk, IfErr, refl, sym, ap, ◌∙◌, subst, arith}
+use Rattle.std.specs.List.{concat}
 use Rattle.sk_model.specs.Limits.{line_limit}
+use Rattle.sk_lines.specs.Cutter.{HasNoLf}
 use Rattle.sk_label.specs.Faults.{fault_of_lines}
 use Rattle.sk_label.specs.declared.fault.LabelFault.{LabelFault}
-use Rattle.sk_fill.proofs.Filled.{line_short, read_few, read_number}
+use Rattle.sk_fill.proofs.Filled.{line_short}
 use Rattle.sk_fill.proofs.Readings.{steady_on_ok}
 use Rattle.sk_desks.specs.Gathers.{IsOfTenant, GoOnFine, StopsWithin, StopsHeld, TakesHeld}
 use Rattle.sk_desks.proofs.GatherLaws as laws
@@ -13,7 +15,7 @@ piece-init g c = record {
   gives = laws.no_line_given c.args.reader.now (g.S.Source.left c.args.source.now) c.args.window.now.lines c.requires.empty;
   fine = laws.no_line_fine c.args.window.now.names c.args.window.now.lines c.requires.empty;
   room = omega (arith, ap length c.requires.empty);
-  small = omega (arith, c.requires.no_bytes);
+  small = omega (arith, ap (λ (ls : List (List ℕ)). length (concat ls)) c.requires.empty);
   names = refl;
   bound = refl;
   fewer = omega arith;
@@ -41,23 +43,18 @@ returns-in_err-push-clause-gathers g c =
     laws.gathers_not names c.args.reader.now c.next.new.self old new c.push.new.self.lines bound c.from_residual-in_err-push.result f c.from_residual-in_err-push.ensures.1 (laws.stops_quiet names (line ∷ []) n f stops)
     (laws.stops_at_line names lines c.args.reader.now c.piece.reader c.next.new.self old (g.S.Source.left c.piece.source) new c.next.result inv.gives c.next.ensures.goes inv.fine bound yes line n c.line.ensures c.number.ensures f stops)
 
-pub push-requires-clause-small : goal.push-requires-clause-small
-push-requires-clause-small g c =
+pub push-requires-clause-short : goal.push-requires-clause-short
+push-requires-clause-short g c =
     let inv = c.piece.invariant in let start = c.requires.started in
     let old = g.S.Source.left c.args.source.now in let new = g.S.Source.left c.next.new.source in
     let yes : c.next.result ≡ Ok true = c.in_ok-next.was ∙ ap (λ (b : Bool). Ok b) c.if-branch.true in
     let one = laws.one_line c.args.window.now.names c.piece.window.lines c.args.reader.now c.piece.reader c.next.new.self old (g.S.Source.left c.piece.source) new c.next.result inv.gives c.next.ensures.goes yes start.0 start.1 start.2 in
-    let short : length c.line.result.now ≤ line_limit = subst (λ (l : List ℕ). length l ≤ line_limit) (sym c.line.ensures) (line_short c.next.new.self old new (start.0 ++ c.piece.window.lines) c.next.new.self.cutter.line start.1 one) in
-    omega (arith, short, inv.small)
+    subst (λ (l : List ℕ). length l ≤ line_limit) (sym c.line.ensures) (line_short c.next.new.self old new (start.0 ++ c.piece.window.lines) c.next.new.self.cutter.line start.1 one)
 
-pub push-requires-clause-number : goal.push-requires-clause-number
-push-requires-clause-number g c =
-    let inv = c.piece.invariant in let start = c.requires.started in
-    let old = g.S.Source.left c.args.source.now in let new = g.S.Source.left c.next.new.source in
+pub push-requires-clause-plain : goal.push-requires-clause-plain
+push-requires-clause-plain g c =
     let yes : c.next.result ≡ Ok true = c.in_ok-next.was ∙ ap (λ (b : Bool). Ok b) c.if-branch.true in
-    let one = laws.one_line c.args.window.now.names c.piece.window.lines c.args.reader.now c.piece.reader c.next.new.self old (g.S.Source.left c.piece.source) new c.next.result inv.gives c.next.ensures.goes yes start.0 start.1 start.2 in
-    let all = (start.0 ++ c.piece.window.lines) ++ c.next.new.self.cutter.line ∷ [] in
-    omega (arith, c.number.ensures, read_number c.next.new.self new all (start.1 ++ one.more) one.read, read_few c.next.new.self new all (start.1 ++ one.more) one.read)
+    subst HasNoLf (sym c.line.ensures) (c.next.ensures.plain yes)
 
 pub take_held-requires : goal.take_held-requires
 take_held-requires g c =

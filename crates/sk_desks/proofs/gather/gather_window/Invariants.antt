@@ -1,7 +1,8 @@
 use Rattle.std.proofs.Common.{◌≡◌, ◌+◌, ◌<◌, ◌≤◌, length}
+use Rattle.std.specs.List.{concat}
+use Rattle.sk_fill.specs.Windows.{full_bytes}
 use Rattle.sk_read.specs.Reading.{remaining_of}
-use Rattle.sk_desks.specs.Entries.{text_limit}
-use Rattle.sk_desks.specs.Windows.{window_lines}
+use Rattle.sk_desks.specs.Entries.{window_lines}
 use Rattle.sk_desks.specs.Gathers.{GivesNext, GoOnFine}
 use Rattle.sk_desks.proofs.gather.gather_window.Given as goal
 
@@ -10,7 +11,7 @@ invariant-piece g l = record {
   gives : GivesNext l.window.lines l.initial.reader l.reader (g.S.Source.left l.initial.source) (g.S.Source.left l.source);
   fine : GoOnFine l.initial.window.names l.window.lines;
   room : length l.window.lines + 128 ≤ window_lines;
-  small : l.window.bytes < text_limit;
+  small : length (concat l.window.lines) < full_bytes;
   names : l.window.names ≡ l.initial.window.names;
   bound : l.reader.most ≡ l.initial.reader.most;
   fewer : remaining_of l.reader ≤ remaining_of l.initial.reader;

@@ -1,10 +1,12 @@
 use Rattle.std.proofs.Common.{◌≡◌, ◌+◌, ◌≤◌, ◌++◌, [], ℕ, List, Option, All, true, false, length, take, sym, ap, ◌∙◌, subst, arith, append-nil, length-append, length-take}
-use Rattle.sk_lines.specs.Spans.{AreBehind, lines_at}
+use Rattle.sk_lines.specs.Spans.{lines_at}
 use Rattle.sk_lines.specs.declared.spans.Span.{Span}
 use Rattle.sk_read.specs.Reading.{Reading, HasRead, remaining_of}
 use Rattle.sk_fill.proofs.Filled.{read_few, read_number}
+use Rattle.sk_desks.specs.Entries.{IsRunAt}
 use Rattle.sk_desks.specs.Gathers.{IsOfTenant, GoOnFine, StopsWithin}
 use Rattle.sk_desks.proofs.GatherLaws.{group_given, group_stops, lines_fine, held_all, held_not}
+use Rattle.sk_desks.proofs.WindowLaws.{run_of_group}
 use Rattle.sk_desks.proofs.gather.take_group.Goals.{After-next_lines-count}
 use Rattle.sk_desks.proofs.gather.take_group.Goals as goal
 
@@ -42,22 +44,23 @@ returns-then-count-eq0-clause-takes c =
 
 pub append-requires-clause-room : goal.append-requires-clause-room
 append-requires-clause-room c =
-    omega (arith, c.requires.room, length-take c.next_lines-count.result c.next_lines-count.new.spans, c.next_lines-count.ensures.few)
-
-pub append-requires-clause-small : goal.append-requires-clause-small
-append-requires-clause-small c =
     let r = c.args.reader.now.cutter in let r' = c.next_lines-count.new.self.cutter in
-    omega (arith, c.requires.small, ap length c.next_lines-count.ensures.lines.bytes, length-append r.front r.rest, length-append r'.front r'.rest, ap length c.front.ensures)
+    record {
+      few = omega (arith, c.requires.room.few, length-take c.next_lines-count.result c.next_lines-count.new.spans, c.next_lines-count.ensures.few);
+      apart = c.requires.room.apart;
+      small = omega (arith, c.requires.room.small, ap length c.next_lines-count.ensures.lines.bytes, length-append r.front r.rest, length-append r'.front r'.rest, ap length c.front.ensures);
+      short = c.requires.room.short;
+    }
 
-pub append-requires-clause-start : goal.append-requires-clause-start
-append-requires-clause-start c =
-    omega (arith, c.next_lines-count.ensures.lines.grows, ap length c.front-from.ensures, ap length c.front.ensures)
-
-pub append-requires-clause-within : goal.append-requires-clause-within
-append-requires-clause-within c =
-    let at = (goal.at.append-requires-clause-within c).After-next_lines-count in
-    subst (λ (l : List ℕ). AreBehind (length c.front-from.result.now) (spans_now at) l) (sym c.front.ensures)
-    (subst (λ (l : List ℕ). AreBehind (length l) (spans_now at) c.next_lines-count.new.self.cutter.front) (sym c.front-from.ensures) c.next_lines-count.ensures.lines.behind)
+pub append-requires-clause-run : goal.append-requires-clause-run
+append-requires-clause-run c =
+    let at = (goal.at.append-requires-clause-run c).After-next_lines-count in
+    let start = c.requires.started in
+    let r = c.args.reader.now in let r' = c.next_lines-count.new.self in
+    let is = run_of_group r r' (spans_now at) c.next_lines-count.ensures.lines c.next_lines-count.ensures.stays start.0 (start.1 ++ c.args.window.now.lines) start.2 start.3 (gave at start.0 (start.1 ++ c.args.window.now.lines) start.2 start.3)
+        (omega (arith, c.if-count-eq0.false, length-take c.next_lines-count.result c.next_lines-count.new.spans, c.next_lines-count.ensures.few)) in
+    subst (λ (l : List ℕ). IsRunAt (length c.front-from.result.now) (spans_now at) l) (sym c.front.ensures)
+    (subst (λ (l : List ℕ). IsRunAt (length l) (spans_now at) r'.cutter.front) (sym c.front-from.ensures) is)
 
 pub append-requires-clause-number : goal.append-requires-clause-number
 append-requires-clause-number c =
