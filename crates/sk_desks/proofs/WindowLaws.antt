@@ -114,6 +114,11 @@ run_of_group r r' spans gives stays left given taken read read' some = record {
     -- after the end of the source all lines were given, and no group comes
     going : r.ended ≡ false
     going = by_bool r.ended (r.ended ≡ false)
-        (λ ended. absurd (omega (arith, some, length-map spans (λ (span : Span). slice_range r'.cutter.front span.from span.to), length-append given group,
-        ap length (sym (read.has.whole ended) ∙ read'.has.whole (ap (λ (q : Reading). q.ended) stays ∙ ended)))))
+        (λ ended. absurd (omega (
+          arith,
+          some,
+          length-map spans (λ (span : Span). slice_range r'.cutter.front span.from span.to),
+          length-append given group,
+          ap length (sym (read.has.whole ended) ∙ read'.has.whole (ap (λ (q : Reading). q.ended) stays ∙ ended)),
+        )))
         (λ is. is)

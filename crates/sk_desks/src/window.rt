@@ -132,12 +132,7 @@ impl<'n> LabelledWindow<'n> {
 }
 
 // Examines lines that lie in a text, and are numbered from `first` on.
-fn examine_lines(
-    names: &Names,
-    text: &[u8],
-    spans: &[Span],
-    first: u64,
-) -> Result<(), LabelFault>
+fn examine_lines(names: &Names, text: &[u8], spans: &[Span], first: u64) -> Result<(), LabelFault>
     requires within { AreBehind 0 spans.now text.now }
     requires number { first + length spans.now < 2 ^ 64 }
     ensures fine { OnOk result (All (IsOfTenant names.now) (lines_at spans.now text.now)) }

@@ -58,7 +58,7 @@ append-requires-clause-run c =
     let start = c.requires.started in
     let r = c.args.reader.now in let r' = c.next_lines-count.new.self in
     let is = run_of_group r r' (spans_now at) c.next_lines-count.ensures.lines c.next_lines-count.ensures.stays start.0 (start.1 ++ c.args.window.now.lines) start.2 start.3 (gave at start.0 (start.1 ++ c.args.window.now.lines) start.2 start.3)
-        (omega (arith, c.if-count-eq0.false, length-take c.next_lines-count.result c.next_lines-count.new.spans, c.next_lines-count.ensures.few)) in
+    (omega (arith, c.if-count-eq0.false, length-take c.next_lines-count.result c.next_lines-count.new.spans, c.next_lines-count.ensures.few)) in
     subst (λ (l : List ℕ). IsRunAt (length c.front-from.result.now) (spans_now at) l) (sym c.front.ensures)
     (subst (λ (l : List ℕ). IsRunAt (length l) (spans_now at) r'.cutter.front) (sym c.front-from.ensures) is)
 
