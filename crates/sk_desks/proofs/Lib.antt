@@ -8,3 +8,4 @@ pub mod WentLaws
 pub mod Counting
 pub mod EndingLaws
 pub mod ClerkLaws
+pub mod LikeLaws

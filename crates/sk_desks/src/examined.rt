@@ -1,5 +1,5 @@
 // A line that is examined: whether it is empty, or of a tenant, and where its item begins.
-ghost use Rattle.std.specs.Prelude.{◌≡◌, ◌<◌, ◌≤◌, ◌^◌, length, slice_range, OnOk, IfOk, IfErr};
+ghost use Rattle.std.specs.Prelude.{◌≡◌, ◌<◌, ◌≤◌, ◌^◌, true, length, slice_range, OnOk, IfOk, IfErr};
 ghost use Rattle.sk_desks.specs.Clerks.{StopsAtLine};
 ghost use Rattle.sk_desks.specs.Entries.{IsLabelledBy};
 ghost use Rattle.sk_desks.specs.Gathers.{IsOfTenant};
@@ -45,6 +45,20 @@ pub(crate) fn examine(
         item: parts.label.len() + 1,
         tenant: tenant as usize,
     })
+}
+
+/// Whether a line that lies in a text has an item after a space and the name of a tenant, of `label` bytes: `false` says
+/// nothing. That is less to do than to examine it.
+#[inline(always)]
+pub(crate) fn is_of_tenant(names: &Names, text: &[u8], from: usize, to: usize, label: usize) -> bool
+    requires order { from ≤ to }
+    requires within { to ≤ length text.now }
+    ensures { result ≡ true → IsOfTenant names.now (slice_range text.now from to) }
+{
+    if label == 0 || (to - from).saturating_sub(label) < 2 {
+        return false;
+    }
+    text[from + label] == b' ' && names.has_plain(&text[from..from + label])
 }
 
 // Examines a line. Not inlined, so that the loop over lines stays short.

@@ -8,7 +8,7 @@ ghost use Rattle.sk_fill.specs.Windows.{full_bytes};
 ghost use Rattle.sk_desks.specs.Entries.{IsRunAt, HasRoomFor, window_lines};
 ghost use Rattle.sk_desks.specs.Gathers.{IsOfTenant, RefusesAs, StopsWithin};
 
-use crate::examined::examine;
+use crate::examined::{examine, is_of_tenant};
 use sk_fill::{Window, WindowLines};
 use sk_label::LabelFault;
 use sk_lines::{GROUP, Span};
@@ -138,22 +138,44 @@ fn examine_lines(names: &Names, text: &[u8], spans: &[Span], first: u64) -> Resu
     ensures fine { OnOk result (All (IsOfTenant names.now) (lines_at spans.now text.now)) }
     ensures stopped { IfErr result (StopsWithin names.now (lines_at spans.now text.now) first) }
 {
+    let mut label = 0;
     'line: for i in 0..spans.len() {
-        examine_line(names, text, spans[i], first + i as u64)?;
+        label = examine_like(names, text, spans[i], label, first + i as u64)?;
     }
     Ok(())
 }
 
-// Examines the line of this number, which lies in a text.
+// Examines the line of this number, which lies in a text, and returns how many bytes its label has: mostly as many as
+// that of the line before, which is `label`.
 #[inline(always)]
-fn examine_line(names: &Names, text: &[u8], span: Span, number: u64) -> Result<(), LabelFault>
+fn examine_like(
+    names: &Names,
+    text: &[u8],
+    span: Span,
+    label: usize,
+    number: u64,
+) -> Result<usize, LabelFault>
+    requires order { span.from ≤ span.to }
+    requires within { span.to ≤ length text.now }
+    ensures fine { OnOk result (IsOfTenant names.now (slice_range text.now span.from span.to)) }
+    ensures refused { IfErr result (RefusesAs names.now (slice_range text.now span.from span.to) number) }
+{
+    if is_of_tenant(names, text, span.from, span.to, label) {
+        return Ok(label);
+    }
+    examine_line(names, text, span, number)
+}
+
+// Examines the line of this number, which lies in a text, and returns how many bytes its label has.
+#[inline(always)]
+fn examine_line(names: &Names, text: &[u8], span: Span, number: u64) -> Result<usize, LabelFault>
     requires order { span.from ≤ span.to }
     requires within { span.to ≤ length text.now }
     ensures fine { OnOk result (IsOfTenant names.now (slice_range text.now span.from span.to)) }
     ensures refused { IfErr result (RefusesAs names.now (slice_range text.now span.from span.to) number) }
 {
     match examine(names, text, span.from, span.to) {
-        Ok(_) => Ok(()),
+        Ok(line) => Ok(line.item.saturating_sub(1)),
         Err(why) => Err(why.at(number)),
     }
 }

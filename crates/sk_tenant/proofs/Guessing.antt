@@ -1,11 +1,12 @@
 -- Names by their ends, and where a name is sought first.
-use Rattle.std.proofs.Common.{◌≡◌, ⊎_elim, ℕ, ◌+◌, ◌-◌, ◌<◌, ◌≤◌, List, [], ◌++◌, length, get_or, take, drop, replicate, Some, slice_get, All, sym, ap, subst, ◌∙◌, arith, take-append-drop}
+use Rattle.std.proofs.Common.{◌≡◌, ⊎_elim, ℕ, ◌+◌, ◌-◌, ◌<◌, ◌≤◌, List, [], ◌++◌, length, get_or, take, drop, replicate, Some, slice_get, All, Contains, sym, ap, subst, ◌∙◌, arith, take-append-drop}
 use Rattle.std.proofs.lemmas.Bool.{cases_lt}
 use Rattle.std.proofs.lemmas.List.{drop-drop, length-replicate}
-use Rattle.std.proofs.lemmas.List.Elements.{All-replicate}
+use Rattle.std.proofs.lemmas.List.Elements.{All-replicate, Contains-get_or}
 use Rattle.std.proofs.lemmas.Option.{slice_get-get_or}
 use Rattle.sk_tenant.specs.declared.ends.Ends.{Ends}
 use Rattle.sk_tenant.specs.declared.guesses.Guess.{Guess}
+use Rattle.sk_tenant.specs.Names.{HasNoSpace}
 use Rattle.sk_tenant.specs.Guesses.{most_marks, AreEndsOf, IsPlaceOf, AreGuesses}
 
 -- ---- names with the same ends
@@ -43,10 +44,23 @@ none_guessed names by_mark unknown are long = record {
     Known guess = guess.ends.len ≤ 16 → IsPlaceOf names guess
 
 -- a name with the ends of a guess stands at its place
-pub guessed : (names : List (List ℕ)) (by_mark : List Guess) (mark : ℕ) (guess : Guess) (name : List ℕ) (ends : Ends) → AreGuesses names by_mark → mark < most_marks → guess ≡ get_or by_mark mark guess → AreEndsOf name ends
-    → guess.ends.first ≡ ends.first → guess.ends.last ≡ ends.last → guess.ends.len ≡ ends.len → length name ≤ 16 → slice_get names guess.place ≡ Some name
-guessed names by_mark mark guess name ends are within is own first last len short =
-    let known : guess.ends.len ≤ 16 → IsPlaceOf names guess =
-    subst (λ (g : Guess). g.ends.len ≤ 16 → IsPlaceOf names g) (sym is) (are.each mark guess (omega (arith, within, are.count))) in
-    let place : IsPlaceOf names guess = known (omega (arith, len, own.len, short)) in
-    slice_get-get_or names guess.place [] place.within ∙ ap Some (same_by_ends (get_or names guess.place []) name guess.ends ends place.ends own first last len short)
+module _ (names : List (List ℕ)) (by_mark : List Guess) (mark : ℕ) (guess : Guess) (name : List ℕ) (ends : Ends) (are : AreGuesses names by_mark) (within : mark < most_marks) (is : guess ≡ get_or by_mark mark guess) (own : AreEndsOf name ends)
+    (first : guess.ends.first ≡ ends.first) (last : guess.ends.last ≡ ends.last) (len : guess.ends.len ≡ ends.len) (short : length name ≤ 16)
+  where
+    place : IsPlaceOf names guess
+    place =
+        let known : guess.ends.len ≤ 16 → IsPlaceOf names guess =
+        subst (λ (g : Guess). g.ends.len ≤ 16 → IsPlaceOf names g) (sym is) (are.each mark guess (omega (arith, within, are.count))) in
+        known (omega (arith, len, own.len, short))
+
+    same : get_or names guess.place [] ≡ name
+    same = same_by_ends (get_or names guess.place []) name guess.ends ends place.ends own first last len short
+
+    pub guessed : slice_get names guess.place ≡ Some name
+    guessed = slice_get-get_or names guess.place [] place.within ∙ ap Some same
+
+    pub is_known : Contains names name
+    is_known = subst (Contains names) same (Contains-get_or names guess.place [] place.within)
+
+    pub is_plain : HasNoSpace name
+    is_plain = subst HasNoSpace same place.plain

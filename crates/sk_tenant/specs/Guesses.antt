@@ -1,5 +1,6 @@
 -- Names by their ends, and where a name is sought first.
 use Rattle.std.specs.Prelude.{◌≡◌, ℕ, ◌-◌, ◌<◌, ◌≤◌, List, [], length, take, drop, All, slice_index_or}
+use Rattle.sk_tenant.specs.Names.{HasNoSpace}
 use Rattle.sk_tenant.specs.declared.ends.Ends.{Ends}
 use Rattle.sk_tenant.specs.declared.guesses.Guess.{Guess}
 
@@ -14,9 +15,10 @@ pub record AreEndsOf (name : List ℕ) (ends : Ends) : Type 0 where
   pub last : 8 ≤ length name → ends.last ≡ drop (length name - 8) name
   pub whole : length name < 8 → take (length name) ends.first ≡ name
 
--- the place is that of a name with these ends
+-- the place is that of a name with these ends, which has no space
 pub record IsPlaceOf (names : List (List ℕ)) (guess : Guess) : Type 0 where
   pub within : guess.place < length names
+  pub plain : HasNoSpace (slice_index_or names guess.place [])
   pub ends : AreEndsOf (slice_index_or names guess.place []) guess.ends
 
 -- for each mark a guess: if its ends are of a name of at most 16 bytes, of which it is the place

@@ -1,5 +1,5 @@
 -- The names of tenants, each at its place.
-use Rattle.std.specs.Prelude.{◌≡◌, ◌≢◌, ℕ, List, take, map, Contains, Option, Some, slice_get, position, String, string_bytes}
+use Rattle.std.specs.Prelude.{◌≡◌, ◌≢◌, ℕ, List, All, take, map, Contains, Option, Some, slice_get, position, String, string_bytes}
 use Rattle.std.specs.List.{AllPairs}
 use Rattle.std.specs.Str.{bytes_eq}
 
@@ -10,6 +10,10 @@ most_tenants = 64
 -- no two of them are equal
 abbrev pub AreDifferent : List (List ℕ) → Type 0
 AreDifferent names = AllPairs (λ a b. a ≢ b) names
+
+-- no byte of a name is a space
+abbrev pub HasNoSpace : List ℕ → Type 0
+HasNoSpace name = All (λ byte. byte ≢ 32) name
 
 -- the place of the name
 abbrev pub place_of : List (List ℕ) → List ℕ → Option ℕ

@@ -1,6 +1,6 @@
 //! Where a name is sought first.
-ghost use Rattle.std.specs.Prelude.{◌≡◌, ◌≤◌, ℕ, List, true, Some, length, map, slice_get, IfOk, IfSome};
-ghost use Rattle.sk_tenant.specs.Names.{most_tenants};
+ghost use Rattle.std.specs.Prelude.{◌≡◌, ◌≤◌, ℕ, List, true, Some, length, map, slice_get, IfOk, IfSome, Contains};
+ghost use Rattle.sk_tenant.specs.Names.{most_tenants, HasNoSpace};
 ghost use Rattle.sk_tenant.specs.Guesses.{AreGuesses};
 
 use crate::ends::{BOTH_ENDS, Ends};
@@ -11,8 +11,8 @@ use std::alloc::Global;
 // The ends of a name have one of this many marks.
 const MARKS: usize = 2_048;
 
-/// For each mark the ends of a name that has it, and the place of that name. Of several names with the same mark it is
-/// the last.
+/// For each mark the ends of a name without a space that has it, and the place of that name. Of several names with the
+/// same mark it is the last.
 #[derive(Drop)]
 pub(crate) struct Guesses {
     by_mark: Vec<Guess>,
@@ -34,10 +34,24 @@ impl Guesses {
         let mut by_mark = no_guesses(alloc)?;
         'name: for place in 0..names.len() {
             if let Some(name) = names.get_index(place) {
-                put_guess(&mut by_mark, names, name.as_slice(), place as u32);
+                if !name.as_slice().contains(&b' ') {
+                    put_guess(&mut by_mark, names, name.as_slice(), place as u32);
+                }
             }
         }
         Ok(Guesses { by_mark })
+    }
+
+    /// Whether this name of at most 16 bytes is guessed, as one is that has no space, unless another one has its mark.
+    #[inline(always)]
+    pub(crate) fn has(&self, names: &IndexSet<Vec<u8>>, name: &[u8]) -> bool
+        requires { AreGuesses (map (λ own. own.items) names.now.keys) self.now.by_mark.items }
+        ensures known { result ≡ true → Contains (map (λ own. own.items) names.now.keys) name.now }
+        ensures plain { result ≡ true → HasNoSpace name.now }
+    {
+        let ends = Ends::of(name);
+        let guess = &self.by_mark[ends.mark()];
+        name.len() <= BOTH_ENDS && guess.ends.are(&ends)
     }
 
     /// The place of this name, unless another one has its mark.
@@ -73,6 +87,7 @@ fn no_guesses(alloc: Global) -> Result<Vec<Guess>, OutOfMemory>
 fn put_guess(by_mark: &mut Vec<Guess>, names: &IndexSet<Vec<u8>>, name: &[u8], place: u32)
     requires guesses { AreGuesses (map (λ own. own.items) names.now.keys) by_mark.old.items }
     requires place { slice_get (map (λ own. own.items) names.now.keys) place ≡ Some name.now }
+    requires plain { HasNoSpace name.now }
     ensures { AreGuesses (map (λ own. own.items) names.now.keys) by_mark.new.items }
 {
     let ends = Ends::of(name);

@@ -1,6 +1,6 @@
 //! The names of tenants, which all desks share.
 ghost use Rattle.std.specs.Prelude.{◌≡◌, ℕ, ◌<◌, ◌≤◌, true, Some, length, map, slice_get, IfOk, IfSome, IfNone, Contains};
-ghost use Rattle.sk_tenant.specs.Names.{place_of, bytes_of, most_tenants, AreDifferent, IsFirstTwice};
+ghost use Rattle.sk_tenant.specs.Names.{place_of, bytes_of, most_tenants, AreDifferent, HasNoSpace, IsFirstTwice};
 
 use crate::answers::TenantStop;
 use crate::guesses::Guesses;
@@ -77,6 +77,17 @@ impl Names {
             Some(t) => Some(t),
             None => sought(&table.names, name),
         }
+    }
+
+    /// Whether a tenant has this name and it has no space. `false` says nothing: only of names of 8 to 16 bytes it is
+    /// mostly known at once.
+    #[inline(always)]
+    pub fn has_plain(&self, name: &[u8]) -> bool
+        ensures known { result ≡ true → Contains self.now name.now }
+        ensures plain { result ≡ true → HasNoSpace name.now }
+    {
+        let table: &Table = &self.table;
+        table.guesses.has(&table.names, name)
     }
 
     /// The name of the tenant at place t.

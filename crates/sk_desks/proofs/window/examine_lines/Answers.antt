@@ -12,11 +12,11 @@ use Rattle.sk_desks.proofs.window.examine_lines.Goals as goal
 abbrev no_bytes : Span
 no_bytes = record { from = 0; to = 0 }
 
-pub returns-in_err-examine_line-clause-stopped : goal.returns-in_err-examine_line-clause-stopped
-returns-in_err-examine_line-clause-stopped c =
-    let names = c.args.names.now in let spans = c.args.spans.now in let text = c.args.text.now in let f = c.in_err-examine_line.field-0.0 in
+pub returns-in_err-label-clause-stopped : goal.returns-in_err-label-clause-stopped
+returns-in_err-label-clause-stopped c =
+    let names = c.args.names.now in let spans = c.args.spans.now in let text = c.args.text.now in let f = c.in_err-label.field-0.0 in
     stop_is (λ (x : LabelFault). StopsWithin names (lines_at spans text) c.args.first x) f c.from_residual.result c.from_residual.ensures.1
-    (refused_among text spans c.line.i no_bytes c.line-test.true names c.args.first f c.line.invariant.fine c.in_err-examine_line.ensures.refused)
+    (refused_among text spans c.line.i no_bytes c.line-test.true names c.args.first f c.line.invariant.fine c.in_err-label.ensures.refused)
 
 pub line-preserved : goal.line-preserved
 line-preserved c =
@@ -24,7 +24,7 @@ line-preserved c =
     let span = get_or spans i no_bytes in
     let line : List ℕ = slice_range text span.from span.to in
     record {
-      fine = subst (All (IsOfTenant names)) (sym (lines_more text spans i no_bytes c.line-test.true)) (All-push (IsOfTenant names) (lines_at (take i spans) text) line c.line.invariant.fine c.in_ok-examine_line.ensures.fine);
+      fine = subst (All (IsOfTenant names)) (sym (lines_more text spans i no_bytes c.line-test.true)) (All-push (IsOfTenant names) (lines_at (take i spans) text) line c.line.invariant.fine c.in_ok-label.ensures.fine);
     }
 
 pub returns-clause-fine : goal.returns-clause-fine

@@ -7,4 +7,4 @@ pub put_guess-requires-clause-place : goal.put_guess-requires-clause-place
 put_guess-requires-clause-place c =
     slice_get-map (λ own. own.items) c.args.names.now.keys c.name.place
     ∙ sym (ap (option_map (λ own. own.items)) c.in-Some.ensures.key)
-    ∙ ap Some (sym c.as_slice.ensures.value)
+    ∙ ap Some (sym c.as_slice-then-not-contains.ensures.value)
