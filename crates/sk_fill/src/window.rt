@@ -104,6 +104,7 @@ impl Window {
         ensures apart { result ≡ true → self.now.apart ≡ 0 }
         ensures small { result ≡ true → self.now.bytes + bytes < full_bytes }
         ensures bytes { result ≡ true → length (concat self.now.lines) ≤ self.now.bytes }
+        ensures none { result ≡ false → self.now.apart ≡ 0 → full_bytes ≤ self.now.bytes + bytes }
     {
         self.spans.is_empty() && self.page.size().saturating_add(bytes) < FULL_BYTES
     }
@@ -150,7 +151,9 @@ impl Window {
     }
 
     /// About how many bytes its lines have.
-    pub fn size(&self) -> usize {
+    pub fn size(&self) -> usize
+        ensures { self.now.apart ≡ 0 → result ≡ self.now.bytes }
+    {
         self.page.size().saturating_add(self.text.len())
     }
 

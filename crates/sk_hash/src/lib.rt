@@ -204,7 +204,7 @@ pub fn hash63(seed: u32, bytes: &[u8]) -> u64
     hash63_at(seed, bytes, 0, bytes.len())
 }
 
-/// The same of the bytes of a text from one place up to, not including, another: fewer than 16 of them are hashed
+/// The hash of the bytes of a text from one place up to, not including, another: fewer than 16 of them are hashed
 /// without a call if the text has as many after them.
 #[inline(always)]
 #[tactic(auto, unfolding(sk_model::specs::Murmur::hash_of))]

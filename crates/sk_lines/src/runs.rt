@@ -1,6 +1,6 @@
 // Whole lines, passed over without a look at each.
-ghost use Rattle.std.specs.Prelude.{◌≡◌, ◌≢◌, ℕ, ◌+◌, ◌<◌, ◌≤◌, length, slice_index, slice_range};
-ghost use Rattle.sk_lines.specs.Runs.{IsRun};
+ghost use Rattle.std.specs.Prelude.{◌≡◌, ◌≢◌, ℕ, ◌+◌, ◌*◌, ◌<◌, ◌≤◌, length, slice_index, slice_range, true, false, IfSome, IfNone};
+ghost use Rattle.sk_lines.specs.Runs.{IsRun, AreEven, EndEach};
 
 use crate::marks::{BLOCK, LF, lfs_of_block};
 
@@ -79,4 +79,38 @@ fn skip_bytes(bytes: &[u8], from: usize, most: usize, passed: Passed) -> (usize,
         }
     }
     (count, at)
+}
+
+/// How many bytes each of the lines of a run has before its LF, a CR counted, if all `count` of them have as many.
+pub fn even_len(run: &[u8], count: usize) -> Option<usize>
+    requires some { 0 < count }
+    requires run { IsRun count run.now }
+    ensures even { IfSome result (λ len. AreEven count len run.now) }
+    ensures none { IfNone result ((len : ℕ) → ¬ AreEven count len run.now) }
+{
+    let each = run.len() / count;
+    if each == 0 || each * count != run.len() {
+        return None;
+    }
+    if end_each(run, count, each - 1) {
+        Some(each - 1)
+    } else {
+        None
+    }
+}
+
+// Whether LF comes after `len` bytes, and again after as many.
+fn end_each(run: &[u8], count: usize, len: usize) -> bool
+    requires some { 0 < count }
+    requires bytes { length run.now ≡ count * (len + 1) }
+    ensures yes { result ≡ true → EndEach count len run.now }
+    ensures no { result ≡ false → ¬ EndEach count len run.now }
+{
+    let each = len + 1;
+    'line: for i in 0..count {
+        if run[i * each + len] != LF {
+            return false;
+        }
+    }
+    true
 }
