@@ -1,5 +1,5 @@
 -- Lines that a clerk gave to the one desk that there is.
-use Rattle.std.proofs.Common.{◌≡◌, ℕ, ◌+◌, ◌-◌, ◌<◌, ◌≤◌, false, not, None, Result, Ok, Err, OnOk, List, [], ◌∷◌, ◌++◌, length, length-drop, length-take, get_or, take, drop, slice_range, set, refl, sym, ap, subst, ◌∙◌, arith, append-nil, length-set, get_or-set_same}
+use Rattle.std.proofs.Common.{◌≡◌, ℕ, ◌+◌, ◌-◌, ◌<◌, ◌≤◌, false, not, None, List, [], ◌∷◌, ◌++◌, length, length-drop, length-take, get_or, take, drop, slice_range, set, refl, sym, ap, subst, ◌∙◌, arith, append-nil, length-set, get_or-set_same}
 use Rattle.std.proofs.KnownBytes.{Appends-nil}
 use Rattle.std.proofs.lemmas.List.{get_or_default, take_all, drop-drop, drop-take}
 use Rattle.sk_model.specs.Limits.{most_kept}
@@ -22,10 +22,6 @@ use Rattle.sk_desks.proofs.BlockLaws.{take_each}
 pub empty_unlabelled : (line : List ℕ) → length line ≡ 0 → is_labelled line ≡ false
 empty_unlabelled [] empty = refl
 empty_unlabelled (x ∷ xs) empty = absurd (omega (arith, empty))
-
-pub if_both : {T E P Q S : Type 0} (r : Result T E) → OnOk r P → OnOk r Q → (P → Q → S) → OnOk r S
-if_both (Ok x) p q so = so p q
-if_both (Err e) p q so = tt
 
 module _ (plan plan' : Plan) (d e : DeskState) (lines : List (List ℕ)) (gave : GaveAlone plan plan' d e lines) where
   pub gave_tenants : HasTenants e

@@ -9,3 +9,4 @@ pub mod Counting
 pub mod EndingLaws
 pub mod ClerkLaws
 pub mod LikeLaws
+pub mod EvenLaws

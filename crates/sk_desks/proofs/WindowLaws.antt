@@ -1,17 +1,10 @@
--- Lines that lie in a text, examined one after another, and the text as a run of them.
-use Rattle.std.proofs.Common.{◌≡◌, ℕ, ◌+◌, ◌-◌, ◌<◌, ◌≤◌, inr, Bool, true, false, Option, Result, Ok, Err, OnOk, IfErr, List, [], ◌∷◌, ◌++◌, length, get_or, take, drop, map, slice_range, All, refl, sym, ap, subst, ◌∙◌, arith, append_assoc, length-append, length-take, take-append-drop}
-use Rattle.std.specs.List.{concat}
-use Rattle.std.proofs.lemmas.List.{take_all, take_at, drop_at, drop-append-le, take-append-le, take_more, map-append, length-map}
-use Rattle.sk_model.specs.Lines.{lines_of}
-use Rattle.sk_model.proofs.Lines.{after_whole_lines}
-use Rattle.sk_lines.specs.Cutter.{Cutter, Follows, IsOfWholeLines}
-use Rattle.sk_lines.specs.Runs.{IsRun, run_between}
-use Rattle.sk_lines.specs.Spans.{GivesLines, lines_at}
+-- Lines that lie in a text, examined one after another.
+use Rattle.std.proofs.Common.{◌≡◌, ℕ, ◌+◌, ◌<◌, inl, inr, false, is_err, Result, Ok, Err, OnOk, IfErr, List, [], ◌∷◌, ◌++◌, length, get_or, take, drop, slice_range, All, sym, ap, subst, ◌∙◌, arith, append_assoc, length-append, length-take, take-append-drop}
+use Rattle.std.proofs.lemmas.List.{take_more, map-append, length-map}
+use Rattle.std.proofs.lemmas.List.Elements.{All-append}
+use Rattle.sk_lines.specs.Spans.{lines_at}
 use Rattle.sk_lines.specs.declared.spans.Span.{Span}
-use Rattle.sk_read.specs.Reading.{Reading, HasRead}
-use Rattle.sk_fill.proofs.PageText.{whole_behind}
 use Rattle.sk_label.specs.declared.fault.LabelFault.{LabelFault}
-use Rattle.sk_desks.specs.Entries.{IsRunAt}
 use Rattle.sk_desks.specs.Gathers.{IsOfTenant, RefusesAs, StopsWithin}
 use Rattle.sk_desks.proofs.ClerkLaws.{whole_line}
 
@@ -52,73 +45,27 @@ refused_alone names line n why refused =
 
 -- ---- what a result says
 
-pub on_ok_so : {T E P Q : Type 0} (r : Result T E) → (P → Q) → OnOk r P → OnOk r Q
-on_ok_so (Ok x) so p = so p
-on_ok_so (Err e) so p = tt
+pub ok_of : {T E P : Type 0} (r : Result T E) → is_err r ≡ false → OnOk r P → P
+ok_of (Ok x) is p = p
+ok_of (Err e) is p = cc
 
 pub if_err_so : {T E : Type 0} (P Q : E → Type 0) (r : Result T E) → ((e : E) → P e → Q e) → IfErr r P → IfErr r Q
 if_err_so P Q (Ok x) so p = tt
 if_err_so P Q (Err e) so p = so e p
 
--- ---- lines that were given by their places, as a run
+-- ---- lines that were examined after others
 
-same_front : (a b c d : List ℕ) → a ++ c ≡ b ++ d → length a ≡ length b → a ≡ b
-same_front a b c d is size = sym (take_at a c (length a) refl) ∙ ap (take (length a)) is ∙ take_at b d (length a) (sym size)
-
-module _ (old new : Cutter) (spans : List Span) (gives : GivesLines old new spans) where
-  abbrev run : List ℕ
-  run = run_between old new
-
-  longer : length old.front ≤ length new.front
-  longer = omega (arith, gives.grows)
-
-  rest_is : old.rest ≡ run ++ new.rest
-  rest_is = sym (drop_at old.front old.rest (length old.front) refl) ∙ ap (drop (length old.front)) gives.bytes ∙ drop-append-le (length old.front) new.front new.rest longer
-
-  module _ (given : List (List ℕ)) (text : List ℕ) (before : Follows old given text) (after : Follows new (given ++ lines_at spans new.front) text) where
-    joined : before.front ++ run ≡ after.front
-    joined =
-        let all : (before.front ++ run) ++ new.rest ≡ after.front ++ new.rest = append_assoc before.front run new.rest ∙ ap (λ (l : List ℕ). before.front ++ l) (sym rest_is) ∙ sym before.joined ∙ after.joined in
-        same_front (before.front ++ run) after.front new.rest new.rest all (omega (arith, ap length all, length-append (before.front ++ run) new.rest, length-append after.front new.rest))
-
-    pub run_has_lines : lines_of run ≡ lines_at spans new.front
-    run_has_lines =
-        let all : given ++ lines_of run ≡ given ++ lines_at spans new.front =
-        ap (λ (ls : List (List ℕ)). ls ++ lines_of run) (sym before.lines) ∙ sym (after_whole_lines before.front run before.whole) ∙ ap lines_of joined ∙ after.lines in
-        sym (drop_at given (lines_of run) (length given) refl) ∙ ap (drop (length given)) all ∙ drop_at given (lines_at spans new.front) (length given) refl
-
-    pub run_is : IsRun (length spans) run
-    run_is = record {
-      whole = subst IsOfWholeLines (drop_at before.front run (length before.front) refl)
-          (whole_behind (length before.front) (before.front ++ run) (omega (arith, length-append before.front run)) (subst IsOfWholeLines (sym joined) after.whole));
-      count = ap length run_has_lines ∙ length-map spans (λ (span : Span). slice_range new.front span.from span.to);
-    }
-
-by_bool : (b : Bool) (P : Type 0) → (b ≡ true → P) → (b ≡ false → P) → P
-by_bool true P first second = first refl
-by_bool false P first second = second refl
-
--- lines that a reader gave by their places
-pub run_of_group : (r r' : Reading) (spans : List Span) → GivesLines r.cutter r'.cutter spans → r' ≡ record r { cutter = r'.cutter } → (left : Option (List ℕ)) (given : List (List ℕ)) (taken : List ℕ) → HasRead r left given taken
-    → HasRead r' left (given ++ lines_at spans r'.cutter.front) taken → 0 < length spans → IsRunAt (length r.cutter.front) spans r'.cutter.front
-run_of_group r r' spans gives stays left given taken read read' some = record {
-  within = omega (arith, gives.grows);
-  behind = λ k d inside. let is = gives.behind k d inside in (omega arith, is.1, is.2);
-  run = run_is r.cutter r'.cutter spans gives given taken (read.has.follows going) (read'.has.follows (ap (λ (q : Reading). q.ended) stays ∙ going));
-  lines = run_has_lines r.cutter r'.cutter spans gives given taken (read.has.follows going) (read'.has.follows (ap (λ (q : Reading). q.ended) stays ∙ going));
-}
-  where
-    group : List (List ℕ)
-    group = lines_at spans r'.cutter.front
-
-    -- after the end of the source all lines were given, and no group comes
-    going : r.ended ≡ false
-    going = by_bool r.ended (r.ended ≡ false)
-        (λ ended. absurd (omega (
-          arith,
-          some,
-          length-map spans (λ (span : Span). slice_range r'.cutter.front span.from span.to),
-          length-append given group,
-          ap length (sym (read.has.whole ended) ∙ read'.has.whole (ap (λ (q : Reading). q.ended) stays ∙ ended)),
-        )))
-        (λ is. is)
+-- of lines the first were fine, and of the next one is refused, or memory ran out
+pub stops_after : (names lines before group rest : List (List ℕ)) (first done : ℕ) (why : LabelFault) → lines ≡ before ++ (group ++ rest) → length before ≡ done → All (IsOfTenant names) before → StopsWithin names group (first + done) why → StopsWithin names lines first why
+stops_after names lines before group rest first done why is size fine (inl memory) = inl memory
+stops_after names lines before group rest first done why is size fine (inr r) = inr (record {
+  before = before ++ r.before;
+  line = r.line;
+  begins = (
+    r.begins.0 ++ rest,
+    is ∙ ap (λ (ls : List (List ℕ)). before ++ (ls ++ rest)) r.begins.1 ∙ ap (λ (ls : List (List ℕ)). before ++ ls) (append_assoc (r.before ++ r.line ∷ []) r.begins.0 rest)
+        ∙ sym (append_assoc before (r.before ++ r.line ∷ []) (r.begins.0 ++ rest)) ∙ ap (λ (ls : List (List ℕ)). ls ++ (r.begins.0 ++ rest)) (sym (append_assoc before r.before (r.line ∷ []))),
+  );
+  fine = All-append (IsOfTenant names) before r.before fine r.fine;
+  refused = subst (λ (n : ℕ). RefusesAs names r.line n why) (omega (arith, size, length-append before r.before)) r.refused;
+})

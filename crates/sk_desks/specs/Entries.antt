@@ -1,12 +1,9 @@
 -- Lines of a window, each of them empty or of a tenant.
-use Rattle.std.specs.Prelude.{◌≡◌, ℕ, ◌+◌, ◌<◌, ◌≤◌, true, Some, List, length, drop, slice_get}
+use Rattle.std.specs.Prelude.{◌≡◌, ℕ, ◌+◌, ◌<◌, ◌≤◌, true, Some, List, Contains, length, drop, slice_get, slice_index, slice_range}
 use Rattle.std.specs.List.{concat}
-use Rattle.sk_model.specs.Lines.{lines_of}
-use Rattle.sk_lines.specs.Runs.{IsRun}
-use Rattle.sk_lines.specs.Spans.{AreBehind, lines_at}
-use Rattle.sk_lines.specs.declared.spans.Span.{Span}
 use Rattle.sk_fill.specs.Windows.{full_bytes}
 use Rattle.sk_label.specs.Labels.{is_labelled, label_of, item_text_of}
+use Rattle.sk_tenant.specs.Names.{HasNoSpace}
 
 pub record LabelledState : Type 0 where
   -- the names of the tenants
@@ -34,12 +31,11 @@ pub record HasRoomFor (lines bytes : ℕ) (w : LabelledState) : Type 0 where
   pub small : w.bytes + bytes < full_bytes
   pub short : length (concat w.lines) ≤ w.bytes
 
--- the text from a place on has these lines, each with what ended it
-pub record IsRunAt (from : ℕ) (spans : List Span) (text : List ℕ) : Type 0 where
-  pub within : from ≤ length text
-  pub behind : AreBehind 0 spans text
-  pub run : IsRun (length spans) (drop from text)
-  pub lines : lines_of (drop from text) ≡ lines_at spans text
+-- at a place the name of a tenant stands, of this many bytes and without a space, and a space after it
+pub record IsNamedAt (names : List (List ℕ)) (text : List ℕ) (at label : ℕ) : Type 0 where
+  pub known : Contains names (slice_range text at (at + label))
+  pub plain : HasNoSpace (slice_range text at (at + label))
+  pub space : slice_index text (at + label) ≡ 32
 
 -- a line is empty, or the text of its item begins here, and it is of the tenant at this place
 pub record IsLabelledBy (names : List (List ℕ)) (line : List ℕ) (tenant item : ℕ) : Type 0 where

@@ -1,43 +1,103 @@
 // An item that is offered at a desk until it is taken, and a line whose item is.
-ghost use Rattle.std.specs.Prelude.{◌≡◌, ◌<◌, ◌≤◌, ◌∷◌, [], length, slice_range, OnOk, IfErr};
+ghost use Rattle.std.specs.Prelude.{◌≡◌, ◌<◌, ◌≤◌, ◌^◌, ◌∷◌, [], length, slice_range, OnOk, IfErr};
 ghost use Rattle.sk_model.specs.Width.{IsItem};
 ghost use Rattle.sk_desks.specs.Clerks.{StopsAtLine};
+ghost use Rattle.sk_desks.specs.Entries.{IsLabelledBy};
 ghost use Rattle.sk_desks.specs.Feeds.{HasRoom, HasTenants, TakesItem, TakesLines};
 ghost use Rattle.sk_desks.specs.Gathers.{IsOfTenant};
 
-use crate::examined::examine;
+use crate::examined::{Examined, examine, tenant_like};
 use sk_hash::hash63_at;
 use sk_label::LineStop;
+use sk_lines::Span;
 use sk_tenant::Desk;
 use std::sync::Wait;
 
-/// Gives the item of a line that lies in a text, if it has one, to its tenant.
+/// Gives the item of a line that lies in a text, if it has one, to its tenant, and returns how many bytes its label has.
 #[inline(always)]
 pub(crate) fn give<R: Wait>(
     rt: &R,
     desk: &mut Desk,
     text: &[u8],
-    from: usize,
-    to: usize,
+    span: Span,
     seed: u32,
-) -> Result<(), LineStop>
-    requires order { from ≤ to }
-    requires within { to ≤ length text.now }
+) -> Result<usize, LineStop>
+    requires order { span.from ≤ span.to }
+    requires within { span.to ≤ length text.now }
     requires tenants { HasTenants desk.old }
     requires room { HasRoom 1 desk.old }
-    ensures took { OnOk result (TakesLines seed desk.old (slice_range text.now from to ∷ []) desk.new) }
-    ensures fine { OnOk result (IsOfTenant desk.old.names (slice_range text.now from to)) }
-    ensures stopped { IfErr result (StopsAtLine desk.old.names (slice_range text.now from to)) }
+    ensures took { OnOk result (TakesLines seed desk.old (slice_range text.now span.from span.to ∷ []) desk.new) }
+    ensures fine { OnOk result (IsOfTenant desk.old.names (slice_range text.now span.from span.to)) }
+    ensures stopped { IfErr result (StopsAtLine desk.old.names (slice_range text.now span.from span.to)) }
     ensures names { desk.new.names ≡ desk.old.names }
 {
-    let found = examine(desk.names(), text, from, to)?;
-    let at = from + found.item;
-    if at == to {
-        return Ok(());
+    let found = examine(desk.names(), text, span.from, span.to)?;
+    give_item(rt, desk, text, span, found, seed);
+    Ok(found.item.saturating_sub(1))
+}
+
+/// The same of a line that is fine: its label mostly has as many bytes as that of the line before, which is `label`.
+#[inline(always)]
+pub(crate) fn give_like<R: Wait>(
+    rt: &R,
+    desk: &mut Desk,
+    text: &[u8],
+    span: Span,
+    label: usize,
+    seed: u32,
+) -> usize
+    requires order { span.from ≤ span.to }
+    requires within { span.to ≤ length text.now }
+    requires fine { IsOfTenant desk.old.names (slice_range text.now span.from span.to) }
+    requires tenants { HasTenants desk.old }
+    requires room { HasRoom 1 desk.old }
+    ensures { TakesLines seed desk.old (slice_range text.now span.from span.to ∷ []) desk.new }
+{
+    let Some(tenant) = tenant_like(desk.names(), text, span.from, span.to, label) else {
+        return give_fine(rt, desk, text, span, seed);
+    };
+    let found = Examined {
+        item: label + 1,
+        tenant: tenant as usize,
+    };
+    give_item(rt, desk, text, span, found, seed);
+    label
+}
+
+// The same without a guess.
+#[inline(never)]
+fn give_fine<R: Wait>(rt: &R, desk: &mut Desk, text: &[u8], span: Span, seed: u32) -> usize
+    requires order { span.from ≤ span.to }
+    requires within { span.to ≤ length text.now }
+    requires fine { IsOfTenant desk.old.names (slice_range text.now span.from span.to) }
+    requires tenants { HasTenants desk.old }
+    requires room { HasRoom 1 desk.old }
+    ensures { TakesLines seed desk.old (slice_range text.now span.from span.to ∷ []) desk.new }
+{
+    match give(rt, desk, text, span, seed) {
+        Ok(label) => label,
+        Err(_) => unreachable!(),
     }
-    let item = hash63_at(seed, text, at, to);
+}
+
+// Gives the item that was found in a line, if it has one, to its tenant.
+#[inline(always)]
+fn give_item<R: Wait>(rt: &R, desk: &mut Desk, text: &[u8], span: Span, found: Examined, seed: u32)
+    requires order { span.from ≤ span.to }
+    requires within { span.to ≤ length text.now }
+    requires label { IsLabelledBy desk.old.names (slice_range text.now span.from span.to) found.tenant found.item }
+    requires tenant { found.tenant < 2 ^ 32 }
+    requires tenants { HasTenants desk.old }
+    requires room { HasRoom 1 desk.old }
+    ensures took { TakesLines seed desk.old (slice_range text.now span.from span.to ∷ []) desk.new }
+    ensures names { desk.new.names ≡ desk.old.names }
+{
+    let at = span.from + found.item;
+    if at == span.to {
+        return;
+    }
+    let item = hash63_at(seed, text, at, span.to);
     insist(rt, desk, found.tenant as u32, item);
-    Ok(())
 }
 
 /// Offers an item for the tenant at place t until it is taken. The quota is never reached: there is room.

@@ -2,6 +2,7 @@
 use crate::calls::give;
 use crate::plan::Plan;
 use sk_label::{LineStop, LineTaker};
+use sk_lines::Span;
 use sk_tenant::Desk;
 use std::sync::Wait;
 
@@ -31,6 +32,11 @@ impl<R: Wait> LineTaker for Clerk<'_, '_, R> {
 
     #[inline(always)]
     fn take(&mut self, line: &[u8]) -> Result<(), LineStop> {
-        give(self.rt, self.desk, line, 0, line.len(), self.plan.seed)
+        let all = Span {
+            from: 0,
+            to: line.len(),
+        };
+        give(self.rt, self.desk, line, all, self.plan.seed)?;
+        Ok(())
     }
 }

@@ -1,5 +1,5 @@
 // A line that is examined: whether it is empty, or of a tenant, and where its item begins.
-ghost use Rattle.std.specs.Prelude.{◌≡◌, ◌<◌, ◌≤◌, ◌^◌, true, length, slice_range, OnOk, IfOk, IfErr};
+ghost use Rattle.std.specs.Prelude.{◌≡◌, ◌<◌, ◌≤◌, ◌+◌, ◌^◌, length, slice_range, OnOk, IfOk, IfErr, IfSome};
 ghost use Rattle.sk_desks.specs.Clerks.{StopsAtLine};
 ghost use Rattle.sk_desks.specs.Entries.{IsLabelledBy};
 ghost use Rattle.sk_desks.specs.Gathers.{IsOfTenant};
@@ -47,18 +47,25 @@ pub(crate) fn examine(
     })
 }
 
-/// Whether a line that lies in a text has an item after a space and the name of a tenant, of `label` bytes: `false` says
-/// nothing. That is less to do than to examine it.
+/// The place of the tenant of a line that lies in a text, if its label has this many bytes, and the line an item and no
+/// fault. That is less to do than to examine it, which is left to the caller if the answer is none.
 #[inline(always)]
-pub(crate) fn is_of_tenant(names: &Names, text: &[u8], from: usize, to: usize, label: usize) -> bool
+pub(crate) fn tenant_like(
+    names: &Names,
+    text: &[u8],
+    from: usize,
+    to: usize,
+    label: usize,
+) -> Option<u32>
     requires order { from ≤ to }
     requires within { to ≤ length text.now }
-    ensures { result ≡ true → IsOfTenant names.now (slice_range text.now from to) }
+    ensures fine { IfSome result (λ _. IsOfTenant names.now (slice_range text.now from to)) }
+    ensures label { IfSome result (λ t. IsLabelledBy names.now (slice_range text.now from to) t (label + 1)) }
 {
-    if label == 0 || (to - from).saturating_sub(label) < 2 {
-        return false;
+    if label == 0 || (to - from).saturating_sub(label) < 2 || text[from + label] != b' ' {
+        return None;
     }
-    text[from + label] == b' ' && names.has_plain(&text[from..from + label])
+    names.place_plain(&text[from..from + label])
 }
 
 // Examines a line. Not inlined, so that the loop over lines stays short.

@@ -1,5 +1,5 @@
 // Lines of windows, fed to desks.
-ghost use Rattle.std.specs.Prelude.{◌≡◌, ℕ, ◌<◌, ◌≤◌, ◌+◌, ◌-◌, List, ◌∷◌, [], length, map, All, slice_range};
+ghost use Rattle.std.specs.Prelude.{◌≡◌, ℕ, ◌<◌, ◌≤◌, ◌-◌, List, length, All, slice_range};
 ghost use Rattle.sk_model.specs.Causes.{HasCauseIn};
 ghost use Rattle.sk_model.specs.Limits.{most_updaters};
 ghost use Rattle.sk_lines.specs.Spans.{AreBehind, lines_at};
@@ -9,7 +9,7 @@ ghost use Rattle.sk_fill.specs.Windows.{all_lines};
 ghost use Rattle.sk_desks.specs.Gathers.{Gathers, IsOfTenant};
 ghost use Rattle.sk_desks.specs.Feeds.{HasRoom, HaveRoom, HasTenants, TakesLines, TakeBlocks};
 
-use crate::calls::give;
+use crate::calls::give_like;
 use crate::gatherer::Gatherer;
 use crate::stretch::LabelledStretch;
 use crate::window::LabelledWindow;
@@ -191,23 +191,8 @@ fn feed_group<R: Wait>(rt: &R, desk: &mut Desk, text: &[u8], spans: &[Span], see
     requires room { HasRoom (length spans.now) desk.old }
     ensures { TakesLines seed desk.old (lines_at spans.now text.now) desk.new }
 {
+    let mut label = 0;
     'line: for i in 0..spans.len() {
-        feed_line(rt, desk, text, spans[i], seed);
-    }
-}
-
-// Feeds the item of a line to the updater of its tenant.
-#[inline(always)]
-fn feed_line<R: Wait>(rt: &R, desk: &mut Desk, text: &[u8], span: Span, seed: u32)
-    requires order { span.from ≤ span.to }
-    requires within { span.to ≤ length text.now }
-    requires fine { IsOfTenant desk.old.names (slice_range text.now span.from span.to) }
-    requires tenants { HasTenants desk.old }
-    requires room { HasRoom 1 desk.old }
-    ensures { TakesLines seed desk.old (slice_range text.now span.from span.to ∷ []) desk.new }
-{
-    match give(rt, desk, text, span.from, span.to, seed) {
-        Ok(()) => {}
-        Err(_) => unreachable!(),
+        label = give_like(rt, desk, text, spans[i], label, seed);
     }
 }

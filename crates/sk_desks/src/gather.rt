@@ -10,8 +10,10 @@ ghost use Rattle.sk_desks.specs.Gathers.{Gathers, TakesHeld};
 use crate::window::LabelledWindow;
 use sk_io::Source;
 use sk_label::LabelFault;
-use sk_lines::{GROUP, Span};
 use sk_read::LineReader;
+
+// As many lines are taken at once at most: they stay in a processor's cache.
+const RUN: usize = 512;
 
 // Reads lines into an empty window, until it is full, or returns `false` at the end of the source.
 pub(crate) fn gather_window<S: Source>(
@@ -39,13 +41,12 @@ pub(crate) fn gather_window<S: Source>(
 fn take_held(window: &mut LabelledWindow<'_>, reader: &mut LineReader) -> Result<bool, LabelFault>
     requires started { (left : Option (List ℕ)) × (given : List (List ℕ)) × (taken : List ℕ) × HasRead reader.old left (given ++ window.old.lines) taken }
     ensures takes { TakesHeld window.old.names window.old.lines window.new.lines reader.old reader.new result }
-    ensures room { result ≡ Ok false → length window.new.lines + GROUP ≤ window_lines }
+    ensures room { result ≡ Ok false → length window.new.lines + RUN ≤ window_lines }
     ensures few { result ≡ Ok false → length (concat window.new.lines) < full_bytes }
     ensures names { window.new.names ≡ window.old.names }
 {
-    let mut spans = [Span::EMPTY; GROUP];
-    'group: while window.has_room_for(held_bytes(reader)) {
-        if !take_group(window, reader, &mut spans)? {
+    'run: while window.has_room_for(RUN, reader.rest().len()) {
+        if !take_run(window, reader)? {
             return Ok(false);
         }
     }
@@ -53,13 +54,9 @@ fn take_held(window: &mut LabelledWindow<'_>, reader: &mut LineReader) -> Result
 }
 
 // Takes some lines that a reader holds into a window, and returns whether there were any.
-fn take_group(
-    window: &mut LabelledWindow<'_>,
-    reader: &mut LineReader,
-    spans: &mut [Span; GROUP],
-) -> Result<bool, LabelFault>
+fn take_run(window: &mut LabelledWindow<'_>, reader: &mut LineReader) -> Result<bool, LabelFault>
     requires started { (left : Option (List ℕ)) × (given : List (List ℕ)) × (taken : List ℕ) × HasRead reader.old left (given ++ window.old.lines) taken }
-    requires room { HasRoomFor GROUP (length reader.old.cutter.front + length reader.old.cutter.rest) window.old }
+    requires room { HasRoomFor RUN (length reader.old.cutter.rest) window.old }
     ensures takes { TakesHeld window.old.names window.old.lines window.new.lines reader.old reader.new result }
     ensures progress { result ≡ Ok true → remaining_of reader.new < remaining_of reader.old }
     ensures none { result ≡ Ok false → window.new ≡ window.old }
@@ -67,17 +64,10 @@ fn take_group(
 {
     let first = reader.number() + 1;
     let from = reader.front().len();
-    let count = reader.next_lines(spans);
+    let count = reader.next_run(RUN);
     if count == 0 {
         return Ok(false);
     }
-    window.append(reader.front(), from, &spans[..count], first)?;
+    window.append(&reader.front()[from..], count, first)?;
     Ok(true)
-}
-
-// How many bytes a reader holds, those of lines that it gave too.
-fn held_bytes(reader: &LineReader) -> usize
-    ensures { result ≡ length reader.now.cutter.front + length reader.now.cutter.rest }
-{
-    reader.front().len() + reader.rest().len()
 }

@@ -6,6 +6,7 @@ mod calls;
 mod clerk;
 mod command;
 mod ending;
+mod even;
 mod examined;
 mod feed;
 mod gather;

@@ -1,14 +1,17 @@
 // A window of lines, each of them empty or of a tenant.
-ghost use Rattle.std.specs.Prelude.{◌≡◌, ◌<◌, ◌≤◌, ◌+◌, ◌++◌, ◌∷◌, ◌^◌, [], All, length, drop, slice_range, true, OnOk, IfOk, IfErr};
+ghost use Rattle.std.specs.Prelude.{◌≡◌, ◌<◌, ◌≤◌, ◌+◌, ◌-◌, ◌++◌, ◌∷◌, ◌^◌, [], All, length, drop, slice_range, true, OnOk, IfOk, IfErr};
 ghost use Rattle.std.specs.List.{concat};
 ghost use Rattle.sk_model.specs.Limits.{line_limit};
+ghost use Rattle.sk_model.specs.Lines.{lines_of};
 ghost use Rattle.sk_lines.specs.Cutter.{HasNoLf};
+ghost use Rattle.sk_lines.specs.Runs.{IsRun};
 ghost use Rattle.sk_lines.specs.Spans.{AreBehind, lines_at};
 ghost use Rattle.sk_fill.specs.Windows.{full_bytes};
-ghost use Rattle.sk_desks.specs.Entries.{IsRunAt, HasRoomFor, window_lines};
+ghost use Rattle.sk_desks.specs.Entries.{HasRoomFor, window_lines};
 ghost use Rattle.sk_desks.specs.Gathers.{IsOfTenant, RefusesAs, StopsWithin};
 
-use crate::examined::{examine, is_of_tenant};
+use crate::even::are_even_of_tenants;
+use crate::examined::{examine, tenant_like};
 use sk_fill::{Window, WindowLines};
 use sk_label::LabelFault;
 use sk_lines::{GROUP, Span};
@@ -62,11 +65,12 @@ impl<'n> LabelledWindow<'n> {
         self.window.len()
     }
 
-    /// Whether it takes a group of lines more, and this many bytes.
-    pub(crate) fn has_room_for(&self, bytes: usize) -> bool
-        ensures room { result ≡ true → HasRoomFor GROUP bytes self.now }
+    /// Whether it takes this many lines more, at most 16,384, of this many bytes.
+    pub(crate) fn has_room_for(&self, lines: usize, bytes: usize) -> bool
+        requires few { lines ≤ window_lines }
+        ensures room { result ≡ true → HasRoomFor lines bytes self.now }
     {
-        self.window.len() + GROUP as u32 <= MOST_LINES
+        self.window.len() as usize + lines <= MOST_LINES as usize
             && self.window.size() < FULL_BYTES
             && self.window.has_room_for(bytes)
     }
@@ -79,26 +83,28 @@ impl<'n> LabelledWindow<'n> {
         self.window.clear();
     }
 
-    /// Examines lines that lie in a text after its first `from` bytes, and puts them to the end. They are numbered from
-    /// `first` on. After an error it is not used again.
-    pub(crate) fn append(
-        &mut self,
-        text: &[u8],
-        from: usize,
-        spans: &[Span],
-        first: u64,
-    ) -> Result<(), LabelFault>
-        requires room { HasRoomFor (length spans.now) (length text.now) self.old }
-        requires run { IsRunAt from spans.now text.now }
-        requires number { first + length spans.now < 2 ^ 64 }
-        ensures lines { OnOk result (self.new.lines ≡ self.old.lines ++ lines_at spans.now text.now) }
-        ensures fine { OnOk result (All (IsOfTenant self.old.names) (lines_at spans.now text.now)) }
-        ensures stopped { IfErr result (StopsWithin self.old.names (lines_at spans.now text.now) first) }
+    /// Puts the lines of a run to the end and examines them. They are numbered from `first` on. After an error it is not
+    /// used again.
+    pub(crate) fn append(&mut self, run: &[u8], count: usize, first: u64) -> Result<(), LabelFault>
+        requires some { 0 < count }
+        requires room { HasRoomFor count (length run.now) self.old }
+        requires run { IsRun count run.now }
+        requires number { first + count < 2 ^ 64 }
+        ensures lines { OnOk result (self.new.lines ≡ self.old.lines ++ lines_of run.now) }
+        ensures fine { OnOk result (All (IsOfTenant self.old.names) (lines_of run.now)) }
+        ensures stopped { IfErr result (StopsWithin self.old.names (lines_of run.now) first) }
         ensures names { self.new.names ≡ self.old.names }
     {
-        examine_lines(self.names, text, spans, first)?;
-        self.window.push_run(&text[from..], spans.len())?;
-        Ok(())
+        let place = self.window.len();
+        self.window.push_run(run, count)?;
+        if are_even_of_tenants(self.names, run, count) {
+            return Ok(());
+        }
+        let fine = examine_from(self.names, &self.window, place, first);
+        if fine.is_err() {
+            self.window.clear();
+        }
+        fine
     }
 
     /// The same of one line.
@@ -131,6 +137,25 @@ impl<'n> LabelledWindow<'n> {
     }
 }
 
+// Examines the lines of a window from a place on, which are numbered from `first` on.
+fn examine_from(names: &Names, window: &Window, place: u32, first: u64) -> Result<(), LabelFault>
+    requires within { place ≤ length window.now.lines }
+    requires number { first + (length window.now.lines - place) < 2 ^ 64 }
+    ensures fine { OnOk result (All (IsOfTenant names.now) (drop place window.now.lines)) }
+    ensures stopped { IfErr result (StopsWithin names.now (drop place window.now.lines) first) }
+{
+    let mut spans = [Span::EMPTY; GROUP];
+    let mut lines = window.lines_from(place);
+    let count = (window.len() - place) as usize;
+    let mut done = 0;
+    'group: while done < count {
+        let (text, found) = lines.next_lines(&mut spans, count - done);
+        examine_lines(names, text, &spans[..found], first + done as u64)?;
+        done += found;
+    }
+    Ok(())
+}
+
 // Examines lines that lie in a text, and are numbered from `first` on.
 fn examine_lines(names: &Names, text: &[u8], spans: &[Span], first: u64) -> Result<(), LabelFault>
     requires within { AreBehind 0 spans.now text.now }
@@ -160,7 +185,7 @@ fn examine_like(
     ensures fine { OnOk result (IsOfTenant names.now (slice_range text.now span.from span.to)) }
     ensures refused { IfErr result (RefusesAs names.now (slice_range text.now span.from span.to) number) }
 {
-    if is_of_tenant(names, text, span.from, span.to, label) {
+    if tenant_like(names, text, span.from, span.to, label).is_some() {
         return Ok(label);
     }
     examine_line(names, text, span, number)

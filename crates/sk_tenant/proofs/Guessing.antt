@@ -1,8 +1,8 @@
 -- Names by their ends, and where a name is sought first.
-use Rattle.std.proofs.Common.{◌≡◌, ⊎_elim, ℕ, ◌+◌, ◌-◌, ◌<◌, ◌≤◌, List, [], ◌++◌, length, get_or, take, drop, replicate, Some, slice_get, All, Contains, sym, ap, subst, ◌∙◌, arith, take-append-drop}
+use Rattle.std.proofs.Common.{◌≡◌, ⊎_elim, ℕ, ◌+◌, ◌-◌, ◌<◌, ◌≤◌, List, [], ◌++◌, length, get_or, take, drop, replicate, Some, slice_get, All, sym, ap, subst, ◌∙◌, arith, take-append-drop}
 use Rattle.std.proofs.lemmas.Bool.{cases_lt}
 use Rattle.std.proofs.lemmas.List.{drop-drop, length-replicate}
-use Rattle.std.proofs.lemmas.List.Elements.{All-replicate, Contains-get_or}
+use Rattle.std.proofs.lemmas.List.Elements.{All-replicate}
 use Rattle.std.proofs.lemmas.Option.{slice_get-get_or}
 use Rattle.sk_tenant.specs.declared.ends.Ends.{Ends}
 use Rattle.sk_tenant.specs.declared.guesses.Guess.{Guess}
@@ -58,9 +58,6 @@ module _ (names : List (List ℕ)) (by_mark : List Guess) (mark : ℕ) (guess : 
 
     pub guessed : slice_get names guess.place ≡ Some name
     guessed = slice_get-get_or names guess.place [] place.within ∙ ap Some same
-
-    pub is_known : Contains names name
-    is_known = subst (Contains names) same (Contains-get_or names guess.place [] place.within)
 
     pub is_plain : HasNoSpace name
     is_plain = subst HasNoSpace same place.plain

@@ -47,6 +47,11 @@ pub none_here : (place : Option ℕ) (names : List (List ℕ)) (name : List ℕ)
 none_here (Some i) names name is = tt
 none_here None names name is = no_name names name (sym is)
 
+-- so it is of a name of some kind
+pub none_if : (place : Option ℕ) (names : List (List ℕ)) (name : List ℕ) (P : Type 0) → place ≡ place_of names name → IfNone place (P → ¬ Contains names name)
+none_if (Some i) names name P is = tt
+none_if None names name P is = λ _. no_name names name (sym is)
+
 pub found_here : (place : Option ℕ) (names : List (List ℕ)) (name : List ℕ) → place ≡ place_of names name → IfSome place (λ t. slice_get names t ≡ Some name)
 found_here (Some i) names name is = found_name names name i (sym is)
 found_here None names name is = tt

@@ -1,5 +1,5 @@
 //! Where a name is sought first.
-ghost use Rattle.std.specs.Prelude.{◌≡◌, ◌≤◌, ℕ, List, true, Some, length, map, slice_get, IfOk, IfSome, Contains};
+ghost use Rattle.std.specs.Prelude.{◌≡◌, ◌≤◌, ℕ, List, true, Some, length, map, slice_get, IfOk, IfSome};
 ghost use Rattle.sk_tenant.specs.Names.{most_tenants, HasNoSpace};
 ghost use Rattle.sk_tenant.specs.Guesses.{AreGuesses};
 
@@ -42,16 +42,20 @@ impl Guesses {
         Ok(Guesses { by_mark })
     }
 
-    /// Whether this name of at most 16 bytes is guessed, as one is that has no space, unless another one has its mark.
+    /// The place of this name of at most 16 bytes, which has no space then, unless another one has its mark.
     #[inline(always)]
-    pub(crate) fn has(&self, names: &IndexSet<Vec<u8>>, name: &[u8]) -> bool
+    pub(crate) fn place_plain(&self, names: &IndexSet<Vec<u8>>, name: &[u8]) -> Option<u32>
         requires { AreGuesses (map (λ own. own.items) names.now.keys) self.now.by_mark.items }
-        ensures known { result ≡ true → Contains (map (λ own. own.items) names.now.keys) name.now }
-        ensures plain { result ≡ true → HasNoSpace name.now }
+        ensures place { IfSome result (λ t. slice_get (map (λ own. own.items) names.now.keys) t ≡ Some name.now) }
+        ensures plain { IfSome result (λ _. HasNoSpace name.now) }
     {
         let ends = Ends::of(name);
         let guess = &self.by_mark[ends.mark()];
-        name.len() <= BOTH_ENDS && guess.ends.are(&ends)
+        if name.len() <= BOTH_ENDS && guess.ends.are(&ends) {
+            Some(guess.place)
+        } else {
+            None
+        }
     }
 
     /// The place of this name, unless another one has its mark.

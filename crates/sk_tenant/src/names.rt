@@ -79,15 +79,19 @@ impl Names {
         }
     }
 
-    /// Whether a tenant has this name and it has no space. `false` says nothing: only of names of 8 to 16 bytes it is
-    /// mostly known at once.
+    /// The place of the tenant with this name, if the name has no space. Of 8 to 16 bytes it is mostly found without a
+    /// call.
     #[inline(always)]
-    pub fn has_plain(&self, name: &[u8]) -> bool
-        ensures known { result ≡ true → Contains self.now name.now }
-        ensures plain { result ≡ true → HasNoSpace name.now }
+    pub fn place_plain(&self, name: &[u8]) -> Option<u32>
+        ensures found { IfSome result (λ t. slice_get self.now t ≡ Some name.now) }
+        ensures plain { IfSome result (λ _. HasNoSpace name.now) }
+        ensures none { IfNone result (HasNoSpace name.now → ¬ Contains self.now name.now) }
     {
         let table: &Table = &self.table;
-        table.guesses.has(&table.names, name)
+        match table.guesses.place_plain(&table.names, name) {
+            Some(t) => Some(t),
+            None => sought_plain(&table.names, name),
+        }
     }
 
     /// The name of the tenant at place t.
@@ -119,6 +123,21 @@ fn sought(names: &IndexSet<Vec<u8>>, name: &[u8]) -> Option<u32>
 {
     let place = names.get_index_of(name)?;
     Some(place as u32)
+}
+
+// The same of a name that has no space.
+#[inline(never)]
+fn sought_plain(names: &IndexSet<Vec<u8>>, name: &[u8]) -> Option<u32>
+    requires few { length names.now.keys ≤ most_tenants }
+    ensures found { IfSome result (λ t. slice_get (map (λ own. own.items) names.now.keys) t ≡ Some name.now) }
+    ensures plain { IfSome result (λ _. HasNoSpace name.now) }
+    ensures none { IfNone result (HasNoSpace name.now → ¬ Contains (map (λ own. own.items) names.now.keys) name.now) }
+{
+    if name.contains(&b' ') {
+        None
+    } else {
+        sought(names, name)
+    }
 }
 
 // A set of these names, in order.

@@ -1,4 +1,4 @@
-use Rattle.std.proofs.Common.{◌≡◌, ◌+◌, ◌-◌, ◌<◌, ◌∷◌, [], List, ℕ, length, get_or, take, slice_range, refl, sym, ap, subst, ◌∙◌, arith}
+use Rattle.std.proofs.Common.{◌≡◌, ◌+◌, ◌-◌, ◌∷◌, [], List, ℕ, length, get_or, take, slice_range, refl, sym, subst, ◌∙◌, arith}
 use Rattle.std.proofs.lemmas.List.{take_all}
 use Rattle.sk_lines.specs.Spans.{lines_at}
 use Rattle.sk_lines.specs.declared.spans.Span.{Span}
@@ -20,29 +20,29 @@ line-init g c = record {
   room = λ t u within. omega (arith, c.requires.room t u within);
 }
 
-pub feed_line-requires-clause-fine : goal.feed_line-requires-clause-fine
-feed_line-requires-clause-fine g c =
+pub give_like-label-requires-clause-fine : goal.give_like-label-requires-clause-fine
+give_like-label-requires-clause-fine g c =
     let span = get_or c.args.spans.now c.line.i no_bytes in
     let line : List ℕ = slice_range c.args.text.now span.from span.to in
     subst (λ (ns : List (List ℕ)). IsOfTenant ns line) (sym c.line.invariant.names) (line_of_group c.args.text.now c.args.spans.now c.line.i no_bytes (IsOfTenant c.args.desk.now.names) c.line-test.true c.requires.fine)
 
-pub feed_line-requires-clause-room : goal.feed_line-requires-clause-room
-feed_line-requires-clause-room g c = λ t u within. omega (arith, c.line.invariant.room t u within, c.line-test.true)
+pub give_like-label-requires-clause-room : goal.give_like-label-requires-clause-room
+give_like-label-requires-clause-room g c = λ t u within. omega (arith, c.line.invariant.room t u within, c.line-test.true)
 
 pub line-preserved : goal.line-preserved
 line-preserved g c =
     let text = c.args.text.now in let spans = c.args.spans.now in let i = c.line.i in let inv = c.line.invariant in
     let span = get_or spans i no_bytes in
     let line : List ℕ = slice_range text span.from span.to in
-    let took = c.feed_line.ensures in
+    let took = c.give_like-label.ensures in
     let count : length spans - i ≡ length (line ∷ []) + (length spans - (i + 1)) = omega (arith, c.line-test.true) in
     let room : HasRoom (length (line ∷ []) + (length spans - (i + 1))) c.line.desk = subst (λ (n : ℕ). HasRoom n c.line.desk) count inv.room in
     record {
-      took = subst (λ (ls : List (List ℕ)). TakesLines c.args.seed c.args.desk.now ls c.feed_line.new.desk) (sym (lines_more text spans i no_bytes c.line-test.true))
-          (takes_more c.args.seed c.args.desk.now c.line.desk c.feed_line.new.desk (lines_at (take i spans) text) (line ∷ []) inv.took took);
-      tenants = has_still c.args.seed c.line.desk c.feed_line.new.desk (line ∷ []) took inv.tenants;
-      names = names_still c.args.seed c.line.desk c.feed_line.new.desk (line ∷ []) took ∙ inv.names;
-      room = room_after c.args.seed c.line.desk c.feed_line.new.desk (line ∷ []) (length spans - (i + 1)) inv.tenants took room;
+      took = subst (λ (ls : List (List ℕ)). TakesLines c.args.seed c.args.desk.now ls c.give_like-label.new.desk) (sym (lines_more text spans i no_bytes c.line-test.true))
+          (takes_more c.args.seed c.args.desk.now c.line.desk c.give_like-label.new.desk (lines_at (take i spans) text) (line ∷ []) inv.took took);
+      tenants = has_still c.args.seed c.line.desk c.give_like-label.new.desk (line ∷ []) took inv.tenants;
+      names = names_still c.args.seed c.line.desk c.give_like-label.new.desk (line ∷ []) took ∙ inv.names;
+      room = room_after c.args.seed c.line.desk c.give_like-label.new.desk (line ∷ []) (length spans - (i + 1)) inv.tenants took room;
     }
 
 pub returns : goal.returns

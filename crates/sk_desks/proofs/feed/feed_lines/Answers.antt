@@ -1,11 +1,10 @@
-use Rattle.std.proofs.Common.{◌≡◌, ◌+◌, ◌-◌, ◌<◌, ◌≤◌, ◌++◌, List, ℕ, All, length, length-take, take, drop, slice_range, refl, sym, ap, subst, ◌∙◌, arith}
+use Rattle.std.proofs.Common.{◌≡◌, ◌+◌, ◌-◌, List, ℕ, length, length-take, take, slice_range, sym, subst, ◌∙◌, arith}
 use Rattle.std.proofs.lemmas.List.{length-map}
 use Rattle.sk_lines.specs.Spans.{lines_at}
 use Rattle.sk_lines.specs.declared.spans.Span.{Span}
 use Rattle.sk_desks.specs.Feeds.{HasRoom, TakesLines}
-use Rattle.sk_desks.specs.Gathers.{IsOfTenant}
 use Rattle.sk_desks.proofs.Taking.{takes_more, has_still, names_still, room_after}
-use Rattle.sk_desks.proofs.BlockLaws.{no_lines, group_is, group_rest, group_more, group_fine}
+use Rattle.sk_desks.proofs.BlockLaws.{no_lines, group_rest, group_more}
 use Rattle.sk_desks.proofs.feed.feed_lines.Goals as goal
 
 pub group-init : goal.group-init

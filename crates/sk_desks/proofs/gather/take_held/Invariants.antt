@@ -3,11 +3,11 @@ use Rattle.sk_read.specs.Reading.{remaining_of}
 use Rattle.sk_desks.specs.Gathers.{TakesHeld}
 use Rattle.sk_desks.proofs.gather.take_held.Given as goal
 
-abbrev pub invariant-group : goal.invariant-group
-invariant-group l = record {
+abbrev pub invariant-run : goal.invariant-run
+invariant-run l = record {
   takes : TakesHeld l.initial.window.names l.initial.window.lines l.window.lines l.initial.reader l.reader (Ok true);
   names : l.window.names ≡ l.initial.window.names;
 }
 
-abbrev pub decreases-group : goal.decreases-group
-decreases-group l = remaining_of l.reader
+abbrev pub decreases-run : goal.decreases-run
+decreases-run l = remaining_of l.reader

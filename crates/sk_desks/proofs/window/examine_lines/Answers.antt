@@ -1,4 +1,4 @@
-use Rattle.std.proofs.Common.{◌≡◌, ◌++◌, ◌∷◌, [], ℕ, List, All, length, get_or, take, slice_range, sym, subst, ap, arith}
+use Rattle.std.proofs.Common.{ℕ, List, All, get_or, take, slice_range, sym, subst, arith}
 use Rattle.std.proofs.lemmas.List.{take_all}
 use Rattle.std.proofs.lemmas.List.Elements.{All-push}
 use Rattle.sk_lines.specs.Spans.{lines_at}

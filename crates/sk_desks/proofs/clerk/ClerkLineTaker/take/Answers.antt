@@ -1,7 +1,7 @@
 use Rattle.std.proofs.Common.{ℕ, List, [], ◌∷◌, subst}
 use Rattle.sk_desks.specs.Feeds.{TakesLines}
 use Rattle.sk_desks.specs.Gathers.{IsOfTenant}
-use Rattle.sk_desks.proofs.ClerkLaws.{gave_tenants, gave_room, gave_more, if_both, whole_line}
+use Rattle.sk_desks.proofs.ClerkLaws.{gave_tenants, gave_room, gave_more, whole_line}
 use Rattle.sk_desks.proofs.clerk.ClerkLineTaker.take.Goals as goal
 
 pub give-requires-clause-tenants : goal.give-requires-clause-tenants
@@ -17,7 +17,6 @@ give-requires-clause-room g c =
 pub returns-clause-takes : goal.returns-clause-takes
 returns-clause-takes g c =
     let clerk = c.args.self.now in let line = c.args.line.now in
-    if_both c.give.result c.give.ensures.took c.give.ensures.fine
-    (λ took fine start lines gave. gave_more start.plan clerk.plan start.desk.now clerk.desk.now lines gave c.give.new.desk line
-    (subst (λ (l : List ℕ). TakesLines clerk.plan.seed clerk.desk.now (l ∷ []) c.give.new.desk) (whole_line line) took)
-    (subst (IsOfTenant clerk.desk.now.names) (whole_line line) fine))
+    λ start lines gave. gave_more start.plan clerk.plan start.desk.now clerk.desk.now lines gave c.give.new.desk line
+    (subst (λ (l : List ℕ). TakesLines clerk.plan.seed clerk.desk.now (l ∷ []) c.give.new.desk) (whole_line line) c.in_ok-give.ensures.took)
+    (subst (IsOfTenant clerk.desk.now.names) (whole_line line) c.in_ok-give.ensures.fine)

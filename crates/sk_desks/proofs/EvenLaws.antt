@@ -1,0 +1,62 @@
+-- Lines of one length, each of a tenant.
+use Rattle.std.proofs.Common.{◌≡◌, ◌⊎◌, inl, inr, ⊎_elim, ℕ, ◌+◌, ◌-◌, ◌*◌, ◌<◌, ◌≤◌, ◌==◌, Bool, true, false, cond, is_some, List, length, take, drop, slice_index, slice_range, slice_get, All, Option, Some, None, IfSome, refl, sym, ap, subst, ◌∙◌, arith}
+use Rattle.std.specs.Str.Lines.{strip_carriage_return}
+use Rattle.std.proofs.lemmas.List.{take-take}
+use Rattle.std.proofs.lemmas.Option.{slice_get_within, get_or_from_slice_get}
+use Rattle.sk_model.specs.Lines.{lines_of}
+use Rattle.sk_lines.specs.Runs.{IsRun, AreEven}
+use Rattle.sk_lines.proofs.EvenRuns.{line_inside}
+use Rattle.sk_tenant.specs.Names.{HasNoSpace}
+use Rattle.sk_desks.specs.Entries.{IsNamedAt}
+use Rattle.sk_desks.specs.Gathers.{IsOfTenant}
+use Rattle.sk_desks.proofs.ClerkLaws.{range_size}
+use Rattle.sk_desks.proofs.LikeLaws.{of_tenant}
+
+-- a name that was found at a place
+pub named_at : (names : List (List ℕ)) (text : List ℕ) (at label : ℕ) (found : Option ℕ) → IfSome found (λ t. slice_get names t ≡ Some (slice_range text at (at + label))) → IfSome found (λ _. HasNoSpace (slice_range text at (at + label)))
+    → slice_index text (at + label) ≡ 32 → is_some found ≡ true → IsNamedAt names text at label
+named_at names text at label (Some t) is plain space some =
+    let name : List ℕ = slice_range text at (at + label) in
+    record { known = (t, slice_get_within names t name is, get_or_from_slice_get names t name name is); plain = plain; space = space }
+named_at names text at label None is plain space some = cc
+
+-- ---- a line without the CR at its end
+
+either : (b : Bool) (xs ys : List ℕ) → (cond b xs ys ≡ xs) ⊎ (cond b xs ys ≡ ys)
+either true xs ys = inl refl
+either false xs ys = inr refl
+
+stripped : (line : List ℕ) → (strip_carriage_return line ≡ take (length line - 1) line) ⊎ (strip_carriage_return line ≡ line)
+stripped line = either (slice_index line (length line - 1) == 13) (take (length line - 1) line) line
+
+module _ (names : List (List ℕ)) (text : List ℕ) (at len label : ℕ) (within : at + len ≤ length text) (some : 0 < label) (item : label + 3 ≤ len) (named : IsNamedAt names text at label) where
+  abbrev line : List ℕ
+  line = slice_range text at (at + len)
+
+  size : length line ≡ len
+  size = omega (arith, range_size text at (at + len) (omega arith) within)
+
+  up_to : (to : ℕ) → at + label + 1 < to → to ≤ at + len → IsOfTenant names (slice_range text at to)
+  up_to to more most = of_tenant names text at to label (omega (arith, more)) (omega (arith, most, within)) some more named.space named.known named.plain
+
+  shorter : take (length line - 1) line ≡ slice_range text at (at + len - 1)
+  shorter =
+      let few : length line - 1 ≡ (at + len - 1) - at = omega (arith, size) in
+      ap (λ (n : ℕ). take n line) few ∙ take-take ((at + len - 1) - at) ((at + len) - at) (drop at text) (omega arith)
+
+  pub line_of_tenant : IsOfTenant names (strip_carriage_return line)
+  line_of_tenant = ⊎_elim
+      (λ short. subst (IsOfTenant names) (sym (short ∙ shorter)) (up_to (at + len - 1) (omega (arith, item)) (omega arith)))
+      (λ whole. subst (IsOfTenant names) (sym whole) (up_to (at + len) (omega (arith, item)) (omega arith)))
+      (stripped line)
+
+-- ---- all lines of a run
+
+pub even_of_tenants : (names : List (List ℕ)) (run : List ℕ) (count len label : ℕ) → IsRun count run → AreEven count len run → 0 < label → label + 3 ≤ len
+    → ((i : ℕ) → i < count → IsNamedAt names run (i * (len + 1)) label) → All (IsOfTenant names) (lines_of run)
+even_of_tenants names run count len label is even some item named = λ i d within.
+    let less : i < count = omega (arith, within, is.count) in
+    let at : ℕ = i * (len + 1) in
+    let inside : at + (len + 1) ≤ length run = omega (arith, line_inside count i (len + 1) less, even.bytes) in
+    subst (IsOfTenant names) (sym (get_or_from_slice_get (lines_of run) i (strip_carriage_return (slice_range run at (at + len))) d (even.lines i less)))
+    (line_of_tenant names run at len label (omega (arith, inside)) some item (named i less))

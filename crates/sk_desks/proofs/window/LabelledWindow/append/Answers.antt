@@ -1,0 +1,17 @@
+use Rattle.std.proofs.Common.{◌≡◌, All, drop, sym, ap, ◌∙◌, subst}
+use Rattle.std.proofs.lemmas.List.{drop_at}
+use Rattle.std.proofs.lemmas.List.Elements.{All-append}
+use Rattle.sk_model.specs.Lines.{lines_of}
+use Rattle.sk_desks.specs.Gathers.{IsOfTenant}
+use Rattle.sk_desks.proofs.WindowLaws.{ok_of}
+use Rattle.sk_desks.proofs.window.LabelledWindow.append.Goals as goal
+
+pub invariant_of-self-else-is_err : goal.invariant_of-self-else-is_err
+invariant_of-self-else-is_err c =
+    let names = c.self.inside.names.now in let old = c.self.inside.window.lines in let group = lines_of c.args.run.now in
+    let lines = c.in_ok-push_run.ensures.lines in
+    let rest : drop c.len-place.result c.push_run.new.self.lines ≡ group = ap (drop c.len-place.result) lines ∙ drop_at old group c.len-place.result (sym c.len-place.ensures.value) in
+    let fine : All (IsOfTenant names) group = subst (All (IsOfTenant names)) rest (ok_of c.examine_from-fine.result (sym c.is_err.ensures.value ∙ c.if-is_err.false) c.examine_from-fine.ensures.fine) in (
+      subst (All (IsOfTenant names)) (sym lines) (All-append (IsOfTenant names) old group c.self.invariant.0 fine),
+      c.push_run.ensures.most ∙ c.self.invariant.1,
+    )

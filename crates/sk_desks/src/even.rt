@@ -1,0 +1,54 @@
+// Lines of one length, each of a tenant, known by a look at the start and the end of each.
+ghost use Rattle.std.specs.Prelude.{◌≡◌, ℕ, ◌+◌, ◌*◌, ◌<◌, ◌≤◌, All, length, slice_range, true};
+ghost use Rattle.sk_model.specs.Lines.{lines_of};
+ghost use Rattle.sk_lines.specs.Runs.{IsRun};
+ghost use Rattle.sk_desks.specs.Entries.{IsNamedAt};
+ghost use Rattle.sk_desks.specs.Gathers.{IsOfTenant};
+
+use sk_lines::even_len;
+use sk_tenant::Names;
+
+/// Whether the lines of a run have one length, labels of one length, and are all of tenants. If not, each line has to be
+/// examined.
+pub(crate) fn are_even_of_tenants(names: &Names, run: &[u8], count: usize) -> bool
+    requires some { 0 < count }
+    requires run { IsRun count run.now }
+    ensures { result ≡ true → All (IsOfTenant names.now) (lines_of run.now) }
+{
+    let Some(len) = even_len(run, count) else {
+        return false;
+    };
+    let Some(label) = run.iter().position(|byte| *byte == b' ') else {
+        return false;
+    };
+    // A line that CR LF ends has a byte less.
+    if label == 0 || len < label + 3 {
+        return false;
+    }
+    have_label(names, run, count, len, label)
+}
+
+// Whether the name of a tenant, of this many bytes, and a space begin each line.
+fn have_label(names: &Names, run: &[u8], count: usize, len: usize, label: usize) -> bool
+    requires some { 0 < count }
+    requires bytes { length run.now ≡ count * (len + 1) }
+    requires short { label + 3 ≤ len }
+    ensures { result ≡ true → (i : ℕ) → i < count → IsNamedAt names.now run.now (i * (len + 1)) label }
+{
+    let each = len + 1;
+    'line: for i in 0..count {
+        if !is_named(names, run, i * each, label) {
+            return false;
+        }
+    }
+    true
+}
+
+// Whether the name of a tenant, of this many bytes, stands at a place, and a space after it.
+#[inline(always)]
+fn is_named(names: &Names, run: &[u8], at: usize, label: usize) -> bool
+    requires within { at + label < length run.now }
+    ensures { result ≡ true → IsNamedAt names.now run.now at label }
+{
+    run[at + label] == b' ' && names.place_plain(&run[at..at + label]).is_some()
+}
