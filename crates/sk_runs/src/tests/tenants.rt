@@ -15,7 +15,8 @@ read=0 | tenants --names a --file text | a x;a y; | 0 | a estimate 2/1; |
 | tenants --names a,b --updaters 1 --b 1 | a x;b x;a y;b x;a z; | 0 | a estimate 3/1;b estimate 1/1; |
 | tenants --names a,b --updaters 4 --b 1 --seed 7 | a x;b x;a y;b x;a z; | 0 | a estimate 3/1;b estimate 1/1; |
 | tenants --names a,b --updaters 8 --b 2 | a x;b x;a y;b x;a z; | 0 | a estimate 3/1;b estimate 1/1; |
-| tenants --names a,b --updaters 64 | a x;b x;a y;b x;a z; | 0 | a estimate 3/1;b estimate 1/1; |";
+| tenants --names a,b --updaters 64 | a x;b x;a y;b x;a z; | 0 | a estimate 3/1;b estimate 1/1; |
+| tenants --names a,b --updaters 2 | a x;a xy^;b xy^;a yx^;b xy^; | 0 | a estimate 3/1;b estimate 1/1; |";
 
 // Nothing is written before all is read. The form of a line is asked before its name.
 const REFUSED: &str = "\
@@ -25,6 +26,10 @@ const REFUSED: &str = "\
 | tenants --names a | a x;c; | 14 | | line 2: bad line;
 | tenants --names ab | a x; | 16 | | line 1: unknown tenant;
 | tenants --names a | ab x;a; | 16 | | line 1: unknown tenant;
+| tenants --names abc,bcd --updaters 2 | abc x;bcd y^;abc ^;bcd ^; | 14 | | line 3: bad line;
+| tenants --names abc,bcd --updaters 2 | abc x;bcd ^;abc ^;bcd ^; | 14 | | line 2: bad line;
+| tenants --names a,b --updaters 2 | a xyz;b xyz;a yzx;c xyz;b xyz; | 16 | | line 4: unknown tenant;
+| tenants --names a,b --updaters 2 | a xyz;b xyz;a yzx;bxyzx;b xyz; | 14 | | line 4: bad line;
 piece=65536 | tenants --names a | a @; | 5 | | line 1: too long;
 read=5 | tenants --names a | a x;a y; | 3 | | read fault;
 read=8 | tenants --names a | a x;a y; | 3 | | read fault;
@@ -34,10 +39,10 @@ room=20 | tenants --names a,b | a x;b y; | 4 | a estimate 1/1;b est | write faul
 
 #[test]
 fn tenants(rt: HostRuntime) -> Result<(), Fail> {
-    check_rows(&rt, rt.alloc(), TENANTS, 13)
+    check_rows(&rt, rt.alloc(), TENANTS, 14)
 }
 
 #[test]
 fn lines_of_no_tenant(rt: HostRuntime) -> Result<(), Fail> {
-    check_rows(&rt, rt.alloc(), REFUSED, 12)
+    check_rows(&rt, rt.alloc(), REFUSED, 16)
 }
