@@ -8,6 +8,10 @@ use Rattle.sk_label.specs.declared.fault.LabelFault.{LabelFault}
 use Rattle.sk_desks.specs.Gathers.{IsOfTenant, RefusesAs, StopsWithin}
 use Rattle.sk_desks.proofs.ClerkLaws.{whole_line}
 
+-- a span past the end of spans
+abbrev pub no_bytes : Span
+no_bytes = record { from = 0; to = 0 }
+
 -- ---- one line more
 
 module _ (text : List ℕ) (spans : List Span) (i : ℕ) (d : Span) (within : i < length spans) where

@@ -14,11 +14,11 @@ use sk_tenant::Names;
 use std::alloc::Global;
 use std::marker::Model;
 
-// A stretch has at most this many windows.
-const MOST_WINDOWS: usize = 12;
+// A stretch has at most this many windows: the more there may be, the more seldom the reader waits for the desks.
+const MOST_WINDOWS: usize = 32;
 
 // As many are worth starting threads.
-const LONG: usize = 8;
+const LONG: usize = 12;
 
 /// Windows of lines, each line empty or of a tenant, that are fed together.
 #[derive(Drop)]

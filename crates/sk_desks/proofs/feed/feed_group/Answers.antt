@@ -6,11 +6,8 @@ use Rattle.sk_desks.specs.Feeds.{HasRoom, TakesLines}
 use Rattle.sk_desks.specs.Gathers.{IsOfTenant}
 use Rattle.sk_desks.proofs.Taking.{takes_no_line, takes_more, has_still, names_still, room_after}
 use Rattle.sk_desks.proofs.BlockLaws.{line_of_group}
-use Rattle.sk_desks.proofs.WindowLaws.{lines_more}
+use Rattle.sk_desks.proofs.WindowLaws.{no_bytes, lines_more}
 use Rattle.sk_desks.proofs.feed.feed_group.Goals as goal
-
-abbrev no_bytes : Span
-no_bytes = record { from = 0; to = 0 }
 
 pub line-init : goal.line-init
 line-init g c = record {

@@ -6,11 +6,8 @@ use Rattle.sk_lines.specs.declared.spans.Span.{Span}
 use Rattle.sk_label.specs.declared.fault.LabelFault.{LabelFault}
 use Rattle.sk_desks.specs.Gathers.{IsOfTenant, StopsWithin}
 use Rattle.sk_desks.proofs.WentLaws.{stop_is}
-use Rattle.sk_desks.proofs.WindowLaws.{lines_more, refused_among}
+use Rattle.sk_desks.proofs.WindowLaws.{no_bytes, lines_more, refused_among}
 use Rattle.sk_desks.proofs.window.examine_lines.Goals as goal
-
-abbrev no_bytes : Span
-no_bytes = record { from = 0; to = 0 }
 
 pub returns-in_err-label-clause-stopped : goal.returns-in_err-label-clause-stopped
 returns-in_err-label-clause-stopped c =
