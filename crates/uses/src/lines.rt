@@ -1,11 +1,13 @@
 //! A source of one's own, and a taker of its lines.
-ghost use Rattle.std.specs.Prelude.{◌≡◌, ◌<◌, ℕ, List, [], ◌++◌, min, length, take, drop, IfOk};
+ghost use Rattle.std.specs.Prelude.{◌≡◌, ◌<◌, ℕ, List, [], ◌++◌, min, length, take, drop, IfOk, true, false};
 ghost use Rattle.std.specs.Io.KnownBytes.{Consumes, IsAtEnd};
 ghost use Rattle.sk_model.specs.Causes.{HasCauseIn};
 ghost use Rattle.sk_model.specs.Lines.{lines_of};
+ghost use Rattle.sk_lines.specs.Runs.{AreEven, IsRun};
 ghost use Rattle.uses.specs.Lengths.{longest_of};
 
 use sk_io::{Failed, Source};
+use sk_lines::even_len;
 use sk_model::limits::SOURCE_LIMIT;
 use sk_read::{Fault, UnitTaker, Units, read_units};
 use std::alloc::Global;
@@ -130,4 +132,14 @@ pub fn measure_text(alloc: Global, text: Vec<u8>) -> Result<Measured, Fault>
 {
     let mut source = Threes::new(text);
     measure_lines(alloc, &mut source)
+}
+
+/// Whether the lines of a run, this many, have one length.
+pub fn have_one_length(run: &[u8], count: usize) -> bool
+    requires some { 0 < count }
+    requires run { IsRun count run.now }
+    ensures yes { result ≡ true → (len : ℕ) × AreEven count len run.now }
+    ensures no { result ≡ false → (len : ℕ) → ¬ AreEven count len run.now }
+{
+    even_len(run, count).is_some()
 }

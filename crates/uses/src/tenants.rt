@@ -1,14 +1,15 @@
 //! Two tenants, whose items come to two desks.
-ghost use Rattle.std.specs.Prelude.{◌≡◌, ℕ, ◌<◌, ◌≤◌, ◌++◌, length, All, IfOk};
+ghost use Rattle.std.specs.Prelude.{◌≡◌, ℕ, ◌<◌, ◌≤◌, ◌++◌, length, All, Contains, IfOk, true, false};
 ghost use Rattle.sk_model.specs.Limits.{most_kept};
 ghost use Rattle.sk_model.specs.Sketch.{packed_of};
 ghost use Rattle.sk_model.specs.Width.{IsItem};
 ghost use Rattle.sk_tenant.specs.Desks.{AreDone};
+ghost use Rattle.sk_tenant.specs.Names.{HasNoSpace};
 ghost use Rattle.uses.specs.Adds.{AreLines, adds_of, taken_for};
 
 use sk_model::OutOfMemory;
 use sk_tenant::laws::{a_desk_stays_of_its_tenants, calls_add_up, the_last_word_is_of_all_calls};
-use sk_tenant::{Add, Desk, Opening, TenantStop, Tenants};
+use sk_tenant::{Add, Desk, Names, Opening, TenantStop, Tenants};
 use sk_theta::Shape;
 use std::alloc::Global;
 use std::sync::Wait;
@@ -79,4 +80,13 @@ fn add_each(alloc: Global, desk: &mut Desk, lines: &[(u32, u64)]) -> Result<Vec<
         answers.push(desk.add(t, item))?;
     }
     Ok(answers)
+}
+
+/// Whether a tenant has this name, which has no space.
+pub fn has_plain_name(names: &Names, name: &[u8]) -> bool
+    requires plain { HasNoSpace name.now }
+    ensures known { result ≡ true → Contains names.now name.now }
+    ensures unknown { result ≡ false → ¬ Contains names.now name.now }
+{
+    names.place_plain(name).is_some()
 }
