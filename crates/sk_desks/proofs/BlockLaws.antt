@@ -1,23 +1,20 @@
 -- Blocks of windows that desks took.
-use Rattle.std.proofs.Common.{◌≡◌, ℕ, zero, suc, ◌+◌, ◌-◌, ◌<◌, ◌≤◌, List, [], ◌∷◌, ◌++◌, length, get_or, take, drop, take-add, slice_range, flat_map, All, IsPermutation, refl, sym, ap, subst, ◌∙◌, arith, append-nil, append_assoc}
+use Rattle.std.proofs.Common.{◌≡◌, ℕ, zero, suc, ◌+◌, ◌-◌, ◌<◌, ◌≤◌, List, [], ◌∷◌, ◌++◌, length, get_or, take, drop, take-add, slice_range, flat_map, IsPermutation, refl, sym, ap, subst, ◌∙◌, arith, append-nil, append_assoc}
 use Rattle.std.specs.List.{range_with_len}
 use Rattle.std.proofs.lemmas.Grind.{flat_map-append}
-use Rattle.std.proofs.lemmas.List.{get_or-map, take_at, drop_at, drop-drop, length-map}
-use Rattle.std.proofs.lemmas.List.Elements.{All-take, All-drop}
+use Rattle.std.proofs.lemmas.List.{take_at, drop_at, drop-drop}
 use Rattle.std.proofs.lemmas.List.Sorted.{IsPermutation-refl, IsPermutation-trans, IsPermutation-append_left, IsPermutation-append_right, IsPermutation-append_comm}
 use Rattle.sk_model.specs.Limits.{most_kept}
-use Rattle.sk_lines.specs.Spans.{lines_at}
-use Rattle.sk_lines.specs.declared.spans.Span.{Span}
 use Rattle.sk_fill.specs.Blocks.{block_of, blocks_of}
 use Rattle.sk_fill.specs.Windows.{all_lines}
 use Rattle.sk_fill.proofs.Joined.{blocks_joined}
 use Rattle.sk_feed.proofs.Rooms.{few_blocks}
 use Rattle.sk_tenant.specs.Desks.{DeskState}
 use Rattle.sk_desks.specs.Desks.{items_for}
-use Rattle.sk_desks.specs.Feeds.{TakesLines, HasRoom, IsReadyFor, HaveRoom, TakeBlocks}
+use Rattle.sk_desks.specs.Feeds.{TakesLines, HasRoom, IsReadyFor, TakeBlocks}
 use Rattle.sk_desks.specs.Windows.{AreUnused}
 use Rattle.sk_desks.proofs.ItemLaws.{items_for-append, none_for}
-use Rattle.sk_desks.proofs.Taking.{takes_no_line, takes_more, has_still, names_still, room_after}
+use Rattle.sk_desks.proofs.Taking.{takes_no_line, takes_more, has_still, room_after}
 
 -- ---- lines of a window, one more
 
@@ -28,11 +25,6 @@ no_lines seed d lines from =
     subst (λ (l : List (List ℕ)). TakesLines seed d l d) (sym none) (takes_no_line seed d)
 
 -- ---- a group of them more
-
-pub line_of_group : (text : List ℕ) (spans : List Span) (i : ℕ) (d : Span) (P : List ℕ → Type 0) → i < length spans → All P (lines_at spans text) → P (slice_range text (get_or spans i d).from (get_or spans i d).to)
-line_of_group text spans i d P within all =
-    let f : Span → List ℕ = λ span. slice_range text span.from span.to in
-    subst P (get_or-map f spans i d (f d) within) (all i (f d) (omega (arith, within, length-map spans f)))
 
 module _ (lines rest rest' group : List (List ℕ)) (at count : ℕ) (is : rest ≡ drop at lines) (parted : rest ≡ group ++ rest') (size : length group ≡ count) where
   pub group_is : group ≡ take count (drop at lines)
@@ -49,9 +41,6 @@ module _ (lines rest rest' group : List (List ℕ)) (at count : ℕ) (is : rest 
       ∙ take-add (at - from) count (drop from lines)
       ∙ ap (λ (l : List (List ℕ)). take (at - from) (drop from lines) ++ take count l) (drop-drop (at - from) from lines ∙ ap (λ (n : ℕ). drop n lines) here)
       ∙ ap (λ (l : List (List ℕ)). take (at - from) (drop from lines) ++ l) (sym group_is)
-
-  pub group_fine : (P : List ℕ → Type 0) → All P lines → All P group
-  group_fine P all = subst (All P) (sym group_is) (All-take P count (drop at lines) (All-drop P at lines all))
 
 -- ---- windows, one more
 
@@ -85,22 +74,16 @@ take_windows seed a b c windows more before after = record {
 }
 
 -- desks that were unused have room for windows more
-pub room_for : (seed : ℕ) (names : List (List ℕ)) (first desks : List DeskState) (windows : List (List (List ℕ))) (count : ℕ) → AreUnused names first → TakeBlocks seed first windows desks → length (all_lines windows) + count ≤ most_kept → HaveRoom names count desks
-room_for seed names first desks windows count unused took few = record { few = omega (arith, took.count, unused.few); each = each }
-  where
-    each : (i : ℕ) (d : DeskState) → i < length desks → IsReadyFor names count (get_or desks i d)
-    each i d within =
-        let before : i < length first = omega (arith, within, took.count) in
-        let desk = get_or first i d in
-        let is = unused.each i d before in
-        let blocks = blocks_of windows i (length first) in
-        let its : TakesLines seed desk blocks (get_or desks i d) = took.each i d before in
-        let room : HasRoom (length blocks + count) desk = λ t u inside. omega (arith, few_blocks windows (length first) i before, ap length (is.none t u inside), is.quota_is, few) in
-        record {
-          has = has_still seed desk (get_or desks i d) blocks its is.has;
-          names_are = names_still seed desk (get_or desks i d) blocks its ∙ is.names_are;
-          room = room_after seed desk (get_or desks i d) blocks count is.has its room;
-        }
+pub ready_for : (seed : ℕ) (names : List (List ℕ)) (first desks : List DeskState) (windows : List (List (List ℕ))) (count : ℕ) → AreUnused names first → TakeBlocks seed first windows desks → length (all_lines windows) + count ≤ most_kept
+    → (i : ℕ) (d : DeskState) → i < length desks → IsReadyFor count (get_or desks i d)
+ready_for seed names first desks windows count unused took few i d within =
+    let before : i < length first = omega (arith, within, took.count) in
+    let desk = get_or first i d in
+    let is = unused.each i d before in
+    let blocks = blocks_of windows i (length first) in
+    let its : TakesLines seed desk blocks (get_or desks i d) = took.each i d before in
+    let room : HasRoom (length blocks + count) desk = λ t u inside. omega (arith, few_blocks windows (length first) i before, ap length (is.none t u inside), is.quota_is, few) in
+    record { has = has_still seed desk (get_or desks i d) blocks its is.has; room = room_after seed desk (get_or desks i d) blocks count is.has its room }
 
 -- ---- all blocks of all windows
 

@@ -1,22 +1,24 @@
 -- Lines that a clerk gave to the one desk that there is.
-use Rattle.std.proofs.Common.{◌≡◌, ℕ, ◌+◌, ◌-◌, ◌<◌, ◌≤◌, false, not, None, List, [], ◌∷◌, ◌++◌, length, length-drop, length-take, get_or, take, drop, slice_range, set, refl, sym, ap, subst, ◌∙◌, arith, append-nil, length-set, get_or-set_same}
+use Rattle.std.proofs.Common.{◌≡◌, ℕ, ◌+◌, ◌-◌, ◌<◌, ◌≤◌, false, not, Option, None, Some, is_some, Result, Ok, Err, OnOk, OnErr, IfErr, List, [], ◌∷◌, ◌++◌, length, length-drop, length-take, get_or, take, drop, slice_range, set, refl, sym, ap, subst, ◌∙◌, arith, append-nil, length-set, get_or-set_same}
 use Rattle.std.proofs.KnownBytes.{Appends-nil}
 use Rattle.std.proofs.lemmas.List.{get_or_default, take_all, drop-drop, drop-take}
 use Rattle.sk_model.specs.Limits.{most_kept}
-use Rattle.sk_label.specs.Labels.{is_labelled}
+use Rattle.sk_label.specs.Labels.{is_labelled, label_of}
 use Rattle.sk_label.specs.Stops.{Takes, StopsBy}
 use Rattle.sk_label.specs.declared.fault.LineStop.{LineStop}
 use Rattle.sk_label.specs.declared.fault.LineStop.TheVariants as stop
 use Rattle.sk_fill.specs.Blocks.{block_of}
 use Rattle.sk_fill.proofs.Joined.{blocks_joined}
 use Rattle.sk_tenant.specs.Desks.{DeskState}
+use Rattle.sk_tenant.specs.Names.{place_of}
+use Rattle.sk_tenant.proofs.Places.{no_name}
 use Rattle.sk_desks.specs.declared.plan.Plan.{Plan}
 use Rattle.sk_desks.specs.Desks.{desk_rules}
 use Rattle.sk_desks.specs.Feeds.{HasRoom, HasTenants, TakesLines}
 use Rattle.sk_desks.specs.Gathers.{IsOfTenant}
 use Rattle.sk_desks.specs.Windows.{HaveTaken}
 use Rattle.sk_desks.specs.Clerks.{StopsAtLine, GaveAlone}
-use Rattle.sk_desks.proofs.Taking.{takes_more, has_still, room_after}
+use Rattle.sk_desks.proofs.Taking.{takes_more, takes_unlabelled, takes_unknown, has_still, room_after}
 use Rattle.sk_desks.proofs.BlockLaws.{take_each}
 
 pub empty_unlabelled : (line : List ℕ) → length line ≡ 0 → is_labelled line ≡ false
@@ -91,3 +93,20 @@ range_rest text from to n few =
     let m : ℕ = to - (from + n) in
     let size : to - from ≡ n + m = omega (arith, few) in
     sym (ap (λ (k : ℕ). drop n (take k (drop from text))) size ∙ drop-take n m (drop from text) ∙ ap (take m) (drop-drop n from text))
+
+-- ---- a line that is passed over
+
+none_of : (place : Option ℕ) → is_some place ≡ false → place ≡ None
+none_of (Some t) is = cc
+none_of None is = refl
+
+refused_line : (seed : ℕ) (d : DeskState) (line : List ℕ) (why : LineStop) → StopsAtLine d.names line why → TakesLines seed d (line ∷ []) d
+refused_line seed d line stop.BadLine stops = takes_unlabelled seed d line stops.1
+refused_line seed d line stop.Refused stops = takes_unknown seed d line (label_of line) refl (no_name d.names (label_of line) (none_of (place_of d.names (label_of line)) stops.2))
+refused_line seed d line stop.OutOfMemory stops = absurd stops
+refused_line seed d line stop.WriteFault stops = absurd stops
+
+-- a desk took a line, or passed it over
+pub taken_or_not : (seed : ℕ) (d d' : DeskState) (line : List ℕ) (result : Result ℕ LineStop) → OnOk result (TakesLines seed d (line ∷ []) d') → IfErr result (StopsAtLine d.names line) → OnErr result (d' ≡ d) → TakesLines seed d (line ∷ []) d'
+taken_or_not seed d d' line (Ok n) took stops same = took
+taken_or_not seed d d' line (Err why) took stops same = subst (TakesLines seed d (line ∷ [])) (sym same) (refused_line seed d line why stops)

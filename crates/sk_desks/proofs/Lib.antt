@@ -4,6 +4,7 @@ pub mod BlockLaws
 pub mod WindowLaws
 pub mod GatherLaws
 pub mod StretchLaws
+pub mod LaneLaws
 pub mod WentLaws
 pub mod Counting
 pub mod EndingLaws

@@ -13,13 +13,6 @@ pub record LabelledState : Type 0 where
   pub apart : ℕ
   pub bytes : ℕ
 
--- windows of lines that are fed together
-pub record LabelledWindows : Type 0 where
-  -- the names of the tenants
-  pub names : List (List ℕ)
-  -- the lines of each
-  pub windows : List (List (List ℕ))
-
 -- a window has at most this many lines
 abbrev pub window_lines : ℕ
 window_lines = 16384

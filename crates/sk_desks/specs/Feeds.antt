@@ -1,12 +1,19 @@
 -- What desks took of lines.
 use Rattle.std.specs.Prelude.{◌≡◌, ℕ, ◌+◌, ◌<◌, ◌≤◌, List, [], ◌∷◌, length, map, slice_index_or}
-use Rattle.sk_model.specs.Limits.{most_kept, most_updaters}
+use Rattle.sk_model.specs.Limits.{most_kept}
 use Rattle.sk_hub.specs.Updaters.{UpdaterState, kept_of}
 use Rattle.sk_fill.specs.Blocks.{blocks_of}
+use Rattle.sk_read.specs.declared.kind.Kind.{Kind}
+use Rattle.sk_read.specs.declared.kind.Kind.TheVariants.{Hash, Raw}
 use Rattle.sk_tenant.specs.Names.{AreDifferent}
 use Rattle.sk_tenant.specs.Calls.{Call, items_taken}
 use Rattle.sk_tenant.specs.Desks.{DeskState, AreDone, calls_for}
 use Rattle.sk_desks.specs.Desks.{items_for}
+
+-- the seed by which a kind hashes
+abbrev pub seed_of : Kind → ℕ
+seed_of (Hash seed) = seed
+seed_of Raw = 0
 
 -- by calls on a desk each tenant of it took the items of these lines that are its own
 pub record TakesLines (seed : ℕ) (d : DeskState) (lines : List (List ℕ)) (d' : DeskState) : Type 0 where
@@ -36,16 +43,15 @@ pub record IsUnused (names : List (List ℕ)) (d : DeskState) : Type 0 where
   pub quota_is : d.quota ≡ most_kept
   pub none : (t : ℕ) (u : UpdaterState) → t < length d.updaters → kept_of (slice_index_or d.updaters t u) ≡ []
 
--- a desk of the tenants with these names may keep this many items more for each
-pub record IsReadyFor (names : List (List ℕ)) (count : ℕ) (d : DeskState) : Type 0 where
+-- it may keep this many items more for each tenant
+pub record IsReadyFor (count : ℕ) (d : DeskState) : Type 0 where
   pub has : HasTenants d
-  pub names_are : d.names ≡ names
   pub room : HasRoom count d
 
--- there are at most 64 desks, and each is so
-pub record HaveRoom (names : List (List ℕ)) (count : ℕ) (desks : List DeskState) : Type 0 where
-  pub few : length desks ≤ most_updaters
-  pub each : (i : ℕ) (d : DeskState) → i < length desks → IsReadyFor names count (slice_index_or desks i d)
+-- of a source of which this many lines came before, it may keep the items of all that come yet
+pub record HasRoomAfter (count : ℕ) (d : DeskState) : Type 0 where
+  pub has : HasTenants d
+  pub room : (n : ℕ) → count + n ≤ most_kept → HasRoom n d
 
 -- each desk took its blocks of these windows
 pub record TakeBlocks (seed : ℕ) (desks : List DeskState) (windows : List (List (List ℕ))) (desks' : List DeskState) : Type 0 where

@@ -6,3 +6,4 @@ pub mod Entries
 pub mod Endings
 pub mod Gathers
 pub mod Clerks
+pub mod Lanes

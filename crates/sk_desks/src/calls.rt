@@ -1,5 +1,5 @@
 // An item that is offered at a desk until it is taken, and a line whose item is.
-ghost use Rattle.std.specs.Prelude.{◌≡◌, ◌<◌, ◌≤◌, ◌^◌, ◌∷◌, [], length, slice_range, OnOk, IfErr};
+ghost use Rattle.std.specs.Prelude.{◌≡◌, ◌<◌, ◌≤◌, ◌^◌, ◌∷◌, [], length, slice_range, OnOk, OnErr, IfErr};
 ghost use Rattle.sk_model.specs.Width.{IsItem};
 ghost use Rattle.sk_desks.specs.Clerks.{StopsAtLine};
 ghost use Rattle.sk_desks.specs.Entries.{IsLabelledBy};
@@ -29,6 +29,7 @@ pub(crate) fn give<R: Wait>(
     ensures took { OnOk result (TakesLines seed desk.old (slice_range text.now span.from span.to ∷ []) desk.new) }
     ensures fine { OnOk result (IsOfTenant desk.old.names (slice_range text.now span.from span.to)) }
     ensures stopped { IfErr result (StopsAtLine desk.old.names (slice_range text.now span.from span.to)) }
+    ensures unchanged { OnErr result (desk.new ≡ desk.old) }
     ensures names { desk.new.names ≡ desk.old.names }
 {
     let found = examine(desk.names(), text, span.from, span.to)?;
@@ -36,7 +37,8 @@ pub(crate) fn give<R: Wait>(
     Ok(found.item.saturating_sub(1))
 }
 
-/// The same of a line that is fine: its label mostly has as many bytes as that of the line before, which is `label`.
+/// The same, if the line is of a tenant; else it is passed over. Its label mostly has as many bytes as that of the line
+/// before, which is `label`.
 #[inline(always)]
 pub(crate) fn give_like<R: Wait>(
     rt: &R,
@@ -48,13 +50,12 @@ pub(crate) fn give_like<R: Wait>(
 ) -> usize
     requires order { span.from ≤ span.to }
     requires within { span.to ≤ length text.now }
-    requires fine { IsOfTenant desk.old.names (slice_range text.now span.from span.to) }
     requires tenants { HasTenants desk.old }
     requires room { HasRoom 1 desk.old }
     ensures { TakesLines seed desk.old (slice_range text.now span.from span.to ∷ []) desk.new }
 {
     let Some(tenant) = tenant_like(desk.names(), text, span.from, span.to, label) else {
-        return give_fine(rt, desk, text, span, seed);
+        return give_any(rt, desk, text, span, seed);
     };
     let found = Examined {
         item: label + 1,
@@ -66,18 +67,14 @@ pub(crate) fn give_like<R: Wait>(
 
 // The same without a guess.
 #[inline(never)]
-fn give_fine<R: Wait>(rt: &R, desk: &mut Desk, text: &[u8], span: Span, seed: u32) -> usize
+fn give_any<R: Wait>(rt: &R, desk: &mut Desk, text: &[u8], span: Span, seed: u32) -> usize
     requires order { span.from ≤ span.to }
     requires within { span.to ≤ length text.now }
-    requires fine { IsOfTenant desk.old.names (slice_range text.now span.from span.to) }
     requires tenants { HasTenants desk.old }
     requires room { HasRoom 1 desk.old }
     ensures { TakesLines seed desk.old (slice_range text.now span.from span.to ∷ []) desk.new }
 {
-    match give(rt, desk, text, span, seed) {
-        Ok(label) => label,
-        Err(_) => unreachable!(),
-    }
+    give(rt, desk, text, span, seed).unwrap_or(0)
 }
 
 // Gives the item that was found in a line, if it has one, to its tenant.

@@ -1,12 +1,14 @@
 //! The command over tenants.
-ghost use Rattle.std.specs.Prelude.{◌≡◌, ◌≢◌, ◌<◌, ◌≤◌, length, true, false, None, Err, All, OnOk, OnErr, IfOk, IfErr};
+ghost use Rattle.std.specs.Prelude.{◌≡◌, ◌≢◌, ◌<◌, ◌≤◌, [], length, map, false, None, Err, All, OnOk, OnErr, IfOk, IfErr};
 ghost use Rattle.std.specs.Io.KnownBytes.{Appends};
 ghost use Rattle.sk_model.specs.Causes.{AppendsPart, HasCause, HasCauseIn};
 ghost use Rattle.sk_model.specs.Limits.{source_limit, most_kept};
+ghost use Rattle.sk_read.specs.Reading.{HasRead};
 ghost use Rattle.sk_label.specs.Goes.{setting, Goes, ReadsLines, EndsBefore};
 ghost use Rattle.sk_label.specs.Rules.{AreFine};
 ghost use Rattle.sk_tenant.specs.Hosts.{AreNewTenants, AreNewDesks, IsDeskOf};
 ghost use Rattle.sk_tenant.specs.Names.{bytes_of};
+ghost use Rattle.sk_desks.specs.Entries.{window_lines};
 ghost use Rattle.sk_desks.specs.Windows.{AreUnused, HaveTaken, WentToDesks};
 ghost use Rattle.sk_desks.specs.Feeds.{IsUnused, TakesLines};
 ghost use Rattle.sk_desks.specs.Plans.{IsWithin, AreNames, shape_of};
@@ -14,22 +16,23 @@ ghost use Rattle.sk_desks.specs.Desks.{desk_rules};
 
 use crate::clerk::Clerk;
 use crate::ending::{take_in_all, text_of};
-use crate::feed::{feed_and_gather, feed_stretch};
-use crate::gatherer::Gatherer;
+use crate::lanes::feed_in_lanes;
 use crate::plan::Plan;
-use crate::stretch::LabelledStretch;
+use crate::stretch::{Gatherer, gather_stretch};
+use crate::taker::{DeskTaker, desks_of, feed_in_turn, takers_of};
+use crate::window::MOST_LINES;
+use sk_fill::Stretch;
 use sk_io::{Sink, Source, write_all};
 use sk_label::{LabelFault, read_labelled};
 use sk_model::OutOfMemory;
-use sk_model::limits::{MOST_KEPT, MOST_UPDATERS};
-use sk_read::LineReader;
+use sk_model::limits::MOST_KEPT;
+use sk_read::{Kind, LineReader};
 use sk_tenant::{Desk, Names, Opening, TenantStop, Tenants};
 use sk_theta::Shape;
 use std::alloc::Global;
-use std::mem::swap;
-use std::num::NonZeroUsize;
+use std::mem::replace;
 use std::sync::Wait;
-use std::thread::{Threads, available_parallelism};
+use std::thread::Threads;
 
 // Nobody asks before the end, and a larger batch finds more of a sketch in the cache. A buffer takes 8 bytes an item.
 const LEAST_BUFFER: u32 = 512;
@@ -118,14 +121,23 @@ fn read_all<S: Source, R: Threads + Wait + Sync>(
     if desks.len() == 1 {
         return read_alone(rt, alloc, plan, most, source, &mut desks[0]);
     }
+    let mut takers = takers_of(alloc, replace(desks, Vec::new(alloc)))?;
     let mut gatherer = Gatherer {
+        names,
         reader: LineReader::new(alloc, most)?,
-        stretch: LabelledStretch::new(alloc, names),
     };
-    let mut full = LabelledStretch::new(alloc, names);
-    let desks = desks.as_mut_slice();
-    read_stretches(rt, plan, &mut gatherer, &mut full, source, desks)?;
-    feed_stretch(rt, desks, &full, plan.seed, threads_for(rt, desks.len()));
+    let mut last = Stretch::new(alloc, MOST_LINES);
+    read_stretches(
+        rt,
+        alloc,
+        plan,
+        &mut takers,
+        &mut gatherer,
+        source,
+        &mut last,
+    )?;
+    feed_in_turn(rt, &mut takers, &last, plan.seed);
+    *desks = desks_of(alloc, takers)?;
     Ok(())
 }
 
@@ -176,38 +188,30 @@ fn read_with<S: Source, R: Wait>(
     Ok(())
 }
 
-// Gathers the lines of a source, and feeds each stretch of windows to the desks while the next one is gathered. `full`
-// has the last lines then.
-fn read_stretches<'n, S: Source, R: Threads + Wait + Sync>(
+// Gathers the lines of a source, and feeds each stretch of windows to the desks but the last one.
+fn read_stretches<S: Source, R: Threads + Wait + Sync>(
     rt: &R,
+    alloc: Global,
     plan: &Plan,
-    gatherer: &mut Gatherer<'n>,
-    full: &mut LabelledStretch<'n>,
+    takers: &mut Vec<DeskTaker>,
+    gatherer: &mut Gatherer<'_>,
     source: &mut S,
-    desks: &mut [Desk],
+    last: &mut Stretch,
 ) -> Result<(), LabelFault>
-    requires went { WentToDesks plan.now gatherer.old.stretch.names desks.old desks.old full.old gatherer.old.stretch true gatherer.old.reader (S.left source.old) (S.left source.old) }
-    ensures went { OnOk result (WentToDesks plan.now gatherer.old.stretch.names desks.old desks.new full.new gatherer.new.stretch false gatherer.new.reader (S.left source.old) (S.left source.new)) }
+    requires unused { AreUnused gatherer.old.names.now (map (λ t. t.desk) takers.old.items) }
+    requires none { HasRead gatherer.old.reader (S.left source.old) [] [] }
+    requires most { last.old.most ≡ window_lines }
+    ensures went { OnOk result (WentToDesks plan.now gatherer.old.names.now (map (λ t. t.desk) takers.old.items) (map (λ t. t.desk) takers.new.items) last.new false gatherer.new.reader (S.left source.old) (S.left source.new)) }
     ensures bound { OnOk result (gatherer.new.reader.most ≡ gatherer.old.reader.most) }
-    ensures early { IfErr result (EndsBefore (desk_rules plan.now gatherer.old.stretch.names) gatherer.old.reader.most (setting (S.left source.old) None) (setting (S.left source.new) None)) }
+    ensures early { IfErr result (EndsBefore (desk_rules plan.now gatherer.old.names.now) gatherer.old.reader.most (setting (S.left source.old) None) (setting (S.left source.new) None)) }
     ensures quiet { result ≢ Err LabelFault.WriteFault }
     ensures reads { HasCauseIn LabelFault.ReadFault (S.faults source.old) (S.faults source.new) result }
     ensures stays { S.stands_on source.new ≡ S.stands_on source.old }
 {
-    let threads = threads_for(rt, desks.len());
-    let mut more = true;
+    let kind = Kind::Hash(plan.seed);
+    let mut more = gather_stretch(gatherer, source, last)?;
     'stretch: while more {
-        more = feed_and_gather(rt, desks, full, plan.seed, threads, gatherer, source)?;
-        swap(full, &mut gatherer.stretch);
+        more = feed_in_lanes(rt, alloc, kind, takers, gatherer, source, last)?;
     }
     Ok(())
-}
-
-// As many threads as there are processors, and no more than desks.
-fn threads_for<R: Threads>(rt: &R, desks: usize) -> u32
-    ensures { 0 < result }
-{
-    let processors = available_parallelism(rt).map_or(1, NonZeroUsize::get);
-    let threads = processors.min(desks).clamp(1, MOST_UPDATERS as usize);
-    threads as u32
 }

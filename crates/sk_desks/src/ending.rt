@@ -1,5 +1,5 @@
 // The end of a command over tenants: all desks are taken in, and each tenant gives a line.
-ghost use Rattle.std.specs.Prelude.{◌≡◌, ◌<◌, ◌≤◌, ◌++◌, ◌∷◌, [], ℕ, List, length, flat_map, codes, Some, slice_get, OnOk, IfOk};
+ghost use Rattle.std.specs.Prelude.{◌≡◌, ◌<◌, ◌++◌, ℕ, List, length, flat_map, codes, Some, slice_get, OnOk, IfOk};
 ghost use Rattle.sk_model.specs.Limits.{IsFrom, least_k, most_k};
 ghost use Rattle.sk_lines.specs.Fractions.{estimate_line};
 ghost use Rattle.sk_desks.specs.Endings.{AreTheSame, AreDesksOf, AreNumbered, HaveTakenIn, HaveCounted, PutsLine};

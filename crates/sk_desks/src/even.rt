@@ -1,5 +1,5 @@
 // Lines of one length, each of a tenant, known by a look at the start and the end of each.
-ghost use Rattle.std.specs.Prelude.{◌≡◌, ℕ, ◌+◌, ◌*◌, ◌<◌, ◌≤◌, All, length, slice_range, true};
+ghost use Rattle.std.specs.Prelude.{◌≡◌, ℕ, ◌+◌, ◌*◌, ◌<◌, ◌≤◌, All, length, true};
 ghost use Rattle.sk_model.specs.Lines.{lines_of};
 ghost use Rattle.sk_lines.specs.Runs.{IsRun};
 ghost use Rattle.sk_desks.specs.Entries.{IsNamedAt};

@@ -1,5 +1,5 @@
 // A line that is examined: whether it is empty, or of a tenant, and where its item begins.
-ghost use Rattle.std.specs.Prelude.{◌≡◌, ◌<◌, ◌≤◌, ◌+◌, ◌^◌, length, slice_range, OnOk, IfOk, IfErr, IfSome};
+ghost use Rattle.std.specs.Prelude.{◌<◌, ◌≤◌, ◌+◌, ◌^◌, length, slice_range, OnOk, IfOk, IfErr, IfSome};
 ghost use Rattle.sk_desks.specs.Clerks.{StopsAtLine};
 ghost use Rattle.sk_desks.specs.Entries.{IsLabelledBy};
 ghost use Rattle.sk_desks.specs.Gathers.{IsOfTenant};

@@ -10,9 +10,10 @@ mod even;
 mod examined;
 mod feed;
 mod gather;
-mod gatherer;
+mod lanes;
 mod plan;
 mod stretch;
+mod taker;
 mod window;
 
 pub use command::tenants;

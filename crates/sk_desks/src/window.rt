@@ -1,5 +1,5 @@
 // A window of lines, each of them empty or of a tenant.
-ghost use Rattle.std.specs.Prelude.{◌≡◌, ◌<◌, ◌≤◌, ◌+◌, ◌-◌, ◌++◌, ◌∷◌, ◌^◌, [], All, length, drop, slice_range, true, OnOk, IfOk, IfErr};
+ghost use Rattle.std.specs.Prelude.{◌≡◌, ◌<◌, ◌≤◌, ◌+◌, ◌-◌, ◌++◌, ◌∷◌, ◌^◌, [], All, length, drop, slice_range, true, OnOk, IfErr};
 ghost use Rattle.std.specs.List.{concat};
 ghost use Rattle.sk_model.specs.Limits.{line_limit};
 ghost use Rattle.sk_model.specs.Lines.{lines_of};
@@ -21,7 +21,7 @@ use std::alloc::Global;
 use std::marker::Model;
 
 // A window has at most this many lines.
-const MOST_LINES: u32 = 16_384;
+pub(crate) const MOST_LINES: u32 = 16_384;
 
 // As many bytes of lines as this make a window full, so that a stretch of long lines stays small.
 const FULL_BYTES: usize = 1_048_576;
@@ -46,23 +46,22 @@ impl<'n> Model for LabelledWindow<'n> {
 }
 
 impl<'n> LabelledWindow<'n> {
-    /// A window without lines, for lines of the tenants with these names.
-    pub(crate) fn new(alloc: Global, names: &'n Names) -> Result<LabelledWindow<'n>, OutOfMemory>
-        ensures names { IfOk result (λ w. w.names ≡ names.now) }
-        ensures lines { IfOk result (λ w. w.lines ≡ []) }
+    /// An empty window, for lines of the tenants with these names.
+    pub(crate) fn of(names: &'n Names, window: Window) -> LabelledWindow<'n>
+        requires empty { window.lines ≡ [] }
+        requires most { window.most ≡ window_lines }
+        ensures names { result.names ≡ names.now }
+        ensures lines { result.lines ≡ [] }
     {
-        Ok(LabelledWindow {
-            names,
-            window: Window::new(alloc, MOST_LINES)?,
-        })
+        LabelledWindow { names, window }
     }
 
-    /// How many lines it has.
-    pub(crate) fn len(&self) -> u32
-        ensures value { result ≡ length self.now.lines }
-        ensures within { result ≤ window_lines }
+    /// The window with its lines.
+    pub(crate) fn into_window(self) -> Window
+        ensures lines { result.lines ≡ self.entry.lines }
+        ensures most { result.most ≡ window_lines }
     {
-        self.window.len()
+        self.window
     }
 
     /// Whether it takes this many lines more, at most 16,384, of this many bytes.
@@ -73,14 +72,6 @@ impl<'n> LabelledWindow<'n> {
         self.window.len() as usize + lines <= MOST_LINES as usize
             && self.window.size() < FULL_BYTES
             && self.window.has_room_for(bytes)
-    }
-
-    /// Takes all lines out. The memory stays.
-    pub(crate) fn clear(&mut self)
-        ensures lines { self.new.lines ≡ [] }
-        ensures names { self.new.names ≡ self.old.names }
-    {
-        self.window.clear();
     }
 
     /// Puts the lines of a run to the end and examines them. They are numbered from `first` on. After an error it is not
@@ -125,15 +116,6 @@ impl<'n> LabelledWindow<'n> {
         examine_line(self.names, line, all, number)?;
         self.window.push_line(line)?;
         Ok(())
-    }
-
-    /// Its lines from a place on, counted from 0.
-    pub(crate) fn lines_from(&self, place: u32) -> WindowLines<'_>
-        requires { place ≤ length self.now.lines }
-        ensures rest { result.rest ≡ drop place self.now.lines }
-        ensures fine { All (IsOfTenant self.now.names) self.now.lines }
-    {
-        self.window.lines_from(place)
     }
 }
 

@@ -1,5 +1,5 @@
 -- Windows of a source that are read a stretch at a time.
-use Rattle.std.proofs.Common.{◌≡◌, ◌≢◌, ℕ, ◌+◌, ◌<◌, ◌≤◌, Bool, true, false, List, [], ◌∷◌, ◌++◌, length, get_or, set, take, map, All, Option, Result, Ok, Err, OnOk, IfErr, IsErrAnd, sym, ap, refl, ◌∙◌, subst, arith, append-nil, append_assoc}
+use Rattle.std.proofs.Common.{◌≡◌, ◌≢◌, ℕ, ◌+◌, ◌<◌, ◌≤◌, Bool, true, false, List, [], ◌∷◌, ◌++◌, length, get_or, set, insert, suc, drop, length-take, take, map, All, Option, Result, Ok, Err, OnOk, IfErr, IsErrAnd, sym, ap, refl, ◌∙◌, subst, arith, append-nil, append_assoc}
 use Rattle.std.specs.Io.KnownBytes.{Consumes}
 use Rattle.std.proofs.KnownBytes.{Consumes-nil, Consumes-trans}
 use Rattle.std.proofs.lemmas.List.{take_more_set, map-append}
@@ -98,6 +98,18 @@ pub window_added : (old ws : List WindowState) (at : ℕ) (w : WindowState) (win
 window_added old ws at w windows within same are =
     let lines = λ (z : WindowState). z.lines in
     ap (map lines) (take_more_set ws at w within) ∙ map-append lines (take at ws) (w ∷ []) ∙ ap (λ l. l ++ w.lines ∷ []) (ap (map lines) same ∙ are)
+
+-- one that was put after those in use
+pub window_pushed : (ws : List WindowState) (at : ℕ) (w : WindowState) (windows : List (List (List ℕ))) → at ≤ length ws → map (λ (z : WindowState). z.lines) (take at ws) ≡ windows
+    → map (λ (z : WindowState). z.lines) (take (at + 1) (insert ws at w)) ≡ windows ++ w.lines ∷ []
+window_pushed ws at w windows within are =
+    let lines = λ (z : WindowState). z.lines in
+    let count : at + 1 ≡ suc (length (take at ws)) = omega (arith, length-take at ws) in
+    ap (λ n. map lines (take n (insert ws at w))) count ∙ ap (map lines) (take_one (take at ws) (drop at ws) w) ∙ map-append lines (take at ws) (w ∷ []) ∙ ap (λ l. l ++ w.lines ∷ []) are
+  where
+    take_one : (xs ys : List WindowState) (x : WindowState) → take (suc (length xs)) (xs ++ x ∷ ys) ≡ xs ++ x ∷ []
+    take_one [] ys x = refl
+    take_one (y ∷ xs) ys x = ap (λ l. y ∷ l) (take_one xs ys x)
 
 -- no memory was found for it
 pub no_window_read : (kind : Kind) (most : ℕ) (r : Reading) (left : Option (List ℕ)) (result : Result Bool Fault) → IsErrAnd result (λ x. x ≡ fault.OutOfMemory) → 1 ≤ most → ReadsWindow kind most [] r r left left result

@@ -1,5 +1,5 @@
 //! Windows of a source's lines that are read before they are fed.
-ghost use Rattle.std.specs.Prelude.{◌≡◌, ◌<◌, ◌≤◌, ◌++◌, ◌∷◌, ℕ, List, [], length, map, take, All, Option, Some, OnOk};
+ghost use Rattle.std.specs.Prelude.{◌≡◌, ◌<◌, ◌≤◌, ◌++◌, ◌∷◌, ℕ, List, [], length, map, take, All, Option, Some, OnOk, IfOk};
 ghost use Rattle.sk_model.specs.Causes.{HasCauseIn};
 ghost use Rattle.sk_read.specs.Reading.{HasRead};
 ghost use Rattle.sk_fill.specs.Windows.{most_lines};
@@ -70,8 +70,8 @@ impl Stretch {
         &self.windows[..self.used]
     }
 
-    // Takes all windows out: `first` lines come before the next ones. The memory stays.
-    fn clear(&mut self, first: u64)
+    /// Takes all windows out: `first` lines of the source come before the next ones. The memory stays.
+    pub fn clear(&mut self, first: u64)
         ensures windows { self.new.windows ≡ [] }
         ensures most { self.new.most ≡ self.old.most }
         ensures first { self.new.first ≡ first }
@@ -99,6 +99,35 @@ impl Stretch {
     /// About how many bytes its lines have.
     pub fn size(&self) -> usize {
         self.size
+    }
+
+    /// An empty window that belongs to none of those that it has: one that it had before, if there is one.
+    pub fn spare(&mut self) -> Result<Window, OutOfMemory>
+        ensures lines { IfOk result (λ w. w.lines ≡ []) }
+        ensures most { IfOk result (λ w. w.most ≡ self.old.most) }
+        ensures stays { self.new ≡ self.old }
+    {
+        if self.used < self.windows.len() {
+            if let Some(mut window) = self.windows.pop() {
+                window.clear();
+                return Ok(window);
+            }
+        }
+        Window::new(self.alloc, self.most)
+    }
+
+    /// Appends a window.
+    pub fn push(&mut self, window: Window) -> Result<(), OutOfMemory>
+        requires most { window.most ≡ self.old.most }
+        ensures windows { OnOk result (self.new.windows ≡ self.old.windows ++ window.lines ∷ []) }
+        ensures most { self.new.most ≡ self.old.most }
+        ensures first { self.new.first ≡ self.old.first }
+    {
+        self.lines = self.lines.saturating_add(window.len() as usize);
+        self.size = self.size.saturating_add(window.size());
+        self.windows.insert(self.used, window)?;
+        self.used += 1;
+        Ok(())
     }
 
     // Whether it takes no further window, if `enough` lines are enough.

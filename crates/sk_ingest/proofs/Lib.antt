@@ -6,7 +6,6 @@ pub mod QuietLaws
 pub mod WindowLaws
 pub mod OneByOneLaws
 pub mod SupplyLaws
-pub mod LaneLaws
 pub mod TakerLaws
 pub mod ItemWindows
 pub mod ItemizedLaws

@@ -1,9 +1,7 @@
 -- Stretches that are read and given to all rings.
-use Rattle.std.proofs.Common.{◌≡◌, ℕ, ◌+◌, ◌<◌, ◌≤◌, Bool, true, List, [], ◌∷◌, ◌++◌, length, get_or, All, Option, Result, Ok, Err, IsErrAnd, sym, ap, refl, ◌∙◌, subst, arith, append-nil, append_assoc}
+use Rattle.std.proofs.Common.{◌≡◌, ℕ, ◌+◌, ◌≤◌, Bool, true, List, [], ◌∷◌, ◌++◌, length, All, Option, Result, Ok, Err, IsErrAnd, sym, ap, refl, ◌∙◌, subst, arith, append-nil, append_assoc}
 use Rattle.std.proofs.lemmas.List.Elements.{All-append}
 use Rattle.std.proofs.KnownBytes.{Consumes-trans}
-use Rattle.rtrb.specs.Ring.{sent, SameProducer}
-use Rattle.rtrb.specs.declared.producer.Producer.{Producer}
 use Rattle.sk_model.specs.Limits.{most_kept}
 use Rattle.sk_read.specs.Items.{IsGood}
 use Rattle.sk_read.specs.Reading.{Reading, HasRead}
@@ -13,58 +11,27 @@ use Rattle.sk_read.specs.declared.kind.Kind.{Kind}
 use Rattle.sk_fill.specs.Windows.{IsFullWindow, all_lines}
 use Rattle.sk_fill.specs.Stretches.{StretchState, StretchGoes, ReadsStretch}
 use Rattle.sk_ingest.specs.FedAndRead.{FeedsAndReads}
-use Rattle.sk_feed.specs.Deliveries.{windows_of, EndAt, IsNext}
-use Rattle.sk_ingest.specs.Supplies.{GaveEach, Supplies}
-use Rattle.sk_feed.proofs.Done.{DoneTo}
+use Rattle.sk_feed.specs.Deliveries.{windows_of}
+use Rattle.sk_lanes.specs.Rings.{Outlet, GaveEach}
+use Rattle.sk_ingest.specs.FedAndRead.{HasStarted}
+use Rattle.sk_ingest.specs.Supplies.{Supplies}
+use Rattle.sk_lanes.proofs.RingLaws.{gave_none, gave_both}
 use Rattle.sk_feed.proofs.Rounds.{ok_then}
-use Rattle.sk_feed.proofs.DeliveryLaws.{windows_append, windows_one, end_later, ends_once}
+use Rattle.sk_feed.proofs.DeliveryLaws.{windows_append, windows_one}
 use Rattle.sk_hub.proofs.Calls.{on_ok}
+use Rattle.sk_fill.proofs.Filled.{read_few}
 use Rattle.sk_fill.proofs.StretchLaws.{on_ok_at, none_on_err, stretch_starts, stretch_passed, read_then_none, nothing_read}
 use Rattle.sk_ingest.proofs.StretchLaws.{both_joined}
-
--- ---- rings
-
-module _ {A P : Type 0} where
-  -- a ring was given these stretches
-  abbrev pub Gave : List StretchState → ℕ → Producer StretchState A P → Producer StretchState A P → Type 0
-  Gave more i a b = SameProducer a b × (sent b ≡ sent a ++ more)
-
-  pub gave_all : (os os' : List (Producer StretchState A P)) (more : List StretchState) (n : ℕ) → n ≡ length os → DoneTo (Gave more) os os' n → GaveEach os os' more
-  gave_all os os' more n is done = record { count = done.count; each = λ i d within. done.done i d (omega arith) within }
-
-  pub gave_none : (os : List (Producer StretchState A P)) → GaveEach os os []
-  gave_none os = record { count = refl; each = λ i d within. (((refl, refl, refl, refl), refl), sym (append-nil (sent (get_or os i d)))) }
-
-  pub gave_both : (os ms ns : List (Producer StretchState A P)) (xs ys : List StretchState) → GaveEach os ms xs → GaveEach ms ns ys → GaveEach os ns (xs ++ ys)
-  gave_both os ms ns xs ys a b = record {
-    count = b.count ∙ a.count;
-    each = λ i d within.
-        let first = a.each i d within in
-        let then = b.each i d (omega (arith, a.count)) in (
-          ((then.0.0.0 ∙ first.0.0.0, then.0.0.1 ∙ first.0.0.1, then.0.0.2 ∙ first.0.0.2, then.0.0.3 ∙ first.0.0.3), then.0.1 ∙ first.0.1),
-          then.1 ∙ ap (λ l. l ++ ys) first.1 ∙ append_assoc (sent (get_or os i d)) xs ys,
-        );
-  }
-
-  -- all end later
-  pub all_end : (os os' : List (Producer StretchState A P)) (more : List StretchState) (n m : ℕ) → All (λ o. EndAt (sent o) n) os → GaveEach os os' more → m ≡ n + length (all_lines (windows_of more)) → All (λ o. EndAt (sent o) m) os'
-  all_end os os' more n m ends gave is = λ i d within.
-      let inside : i < length os = omega (arith, gave.count) in
-      subst (λ l. EndAt l m) (sym (gave.each i d inside).1) (end_later (sent (get_or os i d)) more n m (ends i d inside) is)
-
-  -- a stretch comes next where all end
-  pub all_next : (os : List (Producer StretchState A P)) (n : ℕ) (s : StretchState) → All (λ o. EndAt (sent o) n) os → s.first ≡ n → s.first + length (all_lines s.windows) ≤ most_kept → All (λ o. IsNext (sent o) s) os
-  all_next os n s ends first few = λ i d within. record { begins = λ m end. first ∙ ends_once (sent (get_or os i d)) n m (ends i d within) end; few = few }
 
 -- ---- what was read
 
 -- stretches were read and given, and no more so far
-pub record SupplyGoes {A P : Type 0} (kind : Kind) (most : ℕ) (os os' : List (Producer StretchState A P)) (r between : Reading) (old mid : Option (List ℕ)) : Type 0 where
+pub record SupplyGoes (kind : Kind) (most : ℕ) (os os' : List Outlet) (r between : Reading) (old mid : Option (List ℕ)) : Type 0 where
   pub given : List StretchState
   pub gave : GaveEach os os' given
   pub goes : StretchGoes kind most (windows_of given) r between old mid
 
-pub supply_starts : {A P : Type 0} (kind : Kind) (most : ℕ) (os : List (Producer StretchState A P)) (r : Reading) (old : Option (List ℕ)) → SupplyGoes kind most os os r r old old
+pub supply_starts : (kind : Kind) (most : ℕ) (os : List Outlet) (r : Reading) (old : Option (List ℕ)) → SupplyGoes kind most os os r r old old
 supply_starts kind most os r old = record { given = []; gave = gave_none os; goes = stretch_starts kind most [] r old refl }
 
 -- windows that were read after others
@@ -95,7 +62,7 @@ goes_full kind most windows r r' old new result reads was = record {
 }
 
 -- a stretch that is given to all, after those that were
-pub supply_goes : {A P : Type 0} (kind : Kind) (most : ℕ) (os ms ns : List (Producer StretchState A P)) (r q s : Reading) (old mid new : Option (List ℕ)) (next : StretchState) (result : Result Bool Fault) → SupplyGoes kind most os ms r q old mid → ReadsStretch kind most next.windows q s mid new result → result ≡ Ok true → GaveEach ms ns (next ∷ [])
+pub supply_goes : (kind : Kind) (most : ℕ) (os ms ns : List Outlet) (r q s : Reading) (old mid new : Option (List ℕ)) (next : StretchState) (result : Result Bool Fault) → SupplyGoes kind most os ms r q old mid → ReadsStretch kind most next.windows q s mid new result → result ≡ Ok true → GaveEach ms ns (next ∷ [])
     → SupplyGoes kind most os ns r s old new
 supply_goes kind most os ms ns r q s old mid new next result before reads was gave = record {
   given = before.given ++ next ∷ [];
@@ -105,7 +72,7 @@ supply_goes kind most os ms ns r q s old mid new next result before reads was ga
 }
 
 -- it ends where a stretch was read that is not given
-pub supply_ends : {A P : Type 0} (kind : Kind) (most : ℕ) (os ms : List (Producer StretchState A P)) (next : StretchState) (r q s : Reading) (old mid new : Option (List ℕ)) (result : Result Bool Fault) → SupplyGoes kind most os ms r q old mid → ReadsStretch kind most next.windows q s mid new result → next.first ≡ q.cutter.number
+pub supply_ends : (kind : Kind) (most : ℕ) (os ms : List Outlet) (next : StretchState) (r q s : Reading) (old mid new : Option (List ℕ)) (result : Result Bool Fault) → SupplyGoes kind most os ms r q old mid → ReadsStretch kind most next.windows q s mid new result → next.first ≡ q.cutter.number
     → Supplies kind most os ms next r s old new result
 supply_ends kind most os ms next r q s old mid new result before reads first = record {
   given = before.given;
@@ -120,7 +87,7 @@ supply_ends kind most os ms next r q s old mid new result before reads first = r
 }
 
 -- or if a fault came after it
-pub supply_fails : {A P : Type 0} (kind : Kind) (most : ℕ) (os ms ns : List (Producer StretchState A P)) (next : StretchState) (last : List (List (List ℕ))) (r q s : Reading) (old mid new : Option (List ℕ)) (why : Fault) (result : Result Bool Fault) → SupplyGoes kind most os ms r q old mid → ReadsStretch kind most last q s mid new result → IsErrAnd result (λ e. e ≡ why)
+pub supply_fails : (kind : Kind) (most : ℕ) (os ms ns : List Outlet) (next : StretchState) (last : List (List (List ℕ))) (r q s : Reading) (old mid new : Option (List ℕ)) (why : Fault) (result : Result Bool Fault) → SupplyGoes kind most os ms r q old mid → ReadsStretch kind most last q s mid new result → IsErrAnd result (λ e. e ≡ why)
     → Supplies kind most os ns next r s old new result
 supply_fails kind most os ms ns next last r q s old mid new why result before reads is = record {
   given = before.given;
@@ -151,7 +118,7 @@ module _ (Fed : List (List (List ℕ)) → Type 0) (kind : Kind) (most : ℕ) (s
     first = none_on_err _ result (λ e. e ≡ fault.OutOfMemory) is;
   }
 
-  module _ {A P : Type 0} (os os' : List (Producer StretchState A P)) (r' : Reading) (new : Option (List ℕ)) (read : Result Bool Fault) (supplies : Supplies kind most os os' next r r' old new read) where
+  module _ (os os' : List Outlet) (r' : Reading) (new : Option (List ℕ)) (read : Result Bool Fault) (supplies : Supplies kind most os os' next r r' old new read) where
     -- a fault of the reading is passed on
     pub supplies_passed : (why : Fault) (result : Result Bool Fault) → read ≡ Err why → IsErrAnd result (λ e. e ≡ why) → FeedsAndReads Fed kind most s next r r' old new result
     supplies_passed why result was is = record {
@@ -194,7 +161,7 @@ module _ (Fed : List (List (List ℕ)) → Type 0) (kind : Kind) (most : ℕ) (s
     }
 
 -- if windows take at most this many lines
-pub supplies_at_most : (Fed : List (List (List ℕ)) → Type 0) (kind : Kind) (m most : ℕ) (s next : StretchState) (r : Reading) (old : Option (List ℕ)) {A P : Type 0} (os os' : List (Producer StretchState A P)) (r' : Reading) (new : Option (List ℕ)) (read : Result Bool Fault) (supplies : Supplies kind m os os' next r r' old new read) → m ≡ most → (full : Bool) → read ≡ Ok full
+pub supplies_at_most : (Fed : List (List (List ℕ)) → Type 0) (kind : Kind) (m most : ℕ) (s next : StretchState) (r : Reading) (old : Option (List ℕ)) (os os' : List Outlet) (r' : Reading) (new : Option (List ℕ)) (read : Result Bool Fault) (supplies : Supplies kind m os os' next r r' old new read) → m ≡ most → (full : Bool) → read ≡ Ok full
     → Fed (s.windows ++ windows_of supplies.given) → FeedsAndReads Fed kind most s next r r' old new (Ok full)
 supplies_at_most Fed kind m most s next r old os os' r' new read supplies same full was fed = subst (λ n. FeedsAndReads Fed kind n s next r r' old new (Ok full)) same (supplies_fed Fed kind m s next r old os os' r' new read supplies full was fed)
 
@@ -225,3 +192,7 @@ next_read Fed kind most s next r r' old new result reads fed first = record {
   is = on_ok result refl;
   first = on_ok result first;
 }
+
+-- the lines of a stretch that was read are few enough to be counted
+pub started_few : (s : StretchState) (r : Reading) (left : Option (List ℕ)) → HasStarted s r left → s.first + length (all_lines s.windows) ≤ most_kept
+started_few s r left start = omega (arith, start.count, read_few r left start.given start.taken start.read)

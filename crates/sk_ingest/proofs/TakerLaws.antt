@@ -10,7 +10,7 @@ use Rattle.sk_feed.specs.Rounds.{HaveFew}
 use Rattle.sk_feed.specs.Shares.{share, TakeShares}
 use Rattle.sk_feed.proofs.Shares.{share_none, no_shares}
 use Rattle.sk_hub.proofs.Calls.{none_refl, takes_none}
-use Rattle.sk_ingest.specs.Lanes.{TakeAll}
+use Rattle.sk_lanes.specs.Lanes.{TakeAll}
 
 -- none of them has kept more
 pub few_each : (count : ℕ) (us : List UpdaterState) → HaveFew count [] us → All (λ u. length (kept_of u) ≤ count) us

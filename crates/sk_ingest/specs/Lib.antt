@@ -3,5 +3,4 @@ pub mod Ingests
 pub mod Takers
 pub mod FedAndRead
 pub mod Supplies
-pub mod Lanes
 pub mod ItemWindows

@@ -9,7 +9,6 @@ mod lanes;
 pub mod laws;
 mod one_by_one;
 mod passing;
-mod pool;
 mod report;
 mod stretches;
 mod supply;

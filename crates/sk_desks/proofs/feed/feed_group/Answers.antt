@@ -1,11 +1,9 @@
-use Rattle.std.proofs.Common.{◌≡◌, ◌+◌, ◌-◌, ◌∷◌, [], List, ℕ, length, get_or, take, slice_range, refl, sym, subst, ◌∙◌, arith}
+use Rattle.std.proofs.Common.{◌≡◌, ◌+◌, ◌-◌, ◌∷◌, [], List, ℕ, length, get_or, take, slice_range, sym, subst, arith}
 use Rattle.std.proofs.lemmas.List.{take_all}
 use Rattle.sk_lines.specs.Spans.{lines_at}
 use Rattle.sk_lines.specs.declared.spans.Span.{Span}
 use Rattle.sk_desks.specs.Feeds.{HasRoom, TakesLines}
-use Rattle.sk_desks.specs.Gathers.{IsOfTenant}
-use Rattle.sk_desks.proofs.Taking.{takes_no_line, takes_more, has_still, names_still, room_after}
-use Rattle.sk_desks.proofs.BlockLaws.{line_of_group}
+use Rattle.sk_desks.proofs.Taking.{takes_no_line, takes_more, has_still, room_after}
 use Rattle.sk_desks.proofs.WindowLaws.{no_bytes, lines_more}
 use Rattle.sk_desks.proofs.feed.feed_group.Goals as goal
 
@@ -13,15 +11,8 @@ pub line-init : goal.line-init
 line-init g c = record {
   took = takes_no_line c.args.seed c.args.desk.now;
   tenants = c.requires.tenants;
-  names = refl;
   room = λ t u within. omega (arith, c.requires.room t u within);
 }
-
-pub give_like-label-requires-clause-fine : goal.give_like-label-requires-clause-fine
-give_like-label-requires-clause-fine g c =
-    let span = get_or c.args.spans.now c.line.i no_bytes in
-    let line : List ℕ = slice_range c.args.text.now span.from span.to in
-    subst (λ (ns : List (List ℕ)). IsOfTenant ns line) (sym c.line.invariant.names) (line_of_group c.args.text.now c.args.spans.now c.line.i no_bytes (IsOfTenant c.args.desk.now.names) c.line-test.true c.requires.fine)
 
 pub give_like-label-requires-clause-room : goal.give_like-label-requires-clause-room
 give_like-label-requires-clause-room g c = λ t u within. omega (arith, c.line.invariant.room t u within, c.line-test.true)
@@ -38,7 +29,6 @@ line-preserved g c =
       took = subst (λ (ls : List (List ℕ)). TakesLines c.args.seed c.args.desk.now ls c.give_like-label.new.desk) (sym (lines_more text spans i no_bytes c.line-test.true))
           (takes_more c.args.seed c.args.desk.now c.line.desk c.give_like-label.new.desk (lines_at (take i spans) text) (line ∷ []) inv.took took);
       tenants = has_still c.args.seed c.line.desk c.give_like-label.new.desk (line ∷ []) took inv.tenants;
-      names = names_still c.args.seed c.line.desk c.give_like-label.new.desk (line ∷ []) took ∙ inv.names;
       room = room_after c.args.seed c.line.desk c.give_like-label.new.desk (line ∷ []) (length spans - (i + 1)) inv.tenants took room;
     }
 

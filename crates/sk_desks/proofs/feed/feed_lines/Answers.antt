@@ -3,7 +3,7 @@ use Rattle.std.proofs.lemmas.List.{length-map}
 use Rattle.sk_lines.specs.Spans.{lines_at}
 use Rattle.sk_lines.specs.declared.spans.Span.{Span}
 use Rattle.sk_desks.specs.Feeds.{HasRoom, TakesLines}
-use Rattle.sk_desks.proofs.Taking.{takes_more, has_still, names_still, room_after}
+use Rattle.sk_desks.proofs.Taking.{takes_more, has_still, room_after}
 use Rattle.sk_desks.proofs.BlockLaws.{no_lines, group_rest, group_more}
 use Rattle.sk_desks.proofs.feed.feed_lines.Goals as goal
 
@@ -11,10 +11,9 @@ pub group-init : goal.group-init
 group-init g c = record {
   low = omega arith;
   high = c.requires.order;
-  rest = c.lines_from-lines.ensures.rest;
+  rest = c.lines_from-lines.ensures;
   took = no_lines c.args.seed c.args.desk.now c.args.window.now.lines c.args.from;
   tenants = c.requires.tenants;
-  names = c.requires.names;
   room = c.requires.room;
 }
 
@@ -36,7 +35,6 @@ group-preserved g c =
       took = subst (λ (ls : List (List ℕ)). TakesLines c.args.seed c.args.desk.now ls c.feed_group.new.desk) (sym (group_more lines rest rest' group at count inv.rest c.next_lines-count.ensures.lines size from inv.low))
           (takes_more c.args.seed c.args.desk.now c.group.desk c.feed_group.new.desk (slice_range lines from at) group inv.took took);
       tenants = has_still c.args.seed c.group.desk c.feed_group.new.desk group took inv.tenants;
-      names = names_still c.args.seed c.group.desk c.feed_group.new.desk group took ∙ inv.names;
       room = room_after c.args.seed c.group.desk c.feed_group.new.desk group later inv.tenants took room;
     }
 

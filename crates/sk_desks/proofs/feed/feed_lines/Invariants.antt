@@ -9,7 +9,6 @@ invariant-group g l = record {
   rest : l.lines.rest ≡ drop l.at l.window.lines;
   took : TakesLines l.seed l.initial.desk (slice_range l.window.lines l.fn.from l.at) l.desk;
   tenants : HasTenants l.desk;
-  names : l.desk.names ≡ l.window.names;
   room : HasRoom (l.fn.to - l.at) l.desk;
 }
 

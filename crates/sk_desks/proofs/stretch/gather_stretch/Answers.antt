@@ -1,0 +1,69 @@
+use Rattle.std.proofs.Common.{◌≡◌, ◌++◌, ◌∙◌, ℕ, List, Bool, Ok, OnOk, ap, refl, subst}
+use Rattle.sk_fill.specs.Windows.{all_lines}
+use Rattle.sk_fill.proofs.Readings.{steady_on_ok}
+use Rattle.sk_desks.specs.Gathers.{Gathers}
+use Rattle.sk_desks.proofs.StretchLaws.{gathered_none, gathered, gathers_window, gathers_passed}
+use Rattle.sk_desks.proofs.stretch.gather_stretch.Goals as goal
+
+pub window-init : goal.window-init
+window-init g c = record {
+  goes = gathered_none c.args.gatherer.now.names.now (all_lines c.clear.new.self.windows) c.args.gatherer.now.reader (g.S.Source.left c.args.source.now) (ap all_lines c.clear.ensures.windows);
+  most = c.clear.ensures.most ∙ c.requires.most;
+  first = c.clear.ensures.first ∙ c.number.ensures;
+  names = refl;
+  steady = refl;
+  stays = refl;
+}
+
+pub gather_more-requires-clause-started : goal.gather_more-requires-clause-started
+gather_more-requires-clause-started g c =
+    let start = c.requires.started in let now = c.window.invariant.goes.gives start.0 start.1 start.2 in
+    (start.0 ++ all_lines c.window.stretch.windows, start.1 ++ now.0, now.2)
+
+pub returns-in_err-gather_more-clause-gathers : goal.returns-in_err-gather_more-clause-gathers
+returns-in_err-gather_more-clause-gathers g c =
+    let inv = c.window.invariant in let names = c.args.gatherer.now.names.now in let windows = c.window.stretch.windows in let windows' = c.gather_more.new.stretch.windows in
+    let old = g.S.Source.left c.args.source.now in let mid = g.S.Source.left c.window.source in let new = g.S.Source.left c.gather_more.new.source in
+    let r = c.args.gatherer.now.reader in let q = c.window.gatherer.reader in let s = c.gather_more.new.gatherer.reader in
+    let reads = c.gather_more.ensures.gathers in
+    let one = subst (λ (ns : List (List ℕ)). Gathers ns q s mid new reads.0 c.gather_more.result) inv.names reads.2 in
+    let both = gathers_window names (all_lines windows) reads.0 r q s old mid new inv.goes c.gather_more.result one windows windows' refl reads.1 in
+    gathers_passed names r s old new (all_lines windows') c.in_err-gather_more.field-0.0 c.gather_more.result c.from_residual.result both c.in_err-gather_more.was c.from_residual.ensures.1
+
+pub returns-then-lines-ge-ENOUGH-clause-gathers : goal.returns-then-lines-ge-ENOUGH-clause-gathers
+returns-then-lines-ge-ENOUGH-clause-gathers g c =
+    let inv = c.window.invariant in let names = c.args.gatherer.now.names.now in let windows = c.window.stretch.windows in let windows' = c.gather_more.new.stretch.windows in
+    let old = g.S.Source.left c.args.source.now in let mid = g.S.Source.left c.window.source in let new = g.S.Source.left c.gather_more.new.source in
+    let r = c.args.gatherer.now.reader in let q = c.window.gatherer.reader in let s = c.gather_more.new.gatherer.reader in
+    let reads = c.gather_more.ensures.gathers in
+    let one = subst (λ (ns : List (List ℕ)). Gathers ns q s mid new reads.0 c.gather_more.result) inv.names reads.2 in
+    let both = gathers_window names (all_lines windows) reads.0 r q s old mid new inv.goes c.gather_more.result one windows windows' refl reads.1 in
+    subst (Gathers names r s old new (all_lines windows')) (c.in_ok-gather_more.was ∙ ap (λ (b : Bool). Ok b) c.if-branch.true) both
+
+pub window-preserved : goal.window-preserved
+window-preserved g c =
+    let inv = c.window.invariant in let names = c.args.gatherer.now.names.now in let windows = c.window.stretch.windows in let windows' = c.gather_more.new.stretch.windows in
+    let old = g.S.Source.left c.args.source.now in let mid = g.S.Source.left c.window.source in let new = g.S.Source.left c.gather_more.new.source in
+    let r = c.args.gatherer.now.reader in let q = c.window.gatherer.reader in let s = c.gather_more.new.gatherer.reader in
+    let reads = c.gather_more.ensures.gathers in
+    let one = subst (λ (ns : List (List ℕ)). Gathers ns q s mid new reads.0 c.gather_more.result) inv.names reads.2 in
+    let both = gathers_window names (all_lines windows) reads.0 r q s old mid new inv.goes c.gather_more.result one windows windows' refl reads.1 in
+    record {
+      goes = gathered names (all_lines windows') r s old new c.gather_more.result both (c.in_ok-gather_more.was ∙ ap (λ (b : Bool). Ok b) c.if-branch.true);
+      most = c.gather_more.ensures.most;
+      first = c.gather_more.ensures.first ∙ inv.first;
+      names = c.gather_more.ensures.names ∙ inv.names;
+      steady = subst (λ x. OnOk x (g.S.Source.faults c.gather_more.new.source ≡ g.S.Source.faults c.window.source)) c.in_ok-gather_more.was
+          (steady_on_ok _ (g.S.Source.faults c.window.source) (g.S.Source.faults c.gather_more.new.source) c.gather_more.result c.gather_more.ensures.cause) ∙ inv.steady;
+      stays = c.gather_more.ensures.stays ∙ inv.stays;
+    }
+
+pub returns-clause-gathers : goal.returns-clause-gathers
+returns-clause-gathers g c =
+    let inv = c.window.invariant in let names = c.args.gatherer.now.names.now in let windows = c.window.stretch.windows in let windows' = c.gather_more.new.stretch.windows in
+    let old = g.S.Source.left c.args.source.now in let mid = g.S.Source.left c.window.source in let new = g.S.Source.left c.gather_more.new.source in
+    let r = c.args.gatherer.now.reader in let q = c.window.gatherer.reader in let s = c.gather_more.new.gatherer.reader in
+    let reads = c.gather_more.ensures.gathers in
+    let one = subst (λ (ns : List (List ℕ)). Gathers ns q s mid new reads.0 c.gather_more.result) inv.names reads.2 in
+    let both = gathers_window names (all_lines windows) reads.0 r q s old mid new inv.goes c.gather_more.result one windows windows' refl reads.1 in
+    subst (Gathers names r s old new (all_lines windows')) (c.in_ok-gather_more.was ∙ ap (λ (b : Bool). Ok b) c.if-branch.false) both

@@ -1,5 +1,0 @@
-use Rattle.sk_ingest.proofs.LaneLaws.{FinishesTo}
-use Rattle.sk_ingest.proofs.lanes.finish_each.Given as goal
-
-abbrev pub invariant-lane : goal.invariant-lane
-invariant-lane g l = let k = g.T.TakesStretches in FinishesTo (k.took l.kind) k.keeps_at_most l.fn.lanes.items l.lanes.items l.fn.outlets.items l.outlets.items l.i

@@ -1,5 +1,0 @@
-use Rattle.std.proofs.Common.{◌≡◌}
-use Rattle.sk_ingest.proofs.pool.Pool.wait_for_one.Given as goal
-
-abbrev pub invariant-wait : goal.invariant-wait
-invariant-wait g l = l.self.most ≡ l.initial.self.most
