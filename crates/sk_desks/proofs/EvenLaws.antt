@@ -1,11 +1,12 @@
 -- Lines of one length, each of a tenant.
-use Rattle.std.proofs.Common.{◌≡◌, ◌⊎◌, inl, inr, ⊎_elim, ℕ, ◌+◌, ◌-◌, ◌*◌, ◌<◌, ◌≤◌, ◌==◌, Bool, true, false, cond, is_some, List, length, take, drop, slice_index, slice_range, slice_get, All, Option, Some, None, IfSome, refl, sym, ap, subst, ◌∙◌, arith}
+use Rattle.std.proofs.Common.{◌≡◌, ◌⊎◌, inl, inr, ⊎_elim, ℕ, ◌+◌, ◌-◌, ◌*◌, ◌<◌, ◌≤◌, ◌==◌, Bool, true, false, cond, is_some, List, [], ◌∷◌, ◌++◌, length, take, drop, slice_index, slice_range, slice_get, All, Option, Some, None, IfSome, refl, sym, ap, subst, ◌∙◌, arith}
 use Rattle.std.specs.Str.Lines.{strip_carriage_return}
-use Rattle.std.proofs.lemmas.List.{take-take}
+use Rattle.std.proofs.lemmas.List.{take-take, take_more}
 use Rattle.std.proofs.lemmas.Option.{slice_get_within, get_or_from_slice_get}
 use Rattle.sk_model.specs.Lines.{lines_of}
 use Rattle.sk_lines.specs.Runs.{IsRun, AreEven}
 use Rattle.sk_lines.proofs.EvenRuns.{line_inside}
+use Rattle.sk_lines.proofs.Steps.{taken_line}
 use Rattle.sk_tenant.specs.Names.{HasNoSpace}
 use Rattle.sk_desks.specs.Entries.{IsNamedAt}
 use Rattle.sk_desks.specs.Gathers.{IsOfTenant}
@@ -60,3 +61,18 @@ even_of_tenants names run count len label is even some item named = λ i d withi
     let inside : at + (len + 1) ≤ length run = omega (arith, line_inside count i (len + 1) less, even.bytes) in
     subst (IsOfTenant names) (sym (get_or_from_slice_get (lines_of run) i (strip_carriage_return (slice_range run at (at + len))) d (even.lines i less)))
     (line_of_tenant names run at len label (omega (arith, inside)) some item (named i less))
+
+-- where a line of a run lies, and that it is the next one
+module _ (run : List ℕ) (count len i : ℕ) (is : IsRun count run) (even : AreEven count len run) (less : i < count) where
+  pub inside : i * (len + 1) + len < length run
+  inside = omega (arith, line_inside count i (len + 1) less, even.bytes)
+
+  pub next_line : (to : ℕ) → to ≡ i * (len + 1) + length (strip_carriage_return (slice_range run (i * (len + 1)) (i * (len + 1) + len)))
+      → take (i + 1) (lines_of run) ≡ take i (lines_of run) ++ slice_range run (i * (len + 1)) to ∷ []
+  next_line to end =
+      let at : ℕ = i * (len + 1) in
+      let line : List ℕ = strip_carriage_return (slice_range run at (at + len)) in
+      let few : i < length (lines_of run) = omega (arith, less, is.count) in
+      let size : to - at ≡ length line = omega (arith, end) in
+      let same : slice_range run at to ≡ line = ap (λ (n : ℕ). take n (drop at run)) size ∙ taken_line (drop at run) line ((at + len) - at) refl in
+      take_more (lines_of run) i line few ∙ ap (λ (l : List ℕ). take i (lines_of run) ++ l ∷ []) (get_or_from_slice_get (lines_of run) i line line (even.lines i less) ∙ sym same)

@@ -1,11 +1,10 @@
 // Lines of one length, each of a tenant, known by a look at the start and the end of each.
 ghost use Rattle.std.specs.Prelude.{◌≡◌, ℕ, ◌+◌, ◌*◌, ◌<◌, ◌≤◌, All, length, true};
 ghost use Rattle.sk_model.specs.Lines.{lines_of};
-ghost use Rattle.sk_lines.specs.Runs.{IsRun};
+ghost use Rattle.sk_lines.specs.Runs.{IsRun, EndEach};
 ghost use Rattle.sk_desks.specs.Entries.{IsNamedAt};
 ghost use Rattle.sk_desks.specs.Gathers.{IsOfTenant};
 
-use sk_lines::even_len;
 use sk_tenant::Names;
 
 /// Whether the lines of a run have one length, labels of one length, and are all of tenants. If not, each line has to be
@@ -15,29 +14,29 @@ pub(crate) fn are_even_of_tenants(names: &Names, run: &[u8], count: usize) -> bo
     requires run { IsRun count run.now }
     ensures { result ≡ true → All (IsOfTenant names.now) (lines_of run.now) }
 {
-    let Some(len) = even_len(run, count) else {
-        return false;
-    };
+    let each = run.len() / count;
     let Some(label) = run.iter().position(|byte| *byte == b' ') else {
         return false;
     };
-    // A line that CR LF ends has a byte less.
-    if label == 0 || len < label + 3 {
+    // LF ends each line, and one that CR LF ends has a byte less.
+    if label == 0 || each < label + 4 || each * count != run.len() {
         return false;
     }
-    have_label(names, run, count, len, label)
+    are_each_of_tenants(names, run, count, each - 1, label)
 }
 
-// Whether the name of a tenant, of this many bytes, and a space begin each line.
-fn have_label(names: &Names, run: &[u8], count: usize, len: usize, label: usize) -> bool
+// Whether LF comes after `len` bytes, and again after as many, and the name of a tenant, of `label` bytes, and a space
+// begin each line.
+fn are_each_of_tenants(names: &Names, run: &[u8], count: usize, len: usize, label: usize) -> bool
     requires some { 0 < count }
     requires bytes { length run.now ≡ count * (len + 1) }
     requires short { label + 3 ≤ len }
-    ensures { result ≡ true → (i : ℕ) → i < count → IsNamedAt names.now run.now (i * (len + 1)) label }
+    ensures { result ≡ true → EndEach count len run.now × ((i : ℕ) → i < count → IsNamedAt names.now run.now (i * (len + 1)) label) }
 {
     let each = len + 1;
     'line: for i in 0..count {
-        if !is_named(names, run, i * each, label) {
+        let at = i * each;
+        if run[at + len] != b'\n' || !is_named(names, run, at, label) {
             return false;
         }
     }

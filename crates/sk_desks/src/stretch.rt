@@ -11,13 +11,9 @@ use crate::window::LabelledWindow;
 use sk_fill::Stretch;
 use sk_io::Source;
 use sk_label::LabelFault;
+use sk_lanes::ENOUGH;
 use sk_read::LineReader;
 use sk_tenant::Names;
-
-// As many lines are enough for a stretch, so that it stays in a processor's cache, and as many bytes of long ones.
-const ENOUGH: usize = 32_768;
-
-const FULL_BYTES: usize = 1_048_576;
 
 /// A reader of lines that are empty or of tenants with these names.
 #[derive(Drop)]
@@ -44,7 +40,7 @@ pub(crate) fn gather_stretch<S: Source>(
 {
     stretch.clear(gatherer.reader.number());
     'window: while gather_more(gatherer, source, stretch)? {
-        if stretch.lines() >= ENOUGH || stretch.size() >= FULL_BYTES {
+        if stretch.is_full(ENOUGH) {
             return Ok(true);
         }
     }

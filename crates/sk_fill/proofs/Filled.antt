@@ -1,5 +1,5 @@
 -- A window that is filled with the lines of a source.
-use Rattle.std.proofs.Common.{◌≡◌, ◌≢◌, ℕ, ◌+◌, ◌≤◌, List, [], ◌∷◌, ◌++◌, length, take, Bool, true, false, Option, Result, Ok, Err, OnOk, IfErr, All, sym, ap, ◌∙◌, subst, arith, append_assoc, length-append}
+use Rattle.std.proofs.Common.{◌≡◌, ◌≢◌, ℕ, ◌+◌, ◌≤◌, List, [], ◌∷◌, ◌++◌, length, take, Bool, true, false, Option, Result, Ok, Err, OnOk, IfErr, All, sym, ap, ◌∙◌, subst, arith, append_assoc, length-append, ◌-◌, drop, length-drop}
 use Rattle.std.specs.Io.KnownBytes.{Consumes}
 use Rattle.std.proofs.KnownBytes.{Consumes-trans}
 use Rattle.std.proofs.lemmas.List.{take_all}
@@ -119,3 +119,10 @@ held_on r b P is p = subst (λ x. OnOk x P) is p
 
 pub not_yet : {E : Type 0} (r : Result Bool E) → r ≡ Ok false → r ≢ Ok true
 not_yet r is = λ other. cc
+
+-- ---- bytes that were given
+
+-- the bytes after those that were given
+pub slice_is : (front front' a b : List ℕ) → a ≡ front → b ≡ front' → take (length b - length a) (drop (length a) b) ≡ drop (length front) front'
+slice_is front front' a b p q =
+    take_all (length b - length a) (drop (length a) b) (omega (arith, length-drop (length a) b)) ∙ ap (λ (l : List ℕ). drop (length l) b) p ∙ ap (drop (length front)) q

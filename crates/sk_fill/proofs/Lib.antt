@@ -10,5 +10,6 @@ pub mod HeldLines
 pub mod Gathering
 pub mod Pages
 pub mod PageText
+pub mod PageRuns
 pub mod PageGroups
 pub mod StretchLaws

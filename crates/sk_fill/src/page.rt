@@ -157,6 +157,18 @@ impl Page {
         }
     }
 
+    // The bytes of the lines from one place up to another, with what ended them.
+    pub(crate) fn run(&self, from: usize, to: usize) -> &[u8]
+        requires order { from ≤ to }
+        requires within { to ≤ length self.now.lines }
+        ensures run { IsRun (to - from) result.now }
+        ensures lines { lines_of result.now ≡ slice_range self.now.lines from to }
+    {
+        let start = find_line(&self.buffer, &self.places, from);
+        let end = find_line(&self.buffer, &self.places, to);
+        &self.buffer[start..end]
+    }
+
     // Keeps the first `count` lines.
     pub(crate) fn keep(&mut self, count: usize)
         requires { count ≤ length self.old.lines }

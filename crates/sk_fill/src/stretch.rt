@@ -130,8 +130,8 @@ impl Stretch {
         Ok(())
     }
 
-    // Whether it takes no further window, if `enough` lines are enough.
-    fn is_full(&self, enough: usize) -> bool {
+    /// Whether it takes no further window, if `enough` lines are enough, or about 1 MiB of long ones.
+    pub fn is_full(&self, enough: usize) -> bool {
         self.lines >= enough || self.size >= FULL_BYTES
     }
 

@@ -1,5 +1,5 @@
 //! A window: lines that are kept until they are fed.
-ghost use Rattle.std.specs.Prelude.{◌≡◌, ◌<◌, ◌≤◌, ◌+◌, ◌++◌, ◌∷◌, ◌==◌, ℕ, List, [], length, take, drop, slice_index_or, true, false, OnOk, OnErr, IfOk, IfSome};
+ghost use Rattle.std.specs.Prelude.{◌≡◌, ◌<◌, ◌≤◌, ◌+◌, ◌++◌, ◌∷◌, ◌==◌, ℕ, List, [], ◌-◌, length, take, drop, slice_index_or, slice_range, true, false, OnOk, OnErr, IfOk, IfSome, IfNone};
 ghost use Rattle.std.specs.List.{concat};
 ghost use Rattle.sk_lines.specs.Cutter.{HasNoLf};
 ghost use Rattle.sk_lines.specs.Runs.{IsRun};
@@ -207,6 +207,21 @@ impl Window {
             &self.text,
             &self.spans[place - lines..],
         )
+    }
+
+    /// The bytes of its lines from one place up to another, each with what ended it, if they lie together.
+    pub fn run(&self, from: u32, to: u32) -> Option<&[u8]>
+        requires order { from ≤ to }
+        requires within { to ≤ length self.now.lines }
+        ensures run { IfSome result (λ run. IsRun (to - from) run.now) }
+        ensures lines { IfSome result (λ run. lines_of run.now ≡ slice_range self.now.lines from to) }
+        ensures none { IfNone result (0 < self.now.apart) }
+    {
+        let (from, to) = (from as usize, to as usize);
+        if to > self.page.len() {
+            return None;
+        }
+        Some(self.page.run(from, to))
     }
 
     /// The line at a place, counted from 0.

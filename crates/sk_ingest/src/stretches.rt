@@ -12,13 +12,13 @@ ghost use Rattle.sk_ingest.specs.Takers.{unreported};
 ghost use Rattle.sk_ingest.specs.FedAndRead.{FeedsAndReads, HasStarted};
 
 use crate::lanes::{feed_in_lanes, feed_in_one_lane};
-use crate::supply::ENOUGH;
 use crate::ways::{feed_stretch, is_short};
 use sk_compose::Composable;
 use sk_feed::take_turns;
 use sk_fill::{Stretch, fill_stretch};
 use sk_hub::Opened;
 use sk_io::Source;
+use sk_lanes::ENOUGH;
 use sk_read::{Fault, Intake, LineReader};
 use std::alloc::Global;
 use std::sync::Wait;

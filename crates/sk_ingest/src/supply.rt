@@ -6,13 +6,10 @@ ghost use Rattle.sk_ingest.specs.Supplies.{HasGiven, Supplies};
 use sk_feed::Crew;
 use sk_fill::{Stretch, fill_stretch};
 use sk_io::Source;
-use sk_lanes::Supply;
+use sk_lanes::{ENOUGH, Supply};
 use sk_read::{Fault, Kind, LineReader};
 use std::mem::replace;
 use std::sync::Wait;
-
-// As many lines are enough for a stretch, so that it stays in a processor's cache.
-pub(crate) const ENOUGH: usize = 32_768;
 
 // Reads stretches and gives each to all takers, until the source ends, or a taker does, or they do not begin. The last
 // one that was read was not given.

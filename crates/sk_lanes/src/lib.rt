@@ -10,4 +10,4 @@ pub use lanes::{Crewed, finish, open_lanes, run_beside};
 pub use sk_feed::{Crew, Lane, TakesStretches};
 pub use sk_fill::Stretch;
 pub use sk_model::OutOfMemory;
-pub use supply::Supply;
+pub use supply::{ENOUGH, Supply};

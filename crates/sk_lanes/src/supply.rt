@@ -16,6 +16,9 @@ use std::marker::Model;
 use std::sync::Wait;
 use std::thread::yield_now;
 
+/// As many lines are enough for a stretch: it stays in a processor's cache, and is worth waking threads.
+pub const ENOUGH: usize = 32_768;
+
 /// The rings through which stretches come for takers, and the stretches themselves, which are read anew once nobody
 /// takes from them.
 #[derive(Drop)]

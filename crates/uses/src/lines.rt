@@ -6,6 +6,7 @@ ghost use Rattle.sk_model.specs.Lines.{lines_of};
 ghost use Rattle.sk_lines.specs.Runs.{AreEven, IsRun};
 ghost use Rattle.uses.specs.Lengths.{longest_of};
 
+use sk_fill::Window;
 use sk_io::{Failed, Source};
 use sk_lines::even_len;
 use sk_model::limits::SOURCE_LIMIT;
@@ -142,4 +143,16 @@ pub fn have_one_length(run: &[u8], count: usize) -> bool
     ensures no { result ≡ false → (len : ℕ) → ¬ AreEven count len run.now }
 {
     even_len(run, count).is_some()
+}
+
+/// The bytes of all lines of a window, of which none lies apart.
+pub fn bytes_of_all(window: &Window) -> &[u8]
+    requires together { window.now.apart ≡ 0 }
+    ensures lines { lines_of result.now ≡ window.now.lines }
+    ensures run { IsRun (length window.now.lines) result.now }
+{
+    match window.run(0, window.len()) {
+        Some(run) => run,
+        None => unreachable!(),
+    }
 }

@@ -1,18 +1,13 @@
-use Rattle.std.proofs.Common.{◌≡◌, ◌+◌, ◌-◌, ◌≤◌, ◌++◌, [], ℕ, List, Option, All, true, false, length, take, drop, sym, ap, ◌∙◌, subst, arith, append-nil, length-append, length-drop}
-use Rattle.std.proofs.lemmas.List.{nil_from_length, take_all}
+use Rattle.std.proofs.Common.{◌≡◌, ◌+◌, ◌-◌, ◌≤◌, ◌++◌, [], ℕ, List, Option, All, true, false, length, take, drop, sym, ap, ◌∙◌, subst, arith, append-nil, length-append}
+use Rattle.std.proofs.lemmas.List.{nil_from_length}
 use Rattle.sk_model.specs.Lines.{lines_of}
 use Rattle.sk_lines.specs.Runs.{IsRun, run_between}
 use Rattle.sk_read.specs.Reading.{Reading, HasRead, remaining_of}
-use Rattle.sk_fill.proofs.Filled.{read_few, read_number}
+use Rattle.sk_fill.proofs.Filled.{read_few, read_number, slice_is}
 use Rattle.sk_desks.specs.Gathers.{IsOfTenant, GoOnFine, StopsWithin}
 use Rattle.sk_desks.proofs.GatherLaws.{group_given, group_stops, lines_fine, held_all, held_not}
 use Rattle.sk_desks.proofs.gather.take_run.Goals.{After-next_run-count}
 use Rattle.sk_desks.proofs.gather.take_run.Goals as goal
-
--- the bytes after those that were given
-slice_is : (front front' a b : List ℕ) → a ≡ front → b ≡ front' → take (length b - length a) (drop (length a) b) ≡ drop (length front) front'
-slice_is front front' a b p q =
-    take_all (length b - length a) (drop (length a) b) (omega (arith, length-drop (length a) b)) ∙ ap (λ (l : List ℕ). drop (length l) b) p ∙ ap (drop (length front)) q
 
 abbrev run : After-next_run-count → List ℕ
 run c = run_between c.args.reader.now.cutter c.next_run-count.new.self.cutter

@@ -30,8 +30,8 @@ returns-in_err-gather_more-clause-gathers g c =
     let both = gathers_window names (all_lines windows) reads.0 r q s old mid new inv.goes c.gather_more.result one windows windows' refl reads.1 in
     gathers_passed names r s old new (all_lines windows') c.in_err-gather_more.field-0.0 c.gather_more.result c.from_residual.result both c.in_err-gather_more.was c.from_residual.ensures.1
 
-pub returns-then-lines-ge-ENOUGH-clause-gathers : goal.returns-then-lines-ge-ENOUGH-clause-gathers
-returns-then-lines-ge-ENOUGH-clause-gathers g c =
+pub returns-then-is_full-clause-gathers : goal.returns-then-is_full-clause-gathers
+returns-then-is_full-clause-gathers g c =
     let inv = c.window.invariant in let names = c.args.gatherer.now.names.now in let windows = c.window.stretch.windows in let windows' = c.gather_more.new.stretch.windows in
     let old = g.S.Source.left c.args.source.now in let mid = g.S.Source.left c.window.source in let new = g.S.Source.left c.gather_more.new.source in
     let r = c.args.gatherer.now.reader in let q = c.window.gatherer.reader in let s = c.gather_more.new.gatherer.reader in

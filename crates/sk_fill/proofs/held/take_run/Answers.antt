@@ -1,6 +1,6 @@
-use Rattle.std.proofs.Common.{◌≡◌, ◌+◌, ◌-◌, ◌<◌, ◌≤◌, ◌++◌, [], ℕ, List, Option, All, Err, IfErr, length, take, drop, sym, ap, ◌∙◌, subst, arith, append-nil, length-append, length-drop}
+use Rattle.std.proofs.Common.{◌≡◌, ◌+◌, ◌<◌, ◌≤◌, ◌++◌, [], ℕ, List, Option, All, Err, IfErr, length, drop, sym, ap, ◌∙◌, subst, arith, append-nil, length-append}
 use Rattle.std.specs.List.{concat}
-use Rattle.std.proofs.lemmas.List.{drop_at, nil_from_length, take_all}
+use Rattle.std.proofs.lemmas.List.{drop_at, nil_from_length}
 use Rattle.sk_model.specs.Lines.{lines_of}
 use Rattle.sk_lines.specs.Cutter.{IsOfWholeLines}
 use Rattle.sk_lines.specs.Runs.{IsRun, run_between}
@@ -10,15 +10,10 @@ use Rattle.sk_read.specs.Reading.{HasRead}
 use Rattle.sk_read.proofs.GroupLaws.{with_fault, as_many}
 use Rattle.sk_fill.specs.Windows.{full_bytes}
 use Rattle.sk_fill.specs.Fills.{TakesHeld, TakesSome, RefusesFrom}
-use Rattle.sk_fill.proofs.Filled.{read_few}
+use Rattle.sk_fill.proofs.Filled.{read_few, slice_is}
 use Rattle.sk_fill.proofs.ManyLines.{none_taken, some_taken, no_room_some, refused_held}
 use Rattle.sk_fill.proofs.held.take_run.Goals.{After-next_run-count}
 use Rattle.sk_fill.proofs.held.take_run.Goals as goal
-
--- the bytes after those that were given
-slice_is : (front front' a b : List ℕ) → a ≡ front → b ≡ front' → take (length b - length a) (drop (length a) b) ≡ drop (length front) front'
-slice_is front front' a b p q =
-    take_all (length b - length a) (drop (length a) b) (omega (arith, length-drop (length a) b)) ∙ ap (λ (l : List ℕ). drop (length l) b) p ∙ ap (drop (length front)) q
 
 abbrev run : After-next_run-count → List ℕ
 run c = run_between c.args.reader.now.cutter c.next_run-count.new.self.cutter
