@@ -15,7 +15,7 @@ pub record LabelledState : Type 0 where
 
 -- a window has at most this many lines
 abbrev pub window_lines : ℕ
-window_lines = 16384
+window_lines = 8192
 
 -- this many lines and bytes more can lie with the others
 pub record HasRoomFor (lines bytes : ℕ) (w : LabelledState) : Type 0 where

@@ -15,6 +15,9 @@ use sk_lanes::ENOUGH;
 use sk_read::LineReader;
 use sk_tenant::Names;
 
+// As many bytes of lines are enough for a stretch, so that a pool may have eight of them.
+const ENOUGH_BYTES: usize = 524_288;
+
 /// A reader of lines that are empty or of tenants with these names.
 #[derive(Drop)]
 pub(crate) struct Gatherer<'n> {
@@ -40,7 +43,7 @@ pub(crate) fn gather_stretch<S: Source>(
 {
     stretch.clear(gatherer.reader.number());
     'window: while gather_more(gatherer, source, stretch)? {
-        if stretch.is_full(ENOUGH) {
+        if stretch.is_full(ENOUGH) || stretch.size() >= ENOUGH_BYTES {
             return Ok(true);
         }
     }

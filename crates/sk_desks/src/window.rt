@@ -21,10 +21,10 @@ use std::alloc::Global;
 use std::marker::Model;
 
 // A window has at most this many lines.
-pub(crate) const MOST_LINES: u32 = 16_384;
+pub(crate) const MOST_LINES: u32 = 8_192;
 
 // As many bytes of lines as this make a window full, so that a stretch of long lines stays small.
-const FULL_BYTES: usize = 1_048_576;
+const FULL_BYTES: usize = 262_144;
 
 /// Lines of a source, each empty or of a tenant, that are fed together.
 #[derive(Drop)]
@@ -64,7 +64,7 @@ impl<'n> LabelledWindow<'n> {
         self.window
     }
 
-    /// Whether it takes this many lines more, at most 16,384, of this many bytes.
+    /// Whether it takes this many lines more, at most 8,192, of this many bytes.
     pub(crate) fn has_room_for(&self, lines: usize, bytes: usize) -> bool
         requires few { lines ≤ window_lines }
         ensures room { result ≡ true → HasRoomFor lines bytes self.now }

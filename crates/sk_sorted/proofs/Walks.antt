@@ -1,5 +1,5 @@
 -- Two rising lists, walked together.
-use Rattle.std.proofs.Common.{◌≡◌, ℕ, zero, suc, ◌+◌, ◌-◌, ◌<◌, ◌≤◌, Bool, true, false, leb, min, ◌⊎◌, inl, inr, ⊎_elim, List, [], ◌∷◌, ◌++◌, length, take, drop, get_or, refl, sym, ap, ◌∙◌, subst, arith, append-nil, length-drop, take_at, take_all, take-take}
+use Rattle.std.proofs.Common.{◌≡◌, ◌≢◌, slice_range, ℕ, zero, suc, ◌+◌, ◌-◌, ◌<◌, ◌≤◌, Bool, true, false, leb, min, ◌⊎◌, inl, inr, ⊎_elim, List, [], ◌∷◌, ◌++◌, length, take, drop, get_or, refl, sym, ap, ◌∙◌, subst, arith, append-nil, length-drop, take_at, take_all, take-take}
 use Rattle.std.specs.List.Sorted.{IsStrictlyIncreasing}
 use Rattle.std.proofs.lemmas.Bool.Decides.{nat_tests}
 use Rattle.std.proofs.lemmas.List.{drop-drop}
@@ -106,6 +106,65 @@ walk_step kept piece i j kept_up piece_up i_inside j_inside =
     let b = drop-cons piece j 0 j_inside in
     rw (← drop-drop (bool_byte (leb x y)) i kept, ← drop-drop (bool_byte (leb y x)) j piece, a, b)
     (heads_step x y (drop (suc i) kept) (drop (suc j) piece) (rest_rises kept i kept_up i_inside) (rest_rises piece j piece_up j_inside))
+
+-- ---- a run
+
+-- the head of the first list goes if it is below that of the other
+first_below : (kept piece : List ℕ) (i j : ℕ) → IsStrictlyIncreasing kept → IsStrictlyIncreasing piece → i < length kept → j < length piece → get_or kept i 0 < get_or piece j 0
+    → rising (drop i kept ++ drop j piece) ≡ get_or kept i 0 ∷ rising (drop (i + 1) kept ++ drop j piece)
+first_below kept piece i j kept_up piece_up i_inside j_inside less =
+    let x = get_or kept i 0 in
+    let y = get_or piece j 0 in
+    let here : leb x y ≡ true = grind (arith, nat_tests) in
+    let there : leb y x ≡ false = grind (arith, nat_tests) in
+    let least : min x y ≡ x = omega (arith, less) in
+    let stays : j + 0 ≡ j = omega arith in
+    let whole = rising (drop i kept ++ drop j piece) in
+    let step = subst (λ (b : Bool). whole ≡ min x y ∷ rising (drop (i + bool_byte b) kept ++ drop (j + bool_byte (leb y x)) piece)) here (walk_step kept piece i j kept_up piece_up i_inside j_inside) in
+    let step' = subst (λ (b : Bool). whole ≡ min x y ∷ rising (drop (i + 1) kept ++ drop (j + bool_byte b) piece)) there step in
+    subst (λ (n : ℕ). whole ≡ x ∷ rising (drop (i + 1) kept ++ drop n piece)) stays (subst (λ (n : ℕ). whole ≡ n ∷ rising (drop (i + 1) kept ++ drop (j + 0) piece)) least step')
+
+-- so do the next ones that are below it
+all_below : (kept piece : List ℕ) (i n j : ℕ) → IsStrictlyIncreasing kept → IsStrictlyIncreasing piece → i + n ≤ length kept → j < length piece → ((m : ℕ) → i ≤ m → m < i + n → get_or kept m 0 < get_or piece j 0)
+    → rising (drop i kept ++ drop j piece) ≡ take n (drop i kept) ++ rising (drop (i + n) kept ++ drop j piece)
+all_below kept piece i zero j kept_up piece_up inside j_inside below =
+    let same : i ≡ i + 0 = omega arith in ap (λ (m : ℕ). rising (drop m kept ++ drop j piece)) same
+all_below kept piece i (suc n) j kept_up piece_up inside j_inside below =
+    let here : i < length kept = omega (arith, inside) in
+    let place : i + 1 + n ≡ i + suc n = omega arith in
+    let next : i + 1 ≡ suc i = omega arith in
+    let rest = all_below kept piece (i + 1) n j kept_up piece_up (omega (arith, inside)) j_inside (λ m low high. below m (omega (arith, low)) (omega (arith, high))) in
+    let left : List ℕ = rising (drop (i + suc n) kept ++ drop j piece) in
+    first_below kept piece i j kept_up piece_up here j_inside (below i (omega arith) (omega arith))
+    ∙ ap (λ (l : List ℕ). get_or kept i 0 ∷ l) (rest ∙ ap (λ (m : ℕ). take n (drop (i + 1) kept) ++ rising (drop m kept ++ drop j piece)) place)
+    ∙ ap (λ (m : ℕ). take (suc n) (get_or kept i 0 ∷ drop m kept) ++ left) next
+    ∙ ap (λ (l : List ℕ). take (suc n) l ++ left) (sym (drop-cons kept i 0 here))
+
+pub run_below : (kept piece : List ℕ) (i to j : ℕ) → IsStrictlyIncreasing kept → IsStrictlyIncreasing piece → i ≤ to → to ≤ length kept → j < length piece → ((m : ℕ) → i ≤ m → m < to → get_or kept m 0 < get_or piece j 0)
+    → rising (drop i kept ++ drop j piece) ≡ slice_range kept i to ++ rising (drop to kept ++ drop j piece)
+run_below kept piece i to j kept_up piece_up order inside j_inside below =
+    let place : i + (to - i) ≡ to = omega (arith, order) in
+    all_below kept piece i (to - i) j kept_up piece_up (omega (arith, inside, place)) j_inside (λ m low high. below m low (omega (arith, high, place)))
+    ∙ ap (λ (m : ℕ). slice_range kept i to ++ rising (drop m kept ++ drop j piece)) place
+
+-- the head of the second list goes if it is not above that of the first, which goes with it if it is the same
+pub second_goes : (kept piece : List ℕ) (i j : ℕ) (same : Bool) → IsStrictlyIncreasing kept → IsStrictlyIncreasing piece → i < length kept → j < length piece → get_or piece j 0 ≤ get_or kept i 0
+    → (same ≡ true → get_or kept i 0 ≡ get_or piece j 0) → (same ≡ false → get_or kept i 0 ≢ get_or piece j 0)
+    → rising (drop i kept ++ drop j piece) ≡ get_or piece j 0 ∷ rising (drop (i + bool_byte same) kept ++ drop (j + 1) piece)
+second_goes kept piece i j same kept_up piece_up i_inside j_inside most equal other =
+    let x = get_or kept i 0 in
+    let y = get_or piece j 0 in
+    let there : leb y x ≡ true = grind (arith, nat_tests) in
+    let least : min x y ≡ y = omega (arith, most) in
+    let whole = rising (drop i kept ++ drop j piece) in
+    let here : leb x y ≡ same = by same equal other in
+    let step = subst (λ (b : Bool). whole ≡ min x y ∷ rising (drop (i + bool_byte b) kept ++ drop (j + bool_byte (leb y x)) piece)) here (walk_step kept piece i j kept_up piece_up i_inside j_inside) in
+    let step' = subst (λ (b : Bool). whole ≡ min x y ∷ rising (drop (i + bool_byte same) kept ++ drop (j + bool_byte b) piece)) there step in
+    subst (λ (n : ℕ). whole ≡ n ∷ rising (drop (i + bool_byte same) kept ++ drop (j + 1) piece)) least step'
+  where
+    by : (b : Bool) → (b ≡ true → get_or kept i 0 ≡ get_or piece j 0) → (b ≡ false → get_or kept i 0 ≢ get_or piece j 0) → leb (get_or kept i 0) (get_or piece j 0) ≡ b
+    by true equal other = let is = equal refl in grind (arith, nat_tests)
+    by false equal other = let not = other refl in grind (arith, nat_tests)
 
 -- ---- the end
 

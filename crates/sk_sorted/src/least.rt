@@ -1,10 +1,10 @@
 //! The k smallest of two rising lists, in one walk over both.
-ghost use Rattle.std.specs.Prelude.{◌≡◌, ◌≤◌, ◌++◌, take, vec_len, vec_capacity};
+ghost use Rattle.std.specs.Prelude.{◌≡◌, ℕ, ◌<◌, ◌≤◌, ◌++◌, length, take, slice_index, slice_range, vec_len, vec_capacity};
 ghost use Rattle.std.specs.List.Sorted.{IsStrictlyIncreasing};
 ghost use Rattle.sk_model.specs.Sketch.{k_smallest};
 
-// Makes `least` the k smallest of both. The walk does not branch on which of two heads is the lesser one: a processor
-// would foretell that wrongly.
+// Makes `least` the k smallest of both. For each of a piece those of the other list are copied that are below it: some
+// eight, so that a processor foretells most of the way.
 pub fn least_of_both(kept: &[u64], piece: &[u64], k: usize, least: &mut Vec<u64>)
     requires kept_rises { IsStrictlyIncreasing kept.now }
     requires piece_rises { IsStrictlyIncreasing piece.now }
@@ -16,12 +16,36 @@ pub fn least_of_both(kept: &[u64], piece: &[u64], k: usize, least: &mut Vec<u64>
     let (mut i, mut j) = (0, 0);
     'walk: while i < kept.len() && j < piece.len() && least.len() < k {
         let (x, y) = (kept[i], piece[j]);
-        least.push_reserved(x.min(y));
-        i += usize::from(x <= y);
-        j += usize::from(y <= x);
+        if x < y {
+            i = append_below(least, kept, i, y, k);
+        } else {
+            least.push_reserved(y);
+            i += usize::from(x == y);
+            j += 1;
+        }
     }
     append_within(least, &kept[i..], k);
     append_within(least, &piece[j..], k);
+}
+
+// Appends the members of a list from a place on that are below an end, until there are k, and returns where they end.
+fn append_below(least: &mut Vec<u64>, kept: &[u64], from: usize, end: u64, k: usize) -> usize
+    requires place { from ≤ length kept.now }
+    requires within { vec_len least.old ≤ k }
+    requires room { k ≤ vec_capacity least.old }
+    ensures place { (from ≤ result) × (result ≤ length kept.now) }
+    ensures items { least.new.items ≡ least.old.items ++ slice_range kept.now from result }
+    ensures below { (i : ℕ) → from ≤ i → i < result → slice_index kept.now i < end }
+    ensures some { vec_len least.old < k → from < length kept.now → slice_index kept.now from < end → from < result }
+    ensures within { vec_len least.new ≤ k }
+    ensures room { k ≤ vec_capacity least.new }
+{
+    let mut i = from;
+    'below: while i < kept.len() && kept[i] < end && least.len() < k {
+        least.push_reserved(kept[i]);
+        i += 1;
+    }
+    i
 }
 
 // Puts a list to the end of another one, of which the first k are kept.

@@ -5,7 +5,12 @@ use Rattle.sk_fill.specs.Stretches.{StretchState}
 use Rattle.sk_fill.proofs.Filled.{read_few}
 use Rattle.sk_feed.specs.Deliveries.{windows_of}
 use Rattle.sk_lanes.specs.Rings.{GaveEach, AllEnd}
+use Rattle.sk_lanes.specs.Lanes.{HaveRunWith}
+use Rattle.sk_desks.specs.Feeds.{HasRoomAfter}
+use Rattle.sk_desks.specs.Lanes.{took}
 use Rattle.sk_desks.proofs.LaneLaws.{nothing_fed, feeds_passed, feeds_then_none, feeds}
+use Rattle.sk_desks.proofs.lanes.feed_in_lanes.Given.{Over}
+use Rattle.sk_desks.proofs.lanes.feed_in_lanes.Goals.{In_ok-more}
 use Rattle.sk_desks.proofs.lanes.feed_in_lanes.Goals as goal
 
 pub open_lanes-requires-clause-lines : goal.open_lanes-requires-clause-lines
@@ -37,24 +42,23 @@ returns-in_err-more-clause-goes g c =
     c.in_ok-crewed.supply.outlets c.gather_beside.new.supply.outlets c.gather_beside.new.gatherer.reader (g.S.Source.left c.gather_beside.new.source) c.gather_beside.result c.gather_beside.ensures.gives
     c.in_err-more.field-0.0 c.from_residual-in_err-more.result c.in_err-more.was c.from_residual-in_err-more.ensures.1
 
+-- the lanes have run with the stretch and all that were given after it
+ran : (g : Over) (c : In_ok-more g) → HaveRunWith (took c.args.kind) (λ t count. HasRoomAfter count t.desk) c.args.takers.now.items (c.args.stretch.now.windows ++ windows_of c.gather_beside.ensures.gives.given) c.gather_beside.new.crewed.lanes.items c.gather_beside.new.supply.outlets
+ran g c =
+    let gives = c.gather_beside.ensures.gives in record {
+      first = c.replace-first.result;
+      given = gives.given;
+      lanes = c.in_ok-crewed.crewed.lanes.items;
+      outlets = c.in_ok-crewed.supply.outlets;
+      takers_are = c.in_ok-crewed.ensures.takers ∙ ap (λ v. v.items) c.replace-taken.ensures.value;
+      windows_are = ap (λ (z : StretchState). z.windows ++ windows_of gives.given) (sym c.replace-first.ensures.value);
+      opened = c.in_ok-crewed.ensures.open;
+      run = c.gather_beside.ensures.run;
+      gave = subst (λ x. OnOk x (GaveEach c.in_ok-crewed.supply.outlets c.gather_beside.new.supply.outlets gives.given)) c.in_ok-more.was gives.gave;
+    }
+
 pub finish-requires-clause-ran : goal.finish-requires-clause-ran
-finish-requires-clause-ran g c =
-    let gives = c.gather_beside.ensures.gives in
-    let os = c.in_ok-crewed.supply.outlets in let os' = c.gather_beside.new.supply.outlets in (
-      c.args.takers.now.items,
-      c.args.stretch.now.windows ++ windows_of gives.given,
-      record {
-        first = c.replace-first.result;
-        given = gives.given;
-        lanes = c.in_ok-crewed.crewed.lanes.items;
-        outlets = os;
-        takers_are = c.in_ok-crewed.ensures.takers ∙ ap (λ v. v.items) c.replace-taken.ensures.value;
-        windows_are = ap (λ (z : StretchState). z.windows ++ windows_of gives.given) (sym c.replace-first.ensures.value);
-        opened = c.in_ok-crewed.ensures.open;
-        run = c.gather_beside.ensures.run;
-        gave = subst (λ x. OnOk x (GaveEach os os' gives.given)) c.in_ok-more.was gives.gave;
-      },
-    )
+finish-requires-clause-ran g c = (c.args.takers.now.items, c.args.stretch.now.windows ++ windows_of c.gather_beside.ensures.gives.given, ran g (goal.at.finish-requires-clause-ran g c).In_ok-more)
 
 pub returns-in_err-takers-clause-goes : goal.returns-in_err-takers-clause-goes
 returns-in_err-takers-clause-goes g c =
@@ -64,18 +68,7 @@ returns-in_err-takers-clause-goes g c =
 
 pub returns-clause-goes : goal.returns-clause-goes
 returns-clause-goes g c =
-    let gives = c.gather_beside.ensures.gives in
-    let os = c.in_ok-crewed.supply.outlets in let os' = c.gather_beside.new.supply.outlets in
-    let took = c.in_ok-takers.ensures.took c.args.takers.now.items (c.args.stretch.now.windows ++ windows_of gives.given) (record {
-      first = c.replace-first.result;
-      given = gives.given;
-      lanes = c.in_ok-crewed.crewed.lanes.items;
-      outlets = os;
-      takers_are = c.in_ok-crewed.ensures.takers ∙ ap (λ v. v.items) c.replace-taken.ensures.value;
-      windows_are = ap (λ (z : StretchState). z.windows ++ windows_of gives.given) (sym c.replace-first.ensures.value);
-      opened = c.in_ok-crewed.ensures.open;
-      run = c.gather_beside.ensures.run;
-      gave = subst (λ x. OnOk x (GaveEach os os' gives.given)) c.in_ok-more.was gives.gave;
-    }) in
+    let at = (goal.at.returns-clause-goes g c).In_ok-more in let gives = c.gather_beside.ensures.gives in
+    let took = c.in_ok-takers.ensures.took c.args.takers.now.items (c.args.stretch.now.windows ++ windows_of gives.given) (ran g at) in
     feeds c.args.kind c.args.gatherer.now.names.now c.args.stretch.now c.gather_beside.new.next c.args.takers.now.items _ c.args.gatherer.now.reader (g.S.Source.left c.args.source.now)
-    os os' c.gather_beside.new.gatherer.reader (g.S.Source.left c.gather_beside.new.source) c.gather_beside.result gives c.in_ok-more.more c.in_ok-more.was took
+    c.in_ok-crewed.supply.outlets c.gather_beside.new.supply.outlets c.gather_beside.new.gatherer.reader (g.S.Source.left c.gather_beside.new.source) c.gather_beside.result gives c.in_ok-more.more c.in_ok-more.was took

@@ -3,6 +3,8 @@ use Rattle.sk_fill.specs.Windows.{all_lines}
 use Rattle.sk_fill.proofs.Readings.{steady_on_ok}
 use Rattle.sk_desks.specs.Gathers.{Gathers}
 use Rattle.sk_desks.proofs.StretchLaws.{gathered_none, gathered, gathers_window, gathers_passed}
+use Rattle.sk_desks.proofs.stretch.gather_stretch.Given.{Over}
+use Rattle.sk_desks.proofs.stretch.gather_stretch.Goals.{After-gather_more}
 use Rattle.sk_desks.proofs.stretch.gather_stretch.Goals as goal
 
 pub window-init : goal.window-init
@@ -20,36 +22,34 @@ gather_more-requires-clause-started g c =
     let start = c.requires.started in let now = c.window.invariant.goes.gives start.0 start.1 start.2 in
     (start.0 ++ all_lines c.window.stretch.windows, start.1 ++ now.0, now.2)
 
-pub returns-in_err-gather_more-clause-gathers : goal.returns-in_err-gather_more-clause-gathers
-returns-in_err-gather_more-clause-gathers g c =
-    let inv = c.window.invariant in let names = c.args.gatherer.now.names.now in let windows = c.window.stretch.windows in let windows' = c.gather_more.new.stretch.windows in
+-- how it went with the window, after those before
+went : (g : Over) (c : After-gather_more g) → Gathers c.args.gatherer.now.names.now c.args.gatherer.now.reader c.gather_more.new.gatherer.reader (g.S.Source.left c.args.source.now) (g.S.Source.left c.gather_more.new.source) (all_lines c.gather_more.new.stretch.windows) c.gather_more.result
+went g c =
+    let inv = c.window.invariant in let names = c.args.gatherer.now.names.now in let windows = c.window.stretch.windows in
     let old = g.S.Source.left c.args.source.now in let mid = g.S.Source.left c.window.source in let new = g.S.Source.left c.gather_more.new.source in
-    let r = c.args.gatherer.now.reader in let q = c.window.gatherer.reader in let s = c.gather_more.new.gatherer.reader in
+    let q = c.window.gatherer.reader in let s = c.gather_more.new.gatherer.reader in
     let reads = c.gather_more.ensures.gathers in
     let one = subst (λ (ns : List (List ℕ)). Gathers ns q s mid new reads.0 c.gather_more.result) inv.names reads.2 in
-    let both = gathers_window names (all_lines windows) reads.0 r q s old mid new inv.goes c.gather_more.result one windows windows' refl reads.1 in
-    gathers_passed names r s old new (all_lines windows') c.in_err-gather_more.field-0.0 c.gather_more.result c.from_residual.result both c.in_err-gather_more.was c.from_residual.ensures.1
+    gathers_window names (all_lines windows) reads.0 c.args.gatherer.now.reader q s old mid new inv.goes c.gather_more.result one windows c.gather_more.new.stretch.windows refl reads.1
+
+pub returns-in_err-gather_more-clause-gathers : goal.returns-in_err-gather_more-clause-gathers
+returns-in_err-gather_more-clause-gathers g c =
+    let at = (goal.at.returns-in_err-gather_more-clause-gathers g c).After-gather_more in
+    gathers_passed c.args.gatherer.now.names.now c.args.gatherer.now.reader c.gather_more.new.gatherer.reader (g.S.Source.left c.args.source.now) (g.S.Source.left c.gather_more.new.source) (all_lines c.gather_more.new.stretch.windows)
+    c.in_err-gather_more.field-0.0 c.gather_more.result c.from_residual.result (went g at) c.in_err-gather_more.was c.from_residual.ensures.1
 
 pub returns-then-is_full-clause-gathers : goal.returns-then-is_full-clause-gathers
 returns-then-is_full-clause-gathers g c =
-    let inv = c.window.invariant in let names = c.args.gatherer.now.names.now in let windows = c.window.stretch.windows in let windows' = c.gather_more.new.stretch.windows in
-    let old = g.S.Source.left c.args.source.now in let mid = g.S.Source.left c.window.source in let new = g.S.Source.left c.gather_more.new.source in
-    let r = c.args.gatherer.now.reader in let q = c.window.gatherer.reader in let s = c.gather_more.new.gatherer.reader in
-    let reads = c.gather_more.ensures.gathers in
-    let one = subst (λ (ns : List (List ℕ)). Gathers ns q s mid new reads.0 c.gather_more.result) inv.names reads.2 in
-    let both = gathers_window names (all_lines windows) reads.0 r q s old mid new inv.goes c.gather_more.result one windows windows' refl reads.1 in
-    subst (Gathers names r s old new (all_lines windows')) (c.in_ok-gather_more.was ∙ ap (λ (b : Bool). Ok b) c.if-branch.true) both
+    let at = (goal.at.returns-then-is_full-clause-gathers g c).After-gather_more in
+    subst (Gathers c.args.gatherer.now.names.now c.args.gatherer.now.reader c.gather_more.new.gatherer.reader (g.S.Source.left c.args.source.now) (g.S.Source.left c.gather_more.new.source) (all_lines c.gather_more.new.stretch.windows))
+    (c.in_ok-gather_more.was ∙ ap (λ (b : Bool). Ok b) c.if-branch.true) (went g at)
 
 pub window-preserved : goal.window-preserved
 window-preserved g c =
-    let inv = c.window.invariant in let names = c.args.gatherer.now.names.now in let windows = c.window.stretch.windows in let windows' = c.gather_more.new.stretch.windows in
-    let old = g.S.Source.left c.args.source.now in let mid = g.S.Source.left c.window.source in let new = g.S.Source.left c.gather_more.new.source in
-    let r = c.args.gatherer.now.reader in let q = c.window.gatherer.reader in let s = c.gather_more.new.gatherer.reader in
-    let reads = c.gather_more.ensures.gathers in
-    let one = subst (λ (ns : List (List ℕ)). Gathers ns q s mid new reads.0 c.gather_more.result) inv.names reads.2 in
-    let both = gathers_window names (all_lines windows) reads.0 r q s old mid new inv.goes c.gather_more.result one windows windows' refl reads.1 in
+    let at = (goal.at.window-preserved g c).After-gather_more in let inv = c.window.invariant in
     record {
-      goes = gathered names (all_lines windows') r s old new c.gather_more.result both (c.in_ok-gather_more.was ∙ ap (λ (b : Bool). Ok b) c.if-branch.true);
+      goes = gathered c.args.gatherer.now.names.now (all_lines c.gather_more.new.stretch.windows) c.args.gatherer.now.reader c.gather_more.new.gatherer.reader (g.S.Source.left c.args.source.now) (g.S.Source.left c.gather_more.new.source) c.gather_more.result (went g at)
+          (c.in_ok-gather_more.was ∙ ap (λ (b : Bool). Ok b) c.if-branch.true);
       most = c.gather_more.ensures.most;
       first = c.gather_more.ensures.first ∙ inv.first;
       names = c.gather_more.ensures.names ∙ inv.names;
@@ -60,10 +60,6 @@ window-preserved g c =
 
 pub returns-clause-gathers : goal.returns-clause-gathers
 returns-clause-gathers g c =
-    let inv = c.window.invariant in let names = c.args.gatherer.now.names.now in let windows = c.window.stretch.windows in let windows' = c.gather_more.new.stretch.windows in
-    let old = g.S.Source.left c.args.source.now in let mid = g.S.Source.left c.window.source in let new = g.S.Source.left c.gather_more.new.source in
-    let r = c.args.gatherer.now.reader in let q = c.window.gatherer.reader in let s = c.gather_more.new.gatherer.reader in
-    let reads = c.gather_more.ensures.gathers in
-    let one = subst (λ (ns : List (List ℕ)). Gathers ns q s mid new reads.0 c.gather_more.result) inv.names reads.2 in
-    let both = gathers_window names (all_lines windows) reads.0 r q s old mid new inv.goes c.gather_more.result one windows windows' refl reads.1 in
-    subst (Gathers names r s old new (all_lines windows')) (c.in_ok-gather_more.was ∙ ap (λ (b : Bool). Ok b) c.if-branch.false) both
+    let at = (goal.at.returns-clause-gathers g c).After-gather_more in
+    subst (Gathers c.args.gatherer.now.names.now c.args.gatherer.now.reader c.gather_more.new.gatherer.reader (g.S.Source.left c.args.source.now) (g.S.Source.left c.gather_more.new.source) (all_lines c.gather_more.new.stretch.windows))
+    (c.in_ok-gather_more.was ∙ ap (λ (b : Bool). Ok b) c.if-branch.false) (went g at)
