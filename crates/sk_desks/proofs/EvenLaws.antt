@@ -1,6 +1,8 @@
 -- Lines of one length, each of a tenant.
 use Rattle.std.proofs.Common.{◌≡◌, ◌⊎◌, inl, inr, ⊎_elim, ℕ, ◌+◌, ◌-◌, ◌*◌, ◌<◌, ◌≤◌, ◌==◌, Bool, true, false, cond, is_some, List, [], ◌∷◌, ◌++◌, length, take, drop, slice_index, slice_range, slice_get, All, Option, Some, None, IfSome, refl, sym, ap, subst, ◌∙◌, arith}
 use Rattle.std.specs.Str.Lines.{strip_carriage_return}
+use Rattle.std.proofs.Math.Nat.{mul-le-mul_right}
+use Rattle.std.proofs.lemmas.Bool.{cases_lt}
 use Rattle.std.proofs.lemmas.List.{take-take, take_more}
 use Rattle.std.proofs.lemmas.Option.{slice_get_within, get_or_from_slice_get}
 use Rattle.sk_model.specs.Lines.{lines_of}
@@ -76,3 +78,25 @@ module _ (run : List ℕ) (count len i : ℕ) (is : IsRun count run) (even : Are
       let size : to - at ≡ length line = omega (arith, end) in
       let same : slice_range run at to ≡ line = ap (λ (n : ℕ). take n (drop at run)) size ∙ taken_line (drop at run) line ((at + len) - at) refl in
       take_more (lines_of run) i line few ∙ ap (λ (l : List ℕ). take i (lines_of run) ++ l ∷ []) (get_or_from_slice_get (lines_of run) i line line (even.lines i less) ∙ sym same)
+
+-- ---- lines that were looked at, one after another
+
+-- those that begin before a place are of tenants, and end where they have to
+pub record AreSoFar (names : List (List ℕ)) (run : List ℕ) (count len label at : ℕ) : Type 0 where
+  pub turn : ℕ
+  pub place : at ≡ turn * (len + 1)
+  pub few : turn ≤ count
+  pub named : (i : ℕ) → i < turn → (slice_index run (i * (len + 1) + len) ≡ 10) × IsNamedAt names run (i * (len + 1)) label
+
+module _ (names : List (List ℕ)) (run : List ℕ) (count len label : ℕ) where
+  pub so_far_none : AreSoFar names run count len label 0
+  so_far_none = record { turn = 0; place = omega arith; few = omega arith; named = λ i less. absurd (omega (arith, less)) }
+
+  module _ (at : ℕ) (bytes : length run ≡ count * (len + 1)) (so_far : AreSoFar names run count len label at) where
+    -- all do
+    pub so_far_all : length run ≤ at → (i : ℕ) → i < count → (slice_index run (i * (len + 1) + len) ≡ 10) × IsNamedAt names run (i * (len + 1)) label
+    so_far_all all i less = so_far.named i
+        (⊎_elim
+        (λ (below : i < so_far.turn). below)
+        (λ (most : so_far.turn ≤ i). absurd (let inside : i * (len + 1) + (len + 1) ≤ count * (len + 1) = line_inside count i (len + 1) less in let before : so_far.turn * (len + 1) ≤ i * (len + 1) = mul-le-mul_right (len + 1) most in omega (arith, all, bytes, so_far.place, inside, before)))
+        (cases_lt i so_far.turn))

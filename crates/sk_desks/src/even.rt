@@ -34,11 +34,12 @@ fn are_each_of_tenants(names: &Names, run: &[u8], count: usize, len: usize, labe
     ensures { result ≡ true → EndEach count len run.now × ((i : ℕ) → i < count → IsNamedAt names.now run.now (i * (len + 1)) label) }
 {
     let each = len + 1;
-    'line: for i in 0..count {
-        let at = i * each;
+    let mut at = 0;
+    'line: while at < run.len() {
         if run[at + len] != b'\n' || !is_named(names, run, at, label) {
             return false;
         }
+        at += each;
     }
     true
 }

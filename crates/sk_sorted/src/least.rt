@@ -1,5 +1,5 @@
 //! The k smallest of two rising lists, in one walk over both.
-ghost use Rattle.std.specs.Prelude.{◌≡◌, ℕ, ◌<◌, ◌≤◌, ◌++◌, length, take, slice_index, slice_range, vec_len, vec_capacity};
+ghost use Rattle.std.specs.Prelude.{◌≡◌, ℕ, ◌<◌, ◌≤◌, ◌-◌, ◌++◌, length, take, slice_index, slice_range, vec_len, vec_capacity};
 ghost use Rattle.std.specs.List.Sorted.{IsStrictlyIncreasing};
 ghost use Rattle.sk_model.specs.Sketch.{k_smallest};
 
@@ -40,9 +40,21 @@ fn append_below(least: &mut Vec<u64>, kept: &[u64], from: usize, end: u64, k: us
     ensures within { vec_len least.new ≤ k }
     ensures room { k ≤ vec_capacity least.new }
 {
+    let to = end_below(kept, from, end, k - least.len());
+    least.extend_from_slice(&kept[from..to]).unwrap();
+    to
+}
+
+// Where the members of a list from a place on end that are below an end, `most` at most.
+fn end_below(kept: &[u64], from: usize, end: u64, most: usize) -> usize
+    requires place { from ≤ length kept.now }
+    ensures place { (from ≤ result) × (result ≤ length kept.now) }
+    ensures few { result - from ≤ most }
+    ensures below { (i : ℕ) → from ≤ i → i < result → slice_index kept.now i < end }
+    ensures some { 0 < most → from < length kept.now → slice_index kept.now from < end → from < result }
+{
     let mut i = from;
-    'below: while i < kept.len() && kept[i] < end && least.len() < k {
-        least.push_reserved(kept[i]);
+    'below: while i < kept.len() && i - from < most && kept[i] < end {
         i += 1;
     }
     i

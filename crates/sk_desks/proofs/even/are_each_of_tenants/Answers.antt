@@ -1,15 +1,12 @@
-use Rattle.std.proofs.Common.{◌≡◌, ◌+◌, ◌*◌, ℕ, slice_index, ⊎_elim, subst, arith}
-use Rattle.std.proofs.lemmas.Bool.{cases_lt}
-use Rattle.sk_desks.specs.Entries.{IsNamedAt}
+use Rattle.std.proofs.Common.{◌≤◌, length, arith}
+use Rattle.sk_desks.proofs.EvenLaws.{so_far_none, so_far_all}
 use Rattle.sk_desks.proofs.even.are_each_of_tenants.Goals as goal
 
-pub line-preserved : goal.line-preserved
-line-preserved c = record {
-  so_far = λ j less. ⊎_elim
-      (λ below. c.line.invariant.so_far j below)
-      (λ most.
-      let here : c.line.i ≡ j = omega (arith, less, most) in
-      subst (λ (k : ℕ). (slice_index c.args.run.now (k * (c.args.len + 1) + c.args.len) ≡ 10) × IsNamedAt c.args.names.now c.args.run.now (k * (c.args.len + 1)) c.args.label) here
-      (c.if-run-at-ne10.false, c.is_named.ensures c.if-not-is_named.false))
-      (cases_lt j c.line.i);
-}
+pub line-init : goal.line-init
+line-init c = so_far_none c.args.names.now c.args.run.now c.args.count c.args.len c.args.label
+
+pub returns : goal.returns
+returns c = λ _.
+    let end : length c.args.run.now ≤ c.line.at = omega (arith, c.line-test.false) in
+    let all = so_far_all c.args.names.now c.args.run.now c.args.count c.args.len c.args.label c.line.at c.requires.bytes c.line.invariant end in
+    (λ i less. (all i less).0, λ i less. (all i less).1)
