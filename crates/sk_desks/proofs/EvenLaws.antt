@@ -1,11 +1,13 @@
 -- Lines of one length, each of a tenant.
-use Rattle.std.proofs.Common.{◌≡◌, ◌⊎◌, inl, inr, ⊎_elim, ℕ, ◌+◌, ◌-◌, ◌*◌, ◌<◌, ◌≤◌, ◌==◌, Bool, true, false, cond, is_some, List, [], ◌∷◌, ◌++◌, length, take, drop, slice_index, slice_range, slice_get, All, Option, Some, None, IfSome, refl, sym, ap, subst, ◌∙◌, arith}
+use Rattle.std.proofs.Common.{◌≡◌, ◌⊎◌, inl, inr, ⊎_elim, ℕ, ◌+◌, ◌-◌, ◌*◌, ◌<◌, ◌≤◌, ◌==◌, Bool, true, false, cond, is_some, List, [], ◌∷◌, ◌++◌, length, length-take, take, drop, slice_index, slice_range, slice_get, All, Option, Some, None, IfSome, refl, sym, ap, subst, ◌∙◌, arith}
 use Rattle.std.specs.Str.Lines.{strip_carriage_return}
 use Rattle.std.proofs.Math.Nat.{mul-le-mul_right}
 use Rattle.std.proofs.lemmas.Bool.{cases_lt}
-use Rattle.std.proofs.lemmas.List.{take-take, take_more}
+use Rattle.std.proofs.lemmas.List.{take_all, take-take, take_more}
 use Rattle.std.proofs.lemmas.Option.{slice_get_within, get_or_from_slice_get}
 use Rattle.sk_model.specs.Lines.{lines_of}
+use Rattle.sk_model.proofs.Lines.{a_line_alone}
+use Rattle.sk_lines.specs.Cutter.{HasNoLf}
 use Rattle.sk_lines.specs.Runs.{IsRun, AreEven}
 use Rattle.sk_lines.proofs.EvenRuns.{line_inside}
 use Rattle.sk_lines.proofs.Steps.{taken_line}
@@ -31,6 +33,22 @@ either false xs ys = inr refl
 
 stripped : (line : List ℕ) → (strip_carriage_return line ≡ take (length line - 1) line) ⊎ (strip_carriage_return line ≡ line)
 stripped line = either (slice_index line (length line - 1) == 13) (take (length line - 1) line) line
+
+-- a line that does not end with CR
+pub stays_whole : (line : List ℕ) → length line ≤ length (strip_carriage_return line) → strip_carriage_return line ≡ line
+stays_whole line long = ⊎_elim
+    (λ short.
+    let none : length line ≡ 0 = omega (arith, long, ap length short, length-take (length line - 1) line) in
+    short ∙ take_all (length line - 1) line (omega (arith, none)))
+    (λ whole. whole)
+    (stripped line)
+
+-- with LF after it it is a run
+pub line_of_run : (line : List ℕ) → HasNoLf line → strip_carriage_return line ≡ line → lines_of (line ++ 10 ∷ []) ≡ line ∷ []
+line_of_run line plain whole = a_line_alone line plain ∙ ap (λ (l : List ℕ). l ∷ []) whole
+
+pub run_of_line : (line : List ℕ) → HasNoLf line → strip_carriage_return line ≡ line → IsRun 1 (line ++ 10 ∷ [])
+run_of_line line plain whole = record { whole = inr (line, refl); count = ap length (line_of_run line plain whole) }
 
 module _ (names : List (List ℕ)) (text : List ℕ) (at len label : ℕ) (within : at + len ≤ length text) (some : 0 < label) (item : label + 3 ≤ len) (named : IsNamedAt names text at label) where
   abbrev line : List ℕ

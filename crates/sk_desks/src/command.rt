@@ -123,6 +123,7 @@ fn read_all<S: Source, R: Threads + Wait + Sync>(
     }
     let mut takers = takers_of(alloc, replace(desks, Vec::new(alloc)))?;
     let mut gatherer = Gatherer {
+        alloc,
         names,
         reader: LineReader::new(alloc, most)?,
     };

@@ -14,6 +14,7 @@ use sk_label::LabelFault;
 use sk_lanes::ENOUGH;
 use sk_read::LineReader;
 use sk_tenant::Names;
+use std::alloc::Global;
 
 // As many bytes of lines are enough for a stretch, so that a pool may have eight of them.
 const ENOUGH_BYTES: usize = 524_288;
@@ -21,6 +22,7 @@ const ENOUGH_BYTES: usize = 524_288;
 /// A reader of lines that are empty or of tenants with these names.
 #[derive(Drop)]
 pub(crate) struct Gatherer<'n> {
+    pub(crate) alloc: Global,
     pub(crate) names: &'n Names,
     pub(crate) reader: LineReader,
 }
@@ -66,7 +68,7 @@ fn gather_more<S: Source>(
     ensures cause { HasCauseIn LabelFault.ReadFault (S.faults source.old) (S.faults source.new) result }
     ensures stays { S.stands_on source.new ≡ S.stands_on source.old }
 {
-    let mut window = LabelledWindow::of(gatherer.names, stretch.spare()?);
+    let mut window = LabelledWindow::of(gatherer.alloc, gatherer.names, stretch.spare()?);
     let full = gather_window(&mut gatherer.reader, &mut window, source)?;
     stretch.push(window.into_window())?;
     Ok(full)

@@ -1,5 +1,5 @@
 // A window of lines, each of them empty or of a tenant.
-ghost use Rattle.std.specs.Prelude.{◌≡◌, ◌<◌, ◌≤◌, ◌+◌, ◌-◌, ◌++◌, ◌∷◌, ◌^◌, [], All, length, drop, slice_range, true, OnOk, IfErr};
+ghost use Rattle.std.specs.Prelude.{◌≡◌, ◌<◌, ◌≤◌, ◌+◌, ◌-◌, ◌++◌, ◌∷◌, ◌^◌, [], All, length, drop, slice_range, true, OnOk, OnErr, IfErr};
 ghost use Rattle.std.specs.List.{concat};
 ghost use Rattle.sk_model.specs.Limits.{line_limit};
 ghost use Rattle.sk_model.specs.Lines.{lines_of};
@@ -14,7 +14,7 @@ use crate::even::are_even_of_tenants;
 use crate::examined::{examine, tenant_like};
 use sk_fill::{Window, WindowLines};
 use sk_label::LabelFault;
-use sk_lines::{GROUP, Span};
+use sk_lines::{GROUP, Span, line_len};
 use sk_model::OutOfMemory;
 use sk_tenant::Names;
 use std::alloc::Global;
@@ -26,11 +26,16 @@ pub(crate) const MOST_LINES: u32 = 8_192;
 // As many bytes of lines as this make a window full, so that a stretch of long lines stays small.
 const FULL_BYTES: usize = 262_144;
 
+const CR_LF: &[u8] = b"\r\n";
+
 /// Lines of a source, each empty or of a tenant, that are fed together.
 #[derive(Drop)]
 pub(crate) struct LabelledWindow<'n> {
     names: &'n Names,
     window: Window,
+    // whether the last run had CR before its last LF
+    cr: bool,
+    alloc: Global,
 }
 
 impl<'n> Model for LabelledWindow<'n> {
@@ -47,13 +52,18 @@ impl<'n> Model for LabelledWindow<'n> {
 
 impl<'n> LabelledWindow<'n> {
     /// An empty window, for lines of the tenants with these names.
-    pub(crate) fn of(names: &'n Names, window: Window) -> LabelledWindow<'n>
+    pub(crate) fn of(alloc: Global, names: &'n Names, window: Window) -> LabelledWindow<'n>
         requires empty { window.lines ≡ [] }
         requires most { window.most ≡ window_lines }
         ensures names { result.names ≡ names.now }
         ensures lines { result.lines ≡ [] }
     {
-        LabelledWindow { names, window }
+        LabelledWindow {
+            names,
+            window,
+            cr: false,
+            alloc,
+        }
     }
 
     /// The window with its lines.
@@ -88,6 +98,7 @@ impl<'n> LabelledWindow<'n> {
     {
         let place = self.window.len();
         self.window.push_run(run, count)?;
+        self.cr = run.ends_with(CR_LF);
         if are_even_of_tenants(self.names, run, count) {
             return Ok(());
         }
@@ -114,9 +125,29 @@ impl<'n> LabelledWindow<'n> {
             to: line.len(),
         };
         examine_line(self.names, line, all, number)?;
-        self.window.push_line(line)?;
+        push_ended(self.alloc, &mut self.window, line, self.cr)?;
         Ok(())
     }
+}
+
+// Appends a line with LF, or with CR LF if it wants that, or ends with CR itself. The lines around it end so, and many
+// have one length then.
+fn push_ended(alloc: Global, window: &mut Window, line: &[u8], cr: bool) -> Result<(), OutOfMemory>
+    requires room { length window.old.lines < window.old.most }
+    requires small { length (concat window.old.lines) < full_bytes }
+    requires short { length line.now ≤ line_limit }
+    requires plain { HasNoLf line.now }
+    ensures lines { OnOk result (window.new.lines ≡ window.old.lines ++ line.now ∷ []) }
+    ensures refused { OnErr result (window.new.lines ≡ window.old.lines) }
+    ensures most { window.new.most ≡ window.old.most }
+{
+    if cr || line_len(line, 0, line.len()) < line.len() || !window.has_room_for(line.len() + 1) {
+        return window.push_line(line);
+    }
+    let mut run = Vec::with_capacity(alloc, line.len() + 1)?;
+    run.extend_from_slice(line)?;
+    run.push(b'\n')?;
+    window.push_run(run.as_slice(), 1)
 }
 
 // Examines the lines of a window from a place on, which are numbered from `first` on.

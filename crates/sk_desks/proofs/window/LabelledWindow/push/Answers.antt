@@ -19,6 +19,6 @@ pub invariant_of-self-2 : goal.invariant_of-self-2
 invariant_of-self-2 c =
     let names = c.self.inside.names.now in let line = c.args.line.now in
     let fine : IsOfTenant names line = subst (IsOfTenant names) (whole_line line) c.in_ok-examine_line.ensures.fine in (
-      subst (All (IsOfTenant names)) (sym c.in_ok-push_line.ensures.lines) (All-push (IsOfTenant names) c.self.inside.window.lines line c.self.invariant.0 fine),
-      c.push_line.ensures.most ∙ c.self.invariant.1,
+      subst (All (IsOfTenant names)) (sym c.in_ok-push_ended.ensures.lines) (All-push (IsOfTenant names) c.self.inside.window.lines line c.self.invariant.0 fine),
+      c.push_ended.ensures.most ∙ c.self.invariant.1,
     )
