@@ -12,8 +12,8 @@ use sk_io::Source;
 use sk_label::LabelFault;
 use sk_read::LineReader;
 
-// As many lines are taken at once at most: they stay in a processor's cache.
-const RUN: usize = 512;
+// As many lines are taken at once at most: they stay in the nearest cache of a processor while they are copied.
+const RUN: usize = 256;
 
 // Reads lines into an empty window, until it is full, or returns `false` at the end of the source.
 pub(crate) fn gather_window<S: Source>(

@@ -10,7 +10,7 @@ abbrev pub invariant-piece : goal.invariant-piece
 invariant-piece g l = record {
   gives : GivesNext l.window.lines l.initial.reader l.reader (g.S.Source.left l.initial.source) (g.S.Source.left l.source);
   fine : GoOnFine l.initial.window.names l.window.lines;
-  room : length l.window.lines + 512 ≤ window_lines;
+  room : length l.window.lines + 256 ≤ window_lines;
   small : length (concat l.window.lines) < full_bytes;
   names : l.window.names ≡ l.initial.window.names;
   bound : l.reader.most ≡ l.initial.reader.most;
