@@ -1,19 +1,23 @@
 -- Lines of one length, each of a tenant.
-use Rattle.std.proofs.Common.{◌≡◌, ◌⊎◌, inl, inr, ⊎_elim, ℕ, ◌+◌, ◌-◌, ◌*◌, ◌<◌, ◌≤◌, ◌==◌, Bool, true, false, cond, is_some, List, [], ◌∷◌, ◌++◌, length, length-take, take, drop, slice_index, slice_range, slice_get, All, Option, Some, None, IfSome, refl, sym, ap, subst, ◌∙◌, arith}
+use Rattle.std.proofs.Common.{◌≡◌, ◌≢◌, ◌⊎◌, inl, inr, ⊎_elim, ℕ, zero, suc, ◌+◌, ◌-◌, ◌*◌, ◌<◌, ◌≤◌, ◌==◌, Bool, true, false, cond, is_some, List, [], ◌∷◌, ◌++◌, length, length-append, length-take, length-drop, take-add, take, drop, get_or, slice_index, slice_range, slice_get, All, Option, Some, None, IfSome, refl, sym, ap, subst, ◌∙◌, arith}
 use Rattle.std.specs.Str.Lines.{strip_carriage_return}
 use Rattle.std.proofs.Math.Nat.{mul-le-mul_right}
 use Rattle.std.proofs.lemmas.Bool.{cases_lt}
-use Rattle.std.proofs.lemmas.List.{take_all, take-take, take_more}
+use Rattle.std.proofs.lemmas.List.{take_all, take-take, take_more, get_or-take, get_or-drop, get_or_default, get_or_at, get_or_append_left, get_or-append-add}
+use Rattle.std.proofs.lemmas.List.Elements.{All-push}
 use Rattle.std.proofs.lemmas.Option.{slice_get_within, get_or_from_slice_get}
 use Rattle.sk_model.specs.Lines.{lines_of}
-use Rattle.sk_model.proofs.Lines.{a_line_alone}
+use Rattle.sk_model.proofs.Lines.{a_line_alone, after_whole_lines, lines_of_nothing}
 use Rattle.sk_lines.specs.Cutter.{HasNoLf}
-use Rattle.sk_lines.specs.Runs.{IsRun, AreEven}
+use Rattle.sk_lines.specs.Runs.{IsRun, AreEven, EndEach}
 use Rattle.sk_lines.proofs.EvenRuns.{line_inside}
 use Rattle.sk_lines.proofs.Steps.{taken_line}
+use Rattle.sk_lines.proofs.WholeLines.{no_lines, run_more}
 use Rattle.sk_tenant.specs.Names.{HasNoSpace}
 use Rattle.sk_desks.specs.Entries.{IsNamedAt}
-use Rattle.sk_desks.specs.Gathers.{IsOfTenant}
+use Rattle.sk_fill.specs.Pages.{IsEven}
+use Rattle.sk_desks.specs.declared.even.FirstLines.{FirstLines}
+use Rattle.sk_desks.specs.Gathers.{AreFirst, HaveOneLength, IsOfTenant}
 use Rattle.sk_desks.proofs.ClerkLaws.{range_size}
 use Rattle.sk_desks.proofs.LikeLaws.{of_tenant}
 
@@ -118,3 +122,99 @@ module _ (names : List (List ℕ)) (run : List ℕ) (count len label : ℕ) wher
         (λ (below : i < so_far.turn). below)
         (λ (most : so_far.turn ≤ i). absurd (let inside : i * (len + 1) + (len + 1) ≤ count * (len + 1) = line_inside count i (len + 1) less in let before : so_far.turn * (len + 1) ≤ i * (len + 1) = mul-le-mul_right (len + 1) most in omega (arith, all, bytes, so_far.place, inside, before)))
         (cases_lt i so_far.turn))
+
+-- ---- lines at the start of a text, known by their shape
+
+pub first_none : (names : List (List ℕ)) (text : List ℕ) → AreFirst names text 0 0
+first_none names text = record { within = omega arith; run = no_lines; fine = subst (All (IsOfTenant names)) (sym lines_of_nothing) (λ i d within. absurd (omega (arith, within))) }
+
+module _ (names : List (List ℕ)) (text : List ℕ) (count bytes len label : ℕ) (first : AreFirst names text count bytes) (within : bytes + len < length text) (some : 0 < label) (item : label + 3 ≤ len)
+    (end : slice_index text (bytes + len) ≡ 10) (plain : (i : ℕ) → bytes ≤ i → i < bytes + len → slice_index text i ≢ 10) (named : IsNamedAt names text bytes label)
+  where
+    abbrev front : List ℕ
+    front = take bytes text
+
+    abbrev next : List ℕ
+    next = slice_range text bytes (bytes + len)
+
+    next_size : length next ≡ len
+    next_size = omega (arith, range_size text bytes (bytes + len) (omega arith) (omega (arith, within)))
+
+    next_is : next ≡ take len (drop bytes text)
+    next_is = let size : (bytes + len) - bytes ≡ len = omega arith in ap (λ (n : ℕ). take n (drop bytes text)) size
+
+    no_lf : HasNoLf next
+    no_lf i d inside is =
+        let less : i < len = omega (arith, inside, next_size) in
+        let there : get_or next i d ≡ slice_index text (bytes + i) =
+        ap (λ (l : List ℕ). get_or l i d) next_is ∙ get_or-take len (drop bytes text) i d less ∙ get_or-drop bytes text i d ∙ get_or_default text (bytes + i) d 0 (omega (arith, less, within)) in
+        plain (bytes + i) (omega arith) (omega (arith, less)) (sym there ∙ is)
+
+    abbrev ended : List ℕ
+    ended = next ++ 10 ∷ []
+
+    grown : take (bytes + (len + 1)) text ≡ front ++ ended
+    grown =
+        let inside : len < length (drop bytes text) = omega (arith, length-drop bytes text, within) in
+        let lf : get_or (drop bytes text) len 0 ≡ 10 = get_or-drop bytes text len 0 ∙ end in
+        take-add bytes (len + 1) text ∙ ap (λ (l : List ℕ). front ++ l) (take_more (drop bytes text) len 0 inside ∙ ap (λ (b : ℕ). take len (drop bytes text) ++ b ∷ []) lf ∙ ap (λ (l : List ℕ). l ++ 10 ∷ []) (sym next_is))
+
+    one : IsRun 1 ended
+    one = record { whole = inr (next, refl); count = ap length (a_line_alone next no_lf) }
+
+    pub first_more : AreFirst names text (count + 1) (bytes + (len + 1))
+    first_more = record {
+      within = omega (arith, within);
+      run = subst (IsRun (count + 1)) (sym grown) (run_more count 1 front ended first.run one);
+      fine = subst (λ (l : List ℕ). All (IsOfTenant names) (lines_of l)) (sym grown)
+          (subst (All (IsOfTenant names)) (sym (after_whole_lines front ended first.run.whole ∙ ap (λ (ls : List (List ℕ)). lines_of front ++ ls) (a_line_alone next no_lf)))
+          (All-push (IsOfTenant names) (lines_of front) (strip_carriage_return next) first.fine
+          (line_of_tenant names text bytes len label (omega (arith, within)) some item named)));
+    }
+
+-- ---- lines of one length at the start of a text
+
+even_ends : (text : List ℕ) (count bytes len : ℕ) → bytes ≡ count * (len + 1) → EndEach count len text → slice_index text (bytes + len) ≡ 10 → EndEach (count + 1) len text
+even_ends text count bytes len size ends end i less = ⊎_elim
+    (λ (before : i < count). ends i before)
+    (λ (here : count ≤ i).
+    let last : i ≡ count = omega (arith, less, here) in
+    let place : i * (len + 1) + len ≡ bytes + len = ap (λ (n : ℕ). n * (len + 1) + len) last ∙ ap (λ (n : ℕ). n + len) (sym size) in
+    ap (slice_index text) place ∙ end)
+    (cases_lt i count)
+
+pub even_none : (text : List ℕ) (len : ℕ) → HaveOneLength text (record { count = 0; bytes = 0; len = len })
+even_none text len = record { size = omega arith; ends = λ i less. absurd (omega (arith, less)) }
+
+pub even_more : (text : List ℕ) (first : FirstLines) (len : ℕ) → HaveOneLength text first → first.len ≡ len → slice_index text (first.bytes + len) ≡ 10 → HaveOneLength text (record { count = first.count + 1; bytes = first.bytes + (len + 1); len = first.len })
+even_more text first len even same end = record {
+  size = omega (arith, ap (λ (n : ℕ). first.bytes + (n + 1)) same, even.size);
+  ends = even_ends text first.count first.bytes first.len even.size even.ends (ap (λ (n : ℕ). slice_index text (first.bytes + n)) same ∙ end);
+}
+
+-- a line of a text, and as long ones after it
+module _ (front run : List ℕ) (count len : ℕ) (one : IsRun 1 front) (long : length front ≡ len + 1) (size : length run ≡ count * (len + 1)) (ends : EndEach count len run) where
+  front_end : slice_index front len ≡ 10
+  front_end = ⊎_elim
+      (λ none. absurd (omega (arith, long, ap length none)))
+      (λ ended.
+      let at : length ended.0 ≡ len = omega (arith, long, ap length ended.1, length-append ended.0 (10 ∷ [])) in
+      ap (λ (l : List ℕ). slice_index l len) ended.1 ∙ get_or_at ended.0 10 [] 0 len at)
+      one.whole
+
+  both_ends : EndEach (1 + count) len (front ++ run)
+  both_ends zero less =
+      let place : zero * (len + 1) + len ≡ len = omega arith in
+      ap (slice_index (front ++ run)) place ∙ get_or_append_left front run 0 len (omega (arith, long)) ∙ front_end
+  both_ends (suc j) less =
+      let at : ℕ = j * (len + 1) + len in
+      let place : suc j * (len + 1) + len ≡ (len + 1) + at = omega arith in
+      ap (slice_index (front ++ run)) (place ∙ ap (λ (n : ℕ). n + at) (sym long)) ∙ get_or-append-add front run at 0 ∙ ends j (omega (arith, less))
+
+  pub even_page : IsEven (len + 1) (1 + count) (front ++ run)
+  even_page =
+      let same : len + 1 - 1 ≡ len = omega arith in
+      record {
+        bytes = λ _. omega (arith, length-append front run, long, size);
+        ends = λ _. subst (λ (n : ℕ). EndEach (1 + count) n (front ++ run)) (sym same) both_ends;
+      }

@@ -243,6 +243,10 @@ held_all names lines lines' r r' x gives fine bound fewer = record { gives = giv
 pub held_none : (names lines : List (List ℕ)) (r : Reading) (x : Bool) → TakesHeld names lines lines r r (Ok x)
 held_none names lines r x = held_all names lines lines r r x (λ left given taken has. has) (λ fine. fine) refl (omega arith)
 
+-- nothing stood in the way of more
+pub held_again : (names a b : List (List ℕ)) (r s : Reading) → TakesHeld names a b r s (Ok false) → TakesHeld names a b r s (Ok true)
+held_again names a b r s takes = held_all names a b r s true takes.gives takes.fine takes.bound takes.fewer
+
 pub stops_quiet : (names lines : List (List ℕ)) (n : ℕ) (f : LabelFault) → StopsWithin names lines n f → f ≡ label.WriteFault → ⊥
 stops_quiet names lines n f (inl memory) is = let no : label.OutOfMemory ≡ label.WriteFault = sym memory ∙ is in cc
 stops_quiet names lines n f (inr r) is = absurd (subst (RefusesAs names r.line (n + length r.before)) is r.refused)

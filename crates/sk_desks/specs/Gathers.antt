@@ -1,7 +1,11 @@
 -- What it means that lines of a source were examined and gathered in a window.
-use Rattle.std.specs.Prelude.{◌≡◌, ◌≢◌, ◌⊎◌, ℕ, ◌+◌, ◌<◌, ◌≤◌, Bool, true, false, List, [], ◌∷◌, ◌++◌, length, All, Option, None, Result, Ok, Err, OnOk, IfErr}
+use Rattle.std.specs.Prelude.{◌≡◌, ◌≢◌, ◌⊎◌, ℕ, ◌+◌, ◌*◌, ◌<◌, ◌≤◌, Bool, true, false, List, [], ◌∷◌, ◌++◌, length, take, All, Option, None, Result, Ok, Err, OnOk, IfErr}
 use Rattle.std.specs.Io.KnownBytes.{Consumes}
+use Rattle.sk_fill.specs.Windows.{full_bytes}
+use Rattle.sk_model.specs.Limits.{line_limit}
+use Rattle.sk_model.specs.Lines.{lines_of}
 use Rattle.sk_model.specs.Missing.{Begins}
+use Rattle.sk_lines.specs.Runs.{IsRun, EndEach}
 use Rattle.sk_read.specs.Reading.{Reading, HasRead, remaining_of}
 use Rattle.sk_label.specs.Labels.{is_labelled}
 use Rattle.sk_label.specs.Rules.{AreFine}
@@ -10,10 +14,37 @@ use Rattle.sk_label.specs.declared.fault.LabelFault.{LabelFault}
 use Rattle.sk_label.specs.declared.fault.LabelFault.TheVariants.{OutOfMemory, ReadFault, WriteFault, BadLine, Refused}
 use Rattle.sk_desks.specs.declared.plan.Plan.{Plan}
 use Rattle.sk_desks.specs.Desks.{is_known, desk_rules}
+use Rattle.sk_desks.specs.Entries.{LabelledState, window_lines}
+use Rattle.sk_desks.specs.declared.even.FirstLines.{FirstLines}
 
 -- a line is empty, or has the form and the name of a tenant
 abbrev pub IsOfTenant : List (List ℕ) → List ℕ → Type 0
 IsOfTenant names line = 0 < length line → (is_labelled line ≡ true) × (is_known names line ≡ true)
+
+-- the first lines of a text, this many in this many bytes, are of tenants
+pub record AreFirst (names : List (List ℕ)) (text : List ℕ) (count bytes : ℕ) : Type 0 where
+  pub within : bytes ≤ length text
+  pub run : IsRun count (take bytes text)
+  pub fine : All (IsOfTenant names) (lines_of (take bytes text))
+
+-- each of the first lines of a text has as many bytes before its LF
+pub record HaveOneLength (text : List ℕ) (first : FirstLines) : Type 0 where
+  pub size : first.bytes ≡ first.count * (first.len + 1)
+  pub ends : EndEach first.count first.len text
+
+-- the line of a window is all that a reader gave since the last read, and those after it are as long and of tenants: all of
+-- them can be the window's, and the few bytes after them can be copied
+pub record HasPiece (w : LabelledState) (r : Reading) (more : FirstLines) : Type 0 where
+  pub lines : lines_of r.cutter.front ≡ w.lines
+  pub fine : All (IsOfTenant w.names) w.lines
+  pub run : IsRun (length w.lines) r.cutter.front
+  pub first : AreFirst w.names r.cutter.rest more.count more.bytes
+  pub even : HaveOneLength r.cutter.rest more
+  pub one : length w.lines ≡ 1
+  pub long : length r.cutter.front ≡ more.len + 1
+  pub most : 1 + more.count ≤ window_lines
+  pub small : length r.cutter.front + more.bytes < full_bytes
+  pub few : length r.cutter.rest ≤ more.bytes + line_limit + 1
 
 -- the line of this number is not so, and it is said why
 abbrev pub RefusesAs : List (List ℕ) → List ℕ → ℕ → LabelFault → Type 0

@@ -1,11 +1,129 @@
 // Lines of one length, each of a tenant, known by a look at the start and the end of each.
-ghost use Rattle.std.specs.Prelude.{◌≡◌, ℕ, ◌+◌, ◌*◌, ◌<◌, ◌≤◌, All, length, true};
+ghost use Rattle.std.specs.Prelude.{◌≡◌, ◌≢◌, ℕ, ◌+◌, ◌*◌, ◌<◌, ◌≤◌, All, length, slice_index, IfSome, true};
 ghost use Rattle.sk_model.specs.Lines.{lines_of};
 ghost use Rattle.sk_lines.specs.Runs.{IsRun, EndEach};
 ghost use Rattle.sk_desks.specs.Entries.{IsNamedAt};
-ghost use Rattle.sk_desks.specs.Gathers.{IsOfTenant};
+ghost use Rattle.sk_desks.specs.Gathers.{AreFirst, HaveOneLength, IsOfTenant};
 
 use sk_tenant::Names;
+use std::simd::prelude::*;
+
+const LF: u8 = b'\n';
+
+// How many bytes of a line are looked at together.
+const WIDE: usize = 16;
+
+/// The first lines of a text: how many, how many bytes they have with what ended them, and how many each has before its LF.
+#[derive(Clone, Copy)]
+pub(crate) struct FirstLines {
+    pub(crate) count: usize,
+    pub(crate) bytes: usize,
+    pub(crate) len: usize,
+}
+
+// How many bytes a line has before its LF, 16 at least, and how many of them are its label.
+#[derive(Clone, Copy)]
+struct Shape {
+    len: usize,
+    label: usize,
+}
+
+/// The first lines of a text, at most `most`, while they have one length, labels of one length, and are of tenants. That
+/// they end where the first one does is seen where it is: no end is sought. Lines of fewer than 16 bytes are not counted.
+pub(crate) fn first_of_tenants(names: &Names, text: &[u8], most: usize) -> FirstLines
+    ensures few { result.count ≤ most }
+    ensures first { AreFirst names.now text.now result.count result.bytes }
+    ensures even { HaveOneLength text.now result }
+{
+    let mut first = FirstLines {
+        count: 0,
+        bytes: 0,
+        len: 0,
+    };
+    let Some(shape) = first_shape(text) else {
+        return first;
+    };
+    first.len = shape.len;
+    'line: while first.count < most
+        && first.bytes + shape.len < text.len()
+        && is_of_tenant(names, text, first.bytes, shape)
+    {
+        first.bytes += shape.len + 1;
+        first.count += 1;
+    }
+    first
+}
+
+// The shape of the first line, if it has an item of two bytes at least.
+fn first_shape(text: &[u8]) -> Option<Shape>
+    ensures label { IfSome result (λ shape. 0 < shape.label) }
+    ensures item { IfSome result (λ shape. shape.label + 3 ≤ shape.len) }
+    ensures long { IfSome result (λ shape. 16 ≤ shape.len) }
+    ensures within { IfSome result (λ shape. shape.len < length text.now) }
+{
+    let len = text.iter().position(|byte| *byte == LF)?;
+    let label = text[..len].iter().position(|byte| *byte == b' ')?;
+    if label == 0 || len < label + 3 || len < WIDE {
+        return None;
+    }
+    Some(Shape { len, label })
+}
+
+// Whether a line of this shape stands at a place, and is of a tenant.
+#[inline(always)]
+fn is_of_tenant(names: &Names, text: &[u8], at: usize, shape: Shape) -> bool
+    requires item { shape.label + 3 ≤ shape.len }
+    requires long { 16 ≤ shape.len }
+    requires within { at + shape.len < length text.now }
+    ensures end { result ≡ true → slice_index text.now (at + shape.len) ≡ 10 }
+    ensures plain { result ≡ true → (i : ℕ) → at ≤ i → i < at + shape.len → slice_index text.now i ≢ 10 }
+    ensures named { result ≡ true → IsNamedAt names.now text.now at shape.label }
+{
+    let end = at + shape.len;
+    text[end] == LF && has_no_lf(text, at, end) && is_named(names, text, at, shape.label)
+}
+
+// Whether no byte from one place up to another is LF: by blocks, of which the last may lie over the one before.
+#[inline(always)]
+fn has_no_lf(text: &[u8], from: usize, to: usize) -> bool
+    requires long { from + 16 ≤ to }
+    requires within { to ≤ length text.now }
+    ensures { result ≡ true → (i : ℕ) → from ≤ i → i < to → slice_index text.now i ≢ 10 }
+{
+    let last = to - WIDE;
+    if !is_block_without_lf(text, from) || !is_block_without_lf(text, last) {
+        return false;
+    }
+    to - from <= 2 * WIDE || are_blocks_without_lf(text, from + WIDE, last)
+}
+
+// The same of a long line's blocks after the first and before the last.
+fn are_blocks_without_lf(text: &[u8], from: usize, to: usize) -> bool
+    requires room { 16 ≤ from }
+    requires within { to ≤ length text.now }
+    ensures { result ≡ true → (i : ℕ) → from ≤ i → i < to → slice_index text.now i ≢ 10 }
+{
+    let mut at = from;
+    'block: while at < to {
+        if !is_block_without_lf(text, at.min(to - WIDE)) {
+            return false;
+        }
+        at += WIDE;
+    }
+    true
+}
+
+// Whether none of 16 bytes is LF.
+#[inline(always)]
+fn is_block_without_lf(text: &[u8], at: usize) -> bool
+    requires { at + 16 ≤ length text.now }
+    ensures { result ≡ true → (i : ℕ) → at ≤ i → i < at + 16 → slice_index text.now i ≢ 10 }
+{
+    u8x16::from_slice(&text[at..])
+        .simd_eq(u8x16::splat(LF))
+        .to_bitmask()
+        == 0
+}
 
 /// Whether the lines of a run have one length, labels of one length, and are all of tenants. If not, each line has to be
 /// examined.
@@ -36,7 +154,7 @@ fn are_each_of_tenants(names: &Names, run: &[u8], count: usize, len: usize, labe
     let each = len + 1;
     let mut at = 0;
     'line: while at < run.len() {
-        if run[at + len] != b'\n' || !is_named(names, run, at, label) {
+        if run[at + len] != LF || !is_named(names, run, at, label) {
             return false;
         }
         at += each;

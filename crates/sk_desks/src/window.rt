@@ -7,15 +7,17 @@ ghost use Rattle.sk_lines.specs.Cutter.{HasNoLf};
 ghost use Rattle.sk_lines.specs.Runs.{IsRun};
 ghost use Rattle.sk_lines.specs.Spans.{AreBehind, lines_at};
 ghost use Rattle.sk_fill.specs.Windows.{full_bytes};
+ghost use Rattle.sk_fill.specs.Fills.{GivesAway, HasPage};
 ghost use Rattle.sk_desks.specs.Entries.{HasRoomFor, window_lines};
-ghost use Rattle.sk_desks.specs.Gathers.{IsOfTenant, RefusesAs, StopsWithin};
+ghost use Rattle.sk_desks.specs.Gathers.{AreFirst, HaveOneLength, IsOfTenant, RefusesAs, StopsWithin};
 
-use crate::even::are_even_of_tenants;
+use crate::even::{FirstLines, are_even_of_tenants, first_of_tenants};
 use crate::examined::{examine, tenant_like};
 use sk_fill::{Window, WindowLines};
 use sk_label::LabelFault;
 use sk_lines::{GROUP, Span, line_len};
 use sk_model::OutOfMemory;
+use sk_read::LineReader;
 use sk_tenant::Names;
 use std::alloc::Global;
 use std::marker::Model;
@@ -24,7 +26,7 @@ use std::marker::Model;
 pub(crate) const MOST_LINES: u32 = 8_192;
 
 // As many bytes of lines as this make a window full, so that a stretch of long lines stays small.
-const FULL_BYTES: usize = 262_144;
+pub(crate) const FULL_BYTES: usize = 262_144;
 
 const CR_LF: &[u8] = b"\r\n";
 
@@ -82,6 +84,70 @@ impl<'n> LabelledWindow<'n> {
         self.window.len() as usize + lines <= MOST_LINES as usize
             && self.window.size() < FULL_BYTES
             && self.window.has_room_for(bytes)
+    }
+
+    /// The first lines of a text, at most `most`, while they have one length and are of its tenants.
+    pub(crate) fn first_of(&self, text: &[u8], most: usize) -> FirstLines
+        ensures few { result.count ≤ most }
+        ensures first { AreFirst self.now.names text.now result.count result.bytes }
+        ensures even { HaveOneLength text.now result }
+    {
+        first_of_tenants(self.names, text, most)
+    }
+
+    /// Puts the lines of a run to the end, which were examined. After an error it is not used again.
+    pub(crate) fn put(&mut self, run: &[u8], count: usize) -> Result<(), LabelFault>
+        requires room { HasRoomFor count (length run.now) self.old }
+        requires run { IsRun count run.now }
+        requires fine { All (IsOfTenant self.old.names) (lines_of run.now) }
+        ensures lines { OnOk result (self.new.lines ≡ self.old.lines ++ lines_of run.now) }
+        ensures stopped { IfErr result (λ why. why ≡ LabelFault.OutOfMemory) }
+        ensures names { self.new.names ≡ self.old.names }
+    {
+        self.window.push_run(run, count)?;
+        self.cr = run.ends_with(CR_LF);
+        Ok(())
+    }
+
+    /// Whether its lines lie together, and their bytes with what ended them are these.
+    pub(crate) fn is_text(&self, text: &[u8]) -> bool
+        ensures run { result ≡ true → IsRun (length self.now.lines) text.now }
+        ensures lines { result ≡ true → lines_of text.now ≡ self.now.lines }
+        ensures fine { All (IsOfTenant self.now.names) self.now.lines }
+    {
+        match self.window.run(0, self.window.len()) {
+            Some(run) => run == text,
+            None => false,
+        }
+    }
+
+    /// How many lines it has.
+    pub(crate) fn len(&self) -> usize
+        ensures { result ≡ length self.now.lines }
+    {
+        self.window.len() as usize
+    }
+
+    /// Has the `count` lines that a reader gave since the last read, which were examined, in the place of its own, with the
+    /// memory in which they lie: `each` bytes a line with what ended it. After an error it is not used again.
+    pub(crate) fn take_front(
+        &mut self,
+        reader: &mut LineReader,
+        count: usize,
+        each: usize,
+    ) -> Result<(), LabelFault>
+        requires page { HasPage window_lines count each reader.old }
+        requires fine { All (IsOfTenant self.old.names) (lines_of reader.old.cutter.front) }
+        ensures lines { OnOk result (self.new.lines ≡ lines_of reader.old.cutter.front) }
+        ensures gives { OnOk result (GivesAway reader.old reader.new) }
+        ensures stopped { IfErr result (λ why. why ≡ LabelFault.OutOfMemory) }
+        ensures kept { OnErr result (reader.new ≡ reader.old) }
+        ensures names { self.new.names ≡ self.old.names }
+    {
+        self.window.clear();
+        self.window.take_front(reader, count, each)?;
+        self.cr = false;
+        Ok(())
     }
 
     /// Puts the lines of a run to the end and examines them. They are numbered from `first` on. After an error it is not

@@ -4,6 +4,7 @@ pub mod Blocks
 pub mod Items
 pub mod Joined
 pub mod Cutting
+pub mod EvenPages
 pub mod Filled
 pub mod ManyLines
 pub mod HeldLines

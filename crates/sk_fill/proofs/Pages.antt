@@ -1,8 +1,8 @@
 -- The lines of a window: those of its page, and those after them that lie in its text.
-use Rattle.std.proofs.Common.{◌≡◌, ◌≢◌, ℕ, suc, ◌+◌, ◌-◌, ◌<◌, ◌≤◌, ◌==◌, nat_le, false, List, [], ◌∷◌, ◌++◌, length, take, drop, slice_range, refl, sym, ap, ◌∙◌, subst, arith, length-append, length-take, length-drop, append-nil, append_assoc, take-append-drop, take_at}
+use Rattle.std.proofs.Common.{◌≡◌, ◌≢◌, ℕ, suc, ◌+◌, ◌-◌, ◌<◌, ◌≤◌, ◌==◌, nat_le, false, Result, Ok, Err, OnOk, OnErr, List, [], ◌∷◌, ◌++◌, length, take, drop, slice_range, refl, sym, ap, ◌∙◌, subst, arith, length-append, length-take, length-drop, append-nil, append_assoc, take-append-drop, take_at}
 use Rattle.std.specs.List.{concat}
 use Rattle.std.proofs.lemmas.Bool.{eqb-false, or_parts}
-use Rattle.std.proofs.lemmas.List.{drop-append-le, take-append-le, drop_at, take_all, map-append, map_push, length-map, drop-map}
+use Rattle.std.proofs.lemmas.List.{nil_from_length, drop-append-le, take-append-le, drop_at, take_all, map-append, map_push, length-map, drop-map}
 use Rattle.std.proofs.Math.Seq.{drop-length, drop-append-add}
 use Rattle.std.proofs.lemmas.List.Elements.{All-push}
 use Rattle.std.proofs.lemmas.List.Folds.{concat-append}
@@ -127,3 +127,36 @@ module _ (page : PageState) (page_bytes most : ℕ) (spans spans' : List Span) (
         small = window.small;
         bytes = λ some. bytes;
       }
+
+-- ---- a window without lines, that has a page in the place of its own
+
+module _ (page new : PageState) (page_bytes : ℕ) (spans : List Span) (most : ℕ) (text : List ℕ) (window : IsWindow page page_bytes spans most text) (none : page.lines ++ lines_at spans text ≡ []) where
+  no_spans : length spans ≡ 0
+  no_spans = omega (arith, ap length none, length-append page.lines (lines_at spans text), count_at spans text)
+
+  turned : length new.lines ≤ most → new.size < full_bytes → IsWindow new page_bytes spans most text
+  turned few small = record {
+    within = window.within;
+    joined = window.joined;
+    least = window.least;
+    highest = window.highest;
+    count = omega (arith, few, no_spans);
+    small = small;
+    bytes = λ some. absurd (omega (arith, some, no_spans));
+  }
+
+  -- its own stays where memory was short
+  pub window_turned : {A E : Type 0} (result : Result A E) (lines : List (List ℕ)) (size : ℕ) → length lines ≤ most → size < full_bytes → OnOk result (new.lines ≡ lines) → OnOk result (new.size ≡ size) → OnErr result (new ≡ page) → IsWindow new page_bytes spans most text
+  window_turned (Ok x) lines size few small is sized same = turned (omega (arith, few, ap length is)) (omega (arith, small, sized))
+  window_turned (Err e) lines size few small is sized same = subst (λ (p : PageState). IsWindow p page_bytes spans most text) (sym same) window
+
+  lines_alone : new.lines ++ lines_at spans text ≡ new.lines
+  lines_alone = ap (λ (ls : List (List ℕ)). new.lines ++ ls) (nil_from_length (lines_at spans text) (count_at spans text ∙ no_spans)) ∙ append-nil new.lines
+
+  pub lines_turned : {A E : Type 0} (result : Result A E) (lines : List (List ℕ)) → OnOk result (new.lines ≡ lines) → OnOk result (new.lines ++ lines_at spans text ≡ lines)
+  lines_turned (Ok x) lines is = lines_alone ∙ is
+  lines_turned (Err e) lines is = tt
+
+  pub none_kept : {A E : Type 0} (result : Result A E) → OnErr result (new ≡ page) → OnErr result (new.lines ++ lines_at spans text ≡ [])
+  none_kept (Ok x) same = tt
+  none_kept (Err e) same = ap (λ (p : PageState). p.lines ++ lines_at spans text) same ∙ none

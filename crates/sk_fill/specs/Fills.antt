@@ -5,9 +5,11 @@ use Rattle.sk_read.specs.Reading.{Reading, HasRead, HoldsNone}
 use Rattle.sk_read.specs.Reads.{IsInTime, Ends}
 use Rattle.sk_read.specs.declared.units.Units.TheVariants.{Lines}
 use Rattle.sk_read.specs.Items.{item_of, IsGood}
-use Rattle.sk_model.specs.Limits.{most_kept}
+use Rattle.sk_lines.specs.Runs.{IsRun}
+use Rattle.sk_model.specs.Limits.{line_limit, most_kept}
 use Rattle.sk_model.specs.Missing.{Begins}
-use Rattle.sk_fill.specs.Windows.{IsBad, fills, FillsNone, IsFullWindow}
+use Rattle.sk_fill.specs.Pages.{IsEven}
+use Rattle.sk_fill.specs.Windows.{IsBad, full_bytes, fills, FillsNone, IsFullWindow}
 use Rattle.sk_read.specs.declared.kind.Kind.{Kind}
 use Rattle.sk_read.specs.declared.fault.Fault.{Fault}
 use Rattle.sk_read.specs.declared.fault.Fault.TheVariants.{OutOfMemory, BadItem}
@@ -24,6 +26,20 @@ pub record ReadsLine (r : Reading) (old new : Option (List ℕ)) (given : List (
   pub consumed : Consumes old new more
   pub read : HasRead r new (given ++ line ∷ []) (taken ++ more)
   pub in_time : IsInTime Lines given (taken ++ more)
+
+-- a reader gave its memory away, with the lines that it had given since the last read
+pub record GivesAway (old new : Reading) : Type 0 where
+  pub stays : new ≡ record old { cutter = record old.cutter { front = []; line = [] } }
+  pub goes : (left : Option (List ℕ)) (given : List (List ℕ)) (taken : List ℕ) → HasRead old left given taken → HasRead new left given taken
+
+-- the lines that a reader gave since the last read can be those of a window: they are this many, each of as many bytes
+-- with what ended it, and the bytes that no line given has are few enough to be copied
+pub record HasPage (most count each : ℕ) (r : Reading) : Type 0 where
+  pub room : count ≤ most
+  pub run : IsRun count r.cutter.front
+  pub even : IsEven each count r.cutter.front
+  pub small : length r.cutter.front < full_bytes
+  pub few : length r.cutter.rest ≤ line_limit + 1
 
 -- of lines that went on, the last came now
 abbrev pub EndsWithLine : List (List ℕ) → List (List ℕ) → Type 0

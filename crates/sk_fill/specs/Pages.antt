@@ -1,9 +1,9 @@
 -- What contracts see of a page of lines.
-use Rattle.std.specs.Prelude.{◌≡◌, ◌≢◌, ℕ, ◌+◌, ◌-◌, ◌≤◌, List, All, length, take, drop, slice_index}
+use Rattle.std.specs.Prelude.{◌≡◌, ◌≢◌, ℕ, ◌+◌, ◌-◌, ◌*◌, ◌≤◌, List, All, length, take, drop, slice_index}
 use Rattle.sk_fill.specs.declared.page.Place.{Place}
 use Rattle.sk_lines.specs.Cutter.{IsOfWholeLines}
 use Rattle.sk_lines.specs.Marks.{KnowsLfs}
-use Rattle.sk_lines.specs.Runs.{IsRun}
+use Rattle.sk_lines.specs.Runs.{IsRun, EndEach}
 
 pub record PageState : Type 0 where
   pub lines : List (List ℕ)
@@ -35,6 +35,11 @@ pub record IsPadded (bytes : List ℕ) : Type 0 where
 pub record Begins (text : List ℕ) (line at : ℕ) : Type 0 where
   pub within : at ≤ length text
   pub before : IsRun line (take at text)
+
+-- unless the number is 0, each of a text's lines has as many bytes, with what ended it
+pub record IsEven (each count : ℕ) (text : List ℕ) : Type 0 where
+  pub bytes : each ≢ 0 → length text ≡ count * each
+  pub ends : each ≢ 0 → EndEach count (each - 1) text
 
 -- what a page keeps
 pub record IsPage (bytes : List ℕ) (places : List Place) (count : ℕ) : Type 0 where

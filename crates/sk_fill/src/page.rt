@@ -1,14 +1,18 @@
 // Lines that are kept in the bytes that they came in.
-ghost use Rattle.std.specs.Prelude.{◌≡◌, ◌+◌, ◌-◌, ◌<◌, ◌≤◌, ◌++◌, ◌∷◌, [], List, ℕ, All, length, take, drop, replicate, slice_range, vec_len, vec_capacity, IfOk, OnOk, OnErr};
+ghost use Rattle.std.specs.Prelude.{◌≡◌, ◌+◌, ◌-◌, ◌^◌, ◌<◌, ◌≤◌, ◌++◌, ◌∷◌, [], List, ℕ, All, length, take, drop, replicate, slice_range, vec_len, vec_capacity, IfOk, OnOk, OnErr};
 ghost use Rattle.std.specs.List.{concat};
 ghost use Rattle.sk_model.specs.Lines.{lines_of};
 ghost use Rattle.sk_lines.specs.Cutter.{HasNoLf, IsOfWholeLines};
-ghost use Rattle.sk_fill.specs.Pages.{IsPadded, Begins, text_in};
+ghost use Rattle.sk_read.specs.Reading.{HasRead};
+ghost use Rattle.sk_fill.specs.Pages.{IsPadded, Begins, IsEven, text_in};
+ghost use Rattle.sk_fill.specs.Fills.{GivesAway};
+ghost use Rattle.sk_lines.specs.Padded.{with_more};
 ghost use Rattle.sk_lines.specs.Runs.{IsRun};
 ghost use Rattle.sk_lines.specs.Spans.{AreBehind, lines_at};
 
-use sk_lines::{BLOCK, GROUP, Span, cut_group, line_len, seek, skip_lfs, take_lf};
+use sk_lines::{BLOCK, GROUP, Padded, Span, cut_group, line_len, seek, skip_lfs, take_lf};
 use sk_model::OutOfMemory;
+use sk_read::{LINE_LIMIT, LineReader, TEXT_ROOM};
 use std::alloc::Global;
 use std::marker::Model;
 
@@ -36,26 +40,27 @@ impl Place {
 }
 
 // Lines that are kept in the bytes that they came in. Where each begins is found again from places that are
-// noted now and then.
+// noted now and then, or by the bytes that each has.
 #[derive(Drop)]
 pub(crate) struct Page {
-    // The text, and a block of zeros, so that each block of the text may be read.
-    buffer: Vec<u8>,
+    buffer: Padded,
     places: Vec<Place>,
     // How many lines it has.
     count: usize,
+    // How many bytes each of them has, with what ended it, or 0 if that is not known to be the same.
+    even: usize,
 }
 
 impl Model for Page {
     ghost use Rattle.std.specs.Prelude.{length};
     ghost use Rattle.sk_model.specs.Lines.{lines_of};
-    ghost use Rattle.sk_fill.specs.Pages.{PageState, IsPage, text_in};
+    ghost use Rattle.sk_fill.specs.Pages.{PageState, IsPage, IsEven, text_in};
 
     ghost Value = { PageState };
 
     ghost view = { λ page. record { lines = lines_of (text_in page.buffer.items); size = length (text_in page.buffer.items) } };
 
-    ghost invariant = { λ page. IsPage page.buffer.items page.places.items page.count };
+    ghost invariant = { λ page. IsPage page.buffer.items page.places.items page.count × IsEven page.even page.count (text_in page.buffer.items) };
 }
 
 impl Page {
@@ -64,12 +69,11 @@ impl Page {
         ensures lines { IfOk result (λ page. page.lines ≡ []) }
         ensures size { IfOk result (λ page. page.size ≡ 0) }
     {
-        let mut buffer = Vec::new(alloc);
-        buffer.extend_from_slice(&[0; BLOCK])?;
         Ok(Page {
-            buffer,
+            buffer: Padded::new(alloc, 0)?,
             places: Vec::new(alloc),
             count: 0,
+            even: 0,
         })
     }
 
@@ -86,9 +90,34 @@ impl Page {
         ensures refused { OnErr result (self.new ≡ self.old) }
     {
         self.note()?;
-        reserve(&mut self.buffer, run.len(), self.count, most)?;
-        append(&mut self.buffer, run, &[]);
+        append(&mut self.buffer, run, &[], self.count, most)?;
         self.count += count;
+        self.even = 0;
+        Ok(())
+    }
+
+    // Has the `count` lines that a reader gave since the last read, each of `each` bytes with what ended it, in the place of
+    // its own: both change memory.
+    pub(crate) fn take_front(
+        &mut self,
+        reader: &mut LineReader,
+        count: usize,
+        each: usize,
+    ) -> Result<(), OutOfMemory>
+        requires run { IsRun count reader.old.cutter.front }
+        requires even { IsEven each count reader.old.cutter.front }
+        requires few { length reader.old.cutter.rest ≤ LINE_LIMIT + 1 }
+        ensures lines { OnOk result (self.new.lines ≡ lines_of reader.old.cutter.front) }
+        ensures size { OnOk result (self.new.size ≡ length reader.old.cutter.front) }
+        ensures gives { OnOk result (GivesAway reader.old reader.new) }
+        ensures refused { OnErr result (self.new ≡ self.old) }
+        ensures kept { OnErr result (reader.new ≡ reader.old) }
+    {
+        self.buffer.widen(TEXT_ROOM)?;
+        reader.swap(&mut self.buffer);
+        self.places.clear();
+        self.count = count;
+        self.even = each;
         Ok(())
     }
 
@@ -100,14 +129,9 @@ impl Page {
         ensures refused { OnErr result (self.new ≡ self.old) }
     {
         self.note()?;
-        reserve(
-            &mut self.buffer,
-            line.len() + LINE_END.len(),
-            self.count,
-            most,
-        )?;
-        append(&mut self.buffer, line, LINE_END);
+        append(&mut self.buffer, line, LINE_END, self.count, most)?;
         self.count += 1;
+        self.even = 0;
         Ok(())
     }
 
@@ -148,9 +172,10 @@ impl Page {
         requires { place ≤ length self.now.lines }
         ensures { result.rest ≡ drop place self.now.lines }
     {
-        let at = find_line(&self.buffer, &self.places, place);
+        let text = self.buffer.bytes();
+        let at = find_line(text, &self.places, self.even, place);
         PageLines {
-            text: &self.buffer,
+            text,
             at,
             scanned: at,
             marks: 0,
@@ -164,9 +189,10 @@ impl Page {
         ensures run { IsRun (to - from) result.now }
         ensures lines { lines_of result.now ≡ slice_range self.now.lines from to }
     {
-        let start = find_line(&self.buffer, &self.places, from);
-        let end = find_line(&self.buffer, &self.places, to);
-        &self.buffer[start..end]
+        let text = self.buffer.bytes();
+        let start = find_line(text, &self.places, self.even, from);
+        let end = find_line(text, &self.places, self.even, to);
+        &text[start..end]
     }
 
     // Keeps the first `count` lines.
@@ -175,10 +201,11 @@ impl Page {
         ensures lines { self.new.lines ≡ take count self.old.lines }
         ensures size { self.new.size ≤ self.old.size }
     {
-        let at = find_line(&self.buffer, &self.places, count);
-        cut_off(&mut self.buffer, at);
+        let at = find_line(self.buffer.bytes(), &self.places, self.even, count);
+        self.buffer.cut(at);
         self.places.retain(|place| place.at <= at);
         self.count = count;
+        self.even = 0;
     }
 
     // Takes all lines out. The memory stays.
@@ -186,20 +213,25 @@ impl Page {
         ensures lines { self.new.lines ≡ [] }
         ensures size { self.new.size ≡ 0 }
     {
-        cut_off(&mut self.buffer, 0);
+        self.buffer.cut(0);
         self.places.clear();
         self.count = 0;
+        self.even = 0;
     }
 }
 
 // Where a line begins, counted from 0.
-fn find_line(bytes: &[u8], places: &[Place], line: usize) -> usize
+fn find_line(bytes: &[u8], places: &[Place], even: usize, line: usize) -> usize
     requires padded { IsPadded bytes.now }
     requires whole { IsOfWholeLines (text_in bytes.now) }
     requires places { All (λ place. Begins (text_in bytes.now) place.line place.at) places.now }
+    requires even { IsEven even (length (lines_of (text_in bytes.now))) (text_in bytes.now) }
     requires within { line ≤ length (lines_of (text_in bytes.now)) }
     ensures { Begins (text_in bytes.now) line result }
 {
+    if even > 0 {
+        return line * even;
+    }
     let before = last_place(places, line);
     let (_, at) = skip_lfs(bytes, before.at, line - before.line);
     at
@@ -218,19 +250,25 @@ fn last_place(places: &[Place], line: usize) -> Place
         .unwrap_or(Place::START)
 }
 
-// Finds memory for more bytes after those of `count` lines, and if it can for `most` lines in all.
-fn reserve(buffer: &mut Vec<u8>, more: usize, count: usize, most: u32) -> Result<(), OutOfMemory>
-    ensures items { buffer.new.items ≡ buffer.old.items }
-    ensures room { OnOk result (vec_len buffer.old + more ≤ vec_capacity buffer.new) }
+// Appends bytes and more bytes to the text of `count` lines. If it has no memory for them it finds some for `most` lines.
+fn append(
+    buffer: &mut Padded,
+    bytes: &[u8],
+    more: &[u8],
+    count: usize,
+    most: u32,
+) -> Result<(), OutOfMemory>
+    requires padded { BLOCK ≤ length buffer.old.items }
+    ensures items { OnOk result (buffer.new.items ≡ with_more buffer.old.items (bytes.now ++ more.now)) }
+    ensures few { OnOk result (length buffer.new.items < 2 ^ 63) }
+    ensures refused { OnErr result (buffer.new.items ≡ buffer.old.items) }
 {
-    if buffer.len().saturating_add(more) <= buffer.capacity() {
-        return Ok(());
-    }
-    let later = bytes_to_come(buffer.len(), count, most as usize);
-    if buffer.reserve(more.saturating_add(later)).is_err() {
-        buffer.reserve(more)?;
-    }
-    Ok(())
+    let later = if buffer.has_memory_for(bytes.len() + more.len()) {
+        0
+    } else {
+        bytes_to_come(buffer.len(), count, most as usize)
+    };
+    buffer.append(bytes, more, later)
 }
 
 // How many bytes the lines to come have, about, if `count` of `most` lines have these; 0 if that is not known yet.
@@ -243,28 +281,6 @@ fn bytes_to_come(bytes: usize, count: usize, most: usize) -> usize {
     let each = line.saturating_add(line / 8 + 1);
     let all = each.saturating_mul(most.saturating_sub(count));
     all.min(MOST_BYTES.saturating_sub(bytes))
-}
-
-// Appends bytes and more bytes to the text that a buffer holds.
-fn append(buffer: &mut Vec<u8>, bytes: &[u8], more: &[u8])
-    requires padded { BLOCK ≤ vec_len buffer.old }
-    requires room { vec_len buffer.old + (length bytes.now + length more.now) ≤ vec_capacity buffer.old }
-    ensures { buffer.new.items
-        ≡ (take (vec_len buffer.old - BLOCK) buffer.old.items ++ (bytes.now ++ more.now)) ++ replicate 64 0 }
-{
-    buffer.truncate(buffer.len() - BLOCK);
-    buffer.extend_from_slice(bytes).unwrap();
-    buffer.extend_from_slice(more).unwrap();
-    buffer.extend_from_slice(&[0; BLOCK]).unwrap();
-}
-
-// Keeps the first `len` bytes of the text that a buffer holds.
-fn cut_off(buffer: &mut Vec<u8>, len: usize)
-    requires { len + BLOCK ≤ vec_len buffer.old }
-    ensures { buffer.new.items ≡ take len buffer.old.items ++ replicate 64 0 }
-{
-    buffer.truncate(len);
-    buffer.extend_from_slice(&[0; BLOCK]).unwrap();
 }
 
 // Lines of a page, one after another.

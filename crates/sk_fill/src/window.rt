@@ -3,6 +3,7 @@ ghost use Rattle.std.specs.Prelude.{◌≡◌, ◌<◌, ◌≤◌, ◌+◌, ◌+
 ghost use Rattle.std.specs.List.{concat};
 ghost use Rattle.sk_lines.specs.Cutter.{HasNoLf};
 ghost use Rattle.sk_lines.specs.Runs.{IsRun};
+ghost use Rattle.sk_fill.specs.Fills.{GivesAway, HasPage};
 ghost use Rattle.sk_fill.specs.Windows.{most_lines, full_bytes, is_full, item_in};
 ghost use Rattle.sk_model.specs.Lines.{lines_of};
 ghost use Rattle.sk_model.specs.Width.{IsItem};
@@ -11,7 +12,7 @@ use crate::page::Page;
 use crate::window_lines::WindowLines;
 use sk_lines::Span;
 use sk_model::OutOfMemory;
-use sk_read::{Kind, LINE_LIMIT};
+use sk_read::{Kind, LINE_LIMIT, LineReader};
 use std::alloc::Global;
 use std::marker::Model;
 
@@ -121,6 +122,25 @@ impl Window {
         ensures apart { self.new.apart ≡ 0 }
     {
         self.page.push_run(run, count, self.most)
+    }
+
+    /// Has the `count` lines that a reader gave since the last read, in the bytes that they came in, `each` a line with what
+    /// ended it: it changes memory with the reader, and only the bytes that no line given has are copied.
+    pub fn take_front(
+        &mut self,
+        reader: &mut LineReader,
+        count: usize,
+        each: usize,
+    ) -> Result<(), OutOfMemory>
+        requires empty { self.old.lines ≡ [] }
+        requires page { HasPage self.old.most count each reader.old }
+        ensures lines { OnOk result (self.new.lines ≡ lines_of reader.old.cutter.front) }
+        ensures gives { OnOk result (GivesAway reader.old reader.new) }
+        ensures none { OnErr result (self.new.lines ≡ []) }
+        ensures kept { OnErr result (reader.new ≡ reader.old) }
+        ensures most { self.new.most ≡ self.old.most }
+    {
+        self.page.take_front(reader, count, each)
     }
 
     // Keeps the first `count` lines.

@@ -1,5 +1,6 @@
 -- Ends of a reading, said by what follows from what was known.
-use Rattle.std.proofs.Common.{◌≡◌, inl, inr, ℕ, ◌+◌, ◌<◌, List, length, Option}
+use Rattle.std.proofs.Common.{◌≡◌, inl, inr, ℕ, ◌+◌, ◌<◌, List, length, Option, Result, Ok, Err, IsErrAnd, sym, ◌∙◌}
+use Rattle.sk_model.specs.Causes.{HasCauseIn}
 use Rattle.sk_read.specs.Reads.{BreaksOff, StopsAt, ReadsSome, ReadsAll, Ends}
 use Rattle.sk_read.specs.declared.units.Units.{Units}
 use Rattle.sk_read.specs.declared.fault.Fault.{Fault}
@@ -28,3 +29,9 @@ module _ (units : Units) (most : ℕ) (G G' : List (List ℕ) → Type 0) (S S' 
   ends_so old new (fault.BadItem n) s = stops_so (λ given unit. (n ≡ length given + 1) × S (fault.BadItem n) given unit) (λ given unit. (n ≡ length given + 1) × S' (fault.BadItem n) given unit) old new
       (λ given unit t. (t.0, stopped (fault.BadItem n) given unit t.1)) s
   ends_so old new fault.WriteFault s = stops_so (S fault.WriteFault) (S' fault.WriteFault) old new (stopped fault.WriteFault) s
+
+-- memory ran out after a call that ended well: no count rose
+pub short_of_memory : {T U : Type 0} (f : Fault) (before now : ℕ) (count : U) (result : Result T Fault) → IsErrAnd result (λ e. e ≡ fault.OutOfMemory) → (fault.OutOfMemory ≡ f → ⊥)
+    → HasCauseIn {T = U} {E = Fault} f before now (Ok count) → HasCauseIn f before now result
+short_of_memory f before now count (Ok x) is other cause = absurd is
+short_of_memory f before now count (Err e) is other cause = record { steady = λ _. cause.steady (λ same. cc); failed = λ failed. let this : e ≡ f = cc in absurd (other (sym is ∙ this)) }

@@ -40,7 +40,7 @@ module _ (len : ℕ) where
       omega (arith, ap length (lines_at_end front rest), length-append (map strip_carriage_return parts) (lines_of rest), length-map parts strip_carriage_return, length-slice_split (λ b. b == 10) front)
 
   -- by the LFs that are known there are as many lines, at least
-  many : (n : ℕ) (run : List ℕ) → length run ≡ n * (len + 1) → EndEach n len run → n ≤ length (lines_of run)
+  pub many : (n : ℕ) (run : List ℕ) → length run ≡ n * (len + 1) → EndEach n len run → n ≤ length (lines_of run)
   many zero run bytes ends = omega arith
   many (suc n) run bytes ends =
       let rest : List ℕ = drop (suc len) run in

@@ -1,5 +1,5 @@
 -- What a piece after a text does to a reader.
-use Rattle.std.proofs.Common.{◌≡◌, ℕ, ◌+◌, ◌-◌, ◌<◌, ◌≤◌, Bool, true, false, true≢false, List, [], ◌++◌, length, take, drop, Option, Result, Ok, Err, IfOk, nat_eq, refl, sym, ap, ◌∙◌, subst, arith, append-nil, append_assoc, length-take, take-take, take-add}
+use Rattle.std.proofs.Common.{◌≡◌, ℕ, ◌+◌, ◌-◌, ◌<◌, ◌≤◌, Bool, true, false, true≢false, List, [], ◌++◌, length, take, drop, Option, Result, Ok, Err, IfOk, nat_eq, replicate, refl, sym, ap, ◌∙◌, subst, arith, append-nil, append_assoc, length-take, take-take, take-add}
 use borrow.Rule.Slice.PartMut.{put_mid}
 use Rattle.std.proofs.lemmas.Bool.{eqb-true}
 use Rattle.std.proofs.lemmas.List.{nil_from_length}
@@ -12,7 +12,7 @@ use Rattle.sk_lines.specs.declared.cutter.Lines.TheInside.{Inside}
 use Rattle.sk_lines.specs.declared.cutter.Next.{Next}
 use Rattle.sk_lines.specs.Cutter.{Cutter, Follows, HasNoLf, IsRead, IsSound}
 use Rattle.sk_lines.specs.Inside.{IsKept, cutter_of}
-use Rattle.sk_lines.specs.Padded.{PaddedState, with_more}
+use Rattle.sk_lines.specs.Padded.{PaddedState, padded, with_more}
 use Rattle.sk_lines.proofs.Places as places
 
 -- two states whose fields are the same
@@ -125,3 +125,35 @@ read_is old new (Ok n) bytes piece at k fits whole some bound read =
 read_is old new (Err why) bytes piece at k fits whole some bound read =
     let place : at + 0 ≡ at = omega arith in
     ([], (refl, read), ap (λ (m : ℕ). take m (put_mid at k bytes piece)) place ∙ take-put_mid_below at k bytes piece at (omega arith) (omega arith) ∙ sym (append-nil (take at bytes)))
+
+-- a reader whose rest lies in other memory
+module _ (a : Inside) (b : PaddedState) (kept : IsKept a) (room : a.limit + 1 + 65536 + 64 ≤ b.room) (items : b.items ≡ padded (cutter_of a).rest) where
+  abbrev moved : Inside
+  moved = record a { buffer = b; at = 0; scanned = 0; marks = 0; line_start = 0; line_end = 0 }
+
+  moved_size : length b.items ≡ length (cutter_of a).rest + 64
+  moved_size = omega (arith, places.length_padded b.items (cutter_of a).rest [] (items ∙ ap (λ (l : List ℕ). l ++ replicate 64 0) (sym (append-nil (cutter_of a).rest))))
+
+  pub moved_rest : (cutter_of moved).rest ≡ (cutter_of a).rest
+  moved_rest = from_start 0 (length b.items - 64) b.items refl ∙ places.text_of_padded b.items (cutter_of a).rest (length b.items) items refl
+
+  moved_sound : IsSound (cutter_of moved)
+  moved_sound =
+      let s = kept.sound in
+      subst (λ (r : List ℕ). IsSound (record (cutter_of moved) { rest = r })) (sym moved_rest)
+      (record { piece = s.piece; fits = s.fits; number = s.number; open_long = s.open_long; ended_long = s.ended_long; ended = s.ended })
+
+  pub moved_kept : IsKept moved
+  moved_kept = record {
+    low = kept.low;
+    high = kept.high;
+    room = room;
+    at = omega (arith, moved_size);
+    zeros = λ i past. places.padding_behind b.items (cutter_of a).rest i items past;
+    line_start = omega arith;
+    line_end = omega arith;
+    scanned = omega arith;
+    block = λ some. absurd (some refl);
+    marks = places.known_none b.items 0 0 (omega arith) (λ i _ before lf. omega (arith, before));
+    sound = moved_sound;
+  }

@@ -3,7 +3,8 @@ ghost use Rattle.std.specs.Prelude.{◌≡◌, ◌≢◌, ◌↔◌, ◌⊎◌, 
 ghost use Rattle.std.specs.Str.Lines.{strip_carriage_return};
 ghost use Rattle.sk_model.specs.Causes.{HasCauseIn};
 ghost use Rattle.sk_model.specs.Lines.{lines_of, open_lines_of, IsFirstLong};
-ghost use Rattle.sk_lines.specs.Runs.{GivesRun, GivesNone};
+ghost use Rattle.sk_lines.specs.Padded.{padded};
+ghost use Rattle.sk_lines.specs.Runs.{IsRun, GivesRun, GivesNone, run_between};
 ghost use Rattle.sk_lines.specs.Spans.{GivesLines, HasNoShortLine};
 ghost use Rattle.sk_lines.specs.Cutter.{Follows, IsRead, TakesPiece, GivesLine, GivesLast, Waits, IsLongAfter, HasNoLf, counted, is_long};
 
@@ -156,6 +157,25 @@ impl Lines {
         read
     }
 
+    /// Gives away the memory that has the lines given since the last read, with what ended them, for other memory. The bytes
+    /// that no line given has, few enough to be copied, go there.
+    pub fn swap(&mut self, other: &mut Padded)
+        requires few { length self.old.rest ≤ self.old.limit + 1 }
+        requires room { self.old.limit + 1 + MOST_PIECE + BLOCK ≤ other.old.room }
+        ensures given { other.new.items ≡ padded self.old.front }
+        ensures stays { self.new ≡ record self.old { front = []; line = [] } }
+    {
+        let end = self.buffer.len() - BLOCK;
+        other.set(&self.buffer.bytes()[self.at..end]);
+        std::mem::swap(&mut self.buffer, other);
+        other.cut(self.at);
+        self.at = 0;
+        self.scanned = 0;
+        self.marks = 0;
+        self.line_start = 0;
+        self.line_end = 0;
+    }
+
     // Drops the lines that were given, so that what is left lies at the start.
     fn drop_given(&mut self)
         requires { self.old.hungry ≡ true }
@@ -261,6 +281,29 @@ impl Lines {
         let (count, at) = skip_lfs(self.buffer.bytes(), self.at, most);
         self.at = at;
         self.scanned = at;
+        self.marks = 0;
+        self.number = self.number.saturating_add(count as u64);
+        count
+    }
+
+    /// Moves on over the next lines that are held and that the caller found: `count` of them, in the next `bytes` bytes.
+    /// It returns how many they are, and `front` has become longer by them; or it moves over none, as `next_run` does.
+    pub fn pass_run(&mut self, bytes: usize, count: usize) -> usize
+        requires within { bytes ≤ length self.old.rest }
+        requires run { IsRun count (take bytes self.old.rest) }
+        ensures all { 0 < result → (result ≡ count) × (run_between self.old self.new ≡ take bytes self.old.rest) }
+        ensures run { GivesRun self.old self.new result }
+        ensures after_end { self.old.ended ≡ true → result ≡ 0 }
+        ensures none { result ≡ 0 → 0 < count → is_long self.old.last ≡ false → GivesNone self.old }
+    {
+        if self.ended || self.hungry || matches!(self.last, Next::Long(_)) {
+            return 0;
+        }
+        if self.buffer.len() - BLOCK - self.at > self.limit {
+            return 0;
+        }
+        self.at += bytes;
+        self.scanned = self.at;
         self.marks = 0;
         self.number = self.number.saturating_add(count as u64);
         count

@@ -19,6 +19,7 @@ pub use decimals::{
 pub use group::cut_group;
 pub use hashes::{HASH_LINE_LEN, hash_line, read_hash};
 pub use marks::{BLOCK, lfs_of_block, seek, take_lf};
+pub use padded::Padded;
 pub use runs::{even_len, skip_lfs};
 pub use sk_model::OutOfMemory;
 pub use spans::{GROUP, Span, cut_lines, find_ends};

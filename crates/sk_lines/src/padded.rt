@@ -1,8 +1,8 @@
-// A text with a block of zeros and room for more after it.
-ghost use Rattle.std.specs.Prelude.{◌≡◌, ◌↔◌, ◌+◌, ◌^◌, ◌≤◌, ℕ, List, ◌++◌, length, take, drop, replicate, IfOk, IsErrOf};
+//! A text with a block of zeros and room for more after it.
+ghost use Rattle.std.specs.Prelude.{◌≡◌, ◌↔◌, ◌+◌, ◌^◌, ◌<◌, ◌≤◌, ℕ, List, ◌++◌, length, take, drop, replicate, vec_len, vec_capacity, IfOk, OnOk, OnErr, IsErrOf};
 ghost use Rattle.sk_model.specs.Causes.{HasCauseIn};
 ghost use Rattle.sk_lines.specs.Cutter.{IsRead};
-ghost use Rattle.sk_lines.specs.Padded.{with_more};
+ghost use Rattle.sk_lines.specs.Padded.{padded, with_more};
 
 use crate::cutter::MOST_PIECE;
 use crate::marks::BLOCK;
@@ -11,9 +11,9 @@ use sk_model::OutOfMemory;
 use std::alloc::Global;
 use std::marker::Model;
 
-// A text and a block of zeros, so that each block of the text may be read.
+/// A text and a block of zeros after it, so that each block of the text may be read.
 #[derive(Drop)]
-pub(crate) struct Padded {
+pub struct Padded {
     // As long as there is room, from the start on: what a read is to fill needs not be filled before.
     bytes: Vec<u8>,
     // Where the block of zeros ends.
@@ -32,8 +32,8 @@ impl Model for Padded {
 }
 
 impl Padded {
-    // No text, and room for one of `room` bytes.
-    pub(crate) fn new(alloc: Global, room: usize) -> Result<Padded, OutOfMemory>
+    /// No text, and room for one of `room` bytes.
+    pub fn new(alloc: Global, room: usize) -> Result<Padded, OutOfMemory>
         requires { room ≤ 2 ^ 32 }
         ensures items { IfOk result (λ padded. padded.items ≡ replicate 64 0) }
         ensures room { IfOk result (λ padded. padded.room ≡ room + BLOCK) }
@@ -44,20 +44,77 @@ impl Padded {
         })
     }
 
-    // The text and the zeros.
+    /// The text and the zeros.
     #[inline(always)]
-    pub(crate) fn bytes(&self) -> &[u8]
+    pub fn bytes(&self) -> &[u8]
         ensures { result.now ≡ self.now.items }
     {
         &self.bytes[..self.end]
     }
 
-    // How many bytes these are.
+    /// How many bytes these are.
     #[inline(always)]
-    pub(crate) fn len(&self) -> usize
+    pub fn len(&self) -> usize
         ensures { result ≡ length self.now.items }
     {
         self.end
+    }
+
+    /// Whether as many bytes more need no further memory.
+    pub fn has_memory_for(&self, more: usize) -> bool {
+        self.end.saturating_add(more) <= self.bytes.capacity()
+    }
+
+    /// Appends bytes and more bytes to the text. If it has no memory for them it takes some for `later` bytes too, if there
+    /// is as much.
+    pub fn append(&mut self, bytes: &[u8], more: &[u8], later: usize) -> Result<(), OutOfMemory>
+        requires padded { BLOCK ≤ length self.old.items }
+        ensures items { OnOk result (self.new.items ≡ with_more self.old.items (bytes.now ++ more.now)) }
+        ensures few { OnOk result (length self.new.items < 2 ^ 63) }
+        ensures refused { OnErr result (self.new.items ≡ self.old.items) }
+    {
+        let len = self.end - BLOCK;
+        let added = bytes.len() + more.len();
+        if added <= self.bytes.len() - self.end {
+            put_both(&mut self.bytes, len, bytes, more);
+            self.end += added;
+            return Ok(());
+        }
+        reserve(&mut self.bytes, self.end, added, later)?;
+        append_at(&mut self.bytes, len, bytes, more);
+        self.end = self.bytes.len();
+        Ok(())
+    }
+
+    /// Keeps the first `len` bytes of the text.
+    pub fn cut(&mut self, len: usize)
+        requires { len + BLOCK ≤ length self.old.items }
+        ensures { self.new ≡ record self.old { items = padded (take len self.old.items) } }
+    {
+        put(&mut self.bytes, len, &[0; BLOCK]);
+        self.end = len + BLOCK;
+    }
+
+    /// Finds memory for a text of `room` bytes. The text stays.
+    pub fn widen(&mut self, room: usize) -> Result<(), OutOfMemory>
+        requires { room ≤ 2 ^ 32 }
+        ensures items { self.new.items ≡ self.old.items }
+        ensures room { OnOk result (room + BLOCK ≤ self.new.room) }
+    {
+        if self.bytes.len() < room + BLOCK {
+            self.bytes.resize(room + BLOCK, 0)?;
+        }
+        Ok(())
+    }
+
+    // Puts a text in the place of the one that it has.
+    pub(crate) fn set(&mut self, text: &[u8])
+        requires { length text.now + BLOCK ≤ self.old.room }
+        ensures { self.new ≡ record self.old { items = padded text.now } }
+    {
+        put(&mut self.bytes, 0, text);
+        put(&mut self.bytes, text.len(), &[0; BLOCK]);
+        self.end = text.len() + BLOCK;
     }
 
     // Drops the bytes before a place.
@@ -129,4 +186,44 @@ fn put(bytes: &mut [u8], at: usize, piece: &[u8])
     ensures bytes { take (at + length piece.now) bytes.new ≡ take at bytes.old ++ piece.now }
 {
     bytes[at..at + piece.len()].copy_from_slice(piece);
+}
+
+// Finds memory for more bytes after the first `end`, and if it can for `later` bytes after these.
+fn reserve(bytes: &mut Vec<u8>, end: usize, more: usize, later: usize) -> Result<(), OutOfMemory>
+    requires within { end ≤ vec_len bytes.old }
+    ensures within { end ≤ vec_len bytes.new }
+    ensures same { take end bytes.new.items ≡ take end bytes.old.items }
+    ensures memory { OnOk result (end + more ≤ vec_capacity bytes.new) }
+{
+    if end.saturating_add(more) <= bytes.capacity() {
+        return Ok(());
+    }
+    bytes.truncate(end);
+    if bytes.reserve(more.saturating_add(later)).is_err() {
+        bytes.reserve(more)?;
+    }
+    Ok(())
+}
+
+// Puts bytes, more bytes and a block of zeros after the first `len`.
+fn append_at(all: &mut Vec<u8>, len: usize, bytes: &[u8], more: &[u8])
+    requires within { len ≤ vec_len all.old }
+    requires memory { len + BLOCK + (length bytes.now + length more.now) ≤ vec_capacity all.old }
+    ensures { all.new.items ≡ (take len all.old.items ++ (bytes.now ++ more.now)) ++ replicate 64 0 }
+{
+    all.truncate(len);
+    all.extend_from_slice(bytes).unwrap();
+    all.extend_from_slice(more).unwrap();
+    all.extend_from_slice(&[0; BLOCK]).unwrap();
+}
+
+// Puts bytes, more bytes and a block of zeros over those from a place on.
+fn put_both(all: &mut [u8], at: usize, bytes: &[u8], more: &[u8])
+    requires { at + BLOCK + (length bytes.now + length more.now) ≤ length all.old }
+    ensures len { length all.new ≡ length all.old }
+    ensures bytes { take (at + (length bytes.now + length more.now) + BLOCK) all.new ≡ (take at all.old ++ (bytes.now ++ more.now)) ++ replicate 64 0 }
+{
+    put(all, at, bytes);
+    put(all, at + bytes.len(), more);
+    put(all, at + bytes.len() + more.len(), &[0; BLOCK]);
 }

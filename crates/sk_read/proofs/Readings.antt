@@ -217,3 +217,28 @@ nothing_read = record {
   sound = All-cons (λ (l : List ℕ). length l ≤ line_limit) [] [] (omega arith) (All-nil (λ (l : List ℕ). length l ≤ line_limit));
   earlier = ([], refl);
 }
+
+-- what a reader without its given lines and without its last line has read
+abbrev pub moved : Reading → Reading
+moved r = record r { cutter = record r.cutter { front = []; line = [] } }
+
+follows_moved : (c : Cutter) (given : List (List ℕ)) (text : List ℕ) → Follows c given text → Follows (record c { front = []; line = [] }) given text
+follows_moved c given text f = record { front = f.front; joined = f.joined; whole = f.whole; lines = f.lines; count = f.count; within = f.within }
+
+pub read_moved : (r : Reading) (left : Option (List ℕ)) (given : List (List ℕ)) (taken : List ℕ) → HasRead r left given taken → HasRead (moved r) left given taken
+read_moved r left given taken read = record {
+  has = record {
+    follows = λ going. follows_moved r.cutter given taken (read.has.follows going);
+    whole = read.has.whole;
+    within = read.has.within;
+    going = read.has.going;
+    number = read.has.number;
+    size = read.has.size;
+    count = read.has.count;
+  };
+  end = read.end;
+  limit = read.limit;
+  bound = read.bound;
+  few = read.few;
+  in_time = read.in_time;
+}

@@ -16,7 +16,7 @@ mod wide;
 pub use fault::Fault;
 pub use items::{Intake, Taker, read_items};
 pub use kind::Kind;
-pub use reader::{LineFault, LineReader};
+pub use reader::{LineFault, LineReader, TEXT_ROOM};
 pub use short_numbers::are_short_numbers;
 pub use sk_model::limits::LINE_LIMIT;
 pub use units::{UnitTaker, Units, read_units};

@@ -4,18 +4,22 @@ ghost use Rattle.std.specs.Io.KnownBytes.{Consumes, IsAtEnd, Keeps};
 ghost use Rattle.sk_model.specs.Causes.{HasCauseIn};
 ghost use Rattle.sk_model.specs.Lines.{lines_of};
 ghost use Rattle.sk_lines.specs.Cutter.{HasNoLf, is_long};
-ghost use Rattle.sk_lines.specs.Runs.{GivesRun, GivesNone, run_between};
+ghost use Rattle.sk_lines.specs.Padded.{padded};
+ghost use Rattle.sk_lines.specs.Runs.{IsRun, GivesRun, GivesNone, run_between};
 ghost use Rattle.sk_lines.specs.Spans.{GivesLines, HasNoShortLine, lines_at};
 ghost use Rattle.sk_lines.specs.declared.cutter.Next.TheVariants as next;
 ghost use Rattle.sk_read.specs.Reading.{HasGiven, GivesLine, HasRead, Goes, GoesHeld, MovesOn, Stands, IsLongNext, IsLongLast, Feeds, remaining_of};
 ghost use Rattle.sk_model.specs.Limits.{source_limit};
 
 use sk_io::{BoundFault, Source};
-use sk_lines::{GROUP, Lines, Next, Span};
+use sk_lines::{BLOCK, GROUP, Lines, MOST_PIECE, Next, Padded, Span};
 use sk_model::OutOfMemory;
 use sk_model::limits::LINE_LIMIT;
 use std::alloc::Global;
 use std::marker::Model;
+
+/// How many bytes of room a text needs that is to hold what a reader has read.
+pub const TEXT_ROOM: usize = LINE_LIMIT + 1 + MOST_PIECE;
 
 /// Why the lines of a source end before it does.
 #[derive(Clone, Copy, Debug, PartialEq, Eq)]
@@ -237,6 +241,35 @@ impl LineReader {
         ensures progress { remaining_of self.new + result ≤ remaining_of self.old }
     {
         self.lines.next_run(most)
+    }
+
+    /// Moves on over the next lines of the bytes that were read, which the caller found: `count` of them, in the next
+    /// `bytes` bytes. It returns how many they are, and `front` has become longer by them; or it moves over none, as
+    /// `next_run` does.
+    pub fn pass_run(&mut self, bytes: usize, count: usize) -> usize
+        requires within { bytes ≤ length self.old.cutter.rest }
+        requires run { IsRun count (take bytes self.old.cutter.rest) }
+        ensures all { 0 < result → (result ≡ count) × (run_between self.old.cutter self.new.cutter ≡ take bytes self.old.cutter.rest) }
+        ensures run { GivesRun self.old.cutter self.new.cutter result }
+        ensures goes { (left : Option (List ℕ)) (given : List (List ℕ)) (taken : List ℕ) → HasRead self.old left given taken
+            → HasRead self.new left (given ++ lines_of (run_between self.old.cutter self.new.cutter)) taken }
+        ensures stays { self.new ≡ record self.old { cutter = self.new.cutter } }
+        ensures none { result ≡ 0 → 0 < count → is_long self.old.cutter.last ≡ false → GivesNone self.old.cutter }
+        ensures progress { remaining_of self.new + result ≤ remaining_of self.old }
+    {
+        self.lines.pass_run(bytes, count)
+    }
+
+    /// Gives away the memory that has the lines given since the last read, with what ended them, for other memory. The bytes
+    /// that no line given has, few enough to be copied, go there.
+    pub fn swap(&mut self, other: &mut Padded)
+        requires few { length self.old.cutter.rest ≤ LINE_LIMIT + 1 }
+        requires room { TEXT_ROOM + BLOCK ≤ other.old.room }
+        ensures given { other.new.items ≡ padded self.old.cutter.front }
+        ensures stays { self.new ≡ record self.old { cutter = record self.old.cutter { front = []; line = [] } } }
+        ensures goes { (left : Option (List ℕ)) (given : List (List ℕ)) (taken : List ℕ) → HasRead self.old left given taken → HasRead self.new left given taken }
+    {
+        self.lines.swap(other);
     }
 
     /// The line that the last call of `next` or `next_held` gave.

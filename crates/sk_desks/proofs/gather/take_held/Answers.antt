@@ -1,39 +1,30 @@
-use Rattle.std.proofs.Common.{◌≡◌, ◌∙◌, Bool, true, false, Ok, Err, List, ℕ, refl, ap, subst}
+use Rattle.std.proofs.Common.{◌≡◌, ◌∙◌, Bool, true, false, Ok, List, ℕ, ap, subst}
 use Rattle.sk_desks.specs.Gathers.{TakesHeld}
-use Rattle.sk_desks.proofs.GatherLaws.{held_none, held_then, held_passed}
+use Rattle.sk_desks.proofs.GatherLaws.{held_again, held_then, held_passed}
 use Rattle.sk_desks.proofs.gather.take_held.Goals as goal
 
-pub run-init : goal.run-init
-run-init c = record { takes = held_none c.args.window.now.names c.args.window.now.lines c.args.reader.now true; names = refl }
+pub returns-in_err-take_piece-clause-takes : goal.returns-in_err-take_piece-clause-takes
+returns-in_err-take_piece-clause-takes c =
+    let names = c.args.window.now.names in let f = c.in_err-take_piece.field-0.0 in
+    held_passed names c.args.window.now.lines c.take_piece.new.window.lines c.args.reader.now c.take_piece.new.reader f c.from_residual.result c.from_residual.ensures.1
+    (subst (TakesHeld names c.args.window.now.lines c.take_piece.new.window.lines c.args.reader.now c.take_piece.new.reader) c.in_err-take_piece.was c.take_piece.ensures.takes)
 
-pub take_run-requires-clause-started : goal.take_run-requires-clause-started
-take_run-requires-clause-started c =
+pub returns-then-branch-clause-takes : goal.returns-then-branch-clause-takes
+returns-then-branch-clause-takes c =
+    let full : c.take_piece.result ≡ Ok true = c.in_ok-take_piece.was ∙ ap (λ (b : Bool). Ok b) c.if-branch.true in
+    subst (TakesHeld c.args.window.now.names c.args.window.now.lines c.take_piece.new.window.lines c.args.reader.now c.take_piece.new.reader) full c.take_piece.ensures.takes
+
+pub take_runs-requires : goal.take_runs-requires
+take_runs-requires c =
     let start = c.requires.started in
-    (start.0, start.1, start.2, c.run.invariant.takes.gives start.0 start.1 start.2 start.3)
+    let none : c.take_piece.result ≡ Ok false = c.in_ok-take_piece.was ∙ ap (λ (b : Bool). Ok b) c.if-branch.false in
+    let takes = subst (TakesHeld c.args.window.now.names c.args.window.now.lines c.take_piece.new.window.lines c.args.reader.now c.take_piece.new.reader) none c.take_piece.ensures.takes in
+    record { started = (start.0, start.1, start.2, takes.gives start.0 start.1 start.2 start.3) }
 
-pub returns-in_err-take_run-clause-takes : goal.returns-in_err-take_run-clause-takes
-returns-in_err-take_run-clause-takes c =
-    let names = c.args.window.now.names in let f = c.in_err-take_run.field-0.0 in
-    let two = subst (λ (ns : List (List ℕ)). TakesHeld ns c.run.window.lines c.take_run.new.window.lines c.run.reader c.take_run.new.reader c.take_run.result) c.run.invariant.names c.take_run.ensures.takes in
-    held_passed names c.args.window.now.lines c.take_run.new.window.lines c.args.reader.now c.take_run.new.reader f c.from_residual.result c.from_residual.ensures.1
-    (held_then names c.args.window.now.lines c.run.window.lines c.take_run.new.window.lines c.args.reader.now c.run.reader c.take_run.new.reader (Err f) c.run.invariant.takes
-    (subst (TakesHeld names c.run.window.lines c.take_run.new.window.lines c.run.reader c.take_run.new.reader) c.in_err-take_run.was two))
-
-pub returns-then-not-branch-clause-takes : goal.returns-then-not-branch-clause-takes
-returns-then-not-branch-clause-takes c =
-    let names = c.args.window.now.names in
-    let none : c.take_run.result ≡ Ok false = c.in_ok-take_run.was ∙ ap (λ (b : Bool). Ok b) c.if-not-branch.true in
-    let two = subst (λ (ns : List (List ℕ)). TakesHeld ns c.run.window.lines c.take_run.new.window.lines c.run.reader c.take_run.new.reader c.take_run.result) c.run.invariant.names c.take_run.ensures.takes in
-    held_then names c.args.window.now.lines c.run.window.lines c.take_run.new.window.lines c.args.reader.now c.run.reader c.take_run.new.reader (Ok false) c.run.invariant.takes
-    (subst (TakesHeld names c.run.window.lines c.take_run.new.window.lines c.run.reader c.take_run.new.reader) none two)
-
-pub run-preserved : goal.run-preserved
-run-preserved c =
-    let names = c.args.window.now.names in
-    let some : c.take_run.result ≡ Ok true = c.in_ok-take_run.was ∙ ap (λ (b : Bool). Ok b) c.if-not-branch.false in
-    let two = subst (λ (ns : List (List ℕ)). TakesHeld ns c.run.window.lines c.take_run.new.window.lines c.run.reader c.take_run.new.reader c.take_run.result) c.run.invariant.names c.take_run.ensures.takes in
-    record {
-      takes = held_then names c.args.window.now.lines c.run.window.lines c.take_run.new.window.lines c.args.reader.now c.run.reader c.take_run.new.reader (Ok true) c.run.invariant.takes
-          (subst (TakesHeld names c.run.window.lines c.take_run.new.window.lines c.run.reader c.take_run.new.reader) some two);
-      names = c.take_run.ensures.names ∙ c.run.invariant.names;
-    }
+pub returns-clause-takes : goal.returns-clause-takes
+returns-clause-takes c =
+    let names = c.args.window.now.names in let lines = c.args.window.now.lines in let between = c.take_piece.new.window.lines in
+    let none : c.take_piece.result ≡ Ok false = c.in_ok-take_piece.was ∙ ap (λ (b : Bool). Ok b) c.if-branch.false in
+    let one = subst (TakesHeld names lines between c.args.reader.now c.take_piece.new.reader) none c.take_piece.ensures.takes in
+    let two = subst (λ (ns : List (List ℕ)). TakesHeld ns between c.take_runs.new.window.lines c.take_piece.new.reader c.take_runs.new.reader c.take_runs.result) c.take_piece.ensures.names c.take_runs.ensures.takes in
+    held_then names lines between c.take_runs.new.window.lines c.args.reader.now c.take_piece.new.reader c.take_runs.new.reader c.take_runs.result (held_again names lines between c.args.reader.now c.take_piece.new.reader one) two

@@ -7,6 +7,7 @@ use Rattle.sk_ingest.specs.Ingests.{terms_of, Ingests, GoesSoFar, StopsAtUnit, E
 use Rattle.sk_ingest.specs.Takers.{UnitsWent, WindowsWent, unreported}
 use Rattle.sk_feed.proofs.HubLaws.{few_none, few_room}
 use Rattle.sk_fill.proofs.Readings.{read_ok, read_err, nothing_came, if_err_is, all_by, ends_by, if_ok_then, if_err_then}
+use Rattle.sk_ingest.proofs.Endings.{short_of_memory}
 use Rattle.sk_ingest.proofs.Ingestion.{windows_start, rest_fed}
 use Rattle.sk_ingest.proofs.OneByOneLaws.{alone_start, ingests_quietly, went_so_far, stops_quietly, early_quietly}
 use Rattle.sk_ingest.proofs.ingesting.ingest.Goals as goal
@@ -132,3 +133,13 @@ returns-in_err-feed_in_threads-clause-refused g c =
             (λ units went. (rest, between, went.goes)) c.in_ok-count.ensures.read,
       ),
     ))
+
+pub returns-in_err-feed_in_threads-clause-reads : goal.returns-in_err-feed_in_threads-clause-reads
+returns-in_err-feed_in_threads-clause-reads g c =
+    short_of_memory fault.ReadFault (g.S.Source.faults c.args.source.now) (g.S.Source.faults c.read_windows.new.source) c.in_ok-count.count c.from_residual-in_err-feed_in_threads.result
+    c.from_residual-in_err-feed_in_threads.ensures.1 (λ same. cc) c.in_ok-count.ensures.reads
+
+pub returns-in_err-feed_in_threads-clause-writes : goal.returns-in_err-feed_in_threads-clause-writes
+returns-in_err-feed_in_threads-clause-writes g c =
+    short_of_memory fault.WriteFault (g.P.Report.faults c.args.report.now) (g.P.Report.faults c.read_windows.new.report) c.in_ok-count.count c.from_residual-in_err-feed_in_threads.result
+    c.from_residual-in_err-feed_in_threads.ensures.1 (λ same. cc) c.in_ok-count.ensures.report.cause

@@ -1,7 +1,7 @@
 use Rattle.std.proofs.Common.{◌≡◌, true, Ok}
 use Rattle.sk_read.specs.Reading.{remaining_of}
 use Rattle.sk_desks.specs.Gathers.{TakesHeld}
-use Rattle.sk_desks.proofs.gather.take_held.Given as goal
+use Rattle.sk_desks.proofs.gather.take_runs.Given as goal
 
 abbrev pub invariant-run : goal.invariant-run
 invariant-run l = record {

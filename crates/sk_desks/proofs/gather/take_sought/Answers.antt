@@ -6,8 +6,8 @@ use Rattle.sk_read.specs.Reading.{Reading, HasRead, remaining_of}
 use Rattle.sk_fill.proofs.Filled.{read_few, read_number, slice_is}
 use Rattle.sk_desks.specs.Gathers.{IsOfTenant, GoOnFine, StopsWithin}
 use Rattle.sk_desks.proofs.GatherLaws.{group_given, group_stops, lines_fine, held_all, held_not}
-use Rattle.sk_desks.proofs.gather.take_run.Goals.{After-next_run-count}
-use Rattle.sk_desks.proofs.gather.take_run.Goals as goal
+use Rattle.sk_desks.proofs.gather.take_sought.Goals.{After-next_run-count}
+use Rattle.sk_desks.proofs.gather.take_sought.Goals as goal
 
 abbrev run : After-next_run-count → List ℕ
 run c = run_between c.args.reader.now.cutter c.next_run-count.new.self.cutter

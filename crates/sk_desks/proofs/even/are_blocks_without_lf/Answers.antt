@@ -1,0 +1,18 @@
+use Rattle.std.proofs.Common.{◌<◌, ◌≤◌, ⊎_elim, arith}
+use Rattle.std.proofs.lemmas.Bool.{cases_lt}
+use Rattle.sk_desks.proofs.even.are_blocks_without_lf.Goals as goal
+
+pub block-init : goal.block-init
+block-init c = record { past = omega arith; plain = λ i above below within. absurd (omega (arith, above, below)) }
+
+pub block-preserved : goal.block-preserved
+block-preserved c = record {
+  past = omega (arith, c.block.invariant.past);
+  plain = λ i above below within. ⊎_elim
+      (λ (earlier : i < c.block.at). c.block.invariant.plain i above earlier within)
+      (λ (here : c.block.at ≤ i). c.is_block_without_lf.ensures c.if-not-is_block_without_lf.false i (omega (arith, here, c.min.ensures)) (omega (arith, below, within, c.min.ensures)))
+      (cases_lt i c.block.at);
+}
+
+pub returns : goal.returns
+returns c = λ is i above below. c.block.invariant.plain i above (omega (arith, below, c.block-test.false)) below
