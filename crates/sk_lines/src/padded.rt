@@ -14,21 +14,24 @@ use std::marker::Model;
 /// A text and a block of zeros after it, so that each block of the text may be read.
 #[derive(Drop)]
 pub struct Padded {
-    // As long as there is room, from the start on: what a read is to fill needs not be filled before.
+    // Of the room as many bytes as were ever needed: memory is touched when it is, and what a read is to fill again needs
+    // not be filled before.
     bytes: Vec<u8>,
     // Where the block of zeros ends.
     end: usize,
+    // How many bytes there is room for, with the zeros.
+    room: usize,
 }
 
 impl Model for Padded {
-    ghost use Rattle.std.specs.Prelude.{◌≤◌, take, vec_len};
+    ghost use Rattle.std.specs.Prelude.{◌≤◌, take, vec_len, vec_capacity};
     ghost use Rattle.sk_lines.specs.Padded.{PaddedState};
 
     ghost Value = { PaddedState };
 
-    ghost view = { λ padded. record { items = take padded.end padded.bytes.items; room = vec_len padded.bytes } };
+    ghost view = { λ padded. record { items = take padded.end padded.bytes.items; room = padded.room } };
 
-    ghost invariant = { λ padded. padded.end ≤ vec_len padded.bytes };
+    ghost invariant = { λ padded. (padded.end ≤ vec_len padded.bytes) × (padded.room ≤ vec_capacity padded.bytes) };
 }
 
 impl Padded {
@@ -38,9 +41,12 @@ impl Padded {
         ensures items { IfOk result (λ padded. padded.items ≡ replicate 64 0) }
         ensures room { IfOk result (λ padded. padded.room ≡ room + BLOCK) }
     {
+        let mut bytes = Vec::with_capacity(alloc, room + BLOCK)?;
+        bytes.resize(BLOCK, 0)?;
         Ok(Padded {
-            bytes: Vec::from_elem(alloc, 0, room + BLOCK)?,
+            bytes,
             end: BLOCK,
+            room: room + BLOCK,
         })
     }
 
@@ -101,8 +107,10 @@ impl Padded {
         ensures items { self.new.items ≡ self.old.items }
         ensures room { OnOk result (room + BLOCK ≤ self.new.room) }
     {
-        if self.bytes.len() < room + BLOCK {
-            self.bytes.resize(room + BLOCK, 0)?;
+        if self.room < room + BLOCK {
+            let more = (room + BLOCK).saturating_sub(self.bytes.len());
+            self.bytes.reserve(more)?;
+            self.room = room + BLOCK;
         }
         Ok(())
     }
@@ -112,6 +120,7 @@ impl Padded {
         requires { length text.now + BLOCK ≤ self.old.room }
         ensures { self.new ≡ record self.old { items = padded text.now } }
     {
+        fill_up(&mut self.bytes, text.len() + BLOCK);
         put(&mut self.bytes, 0, text);
         put(&mut self.bytes, text.len(), &[0; BLOCK]);
         self.end = text.len() + BLOCK;
@@ -133,6 +142,7 @@ impl Padded {
         ensures { self.new ≡ record self.old { items = with_more self.old.items piece.now } }
     {
         let len = self.end - BLOCK;
+        fill_up(&mut self.bytes, self.end + piece.len());
         put(&mut self.bytes, len, piece);
         put(&mut self.bytes, len + piece.len(), &[0; BLOCK]);
         self.end += piece.len();
@@ -151,6 +161,7 @@ impl Padded {
         ensures stays { S.stands_on source.new ≡ S.stands_on source.old }
     {
         let len = self.end - BLOCK;
+        fill_up(&mut self.bytes, self.end + MOST_PIECE);
         let read = read_behind(&mut self.bytes, len, source, room);
         let n = read.unwrap_or(0);
         put(&mut self.bytes, len + n, &[0; BLOCK]);
@@ -188,12 +199,26 @@ fn put(bytes: &mut [u8], at: usize, piece: &[u8])
     bytes[at..at + piece.len()].copy_from_slice(piece);
 }
 
+// Fills up with zeros to a length for which there is memory.
+fn fill_up(bytes: &mut Vec<u8>, len: usize)
+    requires { len ≤ vec_capacity bytes.old }
+    ensures len { len ≤ vec_len bytes.new }
+    ensures longer { vec_len bytes.old ≤ vec_len bytes.new }
+    ensures same { take (vec_len bytes.old) bytes.new.items ≡ bytes.old.items }
+    ensures capacity { vec_capacity bytes.old ≤ vec_capacity bytes.new }
+{
+    if bytes.len() < len {
+        bytes.resize(len, 0).unwrap();
+    }
+}
+
 // Finds memory for more bytes after the first `end`, and if it can for `later` bytes after these.
 fn reserve(bytes: &mut Vec<u8>, end: usize, more: usize, later: usize) -> Result<(), OutOfMemory>
     requires within { end ≤ vec_len bytes.old }
     ensures within { end ≤ vec_len bytes.new }
     ensures same { take end bytes.new.items ≡ take end bytes.old.items }
     ensures memory { OnOk result (end + more ≤ vec_capacity bytes.new) }
+    ensures capacity { vec_capacity bytes.old ≤ vec_capacity bytes.new }
 {
     if end.saturating_add(more) <= bytes.capacity() {
         return Ok(());
@@ -209,7 +234,8 @@ fn reserve(bytes: &mut Vec<u8>, end: usize, more: usize, later: usize) -> Result
 fn append_at(all: &mut Vec<u8>, len: usize, bytes: &[u8], more: &[u8])
     requires within { len ≤ vec_len all.old }
     requires memory { len + BLOCK + (length bytes.now + length more.now) ≤ vec_capacity all.old }
-    ensures { all.new.items ≡ (take len all.old.items ++ (bytes.now ++ more.now)) ++ replicate 64 0 }
+    ensures items { all.new.items ≡ (take len all.old.items ++ (bytes.now ++ more.now)) ++ replicate 64 0 }
+    ensures capacity { vec_capacity all.old ≤ vec_capacity all.new }
 {
     all.truncate(len);
     all.extend_from_slice(bytes).unwrap();

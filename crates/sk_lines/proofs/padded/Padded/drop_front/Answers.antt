@@ -13,7 +13,7 @@ returns c =
     let bytes = a.bytes.items in
     let n = a.end - at in
     let size : n ≡ 0 + n = omega arith in
-    let fits : n ≤ length (drop at bytes) = omega (arith, length-drop at bytes, a.bytes.ok.0, c.self.invariant) in
+    let fits : n ≤ length (drop at bytes) = omega (arith, length-drop at bytes, a.bytes.ok.0, c.self.invariant.0) in
     let moved = ap (λ (k : ℕ). take k (copy_within bytes at a.end 0)) size ∙ take-paste bytes 0 (drop at bytes) n (omega arith) fits in
     let items = ap (take n) c.copy_within.ensures.items ∙ moved ∙ between_is bytes at a.end ∙ ap (λ (p : PaddedState). drop at p.items) c.self.view_is in
-    same_state _ _ items (c.copy_within.ensures.len ∙ ap (λ (p : PaddedState). p.room) c.self.view_is)
+    same_state _ _ items (ap (λ (p : PaddedState). p.room) c.self.view_is)
