@@ -1,10 +1,12 @@
 -- Lines of one length, each of a tenant.
-use Rattle.std.proofs.Common.{◌≡◌, ◌≢◌, ◌⊎◌, inl, inr, ⊎_elim, ℕ, zero, suc, ◌+◌, ◌-◌, ◌*◌, ◌<◌, ◌≤◌, ◌==◌, Bool, true, false, cond, is_some, List, [], ◌∷◌, ◌++◌, length, length-append, length-take, length-drop, take-add, take, drop, get_or, slice_index, slice_range, slice_get, All, Option, Some, None, IfSome, refl, sym, ap, subst, ◌∙◌, arith}
+use Rattle.std.proofs.Common.{◌≡◌, ◌≢◌, ◌⊎◌, inl, inr, ⊎_elim, ℕ, zero, suc, ◌+◌, ◌-◌, ◌*◌, ◌<◌, ◌≤◌, ◌==◌, Bool, true, false, cond, is_some, List, [], ◌∷◌, ◌++◌, length, length-append, length-take, length-drop, take-add, take, drop, get_or, slice_index, slice_range, slice_get, bit_or, max, All, Option, Some, None, IfSome, refl, sym, ap, subst, ◌∙◌, arith}
+use Rattle.std.specs.Int.{bit_at}
 use Rattle.std.specs.Str.Lines.{strip_carriage_return}
 use Rattle.std.proofs.Math.Nat.{mul-le-mul_right}
 use Rattle.std.proofs.lemmas.Bool.{cases_lt}
 use Rattle.std.proofs.lemmas.List.{take_all, take-take, take_more, get_or-take, get_or-drop, get_or_default, get_or_at, get_or_append_left, get_or-append-add}
 use Rattle.std.proofs.lemmas.List.Elements.{All-push}
+use Rattle.std.proofs.lemmas.Nat.Bits.{bit_at-zero, bit_at_or}
 use Rattle.std.proofs.lemmas.Option.{slice_get_within, get_or_from_slice_get}
 use Rattle.sk_model.specs.Lines.{lines_of}
 use Rattle.sk_model.proofs.Lines.{a_line_alone, after_whole_lines, lines_of_nothing}
@@ -28,6 +30,16 @@ named_at names text at label (Some t) is plain space some =
     let name : List ℕ = slice_range text at (at + label) in
     record { known = (t, slice_get_within names t name is, get_or_from_slice_get names t name name is); plain = plain; space = space }
 named_at names text at label None is plain space some = cc
+
+-- ---- marks of LFs
+
+pub none_marked : (marks k : ℕ) → marks ≡ 0 → bit_at marks k ≡ 1 → ⊥
+none_marked marks k none set = absurd (omega (arith, bit_at-zero k, ap (λ (m : ℕ). bit_at m k) (sym none) ∙ set))
+
+pub none_of_both : (a b k : ℕ) → bit_or a b ≡ 0 → (bit_at a k ≡ 1 → ⊥) × (bit_at b k ≡ 1 → ⊥)
+none_of_both a b k none =
+    let most : max (bit_at a k) (bit_at b k) ≡ 0 = sym (bit_at_or a b k) ∙ ap (λ (m : ℕ). bit_at m k) none ∙ bit_at-zero k in
+    ((λ set. absurd (omega (arith, most, set))), (λ set. absurd (omega (arith, most, set))))
 
 -- ---- a line without the CR at its end
 
@@ -191,6 +203,13 @@ even_more text first len even same end = record {
   size = omega (arith, ap (λ (n : ℕ). first.bytes + (n + 1)) same, even.size);
   ends = even_ends text first.count first.bytes first.len even.size even.ends (ap (λ (n : ℕ). slice_index text (first.bytes + n)) same ∙ end);
 }
+
+-- as few as have room in so many bytes
+pub few_in : (count most len bytes : ℕ) → bytes ≡ count * (len + 1) → bytes ≤ most * (len + 1) → count ≤ most
+few_in count most len bytes size room = ⊎_elim
+    (λ (more : most < count). absurd (omega (arith, line_inside count most (len + 1) more, size, room)))
+    (λ (few : count ≤ most). few)
+    (cases_lt most count)
 
 -- a line of a text, and as long ones after it
 module _ (front run : List ℕ) (count len : ℕ) (one : IsRun 1 front) (long : length front ≡ len + 1) (size : length run ≡ count * (len + 1)) (ends : EndEach count len run) where

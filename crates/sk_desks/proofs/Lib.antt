@@ -3,6 +3,7 @@ pub mod Taking
 pub mod BlockLaws
 pub mod WindowLaws
 pub mod GatherLaws
+pub mod GroupLaws
 pub mod StretchLaws
 pub mod LaneLaws
 pub mod WentLaws
@@ -10,4 +11,6 @@ pub mod Counting
 pub mod EndingLaws
 pub mod ClerkLaws
 pub mod LikeLaws
+pub mod LookLaws
 pub mod EvenLaws
+pub mod FeedLaws

@@ -1,12 +1,12 @@
 // An item that is offered at a desk until it is taken, and a line whose item is.
-ghost use Rattle.std.specs.Prelude.{◌≡◌, ◌<◌, ◌≤◌, ◌^◌, ◌∷◌, [], length, slice_range, OnOk, OnErr, IfErr};
+ghost use Rattle.std.specs.Prelude.{◌≡◌, ◌+◌, ◌<◌, ◌≤◌, ◌^◌, ◌∷◌, [], length, slice_range, OnOk, OnErr, IfErr, IfSome};
 ghost use Rattle.sk_model.specs.Width.{IsItem};
 ghost use Rattle.sk_desks.specs.Clerks.{StopsAtLine};
 ghost use Rattle.sk_desks.specs.Entries.{IsLabelledBy};
 ghost use Rattle.sk_desks.specs.Feeds.{HasRoom, HasTenants, TakesItem, TakesLines};
 ghost use Rattle.sk_desks.specs.Gathers.{IsOfTenant};
 
-use crate::examined::{Examined, examine, tenant_like};
+use crate::examined::{Examined, examine};
 use sk_hash::hash63_at;
 use sk_label::LineStop;
 use sk_lines::Span;
@@ -37,8 +37,8 @@ pub(crate) fn give<R: Wait>(
     Ok(found.item.saturating_sub(1))
 }
 
-/// The same, if the line is of a tenant; else it is passed over. Its label mostly has as many bytes as that of the line
-/// before, which is `label`.
+/// The same if the line is of a tenant; else it is passed over. Its label mostly has `label` bytes, and its tenant is known
+/// then. Nothing that waits is called for an item that is filtered, as most are: such a call has its cost.
 #[inline(always)]
 pub(crate) fn give_like<R: Wait>(
     rt: &R,
@@ -46,22 +46,23 @@ pub(crate) fn give_like<R: Wait>(
     text: &[u8],
     span: Span,
     label: usize,
+    tenant: Option<u32>,
     seed: u32,
 ) -> usize
     requires order { span.from ≤ span.to }
     requires within { span.to ≤ length text.now }
+    requires tenant { IfSome tenant (λ t. IsLabelledBy desk.old.names (slice_range text.now span.from span.to) t (label + 1)) }
     requires tenants { HasTenants desk.old }
     requires room { HasRoom 1 desk.old }
     ensures { TakesLines seed desk.old (slice_range text.now span.from span.to ∷ []) desk.new }
 {
-    let Some(tenant) = tenant_like(desk.names(), text, span.from, span.to, label) else {
+    let Some(tenant) = tenant else {
         return give_any(rt, desk, text, span, seed);
     };
-    let found = Examined {
-        item: label + 1,
-        tenant: tenant as usize,
-    };
-    give_item(rt, desk, text, span, found, seed);
+    let item = hash63_at(seed, text, span.from + label + 1, span.to);
+    if !desk.filters(tenant, item) {
+        insist(rt, desk, tenant, item);
+    }
     label
 }
 

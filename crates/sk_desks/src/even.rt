@@ -1,11 +1,12 @@
 // Lines of one length, each of a tenant, known by a look at the start and the end of each.
-ghost use Rattle.std.specs.Prelude.{◌≡◌, ◌≢◌, ℕ, ◌+◌, ◌*◌, ◌<◌, ◌≤◌, All, length, slice_index, IfSome, true};
+ghost use Rattle.std.specs.Prelude.{◌≡◌, ◌≢◌, ℕ, ◌+◌, ◌-◌, ◌*◌, ◌<◌, ◌≤◌, All, length, slice_index, IfSome, true};
+ghost use Rattle.std.specs.Int.{bit_at};
 ghost use Rattle.sk_model.specs.Lines.{lines_of};
 ghost use Rattle.sk_lines.specs.Runs.{IsRun, EndEach};
 ghost use Rattle.sk_desks.specs.Entries.{IsNamedAt};
 ghost use Rattle.sk_desks.specs.Gathers.{AreFirst, HaveOneLength, IsOfTenant};
 
-use sk_tenant::Names;
+use sk_tenant::{Names, is_guessed};
 use std::simd::prelude::*;
 
 const LF: u8 = b'\n';
@@ -21,6 +22,14 @@ pub(crate) struct FirstLines {
     pub(crate) len: usize,
 }
 
+impl FirstLines {
+    const NONE: FirstLines = FirstLines {
+        count: 0,
+        bytes: 0,
+        len: 0,
+    };
+}
+
 // How many bytes a line has before its LF, 16 at least, and how many of them are its label.
 #[derive(Clone, Copy)]
 struct Shape {
@@ -29,41 +38,40 @@ struct Shape {
 }
 
 /// The first lines of a text, at most `most`, while they have one length, labels of one length, and are of tenants. That
-/// they end where the first one does is seen where it is: no end is sought. Lines of fewer than 16 bytes are not counted.
+/// they end where the first one does is seen where it is: no end is sought. Lines of fewer than 16 bytes are not counted,
+/// nor are those whose label has fewer than 8 bytes or more than 16.
 pub(crate) fn first_of_tenants(names: &Names, text: &[u8], most: usize) -> FirstLines
     ensures few { result.count ≤ most }
     ensures first { AreFirst names.now text.now result.count result.bytes }
     ensures even { HaveOneLength text.now result }
 {
-    let mut first = FirstLines {
-        count: 0,
-        bytes: 0,
-        len: 0,
-    };
     let Some(shape) = first_shape(text) else {
-        return first;
+        return FirstLines::NONE;
     };
-    first.len = shape.len;
-    'line: while first.count < most
-        && first.bytes + shape.len < text.len()
-        && is_of_tenant(names, text, first.bytes, shape)
-    {
-        first.bytes += shape.len + 1;
+    let each = shape.len + 1;
+    let end = text.len().min(most.saturating_mul(each));
+    let mut first = FirstLines {
+        len: shape.len,
+        ..FirstLines::NONE
+    };
+    'line: while first.bytes + shape.len < end && is_of_tenant(names, text, first.bytes, shape) {
+        first.bytes += each;
         first.count += 1;
     }
     first
 }
 
-// The shape of the first line, if it has an item of two bytes at least.
+// The shape of the first line, if it has an item of two bytes at least, and a label whose length is guessed.
 fn first_shape(text: &[u8]) -> Option<Shape>
-    ensures label { IfSome result (λ shape. 0 < shape.label) }
+    ensures least { IfSome result (λ shape. 8 ≤ shape.label) }
+    ensures most { IfSome result (λ shape. shape.label ≤ 16) }
     ensures item { IfSome result (λ shape. shape.label + 3 ≤ shape.len) }
     ensures long { IfSome result (λ shape. 16 ≤ shape.len) }
     ensures within { IfSome result (λ shape. shape.len < length text.now) }
 {
     let len = text.iter().position(|byte| *byte == LF)?;
     let label = text[..len].iter().position(|byte| *byte == b' ')?;
-    if label == 0 || len < label + 3 || len < WIDE {
+    if !is_guessed(label) || len < label + 3 || len < WIDE {
         return None;
     }
     Some(Shape { len, label })
@@ -72,6 +80,8 @@ fn first_shape(text: &[u8]) -> Option<Shape>
 // Whether a line of this shape stands at a place, and is of a tenant.
 #[inline(always)]
 fn is_of_tenant(names: &Names, text: &[u8], at: usize, shape: Shape) -> bool
+    requires least { 8 ≤ shape.label }
+    requires most { shape.label ≤ 16 }
     requires item { shape.label + 3 ≤ shape.len }
     requires long { 16 ≤ shape.len }
     requires within { at + shape.len < length text.now }
@@ -80,7 +90,10 @@ fn is_of_tenant(names: &Names, text: &[u8], at: usize, shape: Shape) -> bool
     ensures named { result ≡ true → IsNamedAt names.now text.now at shape.label }
 {
     let end = at + shape.len;
-    text[end] == LF && has_no_lf(text, at, end) && is_named(names, text, at, shape.label)
+    text[end] == LF
+        && has_no_lf(text, at, end)
+        && text[at + shape.label] == b' '
+        && names.place_guessed(&text[at..at + shape.label]).is_some()
 }
 
 // Whether no byte from one place up to another is LF: by blocks, of which the last may lie over the one before.
@@ -91,7 +104,7 @@ fn has_no_lf(text: &[u8], from: usize, to: usize) -> bool
     ensures { result ≡ true → (i : ℕ) → from ≤ i → i < to → slice_index text.now i ≢ 10 }
 {
     let last = to - WIDE;
-    if !is_block_without_lf(text, from) || !is_block_without_lf(text, last) {
+    if lfs_of(text, from) | lfs_of(text, last) != 0 {
         return false;
     }
     to - from <= 2 * WIDE || are_blocks_without_lf(text, from + WIDE, last)
@@ -105,7 +118,7 @@ fn are_blocks_without_lf(text: &[u8], from: usize, to: usize) -> bool
 {
     let mut at = from;
     'block: while at < to {
-        if !is_block_without_lf(text, at.min(to - WIDE)) {
+        if lfs_of(text, at.min(to - WIDE)) != 0 {
             return false;
         }
         at += WIDE;
@@ -113,16 +126,15 @@ fn are_blocks_without_lf(text: &[u8], from: usize, to: usize) -> bool
     true
 }
 
-// Whether none of 16 bytes is LF.
+// Which of 16 bytes are LF: a bit each, from the lowest on.
 #[inline(always)]
-fn is_block_without_lf(text: &[u8], at: usize) -> bool
+fn lfs_of(text: &[u8], at: usize) -> u64
     requires { at + 16 ≤ length text.now }
-    ensures { result ≡ true → (i : ℕ) → at ≤ i → i < at + 16 → slice_index text.now i ≢ 10 }
+    ensures { (i : ℕ) → at ≤ i → i < at + 16 → slice_index text.now i ≡ 10 → bit_at result (i - at) ≡ 1 }
 {
     u8x16::from_slice(&text[at..])
         .simd_eq(u8x16::splat(LF))
         .to_bitmask()
-        == 0
 }
 
 /// Whether the lines of a run have one length, labels of one length, and are all of tenants. If not, each line has to be

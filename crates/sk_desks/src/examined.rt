@@ -68,6 +68,28 @@ pub(crate) fn tenant_like(
     names.place_plain(&text[from..from + label])
 }
 
+/// The same for a label of 8 to 16 bytes, whose length is not looked at then.
+#[inline(always)]
+pub(crate) fn tenant_guessed(
+    names: &Names,
+    text: &[u8],
+    from: usize,
+    to: usize,
+    label: usize,
+) -> Option<u32>
+    requires least { 8 ≤ label }
+    requires most { label ≤ 16 }
+    requires order { from ≤ to }
+    requires within { to ≤ length text.now }
+    ensures fine { IfSome result (λ _. IsOfTenant names.now (slice_range text.now from to)) }
+    ensures label { IfSome result (λ t. IsLabelledBy names.now (slice_range text.now from to) t (label + 1)) }
+{
+    if to < from + label + 2 || text[from + label] != b' ' {
+        return None;
+    }
+    names.place_guessed(&text[from..from + label])
+}
+
 // Examines a line. Not inlined, so that the loop over lines stays short.
 #[inline(never)]
 fn examine_any(names: &Names, line: &[u8]) -> Result<Examined, LineStop>

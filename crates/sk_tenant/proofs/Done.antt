@@ -2,6 +2,7 @@
 use Rattle.std.proofs.Common.{◌≡◌, ◌≢◌, ℕ, ◌==◌, ◌<◌, ◌≤◌, Bool, true, false, if◌then◌else◌, List, [], ◌∷◌, ◌++◌, length, get_or, set, slice_get, Some, ◌↔◌, map, refl, sym, ap, subst, ◌∙◌, arith, length-set, get_or-set_same, get_or-set_other}
 use Rattle.std.specs.List.{filter}
 use Rattle.std.proofs.lemmas.Bool.{eqb-true, eq-eqb}
+use Rattle.std.proofs.lemmas.List.{set-get_or}
 use Rattle.std.proofs.lemmas.List.Elements.{All-set}
 use Rattle.std.proofs.lemmas.Option.{get_or_from_slice_get, slice_get-get_or}
 use Rattle.sk_hub.specs.Updaters.{UpdaterState, kept_of}
@@ -127,3 +128,13 @@ pub over_now : (P : Type 0) (old d : DeskState) (t : ℕ) (v : UpdaterState) →
 over_now P old d t v same at over u is =
     subst (λ w. P ↔ (length (kept_of w) ≡ old.quota)) (at_place old d t v u same at is)
     (subst (λ s. P ↔ (length (kept_of v) ≡ s.quota)) same over)
+
+-- a call that leaves its updater as it is leaves the desk as it is
+pub done_same : (d : DeskState) (t : ℕ) (u : UpdaterState) (call : Call) → t < length d.updaters → u ≡ get_or d.updaters t u → Owes d.quota u call u → IsDone d t call d
+done_same d t u call place at owed = record {
+  before = u;
+  after = u;
+  is_at = slice_get-get_or d.updaters t u place ∙ ap Some (sym at);
+  owes = owed;
+  stays = sym (ap (λ (us : List UpdaterState). record d { updaters = us }) (ap (set d.updaters t) at ∙ set-get_or d.updaters t u));
+}

@@ -1,5 +1,5 @@
 //! A desk: an updater of each tenant's hub, and how many items it keeps for a tenant at most.
-ghost use Rattle.std.specs.Prelude.{◌≡◌, ◌↔◌, ℕ, ◌<◌, ◌≤◌, false, Some, length, slice_get, IfSome, IfNone, Contains};
+ghost use Rattle.std.specs.Prelude.{◌≡◌, ◌↔◌, ℕ, ◌<◌, ◌≤◌, true, false, Some, length, slice_get, IfSome, IfNone, Contains};
 ghost use Rattle.sk_model.specs.Limits.{most_kept};
 ghost use Rattle.sk_model.specs.Width.{IsItem};
 ghost use Rattle.sk_hub.specs.Updaters.{kept_of};
@@ -83,6 +83,16 @@ impl Desk {
         insist_with(rt, &mut self.updaters[t as usize], quota, item)
     }
 
+    /// Whether `insist` would take this item without a change: below the quota most items are filtered.
+    #[inline(always)]
+    pub fn filters(&self, t: u32, item: u64) -> bool
+        requires place { t < length self.now.updaters }
+        requires item { IsItem item }
+        ensures { result ≡ true → IsDone self.now t (Insists item true) self.now }
+    {
+        does_filter(&self.updaters[t as usize], self.quota, item)
+    }
+
     /// One load of the published word of the tenant at place t.
     pub fn ask(&mut self, t: u32) -> u64
         requires place { t < length self.old.updaters }
@@ -131,11 +141,20 @@ fn insist_with<R: Wait>(rt: &R, updater: &mut Updater<TenantTheta>, quota: u64, 
     if updater.taken() == quota {
         return false;
     }
-    if !TenantTheta::keeps(updater.hint(), item) {
-        return true;
+    if !does_filter(updater, quota, item) {
+        insist_on(rt, updater, item);
     }
-    insist_on(rt, updater, item);
     true
+}
+
+// Whether an updater filters an item, below the quota.
+#[inline(always)]
+fn does_filter(updater: &Updater<TenantTheta>, quota: u64, item: u64) -> bool
+    requires within { length (kept_of updater.now) ≤ quota }
+    requires item { IsItem item }
+    ensures { result ≡ true → OwesInsist quota updater.now item true updater.now }
+{
+    updater.taken() != quota && !TenantTheta::keeps(updater.hint(), item)
 }
 
 // Offers an item to an updater until it is taken. The merges of its sketch take no memory.

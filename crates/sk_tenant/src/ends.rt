@@ -1,5 +1,5 @@
 //! A name by its ends.
-ghost use Rattle.std.specs.Prelude.{◌≡◌, ◌<◌, length, take, true};
+ghost use Rattle.std.specs.Prelude.{◌≡◌, ◌<◌, ◌≤◌, length, take, true};
 ghost use Rattle.sk_tenant.specs.Guesses.{most_marks, AreEndsOf};
 
 /// As many bytes at each end of a name are compared at once.
@@ -30,13 +30,26 @@ impl Ends {
     pub(crate) fn of(name: &[u8]) -> Ends
         ensures { AreEndsOf name.now result }
     {
+        if name.len() < END {
+            Ends::of_few(name)
+        } else {
+            Ends::of_many(name)
+        }
+    }
+
+    /// Those of a name of at least eight bytes.
+    #[inline(always)]
+    pub(crate) fn of_many(name: &[u8]) -> Ends
+        requires many { 8 ≤ length name.now }
+        ensures { AreEndsOf name.now result }
+    {
         match (name.first_chunk::<END>(), name.last_chunk::<END>()) {
             (Some(first), Some(last)) => Ends {
                 first: *first,
                 last: *last,
                 len: name.len(),
             },
-            _ => Ends::of_few(name),
+            _ => unreachable!(),
         }
     }
 

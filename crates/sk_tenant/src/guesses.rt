@@ -1,7 +1,7 @@
 //! Where a name is sought first.
 ghost use Rattle.std.specs.Prelude.{◌≡◌, ◌≤◌, ℕ, List, true, Some, length, map, slice_get, IfOk, IfSome};
 ghost use Rattle.sk_tenant.specs.Names.{most_tenants, HasNoSpace};
-ghost use Rattle.sk_tenant.specs.Guesses.{AreGuesses};
+ghost use Rattle.sk_tenant.specs.Guesses.{AreEndsOf, AreGuesses};
 
 use crate::ends::{BOTH_ENDS, Ends};
 use indexmap::IndexSet;
@@ -49,9 +49,35 @@ impl Guesses {
         ensures place { IfSome result (λ t. slice_get (map (λ own. own.items) names.now.keys) t ≡ Some name.now) }
         ensures plain { IfSome result (λ _. HasNoSpace name.now) }
     {
-        let ends = Ends::of(name);
+        if name.len() > BOTH_ENDS {
+            return None;
+        }
+        self.place_by(names, name, Ends::of(name))
+    }
+
+    /// The same of a name of 8 to 16 bytes.
+    #[inline(always)]
+    pub(crate) fn place_guessed(&self, names: &IndexSet<Vec<u8>>, name: &[u8]) -> Option<u32>
+        requires guesses { AreGuesses (map (λ own. own.items) names.now.keys) self.now.by_mark.items }
+        requires least { 8 ≤ length name.now }
+        requires most { length name.now ≤ 16 }
+        ensures place { IfSome result (λ t. slice_get (map (λ own. own.items) names.now.keys) t ≡ Some name.now) }
+        ensures plain { IfSome result (λ _. HasNoSpace name.now) }
+    {
+        self.place_by(names, name, Ends::of_many(name))
+    }
+
+    // The place of the name of at most 16 bytes that has these ends.
+    #[inline(always)]
+    fn place_by(&self, names: &IndexSet<Vec<u8>>, name: &[u8], ends: Ends) -> Option<u32>
+        requires guesses { AreGuesses (map (λ own. own.items) names.now.keys) self.now.by_mark.items }
+        requires ends { AreEndsOf name.now ends }
+        requires most { length name.now ≤ 16 }
+        ensures place { IfSome result (λ t. slice_get (map (λ own. own.items) names.now.keys) t ≡ Some name.now) }
+        ensures plain { IfSome result (λ _. HasNoSpace name.now) }
+    {
         let guess = &self.by_mark[ends.mark()];
-        if name.len() <= BOTH_ENDS && guess.ends.are(&ends) {
+        if guess.ends.are(&ends) {
             Some(guess.place)
         } else {
             None

@@ -3,6 +3,7 @@ ghost use Rattle.std.specs.Prelude.{◌≡◌, ℕ, ◌<◌, ◌≤◌, true, So
 ghost use Rattle.sk_tenant.specs.Names.{place_of, bytes_of, most_tenants, AreDifferent, HasNoSpace, IsFirstTwice};
 
 use crate::answers::TenantStop;
+use crate::ends::{BOTH_ENDS, END};
 use crate::guesses::Guesses;
 use indexmap::IndexSet;
 use sk_model::OutOfMemory;
@@ -12,6 +13,15 @@ use std::sync::Arc;
 
 /// The most tenants.
 pub const MOST_TENANTS: usize = 64;
+
+/// Whether a name of this many bytes is mostly found without a call.
+#[inline(always)]
+pub fn is_guessed(len: usize) -> bool
+    ensures least { result ≡ true → 8 ≤ len }
+    ensures most { result ≡ true → len ≤ 16 }
+{
+    END <= len && len <= BOTH_ENDS
+}
 
 /// The names of tenants, no two of them equal. All desks share one table, by which a name is found.
 #[derive(Drop)]
@@ -89,6 +99,22 @@ impl Names {
     {
         let table: &Table = &self.table;
         match table.guesses.place_plain(&table.names, name) {
+            Some(t) => Some(t),
+            None => sought_plain(&table.names, name),
+        }
+    }
+
+    /// The same of a name of 8 to 16 bytes, whose length is not looked at then.
+    #[inline(always)]
+    pub fn place_guessed(&self, name: &[u8]) -> Option<u32>
+        requires least { 8 ≤ length name.now }
+        requires most { length name.now ≤ 16 }
+        ensures found { IfSome result (λ t. slice_get self.now t ≡ Some name.now) }
+        ensures plain { IfSome result (λ _. HasNoSpace name.now) }
+        ensures none { IfNone result (HasNoSpace name.now → ¬ Contains self.now name.now) }
+    {
+        let table: &Table = &self.table;
+        match table.guesses.place_guessed(&table.names, name) {
             Some(t) => Some(t),
             None => sought_plain(&table.names, name),
         }

@@ -1,5 +1,6 @@
-use Rattle.std.proofs.Common.{◌<◌, ◌≤◌, ⊎_elim, arith}
+use Rattle.std.proofs.Common.{◌-◌, ◌<◌, ◌≤◌, ⊎_elim, arith}
 use Rattle.std.proofs.lemmas.Bool.{cases_lt}
+use Rattle.sk_desks.proofs.EvenLaws.{none_marked}
 use Rattle.sk_desks.proofs.even.are_blocks_without_lf.Goals as goal
 
 pub block-init : goal.block-init
@@ -10,7 +11,7 @@ block-preserved c = record {
   past = omega (arith, c.block.invariant.past);
   plain = λ i above below within. ⊎_elim
       (λ (earlier : i < c.block.at). c.block.invariant.plain i above earlier within)
-      (λ (here : c.block.at ≤ i). c.is_block_without_lf.ensures c.if-not-is_block_without_lf.false i (omega (arith, here, c.min.ensures)) (omega (arith, below, within, c.min.ensures)))
+      (λ (here : c.block.at ≤ i). λ lf. none_marked c.lfs_of.result (i - c.min.result) c.if-lfs_of-ne0.false (c.lfs_of.ensures i (omega (arith, here, c.min.ensures)) (omega (arith, below, within, c.min.ensures)) lf))
       (cases_lt i c.block.at);
 }
 

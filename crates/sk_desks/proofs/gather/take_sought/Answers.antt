@@ -1,11 +1,10 @@
-use Rattle.std.proofs.Common.{◌≡◌, ◌+◌, ◌-◌, ◌≤◌, ◌++◌, [], ℕ, List, Option, All, true, false, length, take, drop, sym, ap, ◌∙◌, subst, arith, append-nil, length-append}
-use Rattle.std.proofs.lemmas.List.{nil_from_length}
+use Rattle.std.proofs.Common.{◌≡◌, ◌+◌, ◌-◌, ◌++◌, ℕ, List, All, length, take, drop, sym, ap, ◌∙◌, subst, arith, length-append}
 use Rattle.sk_model.specs.Lines.{lines_of}
 use Rattle.sk_lines.specs.Runs.{IsRun, run_between}
-use Rattle.sk_read.specs.Reading.{Reading, HasRead, remaining_of}
+use Rattle.sk_read.specs.Reading.{Reading}
 use Rattle.sk_fill.proofs.Filled.{read_few, read_number, slice_is}
-use Rattle.sk_desks.specs.Gathers.{IsOfTenant, GoOnFine, StopsWithin}
-use Rattle.sk_desks.proofs.GatherLaws.{group_given, group_stops, lines_fine, held_all, held_not}
+use Rattle.sk_desks.specs.Gathers.{IsOfTenant, StopsWithin}
+use Rattle.sk_desks.proofs.GroupLaws.{GivesGroup, none_held, group_held, group_not_held}
 use Rattle.sk_desks.proofs.gather.take_sought.Goals.{After-next_run-count}
 use Rattle.sk_desks.proofs.gather.take_sought.Goals as goal
 
@@ -18,31 +17,18 @@ group c = lines_of (run c)
 group_size : (c : After-next_run-count) → length (group c) ≡ c.next_run-count.result
 group_size c = c.next_run-count.ensures.run.is.count
 
-gave : (c : After-next_run-count) → (left : Option (List ℕ)) (given : List (List ℕ)) (taken : List ℕ) → HasRead c.args.reader.now left given taken → HasRead c.next_run-count.new.self left (given ++ group c) taken
-gave c left given taken has = c.next_run-count.ensures.goes left given taken has
+gave : (c : After-next_run-count) → GivesGroup c.args.reader.now c.next_run-count.new.self (group c)
+gave c = record { goes = c.next_run-count.ensures.goes; most = ap (λ (r : Reading). r.most) c.next_run-count.ensures.stays; fewer = omega (arith, c.next_run-count.ensures.progress) }
 
 pub overflow_add-first : goal.overflow_add-first
 overflow_add-first c =
     let start = c.requires.started in let all = start.1 ++ c.args.window.now.lines in
     record { fits = omega (arith, c.number-first.ensures, read_number c.args.reader.now start.0 all start.2 start.3, read_few c.args.reader.now start.0 all start.2 start.3) }
 
-same_held : (c : After-next_run-count) → (left : Option (List ℕ)) (given : List (List ℕ)) (taken : List ℕ) → HasRead c.args.reader.now left (given ++ c.args.window.now.lines) taken → HasRead c.args.reader.now left (given ++ c.args.window.now.lines) taken
-same_held c left given taken has = has
-
-most_stays : (c : After-next_run-count) → c.next_run-count.new.self.most ≡ c.args.reader.now.most
-most_stays c = ap (λ (r : Reading). r.most) c.next_run-count.ensures.stays
-
-fewer : (c : After-next_run-count) → remaining_of c.next_run-count.new.self ≤ remaining_of c.args.reader.now
-fewer c = omega (arith, c.next_run-count.ensures.progress)
-
 pub returns-then-count-eq0-clause-takes : goal.returns-then-count-eq0-clause-takes
 returns-then-count-eq0-clause-takes c =
     let at = (goal.at.returns-then-count-eq0-clause-takes c).After-next_run-count in
-    let names = c.args.window.now.names in let lines = c.args.window.now.lines in
-    let none : group at ≡ [] = nil_from_length (group at) (group_size at ∙ c.if-count-eq0.true) in
-    let added : lines ≡ lines ++ group at = sym (append-nil lines) ∙ ap (λ (ls : List (List ℕ)). lines ++ ls) (sym none) in
-    held_all names lines lines c.args.reader.now c.next_run-count.new.self false
-    (group_given names lines lines (group at) c.args.reader.now c.args.reader.now c.next_run-count.new.self (same_held at) (gave at) lines added) (λ fine. fine) (most_stays at) (fewer at)
+    none_held c.args.window.now.names c.args.window.now.lines (group at) c.args.reader.now c.next_run-count.new.self (gave at) (group_size at ∙ c.if-count-eq0.true)
 
 slice : (c : After-next_run-count) (a b : List ℕ) → a ≡ c.args.reader.now.cutter.front → b ≡ c.next_run-count.new.self.cutter.front → take (length b - length a) (drop (length a) b) ≡ run c
 slice c a b p q = slice_is c.args.reader.now.cutter.front c.next_run-count.new.self.cutter.front a b p q
@@ -60,7 +46,7 @@ append-requires-clause-number c =
       arith,
       c.number-first.ensures,
       read_number c.args.reader.now start.0 all start.2 start.3,
-      read_few c.next_run-count.new.self start.0 (all ++ group at) start.2 (gave at start.0 all start.2 start.3),
+      read_few c.next_run-count.new.self start.0 (all ++ group at) start.2 ((gave at).goes start.0 all start.2 start.3),
       length-append all (group at),
       group_size at,
     )
@@ -68,11 +54,10 @@ append-requires-clause-number c =
 pub returns-in_err-append-clause-takes : goal.returns-in_err-append-clause-takes
 returns-in_err-append-clause-takes c =
     let at = (goal.at.returns-in_err-append-clause-takes c).After-next_run-count in
-    let names = c.args.window.now.names in let lines = c.args.window.now.lines in let f = c.in_err-append.field-0.0 in let first : ℕ = c.number-first.result + 1 in
+    let names = c.args.window.now.names in let f = c.in_err-append.field-0.0 in let first : ℕ = c.number-first.result + 1 in
     let stops : StopsWithin names (group at) first f = subst (λ (l : List ℕ). StopsWithin names (lines_of l) first f) (slice at c.front-from.result.now c.front.result.now c.front-from.ensures c.front.ensures) c.in_err-append.ensures.stopped in
-    held_not names lines c.append.new.self.lines (group at) c.args.reader.now c.next_run-count.new.self first c.from_residual.result f c.from_residual.ensures.1 stops
-    (group_stops names lines lines (group at) c.args.reader.now c.args.reader.now c.next_run-count.new.self (same_held at) (gave at) first (ap (λ (n : ℕ). n + 1) c.number-first.ensures) (most_stays at) (λ fine. fine) f stops)
-    (most_stays at) (fewer at)
+    group_not_held names c.args.window.now.lines (group at) c.args.reader.now c.next_run-count.new.self (gave at) c.append.new.self.lines c.from_residual.result f c.from_residual.ensures.1
+    (subst (λ (n : ℕ). StopsWithin names (group at) (n + 1) f) c.number-first.ensures stops)
 
 pub returns-clause-takes : goal.returns-clause-takes
 returns-clause-takes c =
@@ -81,6 +66,4 @@ returns-clause-takes c =
     let same = slice at c.front-from.result.now c.front.result.now c.front-from.ensures c.front.ensures in
     let added : c.append.new.self.lines ≡ lines ++ group at = c.in_ok-append.ensures.lines ∙ ap (λ (l : List ℕ). lines ++ lines_of l) same in
     let are : All (IsOfTenant names) (group at) = subst (λ (l : List ℕ). All (IsOfTenant names) (lines_of l)) same c.in_ok-append.ensures.fine in
-    held_all names lines c.append.new.self.lines c.args.reader.now c.next_run-count.new.self true
-    (group_given names lines lines (group at) c.args.reader.now c.args.reader.now c.next_run-count.new.self (same_held at) (gave at) c.append.new.self.lines added)
-    (λ fine. subst (GoOnFine names) (sym added) (lines_fine names lines (group at) fine are)) (most_stays at) (fewer at)
+    group_held names lines (group at) c.args.reader.now c.next_run-count.new.self (gave at) c.append.new.self.lines added are

@@ -1,18 +1,18 @@
-use Rattle.std.proofs.Common.{◌≡◌, ◌+◌, ◌*◌, ◌≤◌, ◌<◌, ◌++◌, [], ℕ, List, Option, All, inl, true, false, length, take, slice_index, sym, ap, ◌∙◌, subst, refl, arith, append-nil, length-append, length-take}
-use Rattle.std.proofs.lemmas.List.{nil_from_length, get_or-take}
+use Rattle.std.proofs.Common.{◌≡◌, ◌+◌, ◌*◌, ◌<◌, ◌++◌, ℕ, List, All, inl, length, take, slice_index, sym, ap, ◌∙◌, subst, arith, length-append, length-take}
+use Rattle.std.proofs.lemmas.List.{get_or-take}
 use Rattle.std.proofs.lemmas.List.Elements.{All-append}
 use Rattle.sk_model.specs.Lines.{lines_of}
 use Rattle.sk_model.proofs.Lines.{after_whole_lines}
 use Rattle.sk_lines.specs.Runs.{IsRun, EndEach, GivesRun, run_between}
 use Rattle.sk_lines.proofs.EvenRuns.{line_inside}
 use Rattle.sk_lines.proofs.WholeLines.{run_more}
-use Rattle.sk_read.specs.Reading.{Reading, HasRead, remaining_of}
+use Rattle.sk_read.specs.Reading.{Reading, remaining_of}
 use Rattle.sk_fill.specs.Fills.{HasPage}
 use Rattle.sk_fill.specs.Pages.{IsEven}
 use Rattle.sk_desks.proofs.EvenLaws.{even_page}
 use Rattle.sk_desks.specs.Entries.{LabelledState, window_lines}
-use Rattle.sk_desks.specs.Gathers.{HasPiece, IsOfTenant, GoOnFine, StopsWithin}
-use Rattle.sk_desks.proofs.GatherLaws.{group_given, group_stops, lines_fine, held_all, held_not}
+use Rattle.sk_desks.specs.Gathers.{HasPiece, IsOfTenant}
+use Rattle.sk_desks.proofs.GroupLaws.{GivesGroup, none_held, group_held, group_not_held}
 use Rattle.sk_desks.proofs.gather.take_whole.Goals.{After-pass_run-count}
 use Rattle.sk_desks.proofs.gather.take_whole.Goals as goal
 
@@ -22,17 +22,8 @@ run c = run_between c.args.reader.now.cutter c.pass_run-count.new.self.cutter
 abbrev group : After-pass_run-count → List (List ℕ)
 group c = lines_of (run c)
 
-gave : (c : After-pass_run-count) → (left : Option (List ℕ)) (given : List (List ℕ)) (taken : List ℕ) → HasRead c.args.reader.now left given taken → HasRead c.pass_run-count.new.self left (given ++ group c) taken
-gave c left given taken has = c.pass_run-count.ensures.goes left given taken has
-
-same_held : (c : After-pass_run-count) → (left : Option (List ℕ)) (given : List (List ℕ)) (taken : List ℕ) → HasRead c.args.reader.now left (given ++ c.args.window.now.lines) taken → HasRead c.args.reader.now left (given ++ c.args.window.now.lines) taken
-same_held c left given taken has = has
-
-most_stays : (c : After-pass_run-count) → c.pass_run-count.new.self.most ≡ c.args.reader.now.most
-most_stays c = ap (λ (r : Reading). r.most) c.pass_run-count.ensures.stays
-
-fewer : (c : After-pass_run-count) → remaining_of c.pass_run-count.new.self ≤ remaining_of c.args.reader.now
-fewer c = omega (arith, c.pass_run-count.ensures.progress)
+gave : (c : After-pass_run-count) → GivesGroup c.args.reader.now c.pass_run-count.new.self (group c)
+gave c = record { goes = c.pass_run-count.ensures.goes; most = ap (λ (r : Reading). r.most) c.pass_run-count.ensures.stays; fewer = omega (arith, c.pass_run-count.ensures.progress) }
 
 module _ (c : After-pass_run-count) (some : 0 < c.pass_run-count.result) where
   abbrev w : LabelledState
@@ -83,11 +74,7 @@ module _ (c : After-pass_run-count) (some : 0 < c.pass_run-count.result) where
 pub returns-then-count-eq0-clause-takes : goal.returns-then-count-eq0-clause-takes
 returns-then-count-eq0-clause-takes c =
     let at = (goal.at.returns-then-count-eq0-clause-takes c).After-pass_run-count in
-    let names = c.args.window.now.names in let lines = c.args.window.now.lines in
-    let none : group at ≡ [] = nil_from_length (group at) (c.pass_run-count.ensures.run.is.count ∙ c.if-count-eq0.true) in
-    let added : lines ≡ lines ++ group at = sym (append-nil lines) ∙ ap (λ (ls : List (List ℕ)). lines ++ ls) (sym none) in
-    held_all names lines lines c.args.reader.now c.pass_run-count.new.self false
-    (group_given names lines lines (group at) c.args.reader.now c.args.reader.now c.pass_run-count.new.self (same_held at) (gave at) lines added) (λ fine. fine) (most_stays at) (fewer at)
+    none_held c.args.window.now.names c.args.window.now.lines (group at) c.args.reader.now c.pass_run-count.new.self (gave at) (c.pass_run-count.ensures.run.is.count ∙ c.if-count-eq0.true)
 
 pub take_front-requires-clause-page : goal.take_front-requires-clause-page
 take_front-requires-clause-page c =
@@ -104,12 +91,10 @@ take_front-requires-clause-fine c =
 pub returns-in_err-take_front-clause-takes : goal.returns-in_err-take_front-clause-takes
 returns-in_err-take_front-clause-takes c =
     let at = (goal.at.returns-in_err-take_front-clause-takes c).After-pass_run-count in
-    let names = c.args.window.now.names in let lines = c.args.window.now.lines in let f = c.in_err-take_front.field-0.0 in let first : ℕ = c.args.reader.now.cutter.number + 1 in
-    let stops : StopsWithin names (group at) first f = inl c.in_err-take_front.ensures.stopped in
-    let same = c.in_err-take_front.ensures.kept in
-    held_not names lines c.take_front.new.self.lines (group at) c.args.reader.now c.take_front.new.reader first c.from_residual.result f c.from_residual.ensures.1 stops
-    (group_stops names lines lines (group at) c.args.reader.now c.args.reader.now c.pass_run-count.new.self (same_held at) (gave at) first refl (most_stays at) (λ fine. fine) f stops)
-    (ap (λ (r : Reading). r.most) same ∙ most_stays at) (omega (arith, ap remaining_of same, fewer at))
+    let names = c.args.window.now.names in
+    let gave : GivesGroup c.args.reader.now c.take_front.new.reader (group at) = subst (λ (s : Reading). GivesGroup c.args.reader.now s (group at)) (sym c.in_err-take_front.ensures.kept) (gave at) in
+    group_not_held names c.args.window.now.lines (group at) c.args.reader.now c.take_front.new.reader gave c.take_front.new.self.lines c.from_residual.result c.in_err-take_front.field-0.0 c.from_residual.ensures.1
+    (inl c.in_err-take_front.ensures.stopped)
 
 pub returns-clause-takes : goal.returns-clause-takes
 returns-clause-takes c =
@@ -117,9 +102,9 @@ returns-clause-takes c =
     let names = c.args.window.now.names in let lines = c.args.window.now.lines in
     let some : 0 < c.pass_run-count.result = omega (arith, c.if-count-eq0.false) in
     let gives = c.in_ok-take_front.ensures.gives in
-    let added : c.take_front.new.self.lines ≡ lines ++ group at = c.in_ok-take_front.ensures.lines ∙ lines_are at some in
-    held_all names lines c.take_front.new.self.lines c.args.reader.now c.take_front.new.reader true
-    (group_given names lines lines (group at) c.args.reader.now c.args.reader.now c.take_front.new.reader (same_held at)
-    (λ left given taken has. gives.goes left (given ++ group at) taken (gave at left given taken has)) c.take_front.new.self.lines added)
-    (λ fine. subst (GoOnFine names) (sym added) (lines_fine names lines (group at) fine (are at some)))
-    (ap (λ (r : Reading). r.most) gives.stays ∙ most_stays at) (omega (arith, ap remaining_of gives.stays, fewer at))
+    let gave : GivesGroup c.args.reader.now c.take_front.new.reader (group at) = record {
+      goes = λ left given taken has. gives.goes left (given ++ group at) taken ((gave at).goes left given taken has);
+      most = ap (λ (r : Reading). r.most) gives.stays ∙ (gave at).most;
+      fewer = omega (arith, ap remaining_of gives.stays, (gave at).fewer);
+    } in
+    group_held names lines (group at) c.args.reader.now c.take_front.new.reader gave c.take_front.new.self.lines (c.in_ok-take_front.ensures.lines ∙ lines_are at some) (are at some)

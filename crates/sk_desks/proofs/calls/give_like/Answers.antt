@@ -1,0 +1,15 @@
+use Rattle.std.proofs.Common.{◌≡◌, true, false}
+use Rattle.sk_desks.proofs.LookLaws.{like_item}
+use Rattle.sk_desks.proofs.Taking.{insisted}
+use Rattle.sk_desks.proofs.calls.give_like.Goals as goal
+
+pub returns-then-not-filters : goal.returns-then-not-filters
+returns-then-not-filters g c =
+    like_item c.args.seed c.args.desk.now c.args.text.now c.args.span.from c.args.span.to c.args.label c.in-Some.tenant c.hash63_at-item.result c.args.tenant c.requires.order c.requires.within c.requires.tenants c.in-Some.is c.requires.tenant
+    c.hash63_at-item.ensures.value c.insist.new.desk c.insist.ensures
+
+pub returns-else-not-filters : goal.returns-else-not-filters
+returns-else-not-filters g c =
+    like_item c.args.seed c.args.desk.now c.args.text.now c.args.span.from c.args.span.to c.args.label c.in-Some.tenant c.hash63_at-item.result c.args.tenant c.requires.order c.requires.within c.requires.tenants c.in-Some.is c.requires.tenant
+    c.hash63_at-item.ensures.value c.args.desk.now
+    (insisted c.args.desk.now c.args.desk.now c.in-Some.tenant c.hash63_at-item.result true (c.filters.ensures c.if-not-filters.false) (λ (over : true ≡ false). cc))
