@@ -67,6 +67,7 @@ pub(crate) fn give_like<R: Wait>(
 }
 
 // The same without a guess.
+#[cold]
 #[inline(never)]
 fn give_any<R: Wait>(rt: &R, desk: &mut Desk, text: &[u8], span: Span, seed: u32) -> usize
     requires order { span.from ≤ span.to }

@@ -12,9 +12,10 @@ use sk_tenant::{Desk, Names, Tenants};
 use sk_theta::unpack;
 use std::alloc::Global;
 use std::sync::Wait;
+use std::thread::Threads;
 
 // Takes in all desks, the last one first.
-pub(crate) fn take_in_all<R: Wait>(rt: &R, hosts: &mut Tenants, desks: Vec<Desk>)
+pub(crate) fn take_in_all<R: Threads + Wait + Sync>(rt: &R, hosts: &mut Tenants, desks: Vec<Desk>)
     requires of_hosts { AreDesksOf hosts.old desks.items }
     requires numbered { AreNumbered desks.items }
     ensures taken_in { HaveTakenIn hosts.new desks.items }

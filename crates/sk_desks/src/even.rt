@@ -6,7 +6,7 @@ ghost use Rattle.sk_lines.specs.Runs.{IsRun, EndEach};
 ghost use Rattle.sk_desks.specs.Entries.{IsNamedAt};
 ghost use Rattle.sk_desks.specs.Gathers.{AreFirst, HaveOneLength, IsOfTenant};
 
-use sk_tenant::{Names, is_guessed};
+use sk_tenant::{Finder, Names, is_guessed};
 use std::simd::prelude::*;
 
 const LF: u8 = b'\n';
@@ -50,11 +50,12 @@ pub(crate) fn first_of_tenants(names: &Names, text: &[u8], most: usize) -> First
     };
     let each = shape.len + 1;
     let end = text.len().min(most.saturating_mul(each));
+    let finder = names.finder();
     let mut first = FirstLines {
         len: shape.len,
         ..FirstLines::NONE
     };
-    'line: while first.bytes + shape.len < end && is_of_tenant(names, text, first.bytes, shape) {
+    'line: while first.bytes + shape.len < end && is_of_tenant(&finder, text, first.bytes, shape) {
         first.bytes += each;
         first.count += 1;
     }
@@ -79,7 +80,7 @@ fn first_shape(text: &[u8]) -> Option<Shape>
 
 // Whether a line of this shape stands at a place, and is of a tenant.
 #[inline(always)]
-fn is_of_tenant(names: &Names, text: &[u8], at: usize, shape: Shape) -> bool
+fn is_of_tenant(finder: &Finder<'_>, text: &[u8], at: usize, shape: Shape) -> bool
     requires least { 8 ≤ shape.label }
     requires most { shape.label ≤ 16 }
     requires item { shape.label + 3 ≤ shape.len }
@@ -87,13 +88,13 @@ fn is_of_tenant(names: &Names, text: &[u8], at: usize, shape: Shape) -> bool
     requires within { at + shape.len < length text.now }
     ensures end { result ≡ true → slice_index text.now (at + shape.len) ≡ 10 }
     ensures plain { result ≡ true → (i : ℕ) → at ≤ i → i < at + shape.len → slice_index text.now i ≢ 10 }
-    ensures named { result ≡ true → IsNamedAt names.now text.now at shape.label }
+    ensures named { result ≡ true → IsNamedAt finder.now text.now at shape.label }
 {
     let end = at + shape.len;
     text[end] == LF
         && has_no_lf(text, at, end)
         && text[at + shape.label] == b' '
-        && names.place_guessed(&text[at..at + shape.label]).is_some()
+        && finder.place(&text[at..at + shape.label]).is_some()
 }
 
 // Whether no byte from one place up to another is LF: by blocks, of which the last may lie over the one before.

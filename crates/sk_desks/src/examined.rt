@@ -87,7 +87,7 @@ pub(crate) fn tenant_guessed(
     if to < from + label + 2 || text[from + label] != b' ' {
         return None;
     }
-    names.place_guessed(&text[from..from + label])
+    names.finder().place(&text[from..from + label])
 }
 
 // Examines a line. Not inlined, so that the loop over lines stays short.

@@ -1,6 +1,6 @@
 // Lines of windows, fed to a desk.
 ghost use Rattle.std.specs.Prelude.{◌≡◌, ◌<◌, ◌≤◌, ◌+◌, ◌-◌, ◌*◌, length, map, slice_range, true, false};
-ghost use Rattle.sk_model.specs.Limits.{most_updaters};
+ghost use Rattle.sk_model.specs.Limits.{IsFrom, most_updaters};
 ghost use Rattle.sk_model.specs.Lines.{lines_of};
 ghost use Rattle.sk_lines.specs.Runs.{IsRun, AreEven};
 ghost use Rattle.sk_lines.specs.Spans.{AreBehind, lines_at};
@@ -120,8 +120,7 @@ fn feed_guessed<R: Wait>(
     label: usize,
     seed: u32,
 )
-    requires least { 8 ≤ label }
-    requires most { label ≤ 16 }
+    requires label { IsFrom 8 16 label }
     requires some { 0 < count }
     requires run { IsRun count run.now }
     requires bytes { length run.now ≡ count * (len + 1) }

@@ -21,6 +21,10 @@ use std::mem::replace;
 use std::sync::Wait;
 use std::thread::Threads;
 
+// After so many stretches desks are woken: a pool has twice as many, so that there is always one for the reader if all
+// desks sleep. A call to wake one has its cost.
+const GIVEN_AT_ONCE: u32 = 4;
+
 /// Feeds a stretch to desks, each in a thread of its own, and those that are gathered meanwhile. The last that was
 /// gathered is not fed: it takes the place of the first.
 pub(crate) fn feed_in_lanes<S: Source, R: Threads + Wait + Sync>(
@@ -121,6 +125,7 @@ fn gather_and_give<S: Source, R: Wait>(
     ensures cause { HasCauseIn LabelFault.ReadFault (S.faults source.old) (S.faults source.new) result }
     ensures stays { S.stands_on source.new ≡ S.stands_on source.old }
 {
+    let mut given: u32 = 0;
     'stretch: for _ in rt.forever() {
         if !gather_stretch(gatherer, source, next)? {
             return Ok(false);
@@ -130,7 +135,15 @@ fn gather_and_give<S: Source, R: Wait>(
         };
         let full = replace(next, free);
         supply.give(rt, full)?;
-        crew.wake_feeders();
+        given = given.wrapping_add(1);
+        wake_after(crew, given);
     }
     unreachable!()
+}
+
+// Wakes desks after so many stretches, each time as many as are given at once.
+fn wake_after(crew: &Crew, given: u32) {
+    if given % GIVEN_AT_ONCE == 0 {
+        crew.wake_feeders();
+    }
 }

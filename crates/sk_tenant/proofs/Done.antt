@@ -6,7 +6,7 @@ use Rattle.std.proofs.lemmas.List.{set-get_or}
 use Rattle.std.proofs.lemmas.List.Elements.{All-set}
 use Rattle.std.proofs.lemmas.Option.{get_or_from_slice_get, slice_get-get_or}
 use Rattle.sk_hub.specs.Updaters.{UpdaterState, kept_of}
-use Rattle.sk_tenant.specs.Calls.{Call, Owes, Lone}
+use Rattle.sk_tenant.specs.Calls.{Call, IsFiltered, Owes, Lone}
 use Rattle.sk_tenant.specs.Desks.{DeskState, IsDesk, IsDone, AreDone, IsSameDesk, calls_for}
 use Rattle.sk_tenant.specs.Hosts.{TenantsState, IsDeskOf}
 use Rattle.sk_tenant.proofs.Owed.{owed_takes, owed_few, lone_none, lone_first, lone_takes}
@@ -128,6 +128,12 @@ pub over_now : (P : Type 0) (old d : DeskState) (t : ℕ) (v : UpdaterState) →
 over_now P old d t v same at over u is =
     subst (λ w. P ↔ (length (kept_of w) ≡ old.quota)) (at_place old d t v u same at is)
     (subst (λ s. P ↔ (length (kept_of v) ≡ s.quota)) same over)
+
+pub filtered_now : (old d : DeskState) (t : ℕ) (v : UpdaterState) (item : ℕ) (drops : Bool) → d ≡ old → v ≡ get_or d.updaters t v → (drops ≡ true) ↔ IsFiltered d.quota v item
+    → (u : UpdaterState) → slice_get old.updaters t ≡ Some u → (drops ≡ true) ↔ IsFiltered old.quota u item
+filtered_now old d t v item drops same at exact u is =
+    subst (λ w. (drops ≡ true) ↔ IsFiltered old.quota w item) (at_place old d t v u same at is)
+    (subst (λ s. (drops ≡ true) ↔ IsFiltered s.quota v item) same exact)
 
 -- a call that leaves its updater as it is leaves the desk as it is
 pub done_same : (d : DeskState) (t : ℕ) (u : UpdaterState) (call : Call) → t < length d.updaters → u ≡ get_or d.updaters t u → Owes d.quota u call u → IsDone d t call d

@@ -5,4 +5,5 @@ pub mod LastWord
 pub mod Places
 pub mod Guessing
 pub mod FromEnd
+pub mod Halves
 pub mod Dealt

@@ -69,6 +69,11 @@ pub record IsOffered (quota : ℕ) (u : UpdaterState) (item : ℕ) : Type 0 wher
   pub below : length (kept_of u) < quota
   pub is_item : IsItem item
 
+-- below the quota it is filtered by the hint
+pub record IsFiltered (quota : ℕ) (u : UpdaterState) (item : ℕ) : Type 0 where
+  pub below : length (kept_of u) < quota
+  pub filtered : theta_keeps u.hint item ≡ false
+
 -- it is kept
 pub record KeepsItem (u : UpdaterState) (item : ℕ) (u' : UpdaterState) : Type 0 where
   pub accepts : Accepts by_theta u item u'

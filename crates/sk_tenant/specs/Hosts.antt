@@ -61,6 +61,16 @@ AreNewDesks hosts shape quota desks = (i : ℕ) (d : DeskState) → i < length d
 
 -- ---- the end
 
+-- each updater is of the hub of the heart at its place
+pub record AreOfHubs (hearts : List HeartState) (updaters : List UpdaterState) : Type 0 where
+  pub count : length updaters ≡ length hearts
+  pub tables : (t : ℕ) (h : HeartState) (u : UpdaterState) → t < length hearts → (slice_index_or updaters t u).table ≡ (slice_index_or hearts t h).table
+
+-- each heart drained the updater at its place
+pub record DrainEach (hearts : List HeartState) (updaters : List UpdaterState) (hearts' : List HeartState) : Type 0 where
+  pub count : length hearts' ≡ length hearts
+  pub drains : (t : ℕ) (h : HeartState) (u : UpdaterState) → t < length hearts → IsDrained (slice_index_or hearts t h) (slice_index_or updaters t u) (slice_index_or hearts' t h)
+
 -- for each tenant the desk has an updater of that tenant's hub
 pub record IsDeskOf (hosts : TenantsState) (d : DeskState) : Type 0 where
   pub tenants : length d.updaters ≡ length hosts.hearts

@@ -4,7 +4,7 @@ ghost use Rattle.sk_model.specs.Limits.{most_kept};
 ghost use Rattle.sk_model.specs.Width.{IsItem};
 ghost use Rattle.sk_hub.specs.Updaters.{kept_of};
 ghost use Rattle.sk_tenant.specs.Names.{place_of};
-ghost use Rattle.sk_tenant.specs.Calls.{Adds, Insists, Asks, Helps, InsistsOnItem, OwesAdd, OwesInsist, OwesAsk, OwesHelp};
+ghost use Rattle.sk_tenant.specs.Calls.{Adds, Insists, Asks, Helps, InsistsOnItem, IsFiltered, OwesAdd, OwesInsist, OwesAsk, OwesHelp};
 ghost use Rattle.sk_tenant.specs.Desks.{IsDone, IsDesk};
 
 use crate::answers::Add;
@@ -26,6 +26,8 @@ pub struct Desk {
     pub(crate) quota: u64,
     // each at the place of its tenant
     pub(crate) updaters: Vec<Updater<TenantTheta>>,
+    // empty, with room for half of them, so that two threads can drain them
+    pub(crate) later: Vec<Updater<TenantTheta>>,
 }
 
 impl Model for Desk {
@@ -83,12 +85,13 @@ impl Desk {
         insist_with(rt, &mut self.updaters[t as usize], quota, item)
     }
 
-    /// Whether `insist` would take this item without a change: below the quota most items are filtered.
+    /// Whether an item, below the quota, is filtered: `insist` would take it without a change.
     #[inline(always)]
     pub fn filters(&self, t: u32, item: u64) -> bool
         requires place { t < length self.now.updaters }
         requires item { IsItem item }
-        ensures { result ≡ true → IsDone self.now t (Insists item true) self.now }
+        ensures done { result ≡ true → IsDone self.now t (Insists item true) self.now }
+        ensures exact { (u : _) → slice_get self.now.updaters t ≡ Some u → (result ≡ true) ↔ IsFiltered self.now.quota u item }
     {
         does_filter(&self.updaters[t as usize], self.quota, item)
     }
@@ -152,12 +155,14 @@ fn insist_with<R: Wait>(rt: &R, updater: &mut Updater<TenantTheta>, quota: u64, 
 fn does_filter(updater: &Updater<TenantTheta>, quota: u64, item: u64) -> bool
     requires within { length (kept_of updater.now) ≤ quota }
     requires item { IsItem item }
-    ensures { result ≡ true → OwesInsist quota updater.now item true updater.now }
+    ensures owes { result ≡ true → OwesInsist quota updater.now item true updater.now }
+    ensures exact { (result ≡ true) ↔ IsFiltered quota updater.now item }
 {
     updater.taken() != quota && !TenantTheta::keeps(updater.hint(), item)
 }
 
 // Offers an item to an updater until it is taken. The merges of its sketch take no memory.
+#[cold]
 #[inline(never)]
 fn insist_on<R: Wait>(rt: &R, updater: &mut Updater<TenantTheta>, item: u64)
     requires item { IsItem item }

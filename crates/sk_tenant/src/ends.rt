@@ -8,10 +8,8 @@ pub(crate) const END: usize = 8;
 /// Names of at most this many bytes are equal if their ends are.
 pub(crate) const BOTH_ENDS: usize = 16;
 
-// Odd numbers without a pattern, by which ends are mixed.
-const FIRST_MIXER: u64 = 0x9e37_79b9_7f4a_7c15;
-
-const LAST_MIXER: u64 = 0xc2b2_ae3d_27d4_eb4f;
+// By as many bits the last bytes are turned before they are added to the first, which are the same in a name of eight.
+const TURN: u32 = 29;
 
 // Marks have 11 bits.
 const MARK_SHIFT: u32 = 53;
@@ -78,14 +76,14 @@ impl Ends {
         }
     }
 
-    /// A number that is made of them. Others may have the same.
+    /// A number that is made of them by an odd one. Others may have the same.
     #[inline(always)]
-    pub(crate) fn mark(&self) -> usize
+    pub(crate) fn mark(&self, mixer: u64) -> usize
         ensures { result < most_marks }
     {
-        let first = u64::from_le_bytes(self.first).wrapping_mul(FIRST_MIXER);
-        let last = u64::from_le_bytes(self.last).wrapping_mul(LAST_MIXER);
-        (first.wrapping_add(last) >> MARK_SHIFT) as usize
+        let first = u64::from_le_bytes(self.first);
+        let last = u64::from_le_bytes(self.last).rotate_left(TURN);
+        (first.wrapping_add(last).wrapping_mul(mixer) >> MARK_SHIFT) as usize
     }
 
     /// Whether these are the same.

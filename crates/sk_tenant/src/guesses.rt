@@ -11,16 +11,23 @@ use std::alloc::Global;
 // The ends of a name have one of this many marks.
 const MARKS: usize = 2_048;
 
+// An odd number without a pattern, whose powers are tried as mixers.
+const MIXER: u64 = 0x9e37_79b9_7f4a_7c15;
+
+// With 64 names one mixer in three gives no two of them one mark.
+const MOST_TRIED: u32 = 64;
+
 /// For each mark the ends of a name without a space that has it, and the place of that name. Of several names with the
-/// same mark it is the last.
+/// same mark it is the last: a mixer is sought by which there are none.
 #[derive(Drop)]
 pub(crate) struct Guesses {
     by_mark: Vec<Guess>,
+    mixer: u64,
 }
 
-// The ends of a name, and its place.
+/// The ends of a name, and its place.
 #[derive(Clone, Copy)]
-struct Guess {
+pub(crate) struct Guess {
     ends: Ends,
     place: u32,
 }
@@ -31,15 +38,56 @@ impl Guesses {
         requires few { length names.now.keys ≤ most_tenants }
         ensures { IfOk result (λ guesses. AreGuesses (map (λ own. own.items) names.now.keys) guesses.by_mark.items) }
     {
+        let mut mixer = MIXER;
+        'mixer: for _ in 1..MOST_TRIED {
+            let guesses = Guesses::mixed_by(alloc, names, mixer)?;
+            if guesses.find_all(names) {
+                return Ok(guesses);
+            }
+            mixer = mixer.wrapping_mul(MIXER);
+        }
+        Guesses::mixed_by(alloc, names, mixer)
+    }
+
+    // The same by this mixer.
+    fn mixed_by(
+        alloc: Global,
+        names: &IndexSet<Vec<u8>>,
+        mixer: u64,
+    ) -> Result<Guesses, OutOfMemory>
+        requires few { length names.now.keys ≤ most_tenants }
+        ensures { IfOk result (λ guesses. AreGuesses (map (λ own. own.items) names.now.keys) guesses.by_mark.items) }
+    {
         let mut by_mark = no_guesses(alloc)?;
         'name: for place in 0..names.len() {
             if let Some(name) = names.get_index(place) {
                 if !name.as_slice().contains(&b' ') {
-                    put_guess(&mut by_mark, names, name.as_slice(), place as u32);
+                    put_guess(&mut by_mark, mixer, names, name.as_slice(), place as u32);
                 }
             }
         }
-        Ok(Guesses { by_mark })
+        Ok(Guesses { by_mark, mixer })
+    }
+
+    // Whether each name that has no space is found.
+    fn find_all(&self, names: &IndexSet<Vec<u8>>) -> bool
+        requires { AreGuesses (map (λ own. own.items) names.now.keys) self.now.by_mark.items }
+    {
+        'name: for place in 0..names.len() {
+            if let Some(name) = names.get_index(place) {
+                let name = name.as_slice();
+                if !name.contains(&b' ') && self.place(names, name).is_none() {
+                    return false;
+                }
+            }
+        }
+        true
+    }
+
+    /// By which number marks are made.
+    #[inline(always)]
+    pub(crate) fn mixer(&self) -> u64 {
+        self.mixer
     }
 
     /// The place of this name of at most 16 bytes, which has no space then, unless another one has its mark.
@@ -52,36 +100,20 @@ impl Guesses {
         if name.len() > BOTH_ENDS {
             return None;
         }
-        self.place_by(names, name, Ends::of(name))
+        place_by(
+            names,
+            self.by_mark.as_slice(),
+            self.mixer,
+            name,
+            Ends::of(name),
+        )
     }
 
-    /// The same of a name of 8 to 16 bytes.
-    #[inline(always)]
-    pub(crate) fn place_guessed(&self, names: &IndexSet<Vec<u8>>, name: &[u8]) -> Option<u32>
-        requires guesses { AreGuesses (map (λ own. own.items) names.now.keys) self.now.by_mark.items }
-        requires least { 8 ≤ length name.now }
-        requires most { length name.now ≤ 16 }
-        ensures place { IfSome result (λ t. slice_get (map (λ own. own.items) names.now.keys) t ≡ Some name.now) }
-        ensures plain { IfSome result (λ _. HasNoSpace name.now) }
+    /// All of them, by their marks.
+    pub(crate) fn as_slice(&self) -> &[Guess]
+        ensures { result.now ≡ self.now.by_mark.items }
     {
-        self.place_by(names, name, Ends::of_many(name))
-    }
-
-    // The place of the name of at most 16 bytes that has these ends.
-    #[inline(always)]
-    fn place_by(&self, names: &IndexSet<Vec<u8>>, name: &[u8], ends: Ends) -> Option<u32>
-        requires guesses { AreGuesses (map (λ own. own.items) names.now.keys) self.now.by_mark.items }
-        requires ends { AreEndsOf name.now ends }
-        requires most { length name.now ≤ 16 }
-        ensures place { IfSome result (λ t. slice_get (map (λ own. own.items) names.now.keys) t ≡ Some name.now) }
-        ensures plain { IfSome result (λ _. HasNoSpace name.now) }
-    {
-        let guess = &self.by_mark[ends.mark()];
-        if guess.ends.are(&ends) {
-            Some(guess.place)
-        } else {
-            None
-        }
+        self.by_mark.as_slice()
     }
 
     /// The place of this name, unless another one has its mark.
@@ -91,7 +123,7 @@ impl Guesses {
         ensures { IfSome result (λ t. slice_get (map (λ own. own.items) names.now.keys) t ≡ Some name.now) }
     {
         let ends = Ends::of(name);
-        let guess = &self.by_mark[ends.mark()];
+        let guess = &self.by_mark[ends.mark(self.mixer)];
         if !guess.ends.are(&ends) {
             return None;
         }
@@ -99,6 +131,46 @@ impl Guesses {
             return compared(names, guess.place, name);
         }
         Some(guess.place)
+    }
+}
+
+/// The same of a name of 8 to 16 bytes, by all guesses.
+#[inline(always)]
+pub(crate) fn place_among(
+    names: &IndexSet<Vec<u8>>,
+    by_mark: &[Guess],
+    mixer: u64,
+    name: &[u8],
+) -> Option<u32>
+    requires guesses { AreGuesses (map (λ own. own.items) names.now.keys) by_mark.now }
+    requires least { 8 ≤ length name.now }
+    requires most { length name.now ≤ 16 }
+    ensures place { IfSome result (λ t. slice_get (map (λ own. own.items) names.now.keys) t ≡ Some name.now) }
+    ensures plain { IfSome result (λ _. HasNoSpace name.now) }
+{
+    place_by(names, by_mark, mixer, name, Ends::of_many(name))
+}
+
+// The place of the name of at most 16 bytes that has these ends.
+#[inline(always)]
+fn place_by(
+    names: &IndexSet<Vec<u8>>,
+    by_mark: &[Guess],
+    mixer: u64,
+    name: &[u8],
+    ends: Ends,
+) -> Option<u32>
+    requires guesses { AreGuesses (map (λ own. own.items) names.now.keys) by_mark.now }
+    requires ends { AreEndsOf name.now ends }
+    requires most { length name.now ≤ 16 }
+    ensures place { IfSome result (λ t. slice_get (map (λ own. own.items) names.now.keys) t ≡ Some name.now) }
+    ensures plain { IfSome result (λ _. HasNoSpace name.now) }
+{
+    let guess = &by_mark[ends.mark(mixer)];
+    if guess.ends.are(&ends) {
+        Some(guess.place)
+    } else {
+        None
     }
 }
 
@@ -114,17 +186,24 @@ fn no_guesses(alloc: Global) -> Result<Vec<Guess>, OutOfMemory>
 }
 
 // Puts the guess of the name at this place.
-fn put_guess(by_mark: &mut Vec<Guess>, names: &IndexSet<Vec<u8>>, name: &[u8], place: u32)
+fn put_guess(
+    by_mark: &mut Vec<Guess>,
+    mixer: u64,
+    names: &IndexSet<Vec<u8>>,
+    name: &[u8],
+    place: u32,
+)
     requires guesses { AreGuesses (map (λ own. own.items) names.now.keys) by_mark.old.items }
     requires place { slice_get (map (λ own. own.items) names.now.keys) place ≡ Some name.now }
     requires plain { HasNoSpace name.now }
     ensures { AreGuesses (map (λ own. own.items) names.now.keys) by_mark.new.items }
 {
     let ends = Ends::of(name);
-    by_mark[ends.mark()] = Guess { ends, place };
+    by_mark[ends.mark(mixer)] = Guess { ends, place };
 }
 
 // The place t, if the name there is this one.
+#[cold]
 #[inline(never)]
 fn compared(names: &IndexSet<Vec<u8>>, t: u32, name: &[u8]) -> Option<u32>
     ensures { IfSome result (λ t. slice_get (map (λ own. own.items) names.now.keys) t ≡ Some name.now) }

@@ -4,7 +4,7 @@ ghost use Rattle.sk_tenant.specs.Names.{place_of, bytes_of, most_tenants, AreDif
 
 use crate::answers::TenantStop;
 use crate::ends::{BOTH_ENDS, END};
-use crate::guesses::Guesses;
+use crate::guesses::{Guess, Guesses, place_among};
 use indexmap::IndexSet;
 use sk_model::OutOfMemory;
 use std::alloc::Global;
@@ -89,8 +89,8 @@ impl Names {
         }
     }
 
-    /// The place of the tenant with this name, if the name has no space. Of 8 to 16 bytes it is mostly found without a
-    /// call.
+    /// The place of the tenant with this name, if the name has no space. Of at most 16 bytes it is mostly found without a
+    /// look at all names.
     #[inline(always)]
     pub fn place_plain(&self, name: &[u8]) -> Option<u32>
         ensures found { IfSome result (λ t. slice_get self.now t ≡ Some name.now) }
@@ -104,19 +104,16 @@ impl Names {
         }
     }
 
-    /// The same of a name of 8 to 16 bytes, whose length is not looked at then.
+    /// What finds the places of names of 8 to 16 bytes.
     #[inline(always)]
-    pub fn place_guessed(&self, name: &[u8]) -> Option<u32>
-        requires least { 8 ≤ length name.now }
-        requires most { length name.now ≤ 16 }
-        ensures found { IfSome result (λ t. slice_get self.now t ≡ Some name.now) }
-        ensures plain { IfSome result (λ _. HasNoSpace name.now) }
-        ensures none { IfNone result (HasNoSpace name.now → ¬ Contains self.now name.now) }
+    pub fn finder(&self) -> Finder<'_>
+        ensures { result ≡ self.now }
     {
         let table: &Table = &self.table;
-        match table.guesses.place_guessed(&table.names, name) {
-            Some(t) => Some(t),
-            None => sought_plain(&table.names, name),
+        Finder {
+            names: self,
+            by_mark: table.guesses.as_slice(),
+            mixer: table.guesses.mixer(),
         }
     }
 
@@ -141,7 +138,46 @@ impl Names {
     }
 }
 
+/// What finds the places of names of 8 to 16 bytes: where they are sought first is at hand.
+#[derive(Drop)]
+pub struct Finder<'n> {
+    names: &'n Names,
+    by_mark: &'n [Guess],
+    mixer: u64,
+}
+
+impl<'n> Model for Finder<'n> {
+    ghost use Rattle.std.specs.Prelude.{ℕ, List};
+    ghost use Rattle.sk_tenant.specs.Guesses.{AreGuesses};
+
+    ghost Value = { List (List ℕ) };
+
+    ghost view = { λ f. f.names.now };
+
+    ghost invariant = { λ f. AreGuesses f.names.now f.by_mark.now };
+}
+
+impl<'n> Finder<'n> {
+    /// As `Names::place_plain`, of a name of 8 to 16 bytes, whose length is not looked at then.
+    #[inline(always)]
+    pub fn place(&self, name: &[u8]) -> Option<u32>
+        requires least { 8 ≤ length name.now }
+        requires most { length name.now ≤ 16 }
+        ensures found { IfSome result (λ t. slice_get self.now t ≡ Some name.now) }
+        ensures plain { IfSome result (λ _. HasNoSpace name.now) }
+        ensures none { IfNone result (HasNoSpace name.now → ¬ Contains self.now name.now) }
+    {
+        let names: &Names = self.names;
+        let table: &Table = &names.table;
+        match place_among(&table.names, self.by_mark, self.mixer, name) {
+            Some(t) => Some(t),
+            None => sought_plain(&table.names, name),
+        }
+    }
+}
+
 // The place of a name, by its hash: seldom, so that `place` is short where it is called.
+#[cold]
 #[inline(never)]
 fn sought(names: &IndexSet<Vec<u8>>, name: &[u8]) -> Option<u32>
     requires few { length names.now.keys ≤ most_tenants }
@@ -152,6 +188,7 @@ fn sought(names: &IndexSet<Vec<u8>>, name: &[u8]) -> Option<u32>
 }
 
 // The same of a name that has no space.
+#[cold]
 #[inline(never)]
 fn sought_plain(names: &IndexSet<Vec<u8>>, name: &[u8]) -> Option<u32>
     requires few { length names.now.keys ≤ most_tenants }

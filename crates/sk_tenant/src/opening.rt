@@ -135,6 +135,7 @@ fn desks_of(
             number,
             quota,
             updaters,
+            later: Vec::with_capacity(alloc, names.len().div_ceil(2) as usize)?,
         };
         desks.push(desk)?;
     }

@@ -28,4 +28,4 @@ pub use ranks::rank_source;
 pub use schedule::replay;
 pub use sk_model::OutOfMemory;
 pub use streams::{Counted, count_streams};
-pub use tenants::{Answered, count_two_tenants, has_plain_name};
+pub use tenants::{Answered, count_two_tenants, has_plain_name, offer_if_kept};

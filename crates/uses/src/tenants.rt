@@ -1,18 +1,21 @@
 //! Two tenants, whose items come to two desks.
-ghost use Rattle.std.specs.Prelude.{◌≡◌, ℕ, ◌<◌, ◌≤◌, ◌++◌, length, All, Contains, IfOk, true, false};
+ghost use Rattle.std.specs.Prelude.{◌≡◌, ◌↔◌, ℕ, ◌<◌, ◌≤◌, ◌++◌, length, slice_get, All, Contains, IfOk, Some, true, false};
 ghost use Rattle.sk_model.specs.Limits.{most_kept};
 ghost use Rattle.sk_model.specs.Sketch.{packed_of};
 ghost use Rattle.sk_model.specs.Width.{IsItem};
+ghost use Rattle.sk_hub.specs.Updaters.{kept_of};
+ghost use Rattle.sk_tenant.specs.Calls.{theta_keeps};
 ghost use Rattle.sk_tenant.specs.Desks.{AreDone};
 ghost use Rattle.sk_tenant.specs.Names.{HasNoSpace};
 ghost use Rattle.uses.specs.Adds.{AreLines, adds_of, taken_for};
 
 use sk_model::OutOfMemory;
 use sk_tenant::laws::{a_desk_stays_of_its_tenants, calls_add_up, the_last_word_is_of_all_calls};
-use sk_tenant::{Add, Desk, Names, Opening, TenantStop, Tenants};
+use sk_tenant::{Add, Desk, Names, Opening, TenantStop, Tenants, is_guessed};
 use sk_theta::Shape;
 use std::alloc::Global;
 use std::sync::Wait;
+use std::thread::Threads;
 
 /// What became of each line at both desks, and the last word of each tenant.
 #[derive(Drop)]
@@ -24,7 +27,7 @@ pub struct Answered {
 
 /// Adds the lines of two desks, each of a tenant's place and an item, drains the second desk and
 /// then the first, and asks for each tenant's word.
-pub fn count_two_tenants<R: Wait>(
+pub fn count_two_tenants<R: Threads + Wait + Sync>(
     rt: &R,
     alloc: Global,
     names: Vec<String>,
@@ -88,5 +91,24 @@ pub fn has_plain_name(names: &Names, name: &[u8]) -> bool
     ensures known { result ≡ true → Contains names.now name.now }
     ensures unknown { result ≡ false → ¬ Contains names.now name.now }
 {
-    names.place_plain(name).is_some()
+    if is_guessed(name.len()) {
+        names.finder().place(name).is_some()
+    } else {
+        names.place_plain(name).is_some()
+    }
+}
+
+/// Offers an item for the tenant at place t unless it is filtered, and returns whether it was offered: below the quota
+/// exactly if the hint keeps it.
+pub fn offer_if_kept<R: Wait>(rt: &R, desk: &mut Desk, t: u32, item: u64) -> bool
+    requires place { t < length desk.old.updaters }
+    requires item { IsItem item }
+    ensures { (u : _) → slice_get desk.old.updaters t ≡ Some u → length (kept_of u) < desk.old.quota
+        → (result ≡ true) ↔ (theta_keeps u.hint item ≡ true) }
+{
+    if desk.filters(t, item) {
+        return false;
+    }
+    desk.insist(rt, t, item);
+    true
 }

@@ -12,4 +12,4 @@ pub returns-else-not-filters : goal.returns-else-not-filters
 returns-else-not-filters g c =
     like_item c.args.seed c.args.desk.now c.args.text.now c.args.span.from c.args.span.to c.args.label c.in-Some.tenant c.hash63_at-item.result c.args.tenant c.requires.order c.requires.within c.requires.tenants c.in-Some.is c.requires.tenant
     c.hash63_at-item.ensures.value c.args.desk.now
-    (insisted c.args.desk.now c.args.desk.now c.in-Some.tenant c.hash63_at-item.result true (c.filters.ensures c.if-not-filters.false) (λ (over : true ≡ false). cc))
+    (insisted c.args.desk.now c.args.desk.now c.in-Some.tenant c.hash63_at-item.result true (c.filters.ensures.done c.if-not-filters.false) (λ (over : true ≡ false). cc))

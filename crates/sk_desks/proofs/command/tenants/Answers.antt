@@ -42,7 +42,7 @@ returns-in_err-read_all-clause-goes g c =
     (λ same. c.in_err-read_all.ensures.quiet (ap (λ (x : LabelFault). Err x) same)) c.in_err-read_all.ensures.early))
 
 pub take_in_all-requires-clause-of_hosts : goal.take_in_all-requires-clause-of_hosts
-take_in_all-requires-clause-of_hosts g c =
+take_in_all-requires-clause-of_hosts g c κs within =
     let names = bytes_of c.args.names.items in
     let opening = c.in_ok-hosts.field-0 in
     let opened = c.in_ok-hosts.ensures in
@@ -50,7 +50,7 @@ take_in_all-requires-clause-of_hosts g c =
     desks_still c.args.plan.now names opening.hosts opening.desks.items c.requires.within c.requires.names opened.hosts opened.count opened.desks c.read_all.new.desks.items (lines_of all.taken) all.gave.1 opened.of_hosts
 
 pub take_in_all-requires-clause-numbered : goal.take_in_all-requires-clause-numbered
-take_in_all-requires-clause-numbered g c =
+take_in_all-requires-clause-numbered g c κs within =
     let names = bytes_of c.args.names.items in
     let opening = c.in_ok-hosts.field-0 in
     let opened = c.in_ok-hosts.ensures in

@@ -1,4 +1,5 @@
-use Rattle.std.proofs.Common.{ℕ, ◌+◌, ◌*◌, refl, ap, ◌∙◌, arith}
+use Rattle.std.proofs.Common.{ℕ, List, ◌+◌, ◌*◌, refl, ap, subst, ◌∙◌, arith}
+use Rattle.sk_desks.specs.Entries.{IsNamedAt}
 use Rattle.sk_desks.proofs.EvenLaws.{first_none, first_more, even_none, even_more, few_in}
 use Rattle.sk_desks.proofs.even.first_of_tenants.Goals as goal
 
@@ -15,7 +16,7 @@ line-preserved c =
     record {
       room = omega (arith, c.line-test.true, c.min-end.ensures, c.saturating_mul.ensures);
       first = first_more c.args.names.now c.args.text.now c.line.first.count c.line.first.bytes shape.len shape.label c.line.invariant.first (omega (arith, c.line-test.true, c.min-end.ensures))
-          (omega (arith, c.in-Some.ensures.least)) c.in-Some.ensures.item (found.end refl) (found.plain refl) (found.named refl);
+          (omega (arith, c.in-Some.ensures.least)) c.in-Some.ensures.item (found.end refl) (found.plain refl) (subst (λ (ns : List (List ℕ)). IsNamedAt ns c.args.text.now c.line.first.bytes shape.label) c.finder-finder.ensures (found.named refl));
       even = even_more c.args.text.now c.line.first shape.len c.line.invariant.even c.line.invariant.len (found.end refl);
       len = c.line.invariant.len;
     }

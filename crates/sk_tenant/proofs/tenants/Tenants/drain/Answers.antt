@@ -9,12 +9,12 @@ invariant_of-self g c =
     let hosts : TenantsState = record { names = c.self.inside.names; k = c.self.inside.k; n = c.self.inside.n; hearts = c.self.inside.hearts.items } in
     let hosts' : TenantsState = record { names = c.self.inside.names; k = c.self.inside.k; n = c.self.inside.n; hearts = c.drain_each.new.hearts.items } in
     let d : DeskState = record { names = c.desk.inside.names; number = c.desk.inside.number; quota = c.desk.inside.quota; updaters = c.desk.inside.updaters.items } in
-    let all : DrainsDesk hosts d hosts' = record { stays = refl; tenants = c.drain_each.ensures.tenants; drains = c.drain_each.ensures.drains } in
+    let all : DrainsDesk hosts d hosts' = record { stays = refl; tenants = c.drain_each.ensures.count; drains = c.drain_each.ensures.drains } in
     let its : IsDeskOf hosts d = subst (IsDeskOf hosts) (sym c.desk.view_is) (subst (λ x. IsDeskOf x c.args.desk) (sym c.self.view_is) c.requires.desk) in
     record {
       few = c.self.invariant.few;
       different = c.self.invariant.different;
-      tenants = c.drain_each.ensures.tenants ∙ c.self.invariant.tenants;
+      tenants = c.drain_each.ensures.count ∙ c.self.invariant.tenants;
       hubs = hubs_stay hosts hosts' d its all c.self.invariant.hubs;
     }
 
@@ -23,7 +23,7 @@ returns-clause-drains g c =
     let hosts : TenantsState = record { names = c.self.inside.names; k = c.self.inside.k; n = c.self.inside.n; hearts = c.self.inside.hearts.items } in
     let hosts' : TenantsState = record { names = c.self.inside.names; k = c.self.inside.k; n = c.self.inside.n; hearts = c.drain_each.new.hearts.items } in
     let d : DeskState = record { names = c.desk.inside.names; number = c.desk.inside.number; quota = c.desk.inside.quota; updaters = c.desk.inside.updaters.items } in
-    let all : DrainsDesk hosts d hosts' = record { stays = refl; tenants = c.drain_each.ensures.tenants; drains = c.drain_each.ensures.drains } in
+    let all : DrainsDesk hosts d hosts' = record { stays = refl; tenants = c.drain_each.ensures.count; drains = c.drain_each.ensures.drains } in
     subst (λ x. DrainsDesk c.args.self.now x hosts') c.desk.view_is (subst (λ x. DrainsDesk x d hosts') c.self.view_is all)
 
 pub returns-clause-taken_in : goal.returns-clause-taken_in
@@ -31,7 +31,7 @@ returns-clause-taken_in g c =
     let hosts : TenantsState = record { names = c.self.inside.names; k = c.self.inside.k; n = c.self.inside.n; hearts = c.self.inside.hearts.items } in
     let hosts' : TenantsState = record { names = c.self.inside.names; k = c.self.inside.k; n = c.self.inside.n; hearts = c.drain_each.new.hearts.items } in
     let d : DeskState = record { names = c.desk.inside.names; number = c.desk.inside.number; quota = c.desk.inside.quota; updaters = c.desk.inside.updaters.items } in
-    let all : DrainsDesk hosts d hosts' = record { stays = refl; tenants = c.drain_each.ensures.tenants; drains = c.drain_each.ensures.drains } in
+    let all : DrainsDesk hosts d hosts' = record { stays = refl; tenants = c.drain_each.ensures.count; drains = c.drain_each.ensures.drains } in
     let its : IsDeskOf hosts d = subst (IsDeskOf hosts) (sym c.desk.view_is) (subst (λ x. IsDeskOf x c.args.desk) (sym c.self.view_is) c.requires.desk) in
     subst (HasTakenInDesk hosts') c.desk.view_is (drained_desk hosts hosts' d its all c.desk.invariant.numbers)
 
@@ -40,7 +40,7 @@ returns-clause-others g c = λ e other taken.
     let hosts : TenantsState = record { names = c.self.inside.names; k = c.self.inside.k; n = c.self.inside.n; hearts = c.self.inside.hearts.items } in
     let hosts' : TenantsState = record { names = c.self.inside.names; k = c.self.inside.k; n = c.self.inside.n; hearts = c.drain_each.new.hearts.items } in
     let d : DeskState = record { names = c.desk.inside.names; number = c.desk.inside.number; quota = c.desk.inside.quota; updaters = c.desk.inside.updaters.items } in
-    let all : DrainsDesk hosts d hosts' = record { stays = refl; tenants = c.drain_each.ensures.tenants; drains = c.drain_each.ensures.drains } in
+    let all : DrainsDesk hosts d hosts' = record { stays = refl; tenants = c.drain_each.ensures.count; drains = c.drain_each.ensures.drains } in
     let its : IsDeskOf hosts d = subst (IsDeskOf hosts) (sym c.desk.view_is) (subst (λ x. IsDeskOf x c.args.desk) (sym c.self.view_is) c.requires.desk) in
     other_desk hosts hosts' d its all c.desk.invariant.numbers e (subst (λ x. e.number ≢ x.number) (sym c.desk.view_is) other) (subst (λ x. HasTakenInDesk x e) (sym c.self.view_is) taken)
 
@@ -49,6 +49,6 @@ returns-clause-desks g c = λ e of.
     let hosts : TenantsState = record { names = c.self.inside.names; k = c.self.inside.k; n = c.self.inside.n; hearts = c.self.inside.hearts.items } in
     let hosts' : TenantsState = record { names = c.self.inside.names; k = c.self.inside.k; n = c.self.inside.n; hearts = c.drain_each.new.hearts.items } in
     let d : DeskState = record { names = c.desk.inside.names; number = c.desk.inside.number; quota = c.desk.inside.quota; updaters = c.desk.inside.updaters.items } in
-    let all : DrainsDesk hosts d hosts' = record { stays = refl; tenants = c.drain_each.ensures.tenants; drains = c.drain_each.ensures.drains } in
+    let all : DrainsDesk hosts d hosts' = record { stays = refl; tenants = c.drain_each.ensures.count; drains = c.drain_each.ensures.drains } in
     let its : IsDeskOf hosts d = subst (IsDeskOf hosts) (sym c.desk.view_is) (subst (λ x. IsDeskOf x c.args.desk) (sym c.self.view_is) c.requires.desk) in
     desk_of_same hosts hosts' d its all e (subst (λ x. IsDeskOf x e) (sym c.self.view_is) of)

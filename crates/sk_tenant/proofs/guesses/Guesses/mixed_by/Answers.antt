@@ -1,7 +1,7 @@
 use Rattle.std.proofs.Common.{Some, ap, sym, ◌∙◌}
 use Rattle.std.specs.Option.{option_map}
 use Rattle.std.proofs.lemmas.Option.{slice_get-map}
-use Rattle.sk_tenant.proofs.guesses.Guesses.of.Goals as goal
+use Rattle.sk_tenant.proofs.guesses.Guesses.mixed_by.Goals as goal
 
 pub put_guess-requires-clause-place : goal.put_guess-requires-clause-place
 put_guess-requires-clause-place c =
