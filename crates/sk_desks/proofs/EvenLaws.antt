@@ -1,12 +1,12 @@
 -- Lines of one length, each of a tenant.
-use Rattle.std.proofs.Common.{◌≡◌, ◌≢◌, ◌⊎◌, inl, inr, ⊎_elim, ℕ, zero, suc, ◌+◌, ◌-◌, ◌*◌, ◌<◌, ◌≤◌, ◌==◌, Bool, true, false, cond, is_some, List, [], ◌∷◌, ◌++◌, length, length-append, length-take, length-drop, take-add, take, drop, get_or, slice_index, slice_range, slice_get, bit_or, max, All, Option, Some, None, IfSome, refl, sym, ap, subst, ◌∙◌, arith}
+use Rattle.std.proofs.Common.{◌≡◌, ◌≢◌, ◌⊎◌, inl, inr, ⊎_elim, ℕ, zero, suc, ◌+◌, ◌-◌, ◌*◌, ◌/◌, ◌<◌, ◌≤◌, ◌^◌, ◌==◌, Bool, true, false, cond, is_some, List, [], ◌∷◌, ◌++◌, length, length-append, length-take, length-drop, take-add, take, drop, get_or, slice_index, slice_range, slice_get, All, Option, Some, None, IfSome, refl, sym, ap, subst, ◌∙◌, arith}
 use Rattle.std.specs.Int.{bit_at}
 use Rattle.std.specs.Str.Lines.{strip_carriage_return}
-use Rattle.std.proofs.Math.Nat.{mul-le-mul_right}
+use Rattle.std.proofs.Math.Nat.{mul-le-mul_right, mul-div_cancel}
 use Rattle.std.proofs.lemmas.Bool.{cases_lt}
 use Rattle.std.proofs.lemmas.List.{take_all, take-take, take_more, get_or-take, get_or-drop, get_or_default, get_or_at, get_or_append_left, get_or-append-add}
 use Rattle.std.proofs.lemmas.List.Elements.{All-push}
-use Rattle.std.proofs.lemmas.Nat.Bits.{bit_at-zero, bit_at_or}
+use Rattle.std.proofs.lemmas.Nat.Bits.{bit_at-zero, bit_at-pow_same, bit_at-pow_other}
 use Rattle.std.proofs.lemmas.Option.{slice_get_within, get_or_from_slice_get}
 use Rattle.sk_model.specs.Lines.{lines_of}
 use Rattle.sk_model.proofs.Lines.{a_line_alone, after_whole_lines, lines_of_nothing}
@@ -18,7 +18,6 @@ use Rattle.sk_lines.proofs.WholeLines.{no_lines, run_more}
 use Rattle.sk_tenant.specs.Names.{HasNoSpace}
 use Rattle.sk_desks.specs.Entries.{IsNamedAt}
 use Rattle.sk_fill.specs.Pages.{IsEven}
-use Rattle.sk_desks.specs.declared.even.FirstLines.{FirstLines}
 use Rattle.sk_desks.specs.Gathers.{AreFirst, HaveOneLength, IsOfTenant}
 use Rattle.sk_desks.proofs.ClerkLaws.{range_size}
 use Rattle.sk_desks.proofs.LikeLaws.{of_tenant}
@@ -36,10 +35,12 @@ named_at names text at label None is plain space some = cc
 pub none_marked : (marks k : ℕ) → marks ≡ 0 → bit_at marks k ≡ 1 → ⊥
 none_marked marks k none set = absurd (omega (arith, bit_at-zero k, ap (λ (m : ℕ). bit_at m k) (sym none) ∙ set))
 
-pub none_of_both : (a b k : ℕ) → bit_or a b ≡ 0 → (bit_at a k ≡ 1 → ⊥) × (bit_at b k ≡ 1 → ⊥)
-none_of_both a b k none =
-    let most : max (bit_at a k) (bit_at b k) ≡ 0 = sym (bit_at_or a b k) ∙ ap (λ (m : ℕ). bit_at m k) none ∙ bit_at-zero k in
-    ((λ set. absurd (omega (arith, most, set))), (λ set. absurd (omega (arith, most, set))))
+-- of a block whose last byte alone is marked no other is
+pub not_marked : (marks k : ℕ) → marks ≡ 2 ^ 15 → k < 15 → bit_at marks k ≡ 1 → ⊥
+not_marked marks k only below set = absurd (omega (arith, bit_at-pow_other 15 k (λ (same : k ≡ 15). absurd (omega (arith, same, below))), ap (λ (m : ℕ). bit_at m k) (sym only) ∙ set))
+
+pub last_marked : (marks : ℕ) → marks ≡ 2 ^ 15 → bit_at marks 15 ≡ 1
+last_marked marks only = ap (λ (m : ℕ). bit_at m 15) only ∙ bit_at-pow_same 15
 
 -- ---- a line without the CR at its end
 
@@ -127,6 +128,30 @@ module _ (names : List (List ℕ)) (run : List ℕ) (count len label : ℕ) wher
   so_far_none = record { turn = 0; place = omega arith; few = omega arith; named = λ i less. absurd (omega (arith, less)) }
 
   module _ (at : ℕ) (bytes : length run ≡ count * (len + 1)) (so_far : AreSoFar names run count len label at) where
+    below_count : at < length run → so_far.turn < count
+    below_count more = ⊎_elim
+        (λ (below : so_far.turn < count). below)
+        (λ (past : count ≤ so_far.turn). absurd (let all : count * (len + 1) ≤ so_far.turn * (len + 1) = mul-le-mul_right (len + 1) past in omega (arith, all, more, bytes, so_far.place)))
+        (cases_lt so_far.turn count)
+
+    -- the next one lies within the run
+    pub so_far_inside : at < length run → at + len < length run
+    so_far_inside more = omega (arith, line_inside count so_far.turn (len + 1) (below_count more), bytes, so_far.place)
+
+    pub so_far_more : at < length run → slice_index run (at + len) ≡ 10 → IsNamedAt names run at label → AreSoFar names run count len label (at + (len + 1))
+    so_far_more more end named = record {
+      turn = so_far.turn + 1;
+      place = omega (arith, so_far.place);
+      few = omega (arith, below_count more);
+      named = λ i less. ⊎_elim
+          (λ (before : i < so_far.turn). so_far.named i before)
+          (λ (here : so_far.turn ≤ i).
+          let last : so_far.turn ≡ i = omega (arith, less, here) in
+          let place : at ≡ i * (len + 1) = so_far.place ∙ ap (λ (n : ℕ). n * (len + 1)) last in
+          (ap (λ (n : ℕ). slice_index run (n + len)) (sym place) ∙ end, subst (λ (n : ℕ). IsNamedAt names run n label) place named))
+          (cases_lt i so_far.turn);
+    }
+
     -- all do
     pub so_far_all : length run ≤ at → (i : ℕ) → i < count → (slice_index run (i * (len + 1) + len) ≡ 10) × IsNamedAt names run (i * (len + 1)) label
     so_far_all all i less = so_far.named i
@@ -195,21 +220,50 @@ even_ends text count bytes len size ends end i less = ⊎_elim
     ap (slice_index text) place ∙ end)
     (cases_lt i count)
 
-pub even_none : (text : List ℕ) (len : ℕ) → HaveOneLength text (record { count = 0; bytes = 0; len = len })
-even_none text len = record { size = omega arith; ends = λ i less. absurd (omega (arith, less)) }
-
-pub even_more : (text : List ℕ) (first : FirstLines) (len : ℕ) → HaveOneLength text first → first.len ≡ len → slice_index text (first.bytes + len) ≡ 10 → HaveOneLength text (record { count = first.count + 1; bytes = first.bytes + (len + 1); len = first.len })
-even_more text first len even same end = record {
-  size = omega (arith, ap (λ (n : ℕ). first.bytes + (n + 1)) same, even.size);
-  ends = even_ends text first.count first.bytes first.len even.size even.ends (ap (λ (n : ℕ). slice_index text (first.bytes + n)) same ∙ end);
-}
-
 -- as few as have room in so many bytes
-pub few_in : (count most len bytes : ℕ) → bytes ≡ count * (len + 1) → bytes ≤ most * (len + 1) → count ≤ most
+few_in : (count most len bytes : ℕ) → bytes ≡ count * (len + 1) → bytes ≤ most * (len + 1) → count ≤ most
 few_in count most len bytes size room = ⊎_elim
     (λ (more : most < count). absurd (omega (arith, line_inside count most (len + 1) more, size, room)))
     (λ (few : count ≤ most). few)
     (cases_lt most count)
+
+-- the lines of a text up to a place, at most `most`, have one length and are of tenants
+pub record AreUpTo (names : List (List ℕ)) (text : List ℕ) (most len bytes : ℕ) : Type 0 where
+  pub count : ℕ
+  pub size : bytes ≡ count * (len + 1)
+  pub room : bytes ≤ most * (len + 1)
+  pub first : AreFirst names text count bytes
+  pub ends : EndEach count len text
+
+module _ (names : List (List ℕ)) (text : List ℕ) (most len : ℕ) where
+  pub none_up_to : AreUpTo names text most len 0
+  none_up_to = record { count = 0; size = omega arith; room = omega arith; first = first_none names text; ends = λ i less. absurd (omega (arith, less)) }
+
+  module _ (bytes : ℕ) (up : AreUpTo names text most len bytes) where
+    pub one_more_up_to : (label : ℕ) → bytes + len < length text → bytes + (len + 1) ≤ most * (len + 1) → 0 < label → label + 3 ≤ len → slice_index text (bytes + len) ≡ 10
+        → ((i : ℕ) → bytes ≤ i → i < bytes + len → slice_index text i ≢ 10) → IsNamedAt names text bytes label → AreUpTo names text most len (bytes + (len + 1))
+    one_more_up_to label within room some item end plain named = record {
+      count = up.count + 1;
+      size = omega (arith, up.size);
+      room = room;
+      first = first_more names text up.count bytes len label up.first within some item end plain named;
+      ends = even_ends text up.count bytes len up.size up.ends end;
+    }
+
+    counted : bytes / (len + 1) ≡ up.count
+    counted = ap (λ (n : ℕ). n / (len + 1)) up.size ∙ mul-div_cancel up.count (omega arith)
+
+    pub few_up_to : bytes / (len + 1) ≤ most
+    few_up_to = subst (λ (n : ℕ). n ≤ most) (sym counted) (few_in up.count most len bytes up.size up.room)
+
+    pub first_up_to : AreFirst names text (bytes / (len + 1)) bytes
+    first_up_to = subst (λ (n : ℕ). AreFirst names text n bytes) (sym counted) up.first
+
+    pub even_up_to : HaveOneLength text (record { count = bytes / (len + 1); bytes = bytes; len = len })
+    even_up_to = record {
+      size = up.size ∙ ap (λ (n : ℕ). n * (len + 1)) (sym counted);
+      ends = subst (λ (n : ℕ). EndEach n len text) (sym counted) up.ends;
+    }
 
 -- a line of a text, and as long ones after it
 module _ (front run : List ℕ) (count len : ℕ) (one : IsRun 1 front) (long : length front ≡ len + 1) (size : length run ≡ count * (len + 1)) (ends : EndEach count len run) where

@@ -80,3 +80,13 @@ module _ (names : List (List ℕ)) (text : List ℕ) (from to label : ℕ) (orde
   pub tenant_labelled : (found : Option ℕ) → IfSome found (λ t. slice_get names t ≡ Some name) → IfSome found (λ _. HasNoSpace name) → IfSome found (λ t. IsLabelledBy names line t (label + 1))
   tenant_labelled (Some t) is plain = labelled line label some inside space_at (subst HasNoSpace same_name plain) names t (is ∙ ap Some same_name)
   tenant_labelled None is plain = tt
+
+-- what a finder of these names found, of a name of this many bytes
+module _ (names names' : List (List ℕ)) (text : List ℕ) (from len label : ℕ) (place : Option ℕ) (same : names' ≡ names) (long : len ≡ label) where
+  pub its_found : IfSome place (λ t. slice_get names' t ≡ Some (slice_range text from (from + len))) → IfSome place (λ t. slice_get names t ≡ Some (slice_range text from (from + label)))
+  its_found found =
+      subst (λ (ns : List (List ℕ)). IfSome place (λ t. slice_get ns t ≡ Some (slice_range text from (from + label)))) same
+      (subst (λ (n : ℕ). IfSome place (λ t. slice_get names' t ≡ Some (slice_range text from (from + n)))) long found)
+
+  pub its_plain : IfSome place (λ _. HasNoSpace (slice_range text from (from + len))) → IfSome place (λ _. HasNoSpace (slice_range text from (from + label)))
+  its_plain plain = subst (λ (n : ℕ). IfSome place (λ _. HasNoSpace (slice_range text from (from + n)))) long plain

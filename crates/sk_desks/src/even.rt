@@ -1,18 +1,21 @@
 // Lines of one length, each of a tenant, known by a look at the start and the end of each.
-ghost use Rattle.std.specs.Prelude.{◌≡◌, ◌≢◌, ℕ, ◌+◌, ◌-◌, ◌*◌, ◌<◌, ◌≤◌, All, length, slice_index, IfSome, true};
+ghost use Rattle.std.specs.Prelude.{◌≡◌, ◌≢◌, ◌↔◌, ℕ, ◌+◌, ◌-◌, ◌*◌, ◌<◌, ◌≤◌, All, length, slice_index, IfSome, true};
 ghost use Rattle.std.specs.Int.{bit_at};
 ghost use Rattle.sk_model.specs.Lines.{lines_of};
 ghost use Rattle.sk_lines.specs.Runs.{IsRun, EndEach};
 ghost use Rattle.sk_desks.specs.Entries.{IsNamedAt};
 ghost use Rattle.sk_desks.specs.Gathers.{AreFirst, HaveOneLength, IsOfTenant};
 
-use sk_tenant::{Finder, Names, is_guessed};
+use sk_tenant::{Finder, Names};
 use std::simd::prelude::*;
 
 const LF: u8 = b'\n';
 
 // How many bytes of a line are looked at together.
 const WIDE: usize = 16;
+
+// Of these the last one, as a bit.
+const ONLY_LAST: u64 = 1 << 15;
 
 /// The first lines of a text: how many, how many bytes they have with what ended them, and how many each has before its LF.
 #[derive(Clone, Copy)]
@@ -30,7 +33,7 @@ impl FirstLines {
     };
 }
 
-// How many bytes a line has before its LF, 16 at least, and how many of them are its label.
+// How many bytes a line has before its LF, and how many of them are its label.
 #[derive(Clone, Copy)]
 struct Shape {
     len: usize,
@@ -38,8 +41,7 @@ struct Shape {
 }
 
 /// The first lines of a text, at most `most`, while they have one length, labels of one length, and are of tenants. That
-/// they end where the first one does is seen where it is: no end is sought. Lines of fewer than 16 bytes are not counted,
-/// nor are those whose label has fewer than 8 bytes or more than 16.
+/// they end where the first one does is seen where it is: no end is sought. Lines of fewer than 16 bytes are not counted.
 pub(crate) fn first_of_tenants(names: &Names, text: &[u8], most: usize) -> FirstLines
     ensures few { result.count ≤ most }
     ensures first { AreFirst names.now text.now result.count result.bytes }
@@ -50,29 +52,29 @@ pub(crate) fn first_of_tenants(names: &Names, text: &[u8], most: usize) -> First
     };
     let each = shape.len + 1;
     let end = text.len().min(most.saturating_mul(each));
-    let finder = names.finder();
-    let mut first = FirstLines {
-        len: shape.len,
-        ..FirstLines::NONE
-    };
-    'line: while first.bytes + shape.len < end && is_of_tenant(&finder, text, first.bytes, shape) {
-        first.bytes += each;
-        first.count += 1;
+    let last = end.saturating_sub(shape.len);
+    let finder = names.finder(shape.label);
+    let mut bytes = 0;
+    'line: while bytes < last && is_of_tenant(&finder, text, bytes, shape) {
+        bytes += each;
     }
-    first
+    FirstLines {
+        count: bytes / each,
+        bytes,
+        len: shape.len,
+    }
 }
 
-// The shape of the first line, if it has an item of two bytes at least, and a label whose length is guessed.
+// The shape of the first line, if it has a label, an item of two bytes at least, and 16 bytes.
 fn first_shape(text: &[u8]) -> Option<Shape>
-    ensures least { IfSome result (λ shape. 8 ≤ shape.label) }
-    ensures most { IfSome result (λ shape. shape.label ≤ 16) }
+    ensures label { IfSome result (λ shape. 0 < shape.label) }
     ensures item { IfSome result (λ shape. shape.label + 3 ≤ shape.len) }
     ensures long { IfSome result (λ shape. 16 ≤ shape.len) }
     ensures within { IfSome result (λ shape. shape.len < length text.now) }
 {
     let len = text.iter().position(|byte| *byte == LF)?;
     let label = text[..len].iter().position(|byte| *byte == b' ')?;
-    if !is_guessed(label) || len < label + 3 || len < WIDE {
+    if label == 0 || len < label + 3 || len < WIDE {
         return None;
     }
     Some(Shape { len, label })
@@ -81,37 +83,36 @@ fn first_shape(text: &[u8]) -> Option<Shape>
 // Whether a line of this shape stands at a place, and is of a tenant.
 #[inline(always)]
 fn is_of_tenant(finder: &Finder<'_>, text: &[u8], at: usize, shape: Shape) -> bool
-    requires least { 8 ≤ shape.label }
-    requires most { shape.label ≤ 16 }
+    requires finder { finder.now.len ≡ shape.label }
     requires item { shape.label + 3 ≤ shape.len }
     requires long { 16 ≤ shape.len }
     requires within { at + shape.len < length text.now }
     ensures end { result ≡ true → slice_index text.now (at + shape.len) ≡ 10 }
     ensures plain { result ≡ true → (i : ℕ) → at ≤ i → i < at + shape.len → slice_index text.now i ≢ 10 }
-    ensures named { result ≡ true → IsNamedAt finder.now text.now at shape.label }
+    ensures named { result ≡ true → IsNamedAt finder.now.names text.now at shape.label }
 {
-    let end = at + shape.len;
-    text[end] == LF
-        && has_no_lf(text, at, end)
+    ends_first(text, at, at + shape.len)
         && text[at + shape.label] == b' '
-        && finder.place(&text[at..at + shape.label]).is_some()
+        && finder.place(text, at).is_some()
 }
 
-// Whether no byte from one place up to another is LF: by blocks, of which the last may lie over the one before.
+// Whether LF stands at a place, and not before it from another place on: by blocks, of which the last may lie over the one
+// before.
 #[inline(always)]
-fn has_no_lf(text: &[u8], from: usize, to: usize) -> bool
-    requires long { from + 16 ≤ to }
-    requires within { to ≤ length text.now }
-    ensures { result ≡ true → (i : ℕ) → from ≤ i → i < to → slice_index text.now i ≢ 10 }
+fn ends_first(text: &[u8], from: usize, end: usize) -> bool
+    requires long { from + 16 ≤ end }
+    requires within { end < length text.now }
+    ensures end { result ≡ true → slice_index text.now end ≡ 10 }
+    ensures plain { result ≡ true → (i : ℕ) → from ≤ i → i < end → slice_index text.now i ≢ 10 }
 {
-    let last = to - WIDE;
-    if lfs_of(text, from) | lfs_of(text, last) != 0 {
+    let last = end + 1 - WIDE;
+    if lfs_of(text, from) != 0 || lfs_of(text, last) != ONLY_LAST {
         return false;
     }
-    to - from <= 2 * WIDE || are_blocks_without_lf(text, from + WIDE, last)
+    last - from <= WIDE || are_blocks_without_lf(text, from + WIDE, last)
 }
 
-// The same of a long line's blocks after the first and before the last.
+// Whether no byte from one place up to another is LF, 16 bytes after others.
 fn are_blocks_without_lf(text: &[u8], from: usize, to: usize) -> bool
     requires room { 16 ≤ from }
     requires within { to ≤ length text.now }
@@ -131,7 +132,7 @@ fn are_blocks_without_lf(text: &[u8], from: usize, to: usize) -> bool
 #[inline(always)]
 fn lfs_of(text: &[u8], at: usize) -> u64
     requires { at + 16 ≤ length text.now }
-    ensures { (i : ℕ) → at ≤ i → i < at + 16 → slice_index text.now i ≡ 10 → bit_at result (i - at) ≡ 1 }
+    ensures { (i : ℕ) → at ≤ i → i < at + 16 → (bit_at result (i - at) ≡ 1) ↔ (slice_index text.now i ≡ 10) }
 {
     u8x16::from_slice(&text[at..])
         .simd_eq(u8x16::splat(LF))
@@ -165,9 +166,10 @@ fn are_each_of_tenants(names: &Names, run: &[u8], count: usize, len: usize, labe
     ensures { result ≡ true → EndEach count len run.now × ((i : ℕ) → i < count → IsNamedAt names.now run.now (i * (len + 1)) label) }
 {
     let each = len + 1;
+    let finder = names.finder(label);
     let mut at = 0;
     'line: while at < run.len() {
-        if run[at + len] != LF || !is_named(names, run, at, label) {
+        if run[at + len] != LF || !is_named(&finder, run, at, label) {
             return false;
         }
         at += each;
@@ -175,11 +177,12 @@ fn are_each_of_tenants(names: &Names, run: &[u8], count: usize, len: usize, labe
     true
 }
 
-// Whether the name of a tenant, of this many bytes, stands at a place, and a space after it.
+// Whether the name of a tenant, of this many bytes, stands at a place, and a space after it, as far as the finder reaches.
 #[inline(always)]
-fn is_named(names: &Names, run: &[u8], at: usize, label: usize) -> bool
+fn is_named(finder: &Finder<'_>, run: &[u8], at: usize, label: usize) -> bool
+    requires finder { finder.now.len ≡ label }
     requires within { at + label < length run.now }
-    ensures { result ≡ true → IsNamedAt names.now run.now at label }
+    ensures { result ≡ true → IsNamedAt finder.now.names run.now at label }
 {
-    run[at + label] == b' ' && names.place_plain(&run[at..at + label]).is_some()
+    run[at + label] == b' ' && finder.reaches(run, at) && finder.place(run, at).is_some()
 }

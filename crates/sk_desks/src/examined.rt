@@ -20,7 +20,7 @@ impl Examined {
     const EMPTY: Examined = Examined { item: 0, tenant: 0 };
 }
 
-/// Examines a line that lies in a text. That takes no call if its name has 8 to 15 bytes and is guessed.
+/// Examines a line that lies in a text.
 #[inline(always)]
 pub(crate) fn examine(
     names: &Names,
@@ -47,8 +47,9 @@ pub(crate) fn examine(
     })
 }
 
-/// The place of the tenant of a line that lies in a text, if its label has this many bytes, and the line an item and no
-/// fault. That is less to do than to examine it, which is left to the caller if the answer is none.
+/// The place of the tenant of a line that lies in a text, if its label has this many bytes, the line an item and no fault,
+/// and the text eight bytes from its start on. That is less to do than to examine it, which is left to the caller if the
+/// answer is none.
 #[inline(always)]
 pub(crate) fn tenant_like(
     names: &Names,
@@ -65,29 +66,11 @@ pub(crate) fn tenant_like(
     if label == 0 || (to - from).saturating_sub(label) < 2 || text[from + label] != b' ' {
         return None;
     }
-    names.place_plain(&text[from..from + label])
-}
-
-/// The same for a label of 8 to 16 bytes, whose length is not looked at then.
-#[inline(always)]
-pub(crate) fn tenant_guessed(
-    names: &Names,
-    text: &[u8],
-    from: usize,
-    to: usize,
-    label: usize,
-) -> Option<u32>
-    requires least { 8 ≤ label }
-    requires most { label ≤ 16 }
-    requires order { from ≤ to }
-    requires within { to ≤ length text.now }
-    ensures fine { IfSome result (λ _. IsOfTenant names.now (slice_range text.now from to)) }
-    ensures label { IfSome result (λ t. IsLabelledBy names.now (slice_range text.now from to) t (label + 1)) }
-{
-    if to < from + label + 2 || text[from + label] != b' ' {
+    let finder = names.finder(label);
+    if !finder.reaches(text, from) {
         return None;
     }
-    names.finder().place(&text[from..from + label])
+    finder.place(text, from)
 }
 
 // Examines a line. Not inlined, so that the loop over lines stays short.

@@ -1,6 +1,6 @@
 // Lines of windows, fed to a desk.
 ghost use Rattle.std.specs.Prelude.{◌≡◌, ◌<◌, ◌≤◌, ◌+◌, ◌-◌, ◌*◌, length, map, slice_range, true, false};
-ghost use Rattle.sk_model.specs.Limits.{IsFrom, most_updaters};
+ghost use Rattle.sk_model.specs.Limits.{most_updaters};
 ghost use Rattle.sk_model.specs.Lines.{lines_of};
 ghost use Rattle.sk_lines.specs.Runs.{IsRun, AreEven};
 ghost use Rattle.sk_lines.specs.Spans.{AreBehind, lines_at};
@@ -9,10 +9,10 @@ ghost use Rattle.sk_fill.specs.Windows.{all_lines};
 ghost use Rattle.sk_desks.specs.Feeds.{HasRoom, HasTenants, TakesLines};
 
 use crate::calls::give_like;
-use crate::examined::{tenant_guessed, tenant_like};
+use crate::examined::tenant_like;
 use sk_fill::{Block, Window};
 use sk_lines::{GROUP, Span, even_len, line_len};
-use sk_tenant::{Desk, is_guessed};
+use sk_tenant::Desk;
 use std::sync::Wait;
 
 /// Feeds block i of n of each window to a desk, in order. Lines of no tenant are passed over.
@@ -92,54 +92,8 @@ fn feed_if_even<R: Wait>(rt: &R, desk: &mut Desk, run: &[u8], count: usize, seed
     }
 }
 
-// Feeds lines of one length to a desk. Most have labels of one length.
+// Feeds lines of one length to a desk. Each is first taken to have a label as long as that of the line before.
 fn feed_even<R: Wait>(rt: &R, desk: &mut Desk, run: &[u8], count: usize, len: usize, seed: u32)
-    requires some { 0 < count }
-    requires run { IsRun count run.now }
-    requires bytes { length run.now ≡ count * (len + 1) }
-    requires even { AreEven count len run.now }
-    requires tenants { HasTenants desk.old }
-    requires room { HasRoom count desk.old }
-    ensures { TakesLines seed desk.old (lines_of run.now) desk.new }
-{
-    let label = run.iter().position(|byte| *byte == b' ').unwrap_or(0);
-    if is_guessed(label) {
-        feed_guessed(rt, desk, run, count, len, label, seed);
-    } else {
-        feed_like(rt, desk, run, count, len, seed);
-    }
-}
-
-// The same if labels mostly have this many bytes: their length is not looked at for each line.
-fn feed_guessed<R: Wait>(
-    rt: &R,
-    desk: &mut Desk,
-    run: &[u8],
-    count: usize,
-    len: usize,
-    label: usize,
-    seed: u32,
-)
-    requires label { IsFrom 8 16 label }
-    requires some { 0 < count }
-    requires run { IsRun count run.now }
-    requires bytes { length run.now ≡ count * (len + 1) }
-    requires even { AreEven count len run.now }
-    requires tenants { HasTenants desk.old }
-    requires room { HasRoom count desk.old }
-    ensures { TakesLines seed desk.old (lines_of run.now) desk.new }
-{
-    let each = len + 1;
-    'line: for i in 0..count {
-        let from = i * each;
-        let to = from + line_len(run, from, from + len);
-        let tenant = tenant_guessed(desk.names(), run, from, to, label);
-        give_like(rt, desk, run, Span { from, to }, label, tenant, seed);
-    }
-}
-
-// The same for labels of any length.
-fn feed_like<R: Wait>(rt: &R, desk: &mut Desk, run: &[u8], count: usize, len: usize, seed: u32)
     requires some { 0 < count }
     requires run { IsRun count run.now }
     requires bytes { length run.now ≡ count * (len + 1) }

@@ -1,9 +1,9 @@
 -- Names by their ends, and where a name is sought first.
-use Rattle.std.proofs.Common.{◌≡◌, ⊎_elim, ℕ, ◌+◌, ◌-◌, ◌<◌, ◌≤◌, List, [], ◌++◌, length, get_or, take, drop, replicate, Some, slice_get, All, sym, ap, subst, ◌∙◌, arith, take-append-drop}
+use Rattle.std.proofs.Common.{◌≡◌, ⊎_elim, ℕ, ◌+◌, ◌-◌, ◌<◌, ◌≤◌, ◌^◌, List, [], ◌++◌, length, get_or, take, drop, replicate, Some, slice_get, All, sym, ap, subst, ◌∙◌, arith, take-append-drop}
 use Rattle.std.proofs.lemmas.Bool.{cases_lt}
 use Rattle.std.proofs.lemmas.List.{drop-drop, length-replicate}
 use Rattle.std.proofs.lemmas.List.Elements.{All-replicate}
-use Rattle.std.proofs.lemmas.Option.{slice_get-get_or}
+use Rattle.std.proofs.lemmas.Option.{slice_get-get_or, get_or_from_slice_get}
 use Rattle.sk_tenant.specs.declared.ends.Ends.{Ends}
 use Rattle.sk_tenant.specs.declared.guesses.Guess.{Guess}
 use Rattle.sk_tenant.specs.Names.{HasNoSpace}
@@ -34,27 +34,30 @@ same_by_ends xs ys e f a b first last len most = ⊎_elim
 -- ---- guesses
 
 -- none is known
-pub none_guessed : (names : List (List ℕ)) (by_mark : List Guess) (unknown : Guess) → by_mark ≡ replicate most_marks unknown → 16 < unknown.ends.len → AreGuesses names by_mark
+pub none_guessed : (names : List (List ℕ)) (by_mark : List Guess) (unknown : Guess) → by_mark ≡ replicate most_marks unknown → 2 ^ 63 ≤ unknown.ends.len → AreGuesses names by_mark
 none_guessed names by_mark unknown are long = record {
   count = ap length are ∙ length-replicate most_marks unknown;
   each = subst (All Known) (sym are) (All-replicate Known most_marks unknown (λ short. absurd (omega (arith, short, long))));
 }
   where
     Known : Guess → Type 0
-    Known guess = guess.ends.len ≤ 16 → IsPlaceOf names guess
+    Known guess = guess.ends.len < 2 ^ 63 → IsPlaceOf names guess
 
 -- a name with the ends of a guess stands at its place
 module _ (names : List (List ℕ)) (by_mark : List Guess) (mark : ℕ) (guess : Guess) (name : List ℕ) (ends : Ends) (are : AreGuesses names by_mark) (within : mark < most_marks) (is : guess ≡ get_or by_mark mark guess) (own : AreEndsOf name ends)
-    (first : guess.ends.first ≡ ends.first) (last : guess.ends.last ≡ ends.last) (len : guess.ends.len ≡ ends.len) (short : length name ≤ 16)
+    (first : guess.ends.first ≡ ends.first) (last : guess.ends.last ≡ ends.last) (len : guess.ends.len ≡ ends.len) (size : length name < 2 ^ 63) (long : 16 < length name → slice_get names guess.place ≡ Some name)
   where
     place : IsPlaceOf names guess
     place =
-        let known : guess.ends.len ≤ 16 → IsPlaceOf names guess =
-        subst (λ (g : Guess). g.ends.len ≤ 16 → IsPlaceOf names g) (sym is) (are.each mark guess (omega (arith, within, are.count))) in
-        known (omega (arith, len, own.len, short))
+        let known : guess.ends.len < 2 ^ 63 → IsPlaceOf names guess =
+        subst (λ (g : Guess). g.ends.len < 2 ^ 63 → IsPlaceOf names g) (sym is) (are.each mark guess (omega (arith, within, are.count))) in
+        known (omega (arith, len, own.len, size))
 
     same : get_or names guess.place [] ≡ name
-    same = same_by_ends (get_or names guess.place []) name guess.ends ends place.ends own first last len short
+    same = ⊎_elim
+        (λ (more : 16 < length name). get_or_from_slice_get names guess.place name [] (long more))
+        (λ (short : length name ≤ 16). same_by_ends (get_or names guess.place []) name guess.ends ends place.ends own first last len short)
+        (cases_lt 16 (length name))
 
     pub guessed : slice_get names guess.place ≡ Some name
     guessed = slice_get-get_or names guess.place [] place.within ∙ ap Some same

@@ -3,6 +3,7 @@ pub mod Done
 pub mod Standing
 pub mod LastWord
 pub mod Places
+pub mod Clearing
 pub mod Guessing
 pub mod FromEnd
 pub mod Halves

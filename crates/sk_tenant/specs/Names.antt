@@ -29,3 +29,8 @@ pub record IsFirstTwice (names : List (List ℕ)) (i : ℕ) : Type 0 where
 -- the bytes of names
 abbrev pub bytes_of : {Z : Type 0} → List (String Z) → List (List ℕ)
 bytes_of {Z} names = map (λ (name : String Z). string_bytes name) names
+
+-- what finds names of one length among these
+pub record FinderState : Type 0 where
+  pub names : List (List ℕ)
+  pub len : ℕ

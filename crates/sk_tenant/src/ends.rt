@@ -1,15 +1,12 @@
 //! A name by its ends.
-ghost use Rattle.std.specs.Prelude.{◌≡◌, ◌<◌, ◌≤◌, length, take, true};
-ghost use Rattle.sk_tenant.specs.Guesses.{most_marks, AreEndsOf};
+ghost use Rattle.std.specs.Prelude.{◌≡◌, ◌+◌, ◌-◌, ◌*◌, ◌<◌, ◌≤◌, ◌^◌, ℕ, length, take, min, slice_range, true};
+ghost use Rattle.sk_tenant.specs.Guesses.{most_marks, AreEndsOf, IsReachOf};
 
 /// As many bytes at each end of a name are compared at once.
 pub(crate) const END: usize = 8;
 
 /// Names of at most this many bytes are equal if their ends are.
 pub(crate) const BOTH_ENDS: usize = 16;
-
-// By as many bits the last bytes are turned before they are added to the first, which are the same in a name of eight.
-const TURN: u32 = 29;
 
 // Marks have 11 bits.
 const MARK_SHIFT: u32 = 53;
@@ -65,9 +62,24 @@ impl Ends {
         }
     }
 
+    /// Those of a name that stands at a place of a text.
+    #[inline(always)]
+    pub(crate) fn read(text: &[u8], at: usize, reach: Reach) -> Ends
+        requires reach { IsReachOf reach.len reach }
+        requires within { at + reach.len ≤ length text.now }
+        requires room { at + 8 ≤ length text.now }
+        ensures { AreEndsOf (slice_range text.now at (at + reach.len)) result }
+    {
+        Ends {
+            first: cleared(text, at, reach.mask),
+            last: cleared(text, at + reach.tail, reach.mask),
+            len: reach.len,
+        }
+    }
+
     /// Ends that no name has.
     pub(crate) fn of_none() -> Ends
-        ensures { 16 < result.len }
+        ensures { 2 ^ 63 ≤ result.len }
     {
         Ends {
             first: [0; END],
@@ -81,9 +93,10 @@ impl Ends {
     pub(crate) fn mark(&self, mixer: u64) -> usize
         ensures { result < most_marks }
     {
-        let first = u64::from_le_bytes(self.first);
-        let last = u64::from_le_bytes(self.last).rotate_left(TURN);
-        (first.wrapping_add(last).wrapping_mul(mixer) >> MARK_SHIFT) as usize
+        // The first bytes count twice: in a name of eight they are the last, too.
+        let first = u64::from_le_bytes(self.first).wrapping_mul(2);
+        let both = u64::from_le_bytes(self.last).wrapping_add(first);
+        (both.wrapping_mul(mixer) >> MARK_SHIFT) as usize
     }
 
     /// Whether these are the same.
@@ -96,6 +109,54 @@ impl Ends {
         are_equal_words(self.first, others.first)
             && are_equal_words(self.last, others.last)
             && self.len == others.len
+    }
+}
+
+/// Where the ends of all names of one length lie in a text.
+#[derive(Clone, Copy)]
+pub(crate) struct Reach {
+    pub(crate) len: usize,
+    // how many bytes are before the last eight: none in a shorter name
+    tail: usize,
+    // clears what comes after a name of fewer than eight bytes
+    mask: u64,
+}
+
+impl Reach {
+    /// That of names of so many bytes.
+    #[inline(always)]
+    pub(crate) fn of(len: usize) -> Reach
+        ensures { IsReachOf len result }
+    {
+        Reach {
+            len,
+            tail: len.saturating_sub(END),
+            mask: mask_of(len),
+        }
+    }
+}
+
+// The bits of the first eight bytes, or of all that there are.
+#[inline(always)]
+fn mask_of(len: usize) -> u64
+    ensures { result ≡ 2 ^ (8 * min 8 len) - 1 }
+{
+    if len < END {
+        (1 << (8 * len)) - 1
+    } else {
+        u64::MAX
+    }
+}
+
+// Eight bytes of a text, those that the mask does not have as zeros.
+#[inline(always)]
+fn cleared(text: &[u8], at: usize, mask: u64) -> [u8; END]
+    requires { at + 8 ≤ length text.now }
+    ensures { (n : ℕ) → n ≤ 8 → mask ≡ 2 ^ (8 * n) - 1 → take n result ≡ slice_range text.now at (at + n) }
+{
+    match text[at..].first_chunk::<END>() {
+        Some(word) => (u64::from_le_bytes(*word) & mask).to_le_bytes(),
+        None => unreachable!(),
     }
 }
 

@@ -1,5 +1,5 @@
 //! Where a name is sought first.
-ghost use Rattle.std.specs.Prelude.{◌≡◌, ◌≤◌, ℕ, List, true, Some, length, map, slice_get, IfOk, IfSome};
+ghost use Rattle.std.specs.Prelude.{◌≡◌, ◌<◌, ◌≤◌, ◌^◌, ℕ, List, true, Some, length, map, slice_get, IfOk, IfSome};
 ghost use Rattle.sk_tenant.specs.Names.{most_tenants, HasNoSpace};
 ghost use Rattle.sk_tenant.specs.Guesses.{AreEndsOf, AreGuesses};
 
@@ -90,16 +90,20 @@ impl Guesses {
         self.mixer
     }
 
-    /// The place of this name of at most 16 bytes, which has no space then, unless another one has its mark.
+    /// All of them, by their marks.
+    pub(crate) fn as_slice(&self) -> &[Guess]
+        ensures { result.now ≡ self.now.by_mark.items }
+    {
+        self.by_mark.as_slice()
+    }
+
+    /// The place of this name, which has no space then, unless another one has its mark.
     #[inline(always)]
-    pub(crate) fn place_plain(&self, names: &IndexSet<Vec<u8>>, name: &[u8]) -> Option<u32>
+    pub(crate) fn place(&self, names: &IndexSet<Vec<u8>>, name: &[u8]) -> Option<u32>
         requires { AreGuesses (map (λ own. own.items) names.now.keys) self.now.by_mark.items }
         ensures place { IfSome result (λ t. slice_get (map (λ own. own.items) names.now.keys) t ≡ Some name.now) }
         ensures plain { IfSome result (λ _. HasNoSpace name.now) }
     {
-        if name.len() > BOTH_ENDS {
-            return None;
-        }
         place_by(
             names,
             self.by_mark.as_slice(),
@@ -108,52 +112,11 @@ impl Guesses {
             Ends::of(name),
         )
     }
-
-    /// All of them, by their marks.
-    pub(crate) fn as_slice(&self) -> &[Guess]
-        ensures { result.now ≡ self.now.by_mark.items }
-    {
-        self.by_mark.as_slice()
-    }
-
-    /// The place of this name, unless another one has its mark.
-    #[inline(always)]
-    pub(crate) fn place(&self, names: &IndexSet<Vec<u8>>, name: &[u8]) -> Option<u32>
-        requires { AreGuesses (map (λ own. own.items) names.now.keys) self.now.by_mark.items }
-        ensures { IfSome result (λ t. slice_get (map (λ own. own.items) names.now.keys) t ≡ Some name.now) }
-    {
-        let ends = Ends::of(name);
-        let guess = &self.by_mark[ends.mark(self.mixer)];
-        if !guess.ends.are(&ends) {
-            return None;
-        }
-        if name.len() > BOTH_ENDS {
-            return compared(names, guess.place, name);
-        }
-        Some(guess.place)
-    }
 }
 
-/// The same of a name of 8 to 16 bytes, by all guesses.
+/// The same of the name that has these ends, by all guesses.
 #[inline(always)]
-pub(crate) fn place_among(
-    names: &IndexSet<Vec<u8>>,
-    by_mark: &[Guess],
-    mixer: u64,
-    name: &[u8],
-) -> Option<u32>
-    requires guesses { AreGuesses (map (λ own. own.items) names.now.keys) by_mark.now }
-    requires least { 8 ≤ length name.now }
-    requires most { length name.now ≤ 16 }
-    ensures place { IfSome result (λ t. slice_get (map (λ own. own.items) names.now.keys) t ≡ Some name.now) }
-    ensures plain { IfSome result (λ _. HasNoSpace name.now) }
-{
-    place_by(names, by_mark, mixer, name, Ends::of_many(name))
-}
-
-// The place of the name of at most 16 bytes that has these ends.
-#[inline(always)]
-fn place_by(
+pub(crate) fn place_by(
     names: &IndexSet<Vec<u8>>,
     by_mark: &[Guess],
     mixer: u64,
@@ -162,16 +125,17 @@ fn place_by(
 ) -> Option<u32>
     requires guesses { AreGuesses (map (λ own. own.items) names.now.keys) by_mark.now }
     requires ends { AreEndsOf name.now ends }
-    requires most { length name.now ≤ 16 }
     ensures place { IfSome result (λ t. slice_get (map (λ own. own.items) names.now.keys) t ≡ Some name.now) }
     ensures plain { IfSome result (λ _. HasNoSpace name.now) }
 {
     let guess = &by_mark[ends.mark(mixer)];
-    if guess.ends.are(&ends) {
-        Some(guess.place)
-    } else {
-        None
+    if !guess.ends.are(&ends) {
+        return None;
     }
+    if !has_name_if_long(names, guess.place, name) {
+        return None;
+    }
+    Some(guess.place)
 }
 
 // For each mark ends that no name has.
@@ -202,17 +166,23 @@ fn put_guess(
     by_mark[ends.mark(mixer)] = Guess { ends, place };
 }
 
-// The place t, if the name there is this one.
-#[cold]
-#[inline(never)]
-fn compared(names: &IndexSet<Vec<u8>>, t: u32, name: &[u8]) -> Option<u32>
-    ensures { IfSome result (λ t. slice_get (map (λ own. own.items) names.now.keys) t ≡ Some name.now) }
+// Whether the name at place t is this one, if this one is too long to be known by its ends.
+#[inline(always)]
+fn has_name_if_long(names: &IndexSet<Vec<u8>>, t: u32, name: &[u8]) -> bool
+    ensures is { result ≡ true → 16 < length name.now → slice_get (map (λ own. own.items) names.now.keys) t ≡ Some name.now }
+    ensures size { length name.now < 2 ^ 63 }
 {
-    let own = names.get_index(t as usize)?;
-    if are_equal(own.as_slice(), name) {
-        Some(t)
-    } else {
-        None
+    name.len() <= BOTH_ENDS || has_name(names, t, name)
+}
+
+// Whether the name at place t is this one.
+#[inline(never)]
+fn has_name(names: &IndexSet<Vec<u8>>, t: u32, name: &[u8]) -> bool
+    ensures { result ≡ true → slice_get (map (λ own. own.items) names.now.keys) t ≡ Some name.now }
+{
+    match names.get_index(t as usize) {
+        Some(own) => are_equal(own.as_slice(), name),
+        None => false,
     }
 }
 

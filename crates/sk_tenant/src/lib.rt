@@ -13,6 +13,6 @@ mod tenants;
 
 pub use answers::{Add, Opening, TenantStop};
 pub use desk::Desk;
-pub use names::{Finder, MOST_TENANTS, Names, is_guessed};
+pub use names::{Finder, MOST_TENANTS, Names};
 pub use sk_model::OutOfMemory;
 pub use tenants::Tenants;

@@ -1,10 +1,10 @@
 //! The names of tenants, which all desks share.
-ghost use Rattle.std.specs.Prelude.{◌≡◌, ℕ, ◌<◌, ◌≤◌, true, Some, length, map, slice_get, IfOk, IfSome, IfNone, Contains};
+ghost use Rattle.std.specs.Prelude.{◌≡◌, ℕ, ◌+◌, ◌<◌, ◌≤◌, true, Some, length, map, slice_get, slice_range, IfOk, IfSome, IfNone, Contains};
 ghost use Rattle.sk_tenant.specs.Names.{place_of, bytes_of, most_tenants, AreDifferent, HasNoSpace, IsFirstTwice};
 
 use crate::answers::TenantStop;
-use crate::ends::{BOTH_ENDS, END};
-use crate::guesses::{Guess, Guesses, place_among};
+use crate::ends::{END, Ends, Reach};
+use crate::guesses::{Guess, Guesses, place_by};
 use indexmap::IndexSet;
 use sk_model::OutOfMemory;
 use std::alloc::Global;
@@ -13,15 +13,6 @@ use std::sync::Arc;
 
 /// The most tenants.
 pub const MOST_TENANTS: usize = 64;
-
-/// Whether a name of this many bytes is mostly found without a call.
-#[inline(always)]
-pub fn is_guessed(len: usize) -> bool
-    ensures least { result ≡ true → 8 ≤ len }
-    ensures most { result ≡ true → len ≤ 16 }
-{
-    END <= len && len <= BOTH_ENDS
-}
 
 /// The names of tenants, no two of them equal. All desks share one table, by which a name is found.
 #[derive(Drop)]
@@ -75,7 +66,7 @@ impl Names {
         })
     }
 
-    /// The place of the tenant with this name. Of 8 to 16 bytes it is mostly found without a call.
+    /// The place of the tenant with this name.
     #[inline(always)]
     pub fn place(&self, name: &[u8]) -> Option<u32>
         ensures value { result ≡ place_of self.now name.now }
@@ -89,31 +80,18 @@ impl Names {
         }
     }
 
-    /// The place of the tenant with this name, if the name has no space. Of at most 16 bytes it is mostly found without a
-    /// look at all names.
+    /// What finds the places of names of this many bytes.
     #[inline(always)]
-    pub fn place_plain(&self, name: &[u8]) -> Option<u32>
-        ensures found { IfSome result (λ t. slice_get self.now t ≡ Some name.now) }
-        ensures plain { IfSome result (λ _. HasNoSpace name.now) }
-        ensures none { IfNone result (HasNoSpace name.now → ¬ Contains self.now name.now) }
-    {
-        let table: &Table = &self.table;
-        match table.guesses.place_plain(&table.names, name) {
-            Some(t) => Some(t),
-            None => sought_plain(&table.names, name),
-        }
-    }
-
-    /// What finds the places of names of 8 to 16 bytes.
-    #[inline(always)]
-    pub fn finder(&self) -> Finder<'_>
-        ensures { result ≡ self.now }
+    pub fn finder(&self, len: usize) -> Finder<'_>
+        ensures names { result.names ≡ self.now }
+        ensures len { result.len ≡ len }
     {
         let table: &Table = &self.table;
         Finder {
             names: self,
             by_mark: table.guesses.as_slice(),
             mixer: table.guesses.mixer(),
+            reach: Reach::of(len),
         }
     }
 
@@ -138,45 +116,58 @@ impl Names {
     }
 }
 
-/// What finds the places of names of 8 to 16 bytes: where they are sought first is at hand.
+/// What finds the places of names of one length, as many bytes: where they are sought first is at hand.
 #[derive(Drop)]
 pub struct Finder<'n> {
     names: &'n Names,
     by_mark: &'n [Guess],
     mixer: u64,
+    reach: Reach,
 }
 
 impl<'n> Model for Finder<'n> {
-    ghost use Rattle.std.specs.Prelude.{ℕ, List};
-    ghost use Rattle.sk_tenant.specs.Guesses.{AreGuesses};
+    ghost use Rattle.sk_tenant.specs.Names.{FinderState};
+    ghost use Rattle.sk_tenant.specs.Guesses.{AreGuesses, IsReachOf};
 
-    ghost Value = { List (List ℕ) };
+    ghost Value = { FinderState };
 
-    ghost view = { λ f. f.names.now };
+    ghost view = { λ f. record { names = f.names.now; len = f.reach.len } };
 
-    ghost invariant = { λ f. AreGuesses f.names.now f.by_mark.now };
+    ghost invariant = { λ f. AreGuesses f.names.now f.by_mark.now × IsReachOf f.reach.len f.reach };
 }
 
 impl<'n> Finder<'n> {
-    /// As `Names::place_plain`, of a name of 8 to 16 bytes, whose length is not looked at then.
+    /// Whether a text has as many bytes from a place on as are read there: those of a name, and eight at least.
     #[inline(always)]
-    pub fn place(&self, name: &[u8]) -> Option<u32>
-        requires least { 8 ≤ length name.now }
-        requires most { length name.now ≤ 16 }
-        ensures found { IfSome result (λ t. slice_get self.now t ≡ Some name.now) }
-        ensures plain { IfSome result (λ _. HasNoSpace name.now) }
-        ensures none { IfNone result (HasNoSpace name.now → ¬ Contains self.now name.now) }
+    pub fn reaches(&self, text: &[u8], at: usize) -> bool
+        ensures within { result ≡ true → at + self.now.len ≤ length text.now }
+        ensures room { result ≡ true → at + 8 ≤ length text.now }
+    {
+        at <= text.len() && self.reach.len.max(END) <= text.len() - at
+    }
+
+    /// The place of the tenant whose name stands at a place of a text, if the name has no space. Mostly it is found without
+    /// a look at all names.
+    #[inline(always)]
+    pub fn place(&self, text: &[u8], at: usize) -> Option<u32>
+        requires within { at + self.now.len ≤ length text.now }
+        requires room { at + 8 ≤ length text.now }
+        ensures found { IfSome result (λ t. slice_get self.now.names t ≡ Some (slice_range text.now at (at + self.now.len))) }
+        ensures plain { IfSome result (λ _. HasNoSpace (slice_range text.now at (at + self.now.len))) }
+        ensures none { IfNone result (HasNoSpace (slice_range text.now at (at + self.now.len)) → ¬ Contains self.now.names (slice_range text.now at (at + self.now.len))) }
     {
         let names: &Names = self.names;
         let table: &Table = &names.table;
-        match place_among(&table.names, self.by_mark, self.mixer, name) {
+        let name = &text[at..at + self.reach.len];
+        let ends = Ends::read(text, at, self.reach);
+        match place_by(&table.names, self.by_mark, self.mixer, name, ends) {
             Some(t) => Some(t),
             None => sought_plain(&table.names, name),
         }
     }
 }
 
-// The place of a name, by its hash: seldom, so that `place` is short where it is called.
+// The place of a name, by its hash: of names that are known it is asked only if two of them have one mark.
 #[cold]
 #[inline(never)]
 fn sought(names: &IndexSet<Vec<u8>>, name: &[u8]) -> Option<u32>

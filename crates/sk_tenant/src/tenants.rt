@@ -43,8 +43,8 @@ impl Tenants {
         &self.names
     }
 
-    /// Takes in each updater of a desk, once all that it has kept is published: half of the tenants' in a thread of its own.
-    /// If another seat of a hub propagates, it waits and tries again.
+    /// Takes in each updater of a desk, once all that it has kept is published: half of the tenants' in a thread of its own,
+    /// if one can be started. If another seat of a hub propagates, it waits and tries again.
     pub fn drain<R: Threads + Wait + Sync>(&mut self, rt: &R, desk: Desk)
         requires desk { IsDeskOf self.old desk }
         ensures drains { DrainsDesk self.old desk self.new }

@@ -11,7 +11,7 @@ ghost use Rattle.uses.specs.Adds.{AreLines, adds_of, taken_for};
 
 use sk_model::OutOfMemory;
 use sk_tenant::laws::{a_desk_stays_of_its_tenants, calls_add_up, the_last_word_is_of_all_calls};
-use sk_tenant::{Add, Desk, Names, Opening, TenantStop, Tenants, is_guessed};
+use sk_tenant::{Add, Desk, Names, Opening, TenantStop, Tenants};
 use sk_theta::Shape;
 use std::alloc::Global;
 use std::sync::Wait;
@@ -91,10 +91,11 @@ pub fn has_plain_name(names: &Names, name: &[u8]) -> bool
     ensures known { result ≡ true → Contains names.now name.now }
     ensures unknown { result ≡ false → ¬ Contains names.now name.now }
 {
-    if is_guessed(name.len()) {
-        names.finder().place(name).is_some()
+    let finder = names.finder(name.len());
+    if finder.reaches(name, 0) {
+        finder.place(name, 0).is_some()
     } else {
-        names.place_plain(name).is_some()
+        names.place(name).is_some()
     }
 }
 

@@ -11,7 +11,7 @@ block-preserved c = record {
   past = omega (arith, c.block.invariant.past);
   plain = λ i above below within. ⊎_elim
       (λ (earlier : i < c.block.at). c.block.invariant.plain i above earlier within)
-      (λ (here : c.block.at ≤ i). λ lf. none_marked c.lfs_of.result (i - c.min.result) c.if-lfs_of-ne0.false (c.lfs_of.ensures i (omega (arith, here, c.min.ensures)) (omega (arith, below, within, c.min.ensures)) lf))
+      (λ (here : c.block.at ≤ i). λ lf. none_marked c.lfs_of.result (i - c.min.result) c.if-lfs_of-ne0.false ((c.lfs_of.ensures i (omega (arith, here, c.min.ensures)) (omega (arith, below, within, c.min.ensures))).1 lf))
       (cases_lt i c.block.at);
 }
 

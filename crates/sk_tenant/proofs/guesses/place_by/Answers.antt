@@ -11,18 +11,18 @@ is_there : (by_mark : List Guess) (mark : ℕ) → mark < length by_mark → at_
 unfolding at_mark
 is_there by_mark mark within = get_or_default by_mark mark _ _ within
 
-pub returns-then-are-clause-place : goal.returns-then-are-clause-place
+pub returns-clause-place : goal.returns-clause-place
 unfolding at_mark
-returns-then-are-clause-place c =
-    let same = c.if-are.true in
+returns-clause-place c =
+    let same = c.if-not-are.false in
     let within : c.mark.result < length c.args.by_mark.now = omega (arith, c.mark.ensures, c.requires.guesses.count) in
     guessed (map (λ own. own.items) c.args.names.now.keys) c.args.by_mark.now c.mark.result (at_mark c.args.by_mark.now c.mark.result) c.args.name.now c.args.ends c.requires.guesses c.mark.ensures (is_there c.args.by_mark.now c.mark.result within) c.requires.ends
-    (c.are.ensures.first same) (c.are.ensures.last same) (c.are.ensures.len same) c.requires.most
+    (c.are.ensures.first same) (c.are.ensures.last same) (c.are.ensures.len same) c.has_name_if_long.ensures.size (c.has_name_if_long.ensures.is c.if-not-has_name_if_long.false)
 
-pub returns-then-are-clause-plain : goal.returns-then-are-clause-plain
+pub returns-clause-plain : goal.returns-clause-plain
 unfolding at_mark
-returns-then-are-clause-plain c =
-    let same = c.if-are.true in
+returns-clause-plain c =
+    let same = c.if-not-are.false in
     let within : c.mark.result < length c.args.by_mark.now = omega (arith, c.mark.ensures, c.requires.guesses.count) in
     is_plain (map (λ own. own.items) c.args.names.now.keys) c.args.by_mark.now c.mark.result (at_mark c.args.by_mark.now c.mark.result) c.args.name.now c.args.ends c.requires.guesses c.mark.ensures (is_there c.args.by_mark.now c.mark.result within) c.requires.ends
-    (c.are.ensures.first same) (c.are.ensures.last same) (c.are.ensures.len same) c.requires.most
+    (c.are.ensures.first same) (c.are.ensures.last same) (c.are.ensures.len same) c.has_name_if_long.ensures.size (c.has_name_if_long.ensures.is c.if-not-has_name_if_long.false)

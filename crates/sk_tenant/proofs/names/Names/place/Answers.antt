@@ -7,7 +7,7 @@ pub returns-in-Some-clause-value : goal.returns-in-Some-clause-value
 returns-in-Some-clause-value c =
     let names = c.args.self.now in let name = c.args.name.now in
     let shared = ap (λ t. map (λ own. own.items) t.names.keys) c.deref-table.ensures ∙ c.self.view_is in
-    its_place names name c.in-Some.t (subst AreDifferent c.self.view_is c.self.invariant.1) (subst (λ l. slice_get l c.in-Some.t ≡ Some name) shared c.in-Some.ensures)
+    its_place names name c.in-Some.t (subst AreDifferent c.self.view_is c.self.invariant.1) (subst (λ l. slice_get l c.in-Some.t ≡ Some name) shared c.in-Some.ensures.place)
 
 pub returns-in-None-clause-value : goal.returns-in-None-clause-value
 returns-in-None-clause-value c =
