@@ -1,12 +1,13 @@
 -- Lines of one length, each of a tenant.
-use Rattle.std.proofs.Common.{◌≡◌, ◌≢◌, ◌⊎◌, inl, inr, ⊎_elim, ℕ, zero, suc, ◌+◌, ◌-◌, ◌*◌, ◌/◌, ◌<◌, ◌≤◌, ◌^◌, ◌==◌, Bool, true, false, cond, is_some, List, [], ◌∷◌, ◌++◌, length, length-append, length-take, length-drop, take-add, take, drop, get_or, slice_index, slice_range, slice_get, All, Option, Some, None, IfSome, refl, sym, ap, subst, ◌∙◌, arith}
+use Rattle.std.proofs.Common.{◌≡◌, ◌≢◌, ◌⊎◌, inl, inr, ⊎_elim, ℕ, zero, suc, ◌+◌, ◌-◌, ◌*◌, ◌/◌, ◌<◌, ◌≤◌, ◌^◌, ◌==◌, Bool, true, false, cond, is_some, List, [], ◌∷◌, ◌++◌, length, length-append, length-take, length-drop, take-add, take, drop, get_or, slice_index, slice_range, slice_get, bit_or, max, All, Option, Some, None, IfSome, refl, sym, ap, subst, ◌∙◌, arith}
 use Rattle.std.specs.Int.{bit_at}
+use Rattle.std.specs.Prelude.{bit_xor}
 use Rattle.std.specs.Str.Lines.{strip_carriage_return}
 use Rattle.std.proofs.Math.Nat.{mul-le-mul_right, mul-div_cancel}
 use Rattle.std.proofs.lemmas.Bool.{cases_lt}
 use Rattle.std.proofs.lemmas.List.{take_all, take-take, take_more, get_or-take, get_or-drop, get_or_default, get_or_at, get_or_append_left, get_or-append-add}
 use Rattle.std.proofs.lemmas.List.Elements.{All-push}
-use Rattle.std.proofs.lemmas.Nat.Bits.{bit_at-zero, bit_at-pow_same, bit_at-pow_other}
+use Rattle.std.proofs.lemmas.Nat.Bits.{bit_at-zero, bit_at_or, bit_at_xor, bit_at-lt, bit_at-pow_same, bit_at-pow_other, same_from_bits}
 use Rattle.std.proofs.lemmas.Option.{slice_get_within, get_or_from_slice_get}
 use Rattle.sk_model.specs.Lines.{lines_of}
 use Rattle.sk_model.proofs.Lines.{a_line_alone, after_whole_lines, lines_of_nothing}
@@ -18,7 +19,7 @@ use Rattle.sk_lines.proofs.WholeLines.{no_lines, run_more}
 use Rattle.sk_tenant.specs.Names.{HasNoSpace}
 use Rattle.sk_desks.specs.Entries.{IsNamedAt}
 use Rattle.sk_fill.specs.Pages.{IsEven}
-use Rattle.sk_desks.specs.Gathers.{AreFirst, HaveOneLength, IsOfTenant}
+use Rattle.sk_desks.specs.Gathers.{AreFirst, AreUpTo, HaveOneLength, IsOfTenant}
 use Rattle.sk_desks.proofs.ClerkLaws.{range_size}
 use Rattle.sk_desks.proofs.LikeLaws.{of_tenant}
 
@@ -34,6 +35,16 @@ named_at names text at label None is plain space some = cc
 
 pub none_marked : (marks k : ℕ) → marks ≡ 0 → bit_at marks k ≡ 1 → ⊥
 none_marked marks k none set = absurd (omega (arith, bit_at-zero k, ap (λ (m : ℕ). bit_at m k) (sym none) ∙ set))
+
+-- no mark of one block, and of another those alone that it has to have
+pub marked_so : (a b c : ℕ) → bit_or a (bit_xor b c) ≡ 0 → (a ≡ 0) × (b ≡ c)
+marked_so a b c none = (
+  same_from_bits a 0 (λ k. omega (arith, both k, bit_at-zero k)),
+  same_from_bits b c (λ k. omega (arith, both k, bit_at_xor b c k, bit_at-lt b k, bit_at-lt c k)),
+)
+  where
+    both : (k : ℕ) → max (bit_at a k) (bit_at (bit_xor b c) k) ≡ 0
+    both k = sym (bit_at_or a (bit_xor b c) k) ∙ ap (λ (m : ℕ). bit_at m k) none ∙ bit_at-zero k
 
 -- of a block whose last byte alone is marked no other is
 pub not_marked : (marks k : ℕ) → marks ≡ 2 ^ 15 → k < 15 → bit_at marks k ≡ 1 → ⊥
@@ -226,14 +237,6 @@ few_in count most len bytes size room = ⊎_elim
     (λ (more : most < count). absurd (omega (arith, line_inside count most (len + 1) more, size, room)))
     (λ (few : count ≤ most). few)
     (cases_lt most count)
-
--- the lines of a text up to a place, at most `most`, have one length and are of tenants
-pub record AreUpTo (names : List (List ℕ)) (text : List ℕ) (most len bytes : ℕ) : Type 0 where
-  pub count : ℕ
-  pub size : bytes ≡ count * (len + 1)
-  pub room : bytes ≤ most * (len + 1)
-  pub first : AreFirst names text count bytes
-  pub ends : EndEach count len text
 
 module _ (names : List (List ℕ)) (text : List ℕ) (most len : ℕ) where
   pub none_up_to : AreUpTo names text most len 0

@@ -32,6 +32,14 @@ pub record HaveOneLength (text : List ℕ) (first : FirstLines) : Type 0 where
   pub size : first.bytes ≡ first.count * (first.len + 1)
   pub ends : EndEach first.count first.len text
 
+-- the lines of a text up to a place, at most `most`, have one length and are of tenants
+pub record AreUpTo (names : List (List ℕ)) (text : List ℕ) (most len bytes : ℕ) : Type 0 where
+  pub count : ℕ
+  pub size : bytes ≡ count * (len + 1)
+  pub room : bytes ≤ most * (len + 1)
+  pub first : AreFirst names text count bytes
+  pub ends : EndEach count len text
+
 -- the line of a window is all that a reader gave since the last read, and those after it are as long and of tenants: all of
 -- them can be the window's, and the few bytes after them can be copied
 pub record HasPiece (w : LabelledState) (r : Reading) (more : FirstLines) : Type 0 where

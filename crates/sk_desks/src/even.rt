@@ -4,7 +4,7 @@ ghost use Rattle.std.specs.Int.{bit_at};
 ghost use Rattle.sk_model.specs.Lines.{lines_of};
 ghost use Rattle.sk_lines.specs.Runs.{IsRun, EndEach};
 ghost use Rattle.sk_desks.specs.Entries.{IsNamedAt};
-ghost use Rattle.sk_desks.specs.Gathers.{AreFirst, HaveOneLength, IsOfTenant};
+ghost use Rattle.sk_desks.specs.Gathers.{AreFirst, AreUpTo, HaveOneLength, IsOfTenant};
 
 use sk_tenant::{Finder, Names};
 use std::simd::prelude::*;
@@ -16,6 +16,8 @@ const WIDE: usize = 16;
 
 // Of these the last one, as a bit.
 const ONLY_LAST: u64 = 1 << 15;
+
+const HALF: usize = WIDE / 2;
 
 /// The first lines of a text: how many, how many bytes they have with what ended them, and how many each has before its LF.
 #[derive(Clone, Copy)]
@@ -53,16 +55,46 @@ pub(crate) fn first_of_tenants(names: &Names, text: &[u8], most: usize) -> First
     let each = shape.len + 1;
     let end = text.len().min(most.saturating_mul(each));
     let last = end.saturating_sub(shape.len);
-    let finder = names.finder(shape.label);
-    let mut bytes = 0;
-    'line: while bytes < last && is_of_tenant(&finder, text, bytes, shape) {
-        bytes += each;
-    }
+    let bytes = bytes_of_shape(names, text, last, shape, most);
     FirstLines {
         count: bytes / each,
         bytes,
         len: shape.len,
     }
+}
+
+// How many bytes the first lines have that begin before a place, while they have this shape and are of tenants. For names
+// of 8 to 16 bytes, which are no more than their two ends, the compiler makes a loop of its own, without a mask.
+fn bytes_of_shape(names: &Names, text: &[u8], last: usize, shape: Shape, most: usize) -> usize
+    requires label { 0 < shape.label }
+    requires item { shape.label + 3 ≤ shape.len }
+    requires long { 16 ≤ shape.len }
+    requires within { 0 < last → last + shape.len ≤ length text.now }
+    requires room { 0 < last → last + shape.len ≤ most * (shape.len + 1) }
+    ensures { AreUpTo names.now text.now most shape.len result }
+{
+    if HALF <= shape.label && shape.label <= WIDE {
+        return bytes_of_first(&names.finder(shape.label), text, last, shape, most);
+    }
+    bytes_of_first(&names.finder(shape.label), text, last, shape, most)
+}
+
+// The same by a finder.
+#[inline(always)]
+fn bytes_of_first(finder: &Finder<'_>, text: &[u8], last: usize, shape: Shape, most: usize) -> usize
+    requires finder { finder.now.len ≡ shape.label }
+    requires label { 0 < shape.label }
+    requires item { shape.label + 3 ≤ shape.len }
+    requires long { 16 ≤ shape.len }
+    requires within { 0 < last → last + shape.len ≤ length text.now }
+    requires room { 0 < last → last + shape.len ≤ most * (shape.len + 1) }
+    ensures { AreUpTo finder.now.names text.now most shape.len result }
+{
+    let mut bytes = 0;
+    'line: while bytes < last && is_of_tenant(finder, text, bytes, shape) {
+        bytes += shape.len + 1;
+    }
+    bytes
 }
 
 // The shape of the first line, if it has a label, an item of two bytes at least, and 16 bytes.
@@ -106,10 +138,10 @@ fn ends_first(text: &[u8], from: usize, end: usize) -> bool
     ensures plain { result ≡ true → (i : ℕ) → from ≤ i → i < end → slice_index text.now i ≢ 10 }
 {
     let last = end + 1 - WIDE;
-    if lfs_of(text, from) != 0 || lfs_of(text, last) != ONLY_LAST {
+    if lfs_of(text, from) | (lfs_of(text, last) ^ ONLY_LAST) != 0 {
         return false;
     }
-    last - from <= WIDE || are_blocks_without_lf(text, from + WIDE, last)
+    end - from < 2 * WIDE || are_blocks_without_lf(text, from + WIDE, last)
 }
 
 // Whether no byte from one place up to another is LF, 16 bytes after others.

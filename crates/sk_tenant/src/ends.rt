@@ -154,7 +154,7 @@ fn cleared(text: &[u8], at: usize, mask: u64) -> [u8; END]
     requires { at + 8 ≤ length text.now }
     ensures { (n : ℕ) → n ≤ 8 → mask ≡ 2 ^ (8 * n) - 1 → take n result ≡ slice_range text.now at (at + n) }
 {
-    match text[at..].first_chunk::<END>() {
+    match text[at..at + END].first_chunk::<END>() {
         Some(word) => (u64::from_le_bytes(*word) & mask).to_le_bytes(),
         None => unreachable!(),
     }
