@@ -14,7 +14,7 @@ use Rattle.sk_fill.specs.Blocks.{blocks_of}
 use Rattle.sk_tenant.specs.Calls.{items_taken}
 use Rattle.sk_tenant.specs.Desks.{DeskState, calls_for}
 use Rattle.sk_tenant.specs.Names.{AreDifferent}
-use Rattle.sk_tenant.specs.Hosts.{TenantsState, AreNewTenants, AreNewDesks, IsDeskOf, DrainsDesk, HasTakenInDesk, AreAskedFor, WasFed}
+use Rattle.sk_tenant.specs.Hosts.{TenantsState, AreNewTenants, AreNewDesks, AreNumbered, IsDeskOf, DrainsDesks, HasTakenInDesk, AreAskedFor, WasFed}
 use Rattle.sk_tenant.proofs.Done.{desk_stays, stays_of_tenants}
 use Rattle.sk_tenant.proofs.LastWord.{place_within, word_of_fed, used_is_fed}
 use Rattle.sk_tenant.proofs.Standing.{with_member}
@@ -22,7 +22,7 @@ use Rattle.sk_desks.specs.declared.plan.Plan.{Plan}
 use Rattle.sk_desks.specs.Plans.{IsWithin, AreNames, shape_of}
 use Rattle.sk_desks.specs.Desks.{items_for, tenant_line}
 use Rattle.sk_desks.specs.Windows.{AreUnused, HaveTaken}
-use Rattle.sk_desks.specs.Endings.{AreTheSame, AreDesksOf, AreNumbered, HaveTakenIn, HaveCounted, PutsLine, estimate_in}
+use Rattle.sk_desks.specs.Endings.{AreTheSame, HaveCounted, PutsLine, estimate_in}
 use Rattle.sk_desks.proofs.ItemLaws.{are_items}
 use Rattle.sk_desks.proofs.BlockLaws.{of_all_blocks}
 
@@ -42,8 +42,8 @@ same_asked hosts hosts' t word asked = record {
   tenants = ap (λ z. length z.hearts) asked.stays ∙ length-set hosts.hearts t asked.after;
 }
 
-pub same_drained : (hosts hosts' : TenantsState) (d : DeskState) → DrainsDesk hosts d hosts' → AreTheSame hosts hosts'
-same_drained hosts hosts' d drained = record {
+pub same_drained : (hosts hosts' : TenantsState) (desks : List DeskState) → DrainsDesks hosts desks hosts' → AreTheSame hosts hosts'
+same_drained hosts hosts' desks drained = record {
   names_are = ap (λ z. z.names) drained.stays;
   k_is = ap (λ z. z.k) drained.stays;
   n_is = ap (λ z. z.n) drained.stays;
@@ -155,11 +155,14 @@ module _ (plan : Plan) (names : List (List ℕ)) (hosts : TenantsState) (desks :
 
   module _ (last : List DeskState) (lines : List (List ℕ)) (taken : HaveTaken plan.seed desks last lines) where
     -- desks are of the same tenants after they took lines
-    pub desks_still : All (IsDeskOf hosts) desks → AreDesksOf hosts last
+    pub desks_still : All (IsDeskOf hosts) desks → All (IsDeskOf hosts) last
     desks_still of_hosts = λ i d inside.
         let before : i < length desks = omega (arith, inside, taken.took.count) in
         let took = taken.took.each i d before in
         stays_of_tenants hosts (get_or desks i d) (get_or last i d) took.calls took.done (of_hosts i d before)
+
+    pub as_many_still : length last ≡ hosts.n
+    as_many_still = omega (arith, taken.took.count, count, new.n_is)
 
     pub numbers_still : AreNumbered last
     numbers_still = λ i d inside.
@@ -168,7 +171,7 @@ module _ (plan : Plan) (names : List (List ℕ)) (hosts : TenantsState) (desks :
         (desk_stays (get_or desks i d) (get_or last i d) took.calls took.done).number ∙ (new_desks i d before).number_is
 
     -- once they are taken in
-    pub counted_then : (hosts' : TenantsState) → AreTheSame hosts hosts' → HaveTakenIn hosts' last → HaveCounted plan lines hosts'
+    pub counted_then : (hosts' : TenantsState) → AreTheSame hosts hosts' → All (HasTakenInDesk hosts') last → HaveCounted plan lines hosts'
     counted_then hosts' same taken_in = record {
       opened = hosts;
       first = desks;
@@ -183,7 +186,7 @@ module _ (plan : Plan) (names : List (List ℕ)) (hosts : TenantsState) (desks :
     }
 
     -- the text that is made of them is due
-    pub text_due : (hosts' : TenantsState) (text : List ℕ) → AreTheSame hosts hosts' → HaveTakenIn hosts' last → ((ls : List (List ℕ)) → HaveCounted plan ls hosts' → text ≡ flat_map (tenant_line plan ls) hosts'.names) →
+    pub text_due : (hosts' : TenantsState) (text : List ℕ) → AreTheSame hosts hosts' → All (HasTakenInDesk hosts') last → ((ls : List (List ℕ)) → HaveCounted plan ls hosts' → text ≡ flat_map (tenant_line plan ls) hosts'.names) →
         text ≡ flat_map (tenant_line plan lines) names
     text_due hosts' text same taken_in its =
         its lines (counted_then hosts' same taken_in) ∙ ap (flat_map (tenant_line plan lines)) (same.names_are ∙ new.names_are)

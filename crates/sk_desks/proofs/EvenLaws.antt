@@ -231,7 +231,7 @@ even_ends text count bytes len size ends end i less = ⊎_elim
     ap (slice_index text) place ∙ end)
     (cases_lt i count)
 
--- as few as have room in so many bytes
+-- as few as have room in a number of bytes
 few_in : (count most len bytes : ℕ) → bytes ≡ count * (len + 1) → bytes ≤ most * (len + 1) → count ≤ most
 few_in count most len bytes size room = ⊎_elim
     (λ (more : most < count). absurd (omega (arith, line_inside count most (len + 1) more, size, room)))

@@ -1,10 +1,10 @@
 -- Tenants whose desks are all drained, and the text that is made of them.
-use Rattle.std.specs.Prelude.{◌≡◌, ℕ, ◌<◌, List, ◌++◌, length, codes, Some, slice_get, slice_index_or}
+use Rattle.std.specs.Prelude.{◌≡◌, ℕ, List, ◌++◌, length, codes, All, Some, slice_get}
 use Rattle.sk_model.specs.Limits.{most_kept}
 use Rattle.sk_model.specs.Sketch.{fraction_of, unpacked}
 use Rattle.sk_lines.specs.Fractions.{estimate_line}
 use Rattle.sk_tenant.specs.Desks.{DeskState}
-use Rattle.sk_tenant.specs.Hosts.{TenantsState, AreNewDesks, IsDeskOf, HasTakenInDesk, AreAskedFor}
+use Rattle.sk_tenant.specs.Hosts.{TenantsState, AreNewDesks, HasTakenInDesk, AreAskedFor}
 use Rattle.sk_desks.specs.declared.plan.Plan.{Plan}
 use Rattle.sk_desks.specs.Plans.{shape_of}
 use Rattle.sk_desks.specs.Windows.{AreUnused, HaveTaken}
@@ -16,18 +16,6 @@ pub record AreTheSame (hosts hosts' : TenantsState) : Type 0 where
   pub n_is : hosts'.n ≡ hosts.n
   pub tenants : length hosts'.hearts ≡ length hosts.hearts
 
--- each of these desks is of these tenants
-abbrev pub AreDesksOf : TenantsState → List DeskState → Type 0
-AreDesksOf hosts desks = (i : ℕ) (d : DeskState) → i < length desks → IsDeskOf hosts (slice_index_or desks i d)
-
--- each of these desks was taken in
-abbrev pub HaveTakenIn : TenantsState → List DeskState → Type 0
-HaveTakenIn hosts desks = (i : ℕ) (d : DeskState) → i < length desks → HasTakenInDesk hosts (slice_index_or desks i d)
-
--- each of these desks has its place as its number
-abbrev pub AreNumbered : List DeskState → Type 0
-AreNumbered desks = (i : ℕ) (d : DeskState) → i < length desks → (slice_index_or desks i d).number ≡ i
-
 -- desks that were new took these lines, and were all taken in
 pub record HaveCounted (plan : Plan) (lines : List (List ℕ)) (hosts : TenantsState) : Type 0 where
   pub opened : TenantsState
@@ -36,7 +24,7 @@ pub record HaveCounted (plan : Plan) (lines : List (List ℕ)) (hosts : TenantsS
   pub new : AreNewDesks opened (shape_of plan) most_kept first
   pub unused : AreUnused hosts.names first
   pub taken : HaveTaken plan.seed first last lines
-  pub taken_in : HaveTakenIn hosts last
+  pub taken_in : All (HasTakenInDesk hosts) last
   pub k_is : hosts.k ≡ plan.k
   pub n_is : hosts.n ≡ length first
   pub tenants : length hosts.hearts ≡ length hosts.names

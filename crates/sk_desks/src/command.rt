@@ -15,7 +15,7 @@ ghost use Rattle.sk_desks.specs.Plans.{IsWithin, AreNames, shape_of};
 ghost use Rattle.sk_desks.specs.Desks.{desk_rules};
 
 use crate::clerk::Clerk;
-use crate::ending::{take_in_all, text_of};
+use crate::ending::text_of;
 use crate::lanes::feed_in_lanes;
 use crate::plan::Plan;
 use crate::stretch::{Gatherer, gather_stretch};
@@ -63,7 +63,7 @@ pub fn tenants<S: Source, O: Sink, R: Threads + Wait + Sync>(
         mut desks,
     } = open_desks(alloc, plan, names)?;
     read_all(rt, alloc, plan, most, source, hosts.names(), &mut desks)?;
-    take_in_all(rt, &mut hosts, desks);
+    hosts.drain_all(rt, alloc, desks)?;
     let text = text_of(alloc, plan, &mut hosts)?;
     write_text(out, text.as_slice())?;
     Ok(())

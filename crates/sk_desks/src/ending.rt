@@ -1,31 +1,16 @@
-// The end of a command over tenants: all desks are taken in, and each tenant gives a line.
+// The end of a command over tenants: each tenant gives a line.
 ghost use Rattle.std.specs.Prelude.{◌≡◌, ◌<◌, ◌++◌, ℕ, List, length, flat_map, codes, Some, slice_get, OnOk, IfOk};
 ghost use Rattle.sk_model.specs.Limits.{IsFrom, least_k, most_k};
 ghost use Rattle.sk_lines.specs.Fractions.{estimate_line};
-ghost use Rattle.sk_desks.specs.Endings.{AreTheSame, AreDesksOf, AreNumbered, HaveTakenIn, HaveCounted, PutsLine};
+ghost use Rattle.sk_desks.specs.Endings.{AreTheSame, HaveCounted, PutsLine};
 ghost use Rattle.sk_desks.specs.Desks.{tenant_line};
 
 use crate::plan::Plan;
 use sk_lines::{ESTIMATE_LINE_LEN, put_estimate_line};
 use sk_model::OutOfMemory;
-use sk_tenant::{Desk, Names, Tenants};
+use sk_tenant::{Names, Tenants};
 use sk_theta::unpack;
 use std::alloc::Global;
-use std::sync::Wait;
-use std::thread::Threads;
-
-// Takes in all desks, the last one first.
-pub(crate) fn take_in_all<R: Threads + Wait + Sync>(rt: &R, hosts: &mut Tenants, desks: Vec<Desk>)
-    requires of_hosts { AreDesksOf hosts.old desks.items }
-    requires numbered { AreNumbered desks.items }
-    ensures taken_in { HaveTakenIn hosts.new desks.items }
-    ensures same { AreTheSame hosts.old hosts.new }
-{
-    let mut desks = desks;
-    'desk: while let Some(desk) = desks.pop() {
-        hosts.drain(rt, desk);
-    }
-}
 
 // The line of each tenant, in the order of the names.
 pub(crate) fn text_of(

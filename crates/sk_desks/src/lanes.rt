@@ -21,8 +21,8 @@ use std::mem::replace;
 use std::sync::Wait;
 use std::thread::Threads;
 
-// After so many stretches desks are woken: a pool has twice as many, so that there is always one for the reader if all
-// desks sleep. A call to wake one has its cost.
+// How many stretches are given before desks are woken. A pool has twice as many, so that there is always one for the reader
+// if all desks sleep; a call to wake one has its cost.
 const GIVEN_AT_ONCE: u32 = 4;
 
 /// Feeds a stretch to desks, each in a thread of its own, and those that are gathered meanwhile. The last that was
@@ -141,7 +141,7 @@ fn gather_and_give<S: Source, R: Wait>(
     unreachable!()
 }
 
-// Wakes desks after so many stretches, each time as many as are given at once.
+// Wakes desks after each `GIVEN_AT_ONCE` stretches.
 fn wake_after(crew: &Crew, given: u32) {
     if given % GIVEN_AT_ONCE == 0 {
         crew.wake_feeders();

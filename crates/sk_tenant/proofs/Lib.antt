@@ -8,3 +8,4 @@ pub mod Guessing
 pub mod FromEnd
 pub mod Halves
 pub mod Dealt
+pub mod AllDesks

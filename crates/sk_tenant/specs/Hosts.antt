@@ -1,5 +1,5 @@
 -- What contracts see of the tenants' hubs, from their opening to their last words.
-use Rattle.std.specs.Prelude.{◌≡◌, ℕ, ◌<◌, ◌≤◌, List, [], ◌∷◌, length, All, Some, slice_get, slice_set, slice_index_or}
+use Rattle.std.specs.Prelude.{◌≡◌, ℕ, ◌<◌, ◌≤◌, List, [], ◌∷◌, length, map, All, Some, slice_get, slice_set, slice_index_or}
 use Rattle.sk_model.specs.Width.{AreItems}
 use Rattle.sk_theta.specs.Sizes.{Sizes}
 use Rattle.sk_hub.specs.Updaters.{UpdaterState, kept_of}
@@ -7,6 +7,7 @@ use Rattle.sk_hub.specs.Hearts.{HeartState}
 use Rattle.sk_hub.specs.Drains.{IsDrained, HasTakenIn, IsNew}
 use Rattle.sk_hub.specs.Starts.{IsNewHeart}
 use Rattle.sk_hub.specs.Replies.{IsRelaxedReply, HasDrained}
+use Rattle.sk_feed.specs.Drained.{DrainsAll}
 use Rattle.sk_tenant.specs.Names.{AreDifferent, most_tenants}
 use Rattle.sk_tenant.specs.Calls.{Call, TakesItems, theta_hint, theta_word}
 use Rattle.sk_tenant.specs.Desks.{DeskState, AreDone}
@@ -83,6 +84,21 @@ pub record DrainsDesk (hosts : TenantsState) (d : DeskState) (hosts' : TenantsSt
   pub tenants : length hosts'.hearts ≡ length hosts.hearts
   pub drains : (t : ℕ) (h : HeartState) (u : UpdaterState) → t < length hosts.hearts
       → IsDrained (slice_index_or hosts.hearts t h) (slice_index_or d.updaters t u) (slice_index_or hosts'.hearts t h)
+
+-- each desk at the place of its number
+abbrev pub AreNumbered : List DeskState → Type 0
+AreNumbered desks = (i : ℕ) (d : DeskState) → i < length desks → (slice_index_or desks i d).number ≡ i
+
+-- of each desk the updater for the tenant at this place
+abbrev pub updaters_for : ℕ → List DeskState → UpdaterState → List UpdaterState
+updaters_for t desks u = map (λ d. slice_index_or d.updaters t u) desks
+
+-- each heart drained all desks' updaters of its hub, in the order of their numbers
+pub record DrainsDesks (hosts : TenantsState) (desks : List DeskState) (hosts' : TenantsState) : Type 0 where
+  pub stays : hosts' ≡ record hosts { hearts = hosts'.hearts }
+  pub tenants : length hosts'.hearts ≡ length hosts.hearts
+  pub drains : (t : ℕ) (h : HeartState) (u : UpdaterState) → t < length hosts.hearts
+      → DrainsAll (slice_index_or hosts.hearts t h) (updaters_for t desks u) (slice_index_or hosts'.hearts t h)
 
 -- each heart has taken in the desk's updater of its hub, whatever it has done since
 pub record HasTakenInDesk (hosts : TenantsState) (d : DeskState) : Type 0 where

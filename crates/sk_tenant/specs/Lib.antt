@@ -5,3 +5,4 @@ pub mod Desks
 pub mod Hosts
 pub mod Openings
 pub mod Sketches
+pub mod Drainings

@@ -1,5 +1,5 @@
 //! A desk: an updater of each tenant's hub, and how many items it keeps for a tenant at most.
-ghost use Rattle.std.specs.Prelude.{◌≡◌, ◌↔◌, ℕ, ◌<◌, ◌≤◌, true, false, Some, length, slice_get, IfSome, IfNone, Contains};
+ghost use Rattle.std.specs.Prelude.{◌≡◌, ◌↔◌, ℕ, ◌<◌, ◌≤◌, true, false, Some, length, slice_get, All, IfSome, IfNone, Contains};
 ghost use Rattle.sk_model.specs.Limits.{most_kept};
 ghost use Rattle.sk_model.specs.Width.{IsItem};
 ghost use Rattle.sk_hub.specs.Updaters.{kept_of};
@@ -26,8 +26,6 @@ pub struct Desk {
     pub(crate) quota: u64,
     // each at the place of its tenant
     pub(crate) updaters: Vec<Updater<TenantTheta>>,
-    // empty, with room for half of them, so that two threads can drain them
-    pub(crate) later: Vec<Updater<TenantTheta>>,
 }
 
 impl Model for Desk {
@@ -111,6 +109,14 @@ impl Desk {
         ensures done { IsDone self.old t (Helps result) self.new }
     {
         help_with(rt, &mut self.updaters[t as usize])
+    }
+
+    /// Its updaters, each at the place of its tenant.
+    pub(crate) fn into_updaters(self) -> Vec<Updater<TenantTheta>>
+        ensures updaters { result.items ≡ self.updaters }
+        ensures numbers { All (λ u. u.number ≡ self.number) self.updaters }
+    {
+        self.updaters
     }
 }
 

@@ -2,7 +2,7 @@
 ghost use Rattle.std.specs.Prelude.{◌≡◌, ◌+◌, ◌-◌, ◌*◌, ◌<◌, ◌≤◌, ◌^◌, ℕ, length, take, min, slice_range, true};
 ghost use Rattle.sk_tenant.specs.Guesses.{most_marks, AreEndsOf, IsReachOf};
 
-/// As many bytes at each end of a name are compared at once.
+/// How many bytes at each end of a name are compared at once.
 pub(crate) const END: usize = 8;
 
 /// Names of at most this many bytes are equal if their ends are.
@@ -123,7 +123,7 @@ pub(crate) struct Reach {
 }
 
 impl Reach {
-    /// That of names of so many bytes.
+    /// That of names of `len` bytes.
     #[inline(always)]
     pub(crate) fn of(len: usize) -> Reach
         ensures { IsReachOf len result }

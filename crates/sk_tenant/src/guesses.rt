@@ -132,7 +132,7 @@ pub(crate) fn place_by(
     if !guess.ends.are(&ends) {
         return None;
     }
-    if !has_name_if_long(names, guess.place, name) {
+    if !is_confirmed(names, guess.place, name) {
         return None;
     }
     Some(guess.place)
@@ -166,9 +166,9 @@ fn put_guess(
     by_mark[ends.mark(mixer)] = Guess { ends, place };
 }
 
-// Whether the name at place t is this one, if this one is too long to be known by its ends.
+// Whether the name at place t, which has the ends of this one, is this one: of at most 16 bytes it is.
 #[inline(always)]
-fn has_name_if_long(names: &IndexSet<Vec<u8>>, t: u32, name: &[u8]) -> bool
+fn is_confirmed(names: &IndexSet<Vec<u8>>, t: u32, name: &[u8]) -> bool
     ensures is { result ≡ true → 16 < length name.now → slice_get (map (λ own. own.items) names.now.keys) t ≡ Some name.now }
     ensures size { length name.now < 2 ^ 63 }
 {

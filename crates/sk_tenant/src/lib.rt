@@ -3,6 +3,7 @@
 
 mod answers;
 mod desk;
+mod draining;
 mod ends;
 mod guesses;
 pub mod laws;

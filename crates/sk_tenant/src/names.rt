@@ -80,7 +80,7 @@ impl Names {
         }
     }
 
-    /// What finds the places of names of this many bytes.
+    /// What finds the places of names of `len` bytes.
     #[inline(always)]
     pub fn finder(&self, len: usize) -> Finder<'_>
         ensures names { result.names ≡ self.now }
@@ -116,7 +116,7 @@ impl Names {
     }
 }
 
-/// What finds the places of names of one length, as many bytes: where they are sought first is at hand.
+/// What finds the places of names of one length, in bytes: where they are sought first is at hand.
 #[derive(Drop)]
 pub struct Finder<'n> {
     names: &'n Names,
@@ -137,11 +137,12 @@ impl<'n> Model for Finder<'n> {
 }
 
 impl<'n> Finder<'n> {
-    /// Whether a text has as many bytes from a place on as are read there: those of a name, and eight at least.
+    /// Whether a text has all bytes that are read from a place on: those of a name, and eight at least.
     #[inline(always)]
     pub fn reaches(&self, text: &[u8], at: usize) -> bool
         ensures within { result ≡ true → at + self.now.len ≤ length text.now }
         ensures room { result ≡ true → at + 8 ≤ length text.now }
+        ensures exact { at + self.now.len ≤ length text.now → at + 8 ≤ length text.now → result ≡ true }
     {
         at <= text.len() && self.reach.len.max(END) <= text.len() - at
     }

@@ -15,8 +15,8 @@ use sk_model::OutOfMemory;
 use sk_theta::Shape;
 use std::alloc::Global;
 
-// The updaters of each desk.
-type Lists = Vec<Vec<Updater<TenantTheta>>>;
+/// Lists of updaters: of each desk, or of each tenant.
+pub(crate) type Lists = Vec<Vec<Updater<TenantTheta>>>;
 
 impl Tenants {
     /// A hub of this shape for each of 1 to 64 names, and a desk for each of its updaters. A desk keeps at most `quota`
@@ -70,8 +70,8 @@ fn open_hubs(
     Ok((hearts, lists))
 }
 
-// Empty lists, with room for this many updaters each.
-fn empty_lists(alloc: Global, n: u32, count: u32) -> Result<Lists, OutOfMemory>
+/// Empty lists, with room for `count` updaters each.
+pub(crate) fn empty_lists(alloc: Global, n: u32, count: u32) -> Result<Lists, OutOfMemory>
     ensures { IfOk result (λ lists. map (λ list. list.items) lists.items ≡ replicate n []) }
 {
     let mut lists = Vec::with_capacity(alloc, n as usize)?;
@@ -100,8 +100,11 @@ fn open_hub(
     Ok(heart)
 }
 
-// Each list gets the updater at its place.
-fn deal(lists: &mut Lists, updaters: Vec<Updater<TenantTheta>>) -> Result<(), OutOfMemory>
+/// Each list gets the updater at its place.
+pub(crate) fn deal(
+    lists: &mut Lists,
+    updaters: Vec<Updater<TenantTheta>>,
+) -> Result<(), OutOfMemory>
     requires count { length updaters.items ≡ length lists.old.items }
     ensures { OnOk result (AreDealt updaters.items (map (λ list. list.items) lists.old.items) (map (λ list. list.items) lists.new.items)) }
 {
@@ -135,7 +138,6 @@ fn desks_of(
             number,
             quota,
             updaters,
-            later: Vec::with_capacity(alloc, names.len().div_ceil(2) as usize)?,
         };
         desks.push(desk)?;
     }

@@ -15,7 +15,6 @@ use sk_tenant::{Add, Desk, Names, Opening, TenantStop, Tenants};
 use sk_theta::Shape;
 use std::alloc::Global;
 use std::sync::Wait;
-use std::thread::Threads;
 
 /// What became of each line at both desks, and the last word of each tenant.
 #[derive(Drop)]
@@ -27,7 +26,7 @@ pub struct Answered {
 
 /// Adds the lines of two desks, each of a tenant's place and an item, drains the second desk and
 /// then the first, and asks for each tenant's word.
-pub fn count_two_tenants<R: Threads + Wait + Sync>(
+pub fn count_two_tenants<R: Wait>(
     rt: &R,
     alloc: Global,
     names: Vec<String>,
@@ -95,8 +94,17 @@ pub fn has_plain_name(names: &Names, name: &[u8]) -> bool
     if finder.reaches(name, 0) {
         finder.place(name, 0).is_some()
     } else {
-        names.place(name).is_some()
+        has_short_name(names, name)
     }
+}
+
+// The same of a name of fewer than eight bytes: any other is reached.
+fn has_short_name(names: &Names, name: &[u8]) -> bool
+    requires short { length name.now < 8 }
+    ensures known { result ≡ true → Contains names.now name.now }
+    ensures unknown { result ≡ false → ¬ Contains names.now name.now }
+{
+    names.place(name).is_some()
 }
 
 /// Offers an item for the tenant at place t unless it is filtered, and returns whether it was offered: below the quota

@@ -17,7 +17,7 @@ returns-clause-place c =
     let same = c.if-not-are.false in
     let within : c.mark.result < length c.args.by_mark.now = omega (arith, c.mark.ensures, c.requires.guesses.count) in
     guessed (map (λ own. own.items) c.args.names.now.keys) c.args.by_mark.now c.mark.result (at_mark c.args.by_mark.now c.mark.result) c.args.name.now c.args.ends c.requires.guesses c.mark.ensures (is_there c.args.by_mark.now c.mark.result within) c.requires.ends
-    (c.are.ensures.first same) (c.are.ensures.last same) (c.are.ensures.len same) c.has_name_if_long.ensures.size (c.has_name_if_long.ensures.is c.if-not-has_name_if_long.false)
+    (c.are.ensures.first same) (c.are.ensures.last same) (c.are.ensures.len same) c.is_confirmed.ensures.size (c.is_confirmed.ensures.is c.if-not-is_confirmed.false)
 
 pub returns-clause-plain : goal.returns-clause-plain
 unfolding at_mark
@@ -25,4 +25,4 @@ returns-clause-plain c =
     let same = c.if-not-are.false in
     let within : c.mark.result < length c.args.by_mark.now = omega (arith, c.mark.ensures, c.requires.guesses.count) in
     is_plain (map (λ own. own.items) c.args.names.now.keys) c.args.by_mark.now c.mark.result (at_mark c.args.by_mark.now c.mark.result) c.args.name.now c.args.ends c.requires.guesses c.mark.ensures (is_there c.args.by_mark.now c.mark.result within) c.requires.ends
-    (c.are.ensures.first same) (c.are.ensures.last same) (c.are.ensures.len same) c.has_name_if_long.ensures.size (c.has_name_if_long.ensures.is c.if-not-has_name_if_long.false)
+    (c.are.ensures.first same) (c.are.ensures.last same) (c.are.ensures.len same) c.is_confirmed.ensures.size (c.is_confirmed.ensures.is c.if-not-is_confirmed.false)
