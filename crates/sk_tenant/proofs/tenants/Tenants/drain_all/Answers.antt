@@ -1,5 +1,4 @@
 use Rattle.std.proofs.Common.{◌≡◌, length, map, refl, sym, ap, subst, ◌∙◌, All}
-use Rattle.sk_tenant.specs.Desks.{DeskState}
 use Rattle.sk_tenant.specs.Hosts.{TenantsState, IsDeskOf, DrainsDesks}
 use Rattle.sk_tenant.proofs.AllDesks.{lists_of, drains_desks, taken_in_each, hubs_after}
 use Rattle.sk_tenant.proofs.tenants.Tenants.drain_all.Goals as goal
