@@ -63,7 +63,7 @@ pub fn tenants<S: Source, O: Sink, R: Threads + Wait + Sync>(
         mut desks,
     } = open_desks(alloc, plan, names)?;
     read_all(rt, alloc, plan, most, source, hosts.names(), &mut desks)?;
-    hosts.drain_all(rt, alloc, desks)?;
+    hosts.drain_all(rt, desks);
     let text = text_of(alloc, plan, &mut hosts)?;
     write_text(out, text.as_slice())?;
     Ok(())

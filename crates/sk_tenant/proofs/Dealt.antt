@@ -97,9 +97,9 @@ no_desks names quota = record { count = refl; each = λ i l d within. absurd (om
 abbrev pub desk_with : List (List ℕ) → ℕ → ℕ → List UpdaterState → DeskState
 desk_with names number quota us = record { names = names; number = number; quota = quota; updaters = us }
 
-pub same_desk : (names own : List (List ℕ)) (quota number n : ℕ) (us : List UpdaterState) → own ≡ names → number ≡ n
-    → desk_with own number quota us ≡ desk_with names n quota us
-same_desk names own quota number n us same its = ap (λ x. desk_with x number quota us) same ∙ ap (λ x. desk_with names x quota us) its
+pub same_desk : (names own : List (List ℕ)) (quota number n : ℕ) (us all : List UpdaterState) → own ≡ names → number ≡ n → us ≡ all
+    → desk_with own number quota us ≡ desk_with names n quota all
+same_desk names own quota number n us all same its are = ap (λ x. desk_with x number quota us) same ∙ ap (λ x. desk_with names x quota us) its ∙ ap (desk_with names n quota) are
 
 pub one_desk_more : (names : List (List ℕ)) (quota : ℕ) (lists : List (List UpdaterState)) (desks : List DeskState) (us : List UpdaterState) (last : DeskState) → AreDesksOf names quota lists desks
     → last ≡ desk_with names (length desks) quota us → AreDesksOf names quota (lists ++ us ∷ []) (desks ++ last ∷ [])

@@ -6,6 +6,7 @@ pub mod Places
 pub mod Clearing
 pub mod Guessing
 pub mod FromEnd
+pub mod Rooms
 pub mod Halves
 pub mod Dealt
 pub mod AllDesks

@@ -5,4 +5,5 @@ pub mod Desks
 pub mod Hosts
 pub mod Openings
 pub mod Sketches
+pub mod Rooms
 pub mod Drainings

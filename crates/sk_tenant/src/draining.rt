@@ -1,164 +1,122 @@
 //! All desks taken in at once, tenant by tenant.
-ghost use Rattle.std.specs.Prelude.{◌≡◌, length, map, All, OnOk, OnErr, IfOk};
-ghost use Rattle.sk_feed.specs.Drained.{DrainsAll};
+ghost use Rattle.std.specs.Prelude.{◌≡◌, length, replicate, All};
+ghost use Rattle.sk_tenant.specs.Rooms.{empty_room, lists_in, sizes_of, emptied};
 ghost use Rattle.sk_tenant.specs.Hosts.{AreNumbered, IsDeskOf, DrainsDesks, HasTakenInDesk};
-ghost use Rattle.sk_tenant.specs.Drainings.{HasAllTenants, AreByTenant, AreAllOf, AreListsOf, DrainLists};
+ghost use Rattle.sk_tenant.specs.Drainings.{HasAllTenants, AreByTenant, AreListsOf, DrainLists};
 
 use crate::desk::Desk;
-use crate::opening::{Lists, deal, empty_lists};
+use crate::room::{Room, Rooms, deal};
 use crate::sketch::TenantTheta;
 use crate::tenants::Tenants;
-use sk_feed::drain_all;
-use sk_hub::{Heart, Updater};
-use sk_model::OutOfMemory;
-use std::alloc::Global;
-use std::mem::replace;
+use sk_hub::Heart;
 use std::sync::Wait;
 use std::thread::{Threads, join_mut};
 
 impl Tenants {
     /// Takes in all desks, in the order of their numbers, and the tenants' hubs in as many threads as there are desks, if
-    /// they can be started: a sketch comes to a cache once, and not once for each desk. It takes memory for lists of the
-    /// updaters, and changes nothing if there is none.
-    pub fn drain_all<R: Threads + Wait + Sync>(
-        &mut self,
-        rt: &R,
-        alloc: Global,
-        desks: Vec<Desk>,
-    ) -> Result<(), OutOfMemory>
+    /// they can be started: a sketch comes to a cache once, and not once for each desk.
+    pub fn drain_all<R: Threads + Wait + Sync>(&mut self, rt: &R, desks: Vec<Desk>)
         requires desks { All (IsDeskOf self.old) desks.items }
         requires numbers { AreNumbered desks.items }
         requires all { length desks.items ≡ self.old.n }
-        ensures drains { OnOk result (DrainsDesks self.old desks.items self.new) }
-        ensures taken_in { OnOk result (All (HasTakenInDesk self.new) desks.items) }
-        ensures unchanged { OnErr result (self.new ≡ self.old) }
+        ensures drains { DrainsDesks self.old desks.items self.new }
+        ensures taken_in { All (HasTakenInDesk self.new) desks.items }
     {
-        let tenants = self.names.len();
-        let threads = self.n.min(tenants) as usize;
-        let lists = lists_by_tenant(alloc, tenants, self.n, desks)?;
-        drain_hubs(rt, alloc, &mut self.hearts, lists, threads);
-        Ok(())
+        let threads = self.n.min(self.names.len()) as usize;
+        deal_desks(&mut self.rooms, desks);
+        drain_hubs(rt, &mut self.hearts, &mut self.rooms, threads);
     }
 }
 
-// The updaters of desks, a list for each tenant, in the order of the desks. Each list has room for `count` at first.
-fn lists_by_tenant(
-    alloc: Global,
-    tenants: u32,
-    count: u32,
-    desks: Vec<Desk>,
-) -> Result<Lists, OutOfMemory>
-    requires tenants { All (λ d. length d.updaters ≡ tenants) desks.items }
-    ensures lists { IfOk result (λ lists. AreByTenant tenants desks.items (map (λ list. list.items) lists.items)) }
-    ensures desks { IfOk result (λ _. All (HasAllTenants tenants) desks.items) }
+// Each tenant's room gets all desks' updaters of its hub, in the order of the desks.
+fn deal_desks(rooms: &mut Rooms, desks: Vec<Desk>)
+    requires tenants { All (λ d. length d.updaters ≡ length rooms.old.items) desks.items }
+    requires empty { rooms.old.items ≡ replicate (length rooms.old.items) (empty_room (length desks.items)) }
+    ensures lists { AreByTenant (length rooms.old.items) desks.items (lists_in rooms.new.items) }
+    ensures most { sizes_of rooms.new.items ≡ sizes_of rooms.old.items }
+    ensures desks { All (HasAllTenants (length rooms.old.items)) desks.items }
 {
-    let mut lists = empty_lists(alloc, tenants, count)?;
     'desk: for desk in desks {
-        deal(&mut lists, desk.into_updaters())?;
+        deal(rooms, desk.into_updaters());
     }
-    Ok(lists)
 }
 
-// Each heart drains the list at its place, in this many threads.
+// Each heart drains the updaters in the room at its place, in this many threads.
 fn drain_hubs<R: Threads + Wait + Sync>(
     rt: &R,
-    alloc: Global,
     hearts: &mut Vec<Heart<TenantTheta>>,
-    lists: Lists,
+    rooms: &mut Rooms,
     threads: usize,
 )
-    requires { AreListsOf hearts.old.items (map (λ list. list.items) lists.items) }
-    ensures { DrainLists hearts.old.items (map (λ list. list.items) lists.items) hearts.new.items }
+    requires { AreListsOf hearts.old.items (lists_in rooms.old.items) }
+    ensures drains { DrainLists hearts.old.items (lists_in rooms.old.items) hearts.new.items }
+    ensures empty { rooms.new.items ≡ emptied rooms.old.items }
 {
-    let mut lists = lists;
-    drain_parts(
-        rt,
-        alloc,
-        hearts.as_mut_slice(),
-        lists.as_mut_slice(),
-        threads,
-    );
+    drain_parts(rt, hearts.as_mut_slice(), rooms.as_mut_slice(), threads);
 }
 
 // The same, halved as long as there are threads for both halves.
 #[cycle(parts)]
 fn drain_parts<R: Threads + Wait + Sync>(
     rt: &R,
-    alloc: Global,
     hearts: &mut [Heart<TenantTheta>],
-    lists: &mut [Vec<Updater<TenantTheta>>],
+    rooms: &mut [Room],
     threads: usize,
 )
-    requires { AreListsOf hearts.old (map (λ list. list.items) lists.old) }
-    ensures { DrainLists hearts.old (map (λ list. list.items) lists.old) hearts.new }
+    requires { AreListsOf hearts.old (lists_in rooms.old) }
+    ensures drains { DrainLists hearts.old (lists_in rooms.old) hearts.new }
+    ensures empty { rooms.new ≡ emptied rooms.old }
 {
     if threads < 2 {
-        return drain_lists(rt, alloc, hearts, lists);
+        return drain_rooms(rt, hearts, rooms);
     }
     let half = hearts.len() / 2;
     let (first, last) = hearts.split_at_mut(half);
-    let (earlier, later) = lists.split_at_mut(half);
-    drain_both(rt, alloc, first, earlier, last, later, threads / 2);
+    let (earlier, later) = rooms.split_at_mut(half);
+    drain_both(rt, first, earlier, last, later, threads / 2);
 }
 
 // The first hearts drain in a thread of their own, and the last ones here.
 #[cycle(parts)]
 fn drain_both<R: Threads + Wait + Sync>(
     rt: &R,
-    alloc: Global,
     first: &mut [Heart<TenantTheta>],
-    earlier: &mut [Vec<Updater<TenantTheta>>],
+    earlier: &mut [Room],
     last: &mut [Heart<TenantTheta>],
-    later: &mut [Vec<Updater<TenantTheta>>],
+    later: &mut [Room],
     threads: usize,
 )
-    requires first { AreListsOf first.old (map (λ list. list.items) earlier.old) }
-    requires last { AreListsOf last.old (map (λ list. list.items) later.old) }
-    ensures first { DrainLists first.old (map (λ list. list.items) earlier.old) first.new }
-    ensures last { DrainLists last.old (map (λ list. list.items) later.old) last.new }
+    requires first { AreListsOf first.old (lists_in earlier.old) }
+    requires last { AreListsOf last.old (lists_in later.old) }
+    ensures first { DrainLists first.old (lists_in earlier.old) first.new }
+    ensures earlier { earlier.new ≡ emptied earlier.old }
+    ensures last { DrainLists last.old (lists_in later.old) last.new }
+    ensures later { later.new ≡ emptied later.old }
 {
     join_mut(
         rt,
         &mut ||
-            requires { AreListsOf first.now (map (λ list. list.items) earlier.now) }
-            ensures { DrainLists first.entry.now (map (λ list. list.items) earlier.entry.now) first.exit.now }
-        { drain_parts(rt, alloc, first, earlier, threads) },
+            requires { AreListsOf first.now (lists_in earlier.now) }
+            ensures drains { DrainLists first.entry.now (lists_in earlier.entry.now) first.exit.now }
+            ensures empty { earlier.exit.now ≡ emptied earlier.entry.now }
+        { drain_parts(rt, first, earlier, threads) },
         &mut ||
-            requires { AreListsOf last.now (map (λ list. list.items) later.now) }
-            ensures { DrainLists last.entry.now (map (λ list. list.items) later.entry.now) last.exit.now }
-        { drain_parts(rt, alloc, last, later, threads) },
+            requires { AreListsOf last.now (lists_in later.now) }
+            ensures drains { DrainLists last.entry.now (lists_in later.entry.now) last.exit.now }
+            ensures empty { later.exit.now ≡ emptied later.entry.now }
+        { drain_parts(rt, last, later, threads) },
     );
 }
 
-// Each heart drains the list at its place, in this thread.
-fn drain_lists<R: Wait>(
-    rt: &R,
-    alloc: Global,
-    hearts: &mut [Heart<TenantTheta>],
-    lists: &mut [Vec<Updater<TenantTheta>>],
-)
-    requires { AreListsOf hearts.old (map (λ list. list.items) lists.old) }
-    ensures { DrainLists hearts.old (map (λ list. list.items) lists.old) hearts.new }
+// Each heart drains the updaters in the room at its place, in this thread.
+fn drain_rooms<R: Wait>(rt: &R, hearts: &mut [Heart<TenantTheta>], rooms: &mut [Room])
+    requires { AreListsOf hearts.old (lists_in rooms.old) }
+    ensures drains { DrainLists hearts.old (lists_in rooms.old) hearts.new }
+    ensures empty { rooms.new ≡ emptied rooms.old }
 {
     let mut left = hearts.len();
     'last: while left > 0 {
         left -= 1;
-        drain_list(rt, alloc, &mut hearts[left], &mut lists[left]);
-    }
-}
-
-// A heart drains all updaters of its hub. The merges of its sketch take no memory.
-fn drain_list<R: Wait>(
-    rt: &R,
-    alloc: Global,
-    heart: &mut Heart<TenantTheta>,
-    updaters: &mut Vec<Updater<TenantTheta>>,
-)
-    requires { AreAllOf heart.old updaters.old.items }
-    ensures { DrainsAll heart.old updaters.old.items heart.new }
-{
-    match drain_all(rt, heart, replace(updaters, Vec::new(alloc))) {
-        Ok(_) => {}
-        Err(OutOfMemory) => unreachable!(),
+        rooms[left].drain_into(rt, &mut hearts[left]);
     }
 }

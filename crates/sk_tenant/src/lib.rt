@@ -9,6 +9,7 @@ mod guesses;
 pub mod laws;
 mod names;
 mod opening;
+mod room;
 mod sketch;
 mod tenants;
 

@@ -1,22 +1,21 @@
 //! Tenants and desks at their start.
-ghost use Rattle.std.specs.Prelude.{◌≡◌, ℕ, ◌≤◌, [], length, map, replicate, All, IfOk, OnOk};
+ghost use Rattle.std.specs.Prelude.{◌≡◌, ℕ, ◌≤◌, ◌<◌, length, All, IfOk, OnOk};
 ghost use Rattle.sk_model.specs.Limits.{most_kept, most_updaters};
 ghost use Rattle.sk_tenant.specs.Names.{bytes_of, most_tenants, AreDifferent, IsFirstTwice};
 ghost use Rattle.sk_tenant.specs.Hosts.{AreNewTenants, AreNewDesks, IsDeskOf};
-ghost use Rattle.sk_tenant.specs.Openings.{AreNewHubs, DealsHub, AreDealt, AreUnusedLists, AreDesksOf};
+ghost use Rattle.sk_tenant.specs.Rooms.{lists_in, sizes_of};
+ghost use Rattle.sk_tenant.specs.Openings.{AreNewHubs, DealsHub, AreUnusedLists, AreDesksOf};
 
 use crate::answers::{Opening, TenantStop};
 use crate::desk::Desk;
 use crate::names::Names;
+use crate::room::{Rooms, deal, empty_rooms};
 use crate::sketch::TenantTheta;
 use crate::tenants::Tenants;
-use sk_hub::{Heart, Opened, Updater, open};
+use sk_hub::{Heart, Opened, open};
 use sk_model::OutOfMemory;
 use sk_theta::Shape;
 use std::alloc::Global;
-
-/// Lists of updaters: of each desk, or of each tenant.
-pub(crate) type Lists = Vec<Vec<Updater<TenantTheta>>>;
 
 impl Tenants {
     /// A hub of this shape for each of 1 to 64 names, and a desk for each of its updaters. A desk keeps at most `quota`
@@ -42,53 +41,46 @@ impl Tenants {
     {
         let names = Names::of(alloc, names)?;
         let (k, n) = (shape.k(), shape.n());
-        let (hearts, lists) = open_hubs(alloc, shape, names.len())?;
-        let desks = desks_of(alloc, &names, quota, lists)?;
+        let (hearts, dealt) = open_hubs(alloc, shape, names.len())?;
+        let desks = desks_of(alloc, &names, quota, dealt)?;
+        let rooms = empty_rooms(alloc, names.len(), n)?;
         let hosts = Tenants {
             names,
             k,
             n,
             hearts,
+            rooms,
         };
         Ok(Opening { hosts, desks })
     }
 }
 
-// Hubs of this shape: their hearts, and for each number the list of the updaters that have it.
+// Hubs of this shape: their hearts, and for each number a room with the updaters that have it.
 fn open_hubs(
     alloc: Global,
     shape: &Shape,
     count: u32,
-) -> Result<(Vec<Heart<TenantTheta>>, Lists), OutOfMemory>
-    ensures { IfOk result (λ made. AreNewHubs shape.now count made.0.items (map (λ list. list.items) made.1.items)) }
+) -> Result<(Vec<Heart<TenantTheta>>, Rooms), OutOfMemory>
+    ensures { IfOk result (λ made. AreNewHubs shape.now count made.0.items (lists_in made.1.items)) }
 {
     let mut hearts = Vec::with_capacity(alloc, count as usize)?;
-    let mut lists = empty_lists(alloc, shape.n(), count)?;
+    let mut rooms = empty_rooms(alloc, shape.n(), count)?;
     'tenant: for _ in 0..count {
-        hearts.push(open_hub(alloc, shape, &mut lists)?)?;
+        hearts.push(open_hub(alloc, shape, &mut rooms)?)?;
     }
-    Ok((hearts, lists))
+    Ok((hearts, rooms))
 }
 
-/// Empty lists, with room for `count` updaters each.
-pub(crate) fn empty_lists(alloc: Global, n: u32, count: u32) -> Result<Lists, OutOfMemory>
-    ensures { IfOk result (λ lists. map (λ list. list.items) lists.items ≡ replicate n []) }
-{
-    let mut lists = Vec::with_capacity(alloc, n as usize)?;
-    'list: for _ in 0..n {
-        lists.push(Vec::with_capacity(alloc, count as usize)?)?;
-    }
-    Ok(lists)
-}
-
-// Opens a hub, and deals its updaters to the lists.
+// Opens a hub, and deals its updaters to the rooms.
 fn open_hub(
     alloc: Global,
     shape: &Shape,
-    lists: &mut Lists,
+    rooms: &mut Rooms,
 ) -> Result<Heart<TenantTheta>, OutOfMemory>
-    requires count { length lists.old.items ≡ shape.now.n }
-    ensures { IfOk result (λ heart. DealsHub shape.now heart (map (λ list. list.items) lists.old.items) (map (λ list. list.items) lists.new.items)) }
+    requires count { length rooms.old.items ≡ shape.now.n }
+    requires room { All (λ room. length room.items < room.most) rooms.old.items }
+    ensures deals { IfOk result (λ heart. DealsHub shape.now heart (lists_in rooms.old.items) (lists_in rooms.new.items)) }
+    ensures most { OnOk result (sizes_of rooms.new.items ≡ sizes_of rooms.old.items) }
 {
     let sketch = TenantTheta::new(alloc, shape.k())?;
     let Opened {
@@ -96,48 +88,33 @@ fn open_hub(
         updaters,
         token: _,
     } = open(alloc, shape, sketch)?;
-    deal(lists, updaters)?;
+    deal(rooms, updaters);
     Ok(heart)
 }
 
-/// Each list gets the updater at its place.
-pub(crate) fn deal(
-    lists: &mut Lists,
-    updaters: Vec<Updater<TenantTheta>>,
-) -> Result<(), OutOfMemory>
-    requires count { length updaters.items ≡ length lists.old.items }
-    ensures { OnOk result (AreDealt updaters.items (map (λ list. list.items) lists.old.items) (map (λ list. list.items) lists.new.items)) }
-{
-    let mut updaters = updaters;
-    'last: while let Some(updater) = updaters.pop() {
-        lists[updaters.len()].push(updater)?;
-    }
-    Ok(())
-}
-
-// A desk for each list of updaters, at the place of its number.
+// A desk for each room, at the place of its number, with the updaters there.
 fn desks_of(
     alloc: Global,
     names: &Names,
     quota: u64,
-    lists: Lists,
+    rooms: Rooms,
 ) -> Result<Vec<Desk>, OutOfMemory>
     requires few_names { length names.now ≤ most_tenants }
     requires different { AreDifferent names.now }
-    requires few { length lists.items ≤ most_updaters }
-    requires unused { AreUnusedLists (length names.now) (map (λ list. list.items) lists.items) }
+    requires few { length rooms.items ≤ most_updaters }
+    requires unused { AreUnusedLists (length names.now) (lists_in rooms.items) }
     requires quota_some { 1 ≤ quota }
     requires quota_most { quota ≤ most_kept }
-    ensures { IfOk result (λ desks. AreDesksOf names.now quota (map (λ list. list.items) lists.items) desks.items) }
+    ensures { IfOk result (λ desks. AreDesksOf names.now quota (lists_in rooms.items) desks.items) }
 {
-    let mut desks = Vec::with_capacity(alloc, lists.len())?;
-    'list: for updaters in lists {
+    let mut desks = Vec::with_capacity(alloc, rooms.len())?;
+    'room: for room in rooms {
         let number = desks.len() as u32;
         let desk = Desk {
             names: names.share()?,
             number,
             quota,
-            updaters,
+            updaters: room.into_updaters(),
         };
         desks.push(desk)?;
     }

@@ -1,15 +1,13 @@
 //! The hearts of the tenants' hubs.
-ghost use Rattle.std.specs.Prelude.{◌≡◌, ◌≢◌, ℕ, ◌<◌, length};
-ghost use Rattle.sk_hub.specs.Drains.{IsDrained};
-ghost use Rattle.sk_hub.specs.Hearts.{HeartState};
-ghost use Rattle.sk_hub.specs.Updaters.{UpdaterState};
+ghost use Rattle.std.specs.Prelude.{◌≡◌, ◌≢◌, ◌<◌, length};
 ghost use Rattle.sk_tenant.specs.Desks.{DeskState};
 ghost use Rattle.sk_tenant.specs.Hosts.{AreTenants, IsDeskOf, AreOfHubs, DrainEach, DrainsDesk, HasTakenInDesk, AreAskedFor};
 
 use crate::desk::Desk;
 use crate::names::Names;
+use crate::room::{Rooms, drain_one};
 use crate::sketch::TenantTheta;
-use sk_hub::{Drain, Heart, Updater};
+use sk_hub::{Heart, Updater};
 use std::marker::Model;
 use std::sync::Wait;
 
@@ -21,16 +19,21 @@ pub struct Tenants {
     pub(crate) n: u32,
     // each at the place of its tenant
     pub(crate) hearts: Vec<Heart<TenantTheta>>,
+    // for each tenant, where all desks' updaters of its hub are put to be drained at once
+    pub(crate) rooms: Rooms,
 }
 
 impl Model for Tenants {
+    ghost use Rattle.std.specs.Prelude.{◌≡◌, length, replicate};
     ghost use Rattle.sk_tenant.specs.Hosts.{TenantsState, AreTenants};
+    ghost use Rattle.sk_tenant.specs.Rooms.{empty_room};
 
     ghost Value = { TenantsState };
 
     ghost view = { λ h. record { names = h.names; k = h.k; n = h.n; hearts = h.hearts.items } };
 
-    ghost invariant = { λ h. AreTenants (record { names = h.names; k = h.k; n = h.n; hearts = h.hearts.items }) };
+    ghost invariant = { λ h. AreTenants (record { names = h.names; k = h.k; n = h.n; hearts = h.hearts.items })
+        × (h.rooms.items ≡ replicate (length h.names) (empty_room h.n)) };
 }
 
 impl Tenants {
@@ -88,16 +91,5 @@ fn drain_each<R: Wait>(
     let mut updaters = updaters;
     'last: while let Some(updater) = updaters.pop() {
         drain_one(rt, &mut hearts[updaters.len()], updater);
-    }
-}
-
-// A heart takes in an updater. The merges of its sketch take no memory.
-fn drain_one<R: Wait>(rt: &R, heart: &mut Heart<TenantTheta>, updater: Updater<TenantTheta>)
-    requires table { updater.table ≡ heart.old.table }
-    ensures { IsDrained heart.old updater heart.new }
-{
-    match heart.drain(rt, updater) {
-        Drain::Drained => {}
-        Drain::OutOfMemory(_) => unreachable!(),
     }
 }

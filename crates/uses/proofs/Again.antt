@@ -1,5 +1,5 @@
 -- Panes that are closed by a second call, after the first ran out of memory.
-use Rattle.std.proofs.Common.{◌≡◌, ◌≢◌, ℕ, zero, suc, List, [], ◌∷◌, ◌++◌, length, map, get_or, All, Contains, refl, sym, ap, subst, ◌∙◌, arith, inl, inr, length-append}
+use Rattle.std.proofs.Common.{◌≡◌, ℕ, zero, suc, List, [], ◌∷◌, ◌++◌, length, get_or, All, Contains, refl, sym, ap, subst, ◌∙◌, arith, inl, inr, length-append}
 use Rattle.std.proofs.lemmas.List.Elements.{All-tail}
 use Rattle.sk_model.specs.Entries.{Entry, entries_by}
 use Rattle.sk_theta.specs.declared.reply.Reply.{Reply}

@@ -1,9 +1,9 @@
 -- New updaters of an interval that were fed, and of which a reader has learnt.
-use Rattle.std.proofs.Common.{◌≡◌, ◌≢◌, ℕ, ◌<◌, Bool, List, length, get_or, All, sym, ap, ◌∙◌, arith}
+use Rattle.std.proofs.Common.{◌≡◌, ℕ, ◌<◌, Bool, List, length, get_or, All, sym, ap, ◌∙◌, arith}
 use Rattle.sk_model.specs.Entries.{Entry}
 use Rattle.sk_theta.specs.Sizes.{Sizes}
 use Rattle.sk_hub.specs.Hearts.{HeartState}
-use Rattle.sk_hub.specs.Updaters.{UpdaterState, kept_of}
+use Rattle.sk_hub.specs.Updaters.{UpdaterState}
 use Rattle.sk_snap.specs.History.{name_of}
 use Rattle.sk_snap.specs.Versions.{Learnt}
 use Rattle.sk_learn.specs.Closing.{AreApart}

@@ -1,12 +1,11 @@
 //! Two tenants, whose items come to two desks.
-ghost use Rattle.std.specs.Prelude.{◌≡◌, ◌↔◌, ℕ, ◌<◌, ◌≤◌, ◌++◌, length, slice_get, All, Contains, IfOk, Some, true, false};
+ghost use Rattle.std.specs.Prelude.{◌≡◌, ◌↔◌, ℕ, ◌<◌, ◌≤◌, ◌++◌, length, slice_get, Contains, IfOk, Some, true, false};
 ghost use Rattle.sk_model.specs.Limits.{most_kept};
 ghost use Rattle.sk_model.specs.Sketch.{packed_of};
 ghost use Rattle.sk_model.specs.Width.{IsItem};
 ghost use Rattle.sk_hub.specs.Updaters.{kept_of};
 ghost use Rattle.sk_tenant.specs.Calls.{theta_keeps};
 ghost use Rattle.sk_tenant.specs.Desks.{AreDone};
-ghost use Rattle.sk_tenant.specs.Hosts.{AreNumbered, IsDeskOf, HasTakenInDesk};
 ghost use Rattle.sk_tenant.specs.Names.{HasNoSpace};
 ghost use Rattle.uses.specs.Adds.{AreLines, adds_of, taken_for};
 
@@ -16,7 +15,6 @@ use sk_tenant::{Add, Desk, Names, Opening, TenantStop, Tenants};
 use sk_theta::Shape;
 use std::alloc::Global;
 use std::sync::Wait;
-use std::thread::Threads;
 
 /// What became of each line at both desks, and the last word of each tenant.
 #[derive(Drop)]
@@ -84,22 +82,6 @@ fn add_each(alloc: Global, desk: &mut Desk, lines: &[(u32, u64)]) -> Result<Vec<
         answers.push(desk.add(t, item))?;
     }
     Ok(answers)
-}
-
-/// Takes in all desks at once, and returns whether there was memory for it. If not, the tenants are as they were.
-pub fn drain_or_keep<R: Threads + Wait + Sync>(
-    rt: &R,
-    alloc: Global,
-    hosts: &mut Tenants,
-    desks: Vec<Desk>,
-) -> bool
-    requires desks { All (IsDeskOf hosts.old) desks.items }
-    requires numbers { AreNumbered desks.items }
-    requires all { length desks.items ≡ hosts.old.n }
-    ensures drained { result ≡ true → All (HasTakenInDesk hosts.new) desks.items }
-    ensures kept { result ≡ false → hosts.new ≡ hosts.old }
-{
-    hosts.drain_all(rt, alloc, desks).is_ok()
 }
 
 /// Whether a tenant has this name, which has no space.

@@ -65,18 +65,6 @@ drain_all-requires-clause-all g c κs within =
     let all = c.in_ok-read_all.ensures.read.1 in
     as_many_still c.args.plan.now names opening.hosts opening.desks.items c.requires.within c.requires.names opened.hosts opened.count opened.desks c.read_all.new.desks.items (lines_of all.taken) all.gave.1
 
-pub returns-in_err-drain_all-clause-goes : goal.returns-in_err-drain_all-clause-goes
-returns-in_err-drain_all-clause-goes g c =
-    let plan = c.args.plan.now in
-    let names = bytes_of c.args.names.items in
-    let own = c.names.result.now in
-    let left = g.S.Source.left c.args.source.now in let left' = g.S.Source.left c.read_all.new.source in
-    let w = g.O.Sink.written c.args.out.now in
-    let same = c.names.ensures.value ∙ c.in_ok-hosts.ensures.hosts.names_are in
-    let Gave : List (List ℕ) → Type 0 = λ lines. AreFine (desk_rules plan own) lines × HaveTaken plan.seed c.in_ok-hosts.field-0.desks.items c.read_all.new.desks.items lines in
-    goes_by (desk_rules plan names) c.args.most (setting left w) (setting left' w) c.from_residual-in_err-drain_all.result fault.OutOfMemory c.from_residual-in_err-drain_all.ensures.1
-    (inr (reads_so Gave (WroteSoFar (desk_rules plan names) w w) c.args.most left left' (λ lines gave. wrote_none (desk_rules plan names) (never plan names) w lines (fine_same plan names own lines same gave.0)) c.in_ok-read_all.ensures.read))
-
 pub text_of-requires-clause-counted : goal.text_of-requires-clause-counted
 text_of-requires-clause-counted g c =
     let names = bytes_of c.args.names.items in
@@ -85,7 +73,7 @@ text_of-requires-clause-counted g c =
     let all = c.in_ok-read_all.ensures.read.1 in (
       lines_of all.taken,
       counted_then c.args.plan.now names opening.hosts opening.desks.items c.requires.within c.requires.names opened.hosts opened.count opened.desks c.read_all.new.desks.items (lines_of all.taken) all.gave.1
-          c.drain_all.new.self (same_drained opening.hosts c.drain_all.new.self c.read_all.new.desks.items c.in_ok-drain_all.ensures.drains) c.in_ok-drain_all.ensures.taken_in,
+          c.drain_all.new.self (same_drained opening.hosts c.drain_all.new.self c.read_all.new.desks.items c.drain_all.ensures.drains) c.drain_all.ensures.taken_in,
     )
 
 pub returns-in_err-text-clause-goes : goal.returns-in_err-text-clause-goes
@@ -113,7 +101,7 @@ returns-in_err-write_text-clause-goes g c =
     let same = c.names.ensures.value ∙ opened.hosts.names_are in
     let Gave : List (List ℕ) → Type 0 = λ lines. AreFine (desk_rules plan own) lines × HaveTaken plan.seed opening.desks.items last lines in
     let due : (lines : List (List ℕ)) → HaveTaken plan.seed opening.desks.items last lines → c.as_slice.result.now ≡ flat_map (tenant_line plan lines) names = λ lines taken.
-    c.as_slice.ensures.value ∙ text_due plan names opening.hosts opening.desks.items c.requires.within c.requires.names opened.hosts opened.count opened.desks last lines taken c.drain_all.new.self c.in_ok-text.text.items (same_drained opening.hosts c.drain_all.new.self last c.in_ok-drain_all.ensures.drains) c.in_ok-drain_all.ensures.taken_in c.in_ok-text.ensures.text in
+    c.as_slice.ensures.value ∙ text_due plan names opening.hosts opening.desks.items c.requires.within c.requires.names opened.hosts opened.count opened.desks last lines taken c.drain_all.new.self c.in_ok-text.text.items (same_drained opening.hosts c.drain_all.new.self last c.drain_all.ensures.drains) c.drain_all.ensures.taken_in c.in_ok-text.ensures.text in
     goes_by (desk_rules plan names) c.args.most (setting left w) (setting left' w') c.from_residual-in_err-write_text.result c.in_err-write_text.field-0.0 c.from_residual-in_err-write_text.ensures.1
     (subst (EndsAt (desk_rules plan names) c.args.most (setting left w) (setting left' w')) (sym c.in_err-write_text.ensures.fault)
     (inr (reads_so Gave (WrotePartLast (desk_rules plan names) w w') c.args.most left left'
@@ -132,6 +120,6 @@ returns-clause-goes g c =
     let same = c.names.ensures.value ∙ opened.hosts.names_are in
     let Gave : List (List ℕ) → Type 0 = λ lines. AreFine (desk_rules plan own) lines × HaveTaken plan.seed opening.desks.items last lines in
     let due : (lines : List (List ℕ)) → HaveTaken plan.seed opening.desks.items last lines → c.as_slice.result.now ≡ flat_map (tenant_line plan lines) names = λ lines taken.
-    c.as_slice.ensures.value ∙ text_due plan names opening.hosts opening.desks.items c.requires.within c.requires.names opened.hosts opened.count opened.desks last lines taken c.drain_all.new.self c.in_ok-text.text.items (same_drained opening.hosts c.drain_all.new.self last c.in_ok-drain_all.ensures.drains) c.in_ok-drain_all.ensures.taken_in c.in_ok-text.ensures.text in
+    c.as_slice.ensures.value ∙ text_due plan names opening.hosts opening.desks.items c.requires.within c.requires.names opened.hosts opened.count opened.desks last lines taken c.drain_all.new.self c.in_ok-text.text.items (same_drained opening.hosts c.drain_all.new.self last c.drain_all.ensures.drains) c.drain_all.ensures.taken_in c.in_ok-text.ensures.text in
     reads_so Gave (WroteAll (desk_rules plan names) w w') c.args.most left left'
     (λ lines gave. wrote_whole (desk_rules plan names) (never plan names) w w' lines (fine_same plan names own lines same gave.0) (subst (Appends w w') (due lines gave.1) c.in_ok-write_text.ensures.ok)) c.in_ok-read_all.ensures.read

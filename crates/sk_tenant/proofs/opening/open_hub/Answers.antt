@@ -10,13 +10,13 @@ pub open-requires : goal.open-requires
 unfolding items_of_entries
 open-requires c = record { fresh = c.in_ok-sketch.ensures.stands }
 
-pub returns : goal.returns
-returns c =
+pub returns-clause-deals : goal.returns-clause-deals
+returns-clause-deals c =
     let shape = c.args.shape.now in let h = c.in_ok-heart.field-0.heart in let us = c.in_ok-heart.field-0.updaters.items in
     let same : (sketch_of c.in_ok-sketch.sketch).k ∷ [] ≡ shape.k ∷ [] = ap (λ k. k ∷ []) (c.in_ok-sketch.ensures.numbers ∙ c.k.ensures.value) in record {
       hub = subst (λ numbers. IsNewHeart shape.n numbers [] shape.eager h) same c.in_ok-heart.ensures.heart;
       dealt_updaters = us;
-      dealt = c.in_ok-deal.ensures;
+      dealt = c.deal.ensures.dealt;
       new_ones = λ i u within. new_updater shape ((sketch_of c.in_ok-sketch.sketch).k ∷ []) h us same c.in_ok-heart.ensures.heart c.in_ok-heart.ensures.count c.in_ok-heart.ensures.updaters i u
-          (omega (arith, within, c.in_ok-heart.ensures.count, c.requires.count, length-map c.args.lists.now.items (λ list. list.items)));
+          (omega (arith, within, c.in_ok-heart.ensures.count, c.requires.count, length-map c.args.rooms.now.items (λ room. room.items)));
     }

@@ -1,4 +1,4 @@
-use Rattle.std.proofs.Common.{◌≡◌, ℕ, List, length, map, All, sym, ap, subst, arith}
+use Rattle.std.proofs.Common.{◌≡◌, List, length, map, All, sym, ap, subst, arith}
 use Rattle.sk_hub.specs.Hearts.{HeartState}
 use Rattle.sk_hub.specs.Updaters.{UpdaterState}
 use Rattle.sk_snap.specs.History.{name_of}

@@ -10,13 +10,15 @@ invariant_of-self g c =
     let hosts' : TenantsState = record { names = c.self.inside.names; k = c.self.inside.k; n = c.self.inside.n; hearts = c.drain_each.new.hearts.items } in
     let d : DeskState = record { names = c.desk.inside.names; number = c.desk.inside.number; quota = c.desk.inside.quota; updaters = c.desk.inside.updaters.items } in
     let all : DrainsDesk hosts d hosts' = record { stays = refl; tenants = c.drain_each.ensures.count; drains = c.drain_each.ensures.drains } in
-    let its : IsDeskOf hosts d = subst (IsDeskOf hosts) (sym c.desk.view_is) (subst (λ x. IsDeskOf x c.args.desk) (sym c.self.view_is) c.requires.desk) in
-    record {
-      few = c.self.invariant.few;
-      different = c.self.invariant.different;
-      tenants = c.drain_each.ensures.count ∙ c.self.invariant.tenants;
-      hubs = hubs_stay hosts hosts' d its all c.self.invariant.hubs;
-    }
+    let its : IsDeskOf hosts d = subst (IsDeskOf hosts) (sym c.desk.view_is) (subst (λ x. IsDeskOf x c.args.desk) (sym c.self.view_is) c.requires.desk) in (
+      record {
+        few = c.self.invariant.0.few;
+        different = c.self.invariant.0.different;
+        tenants = c.drain_each.ensures.count ∙ c.self.invariant.0.tenants;
+        hubs = hubs_stay hosts hosts' d its all c.self.invariant.0.hubs;
+      },
+      c.self.invariant.1,
+    )
 
 pub returns-clause-drains : goal.returns-clause-drains
 returns-clause-drains g c =
