@@ -13,8 +13,8 @@ use std::sync::Wait;
 use std::thread::{Threads, join_mut};
 
 impl Tenants {
-    /// Takes in all desks, in the order of their numbers, and the tenants' hubs in as many threads as there are desks, if
-    /// they can be started: a sketch comes to a cache once, and not once for each desk.
+    /// Takes in all desks, in the order of their numbers. Threads share out the tenants' hubs, at most as many as there are
+    /// desks, if they can be started: a sketch comes to a cache once, and not once for each desk.
     pub fn drain_all<R: Threads + Wait + Sync>(&mut self, rt: &R, desks: Vec<Desk>)
         requires desks { All (IsDeskOf self.old) desks.items }
         requires numbers { AreNumbered desks.items }
@@ -41,7 +41,7 @@ fn deal_desks(rooms: &mut Rooms, desks: Vec<Desk>)
     }
 }
 
-// Each heart drains the updaters in the room at its place, in this many threads.
+// Each heart drains the updaters in the room at its place, in at most this many threads.
 fn drain_hubs<R: Threads + Wait + Sync>(
     rt: &R,
     hearts: &mut Vec<Heart<TenantTheta>>,
