@@ -10,6 +10,7 @@ use Rattle.std.proofs.lemmas.List.Elements.{All-push}
 use Rattle.std.proofs.lemmas.Nat.Bits.{bit_at-zero, bit_at_or, bit_at_xor, bit_at-lt, bit_at-pow_same, bit_at-pow_other, same_from_bits}
 use Rattle.std.proofs.lemmas.Option.{slice_get_within, get_or_from_slice_get}
 use Rattle.sk_model.specs.Lines.{lines_of}
+use Rattle.sk_model.proofs.Lists.{slice_none, slice_more}
 use Rattle.sk_model.proofs.Lines.{a_line_alone, after_whole_lines, lines_of_nothing}
 use Rattle.sk_lines.specs.Cutter.{HasNoLf}
 use Rattle.sk_lines.specs.Runs.{IsRun, AreEven, EndEach}
@@ -110,20 +111,22 @@ even_of_tenants names run count len label is even some item named = λ i d withi
     subst (IsOfTenant names) (sym (get_or_from_slice_get (lines_of run) i (strip_carriage_return (slice_range run at (at + len))) d (even.lines i less)))
     (line_of_tenant names run at len label (omega (arith, inside)) some item (named i less))
 
--- where a line of a run lies, and that it is the next one
+-- where a line of a run lies
 module _ (run : List ℕ) (count len i : ℕ) (is : IsRun count run) (even : AreEven count len run) (less : i < count) where
   pub inside : i * (len + 1) + len < length run
   inside = omega (arith, line_inside count i (len + 1) less, even.bytes)
 
-  pub next_line : (to : ℕ) → to ≡ i * (len + 1) + length (strip_carriage_return (slice_range run (i * (len + 1)) (i * (len + 1) + len)))
-      → take (i + 1) (lines_of run) ≡ take i (lines_of run) ++ slice_range run (i * (len + 1)) to ∷ []
-  next_line to end =
+  pub even_line : (bytes : ℕ) → bytes ≡ length (strip_carriage_return (slice_range run (i * (len + 1)) (i * (len + 1) + len)))
+      → slice_range (lines_of run) i (i + 1) ≡ slice_range run (i * (len + 1)) (i * (len + 1) + bytes) ∷ []
+  even_line bytes is_long =
+      let lines = lines_of run in
       let at : ℕ = i * (len + 1) in
       let line : List ℕ = strip_carriage_return (slice_range run at (at + len)) in
-      let few : i < length (lines_of run) = omega (arith, less, is.count) in
-      let size : to - at ≡ length line = omega (arith, end) in
-      let same : slice_range run at to ≡ line = ap (λ (n : ℕ). take n (drop at run)) size ∙ taken_line (drop at run) line ((at + len) - at) refl in
-      take_more (lines_of run) i line few ∙ ap (λ (l : List ℕ). take i (lines_of run) ++ l ∷ []) (get_or_from_slice_get (lines_of run) i line line (even.lines i less) ∙ sym same)
+      let few : i < length lines = omega (arith, less, is.count) in
+      let size : (at + bytes) - at ≡ length line = omega (arith, is_long) in
+      let same : slice_range run at (at + bytes) ≡ line = ap (λ (n : ℕ). take n (drop at run)) size ∙ taken_line (drop at run) line ((at + len) - at) refl in
+      slice_more lines i i line (omega arith) few ∙ ap (λ (ls : List (List ℕ)). ls ++ get_or lines i line ∷ []) (slice_none lines i)
+      ∙ ap (λ (l : List ℕ). l ∷ []) (get_or_from_slice_get lines i line line (even.lines i less) ∙ sym same)
 
 -- ---- lines that were looked at, one after another
 

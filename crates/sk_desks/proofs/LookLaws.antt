@@ -1,5 +1,5 @@
 -- The item of a line that lies in a text, and whose tenant is known.
-use Rattle.std.proofs.Common.{◌≡◌, ⊎_elim, ℕ, ◌+◌, ◌<◌, ◌≤◌, List, [], ◌∷◌, length, slice_range, Option, Some, IfSome, refl, ap, subst, ◌∙◌, arith}
+use Rattle.std.proofs.Common.{◌≡◌, ⊎_elim, ℕ, ◌+◌, ◌<◌, ◌≤◌, List, [], ◌∷◌, length, slice_range, refl, ap, ◌∙◌, arith}
 use Rattle.std.proofs.lemmas.Bool.{cases_lt}
 use Rattle.std.proofs.lemmas.Option.{slice_get_within}
 use Rattle.sk_model.specs.Murmur.{hash_of}
@@ -34,10 +34,9 @@ module _ (seed : ℕ) (d : DeskState) (text : List ℕ) (from to t at item : ℕ
   its_item hash d' took = takes_its_line seed d d' line (label_of line) (slice_range text (from + at) to) t item has.different (is.form inside) refl
       (range_rest text from to at (omega (arith, is.within, range_size text from to order within)) ∙ is.text inside) (is.label inside) hash took
 
--- the same of a line whose tenant was found by its label, of this many bytes
-pub like_item : (seed : ℕ) (d : DeskState) (text : List ℕ) (from to label t item : ℕ) (found : Option ℕ) → from ≤ to → to ≤ length text → HasTenants d → found ≡ Some t → IfSome found (λ s. IsLabelledBy d.names (slice_range text from to) s (label + 1))
+-- the same of a line whose label has this many bytes
+pub labelled_item : (seed : ℕ) (d : DeskState) (text : List ℕ) (from to label t item : ℕ) → from ≤ to → to ≤ length text → HasTenants d → IsLabelledBy d.names (slice_range text from to) t (label + 1)
     → item ≡ hash_of seed (slice_range text (from + label + 1) to) → (d' : DeskState) → TakesItem d t item d' → TakesLines seed d (slice_range text from to ∷ []) d'
-like_item seed d text from to label t item found order within has is labelled hash d' took =
-    let its : IsLabelledBy d.names (slice_range text from to) t (label + 1) = subst (λ (f : Option ℕ). IfSome f (λ s. IsLabelledBy d.names (slice_range text from to) s (label + 1))) is labelled in
+labelled_item seed d text from to label t item order within has its hash d' took =
     let place : from + label + 1 ≡ from + (label + 1) = omega arith in
     its_item seed d text from to t (label + 1) item order within has its (some_item d.names text from to t label order within its) (hash ∙ ap (λ (n : ℕ). hash_of seed (slice_range text n to)) place) d' took

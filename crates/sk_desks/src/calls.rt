@@ -38,7 +38,7 @@ pub(crate) fn give<R: Wait>(
 }
 
 /// The same if the line is of a tenant; else it is passed over. Its label mostly has `label` bytes, and its tenant is known
-/// then. Nothing that waits is called for an item that is filtered, as most are: such a call has its cost.
+/// then.
 #[inline(always)]
 pub(crate) fn give_like<R: Wait>(
     rt: &R,
@@ -59,17 +59,46 @@ pub(crate) fn give_like<R: Wait>(
     let Some(tenant) = tenant else {
         return give_any(rt, desk, text, span, seed);
     };
+    give_known(rt, desk, text, span, label, tenant, seed);
+    label
+}
+
+/// Gives the item of a line that lies in a text to its tenant, where the label has `label` bytes. Nothing that waits is called
+/// for an item that is filtered, as most are: such a call has its cost.
+#[inline(always)]
+pub(crate) fn give_known<R: Wait>(
+    rt: &R,
+    desk: &mut Desk,
+    text: &[u8],
+    span: Span,
+    label: usize,
+    tenant: u32,
+    seed: u32,
+)
+    requires order { span.from ≤ span.to }
+    requires within { span.to ≤ length text.now }
+    requires tenant { IsLabelledBy desk.old.names (slice_range text.now span.from span.to) tenant (label + 1) }
+    requires tenants { HasTenants desk.old }
+    requires room { HasRoom 1 desk.old }
+    ensures { TakesLines seed desk.old (slice_range text.now span.from span.to ∷ []) desk.new }
+{
     let item = hash63_at(seed, text, span.from + label + 1, span.to);
     if !desk.filters(tenant, item) {
         insist(rt, desk, tenant, item);
     }
-    label
 }
 
-// The same without a guess.
+/// Gives the item of a line that lies in a text, if it has one, to its tenant, and returns how many bytes its label has. A line
+/// of no tenant is passed over.
 #[cold]
 #[inline(never)]
-fn give_any<R: Wait>(rt: &R, desk: &mut Desk, text: &[u8], span: Span, seed: u32) -> usize
+pub(crate) fn give_any<R: Wait>(
+    rt: &R,
+    desk: &mut Desk,
+    text: &[u8],
+    span: Span,
+    seed: u32,
+) -> usize
     requires order { span.from ≤ span.to }
     requires within { span.to ≤ length text.now }
     requires tenants { HasTenants desk.old }

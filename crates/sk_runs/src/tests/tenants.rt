@@ -16,7 +16,9 @@ read=0 | tenants --names a --file text | a x;a y; | 0 | a estimate 2/1; |
 | tenants --names a,b --updaters 4 --b 1 --seed 7 | a x;b x;a y;b x;a z; | 0 | a estimate 3/1;b estimate 1/1; |
 | tenants --names a,b --updaters 8 --b 2 | a x;b x;a y;b x;a z; | 0 | a estimate 3/1;b estimate 1/1; |
 | tenants --names a,b --updaters 64 | a x;b x;a y;b x;a z; | 0 | a estimate 3/1;b estimate 1/1; |
-| tenants --names a,b --updaters 2 | a x;a xy^;b xy^;a yx^;b xy^; | 0 | a estimate 3/1;b estimate 1/1; |";
+| tenants --names a,b --updaters 2 | a x;a xy^;b xy^;a yx^;b xy^; | 0 | a estimate 3/1;b estimate 1/1; |
+| tenants --names a,b --updaters 2 | a xyz;a xy^;a xyw;a xy;b xy;b xy; | 0 | a estimate 3/1;b estimate 1/1; |
+| tenants --names a,ab,abc --updaters 2 | a xyz;ab xy;abc x;a xyw; | 0 | a estimate 2/1;ab estimate 1/1;abc estimate 1/1; |";
 
 // Nothing is written before all is read. The form of a line is asked before its name.
 const REFUSED: &str = "\
@@ -39,7 +41,7 @@ room=20 | tenants --names a,b | a x;b y; | 4 | a estimate 1/1;b est | write faul
 
 #[test]
 fn tenants(rt: HostRuntime) -> Result<(), Fail> {
-    check_rows(&rt, rt.alloc(), TENANTS, 14)
+    check_rows(&rt, rt.alloc(), TENANTS, 16)
 }
 
 #[test]
