@@ -19,6 +19,9 @@ pub trait Composable: Drop {
 
     ghost TAKES_MEMORY: { Bool };
 
+    /// Whether the merge is most of the work, so that updaters are fed in one thread. No clause sees it.
+    const MERGES_ALONE: bool = false;
+
     /// The relation between a sketch and a list that it is of.
     ghost is_of: { Self → List Entry → Type 0 };
 

@@ -1,5 +1,5 @@
 -- What a batch changes, if it has hashes that stand at their home.
-use Rattle.std.proofs.Common.{◌≡◌, ℕ, ◌+◌, ◌<◌, Bool, true, false, not, cond, List, [], ◌∷◌, ◌++◌, length, get_or, Contains, ◌⊎◌, inl, inr, ⊎_elim, refl, sym, ap, subst, ◌∙◌, arith, mod-lt}
+use Rattle.std.proofs.Common.{◌≡◌, ℕ, ◌+◌, ◌<◌, Bool, true, false, not, cond, List, [], ◌∷◌, ◌++◌, length, get_or, Contains, ◌⊎◌, inl, inr, ⊎_elim, refl, ap, subst, ◌∙◌, arith, mod-lt}
 use Rattle.std.specs.List.{filter}
 use Rattle.std.proofs.lemmas.Bool.{false≢true}
 use Rattle.std.proofs.lemmas.Bool.Decides.{nat_tests}
@@ -65,7 +65,7 @@ module _ (k : ℕ) (heap table : List ℕ) (held : IsHeld k heap table) where
   pub home_is_known : (hashes : List ℕ) (h : ℕ) → rising heap ≡ k_smallest k hashes → is_at_home table h ≡ true → Contains hashes h
   unfolding is_at_home home
   home_is_known hashes h stands at_home =
-      let some : 0 < length table = omega (arith, held.size.1, held.least) in
+      let some : 0 < length table = omega (arith, held.wide) in
       let within : home (length table) h < length table = mod-lt _ {m = length table} some in
       let there : get_or table (home (length table) h) 0 ≡ h + 1 = grind (arith, nat_tests) in
       k_smallest_has_members k hashes h (subst (λ (l : List ℕ). Contains l h) stands (Contains-from_Has (rising heap) h (rising-has heap h (heap_has k heap table held h (home (length table) h) within there))))

@@ -7,7 +7,7 @@ use Rattle.std.proofs.lemmas.List.{get_or_default}
 use Rattle.std.proofs.lemmas.List.Elements.{All-contains, All-cons, All-tail}
 use Rattle.std.proofs.lemmas.List.Sorted.{length_permutation, All-permutation, IsPermutation-sym}
 use Rattle.std.proofs.lemmas.Map.Keys.{IsDistinct-tail}
-use Rattle.std.specs.Int.{IsNextPowerOfTwo}
+use Rattle.std.specs.Int.{IsPowerOfTwo}
 use Rattle.sk_model.proofs.Rising.{Has, Has-from_Contains, Contains-from_Has}
 use Rattle.sk_heap.specs.Heap.{times, HasSame}
 use Rattle.sk_heap.specs.Table.{IsProbed, IsProbedOver, IsFirstEmpty}
@@ -27,9 +27,8 @@ module _ (k : ℕ) (heap table : List ℕ) (held : IsHeld k heap table) where
   -- there is an empty place
   pub has_room : Contains table 0
   has_room =
-      let least : 2 ≤ k = held.least in
-      let within : length heap ≤ k = held.within in
-      let long : 2 * k ≤ length table = held.size.1 in
+      let half : 2 * length heap ≤ length table = held.half in
+      let wide : 4 ≤ length table = held.wide in
       contains_from_times table 0 (omega (arith, held.vacant))
 
   -- a hash that the table has is in the heap
@@ -82,8 +81,8 @@ module _ (k : ℕ) (heap table : List ℕ) (held : IsHeld k heap table) where
     new_items : (new : List ℕ) → AreItems new → (z : ℕ) → Has new z → IsItem z
     new_items new items z g = All-contains IsItem new z items (Contains-from_Has new z g)
 
-    pub held_added : (new : List ℕ) → IsPermutation (hash ∷ heap) new → IsHeap nat_cmp new → length heap < k → IsHeld k new marked
-    held_added new moved order few =
+    pub held_added : (new : List ℕ) → IsPermutation (hash ∷ heap) new → IsHeap nat_cmp new → length heap < k → 2 * (length heap + 1) ≤ length table → IsHeld k new marked
+    held_added new moved order few half =
         let longer : length new ≡ length (hash ∷ heap) = length_permutation (hash ∷ heap) new moved in
         record {
           least = held.least;
@@ -92,7 +91,10 @@ module _ (k : ℕ) (heap table : List ℕ) (held : IsHeld k heap table) where
           items = All-permutation IsItem (hash ∷ heap) new moved (All-cons IsItem hash heap small (held.items));
           distinct = distinct_moved (hash ∷ heap) new moved (distinct_more hash heap (heap_lacks hash at first) (held.distinct));
           order = order;
-          size = subst (λ (len : ℕ). IsNextPowerOfTwo (2 * k) len) (sym long) (held.size);
+          power = subst (λ (len : ℕ). IsPowerOfTwo len) (sym long) (held.power);
+          wide = omega (arith, held.wide, long);
+          half = omega (arith, half, long);
+          short = omega (arith, held.short, long);
           probed = marked_probed;
           entries = λ h. marked_has h ∙ sym (times-cons h hash heap) ∙ sym (same_permutation (hash ∷ heap) new moved h);
           vacant = omega (arith, held.vacant, marked_zero, long);
@@ -110,8 +112,8 @@ module _ (k : ℕ) (heap table : List ℕ) (held : IsHeld k heap table) where
 
       pub marked_room : length heap ≡ k → Contains marked 0
       marked_room full =
-          let least : 2 ≤ k = held.least in
-          let wide : 2 * k ≤ length table = held.size.1 in
+          let half : 2 * length heap ≤ length table = held.half in
+          let wide : 4 ≤ length table = held.wide in
           contains_from_times marked 0 (omega (arith, held.vacant, marked_zero))
 
       pub held_exchanged : IsHeap nat_cmp new → length heap ≡ k → (left : List ℕ) → IsProbed left → HasSame ((greatest + 1) ∷ left) (0 ∷ marked) → length left ≡ length marked → IsHeld k new left
@@ -129,7 +131,10 @@ module _ (k : ℕ) (heap table : List ℕ) (held : IsHeld k heap table) where
             items = All-permutation IsItem (hash ∷ rest) new (e.put) (All-cons IsItem hash rest small (All-tail IsItem greatest rest items_out));
             distinct = distinct_moved (hash ∷ rest) new (e.put) (distinct_more hash rest not_in_rest (IsDistinct-tail nat_eq greatest rest distinct_out));
             order = order;
-            size = subst (λ (len : ℕ). IsNextPowerOfTwo (2 * k) len) (sym (as_long ∙ long)) (held.size);
+            power = subst (λ (len : ℕ). IsPowerOfTwo len) (sym (as_long ∙ long)) (held.power);
+            wide = omega (arith, held.wide, as_long, long);
+            half = omega (arith, held.half, as_long, long);
+            short = omega (arith, held.short, as_long, long);
             probed = probed;
             entries = λ h.
                 omega (

@@ -6,5 +6,6 @@ pub mod Gaps
 pub mod Distinct
 pub mod Kept
 pub mod Both
+pub mod Rebuilt
 pub mod Shown
 pub mod AtHome

@@ -1,8 +1,8 @@
 -- What a sketch shows of its heap and its table.
-use Rattle.std.proofs.Common.{◌≡◌, ℕ, zero, suc, ◌+◌, ◌-◌, ◌*◌, ◌/◌, ◌%◌, ◌≤◌, nat_eq, List, [], length, get_or, replicate, refl, sym, subst, arith}
+use Rattle.std.proofs.Common.{◌≡◌, ℕ, zero, suc, ◌+◌, ◌-◌, ◌/◌, ◌%◌, ◌≤◌, nat_eq, List, [], ◌∷◌, length, get_or, replicate, refl, sym, subst, arith}
 use Rattle.std.proofs.lemmas.List.{length-replicate}
 use Rattle.std.specs.BinaryHeap.{IsHeap}
-use Rattle.std.specs.Int.{IsNextPowerOfTwo}
+use Rattle.std.specs.Int.{IsPowerOfTwo}
 use Rattle.std.specs.List.{IsDistinct}
 use Rattle.std.specs.List.Sorted.{IsPermutation, IsSorted}
 use Rattle.std.specs.Ordering.{nat_cmp}
@@ -15,7 +15,7 @@ use Rattle.sk_theta.specs.Kept.{Sketch, IsWhole, theta_kept}
 use Rattle.sk_theta.proofs.Sketches.{stands_for_kept}
 use Rattle.sk_heap.specs.Heap.{times, IsMaxHeap}
 use Rattle.sk_heap.specs.Held.{IsHeld}
-use Rattle.sk_heap.specs.Table.{home}
+use Rattle.sk_heap.specs.Table.{home, most_places}
 use Rattle.sk_heap.proofs.Counts.{once-same, once-other, times-cons}
 use Rattle.sk_heap.proofs.Distinct.{rising_moves, distinct_moved}
 use Rattle.sk_heap.proofs.Kept.{rises, length_rising}
@@ -54,20 +54,25 @@ sorted_is_rising heap sorted distinct moved up =
 
 -- ---- the sketch of the empty list
 
-zeros_are : (n i : ℕ) → let zeros : List ℕ = replicate n 0 in get_or zeros i 0 ≡ 0
+pub zeros_are : (n i : ℕ) → let zeros : List ℕ = replicate n 0 in get_or zeros i 0 ≡ 0
 zeros_are zero i = refl
 zeros_are (suc n) zero = refl
 zeros_are (suc n) (suc i) = zeros_are n i
 
-zeros_alone : (n h : ℕ) → times (h + 1) (replicate n 0) ≡ 0
+pub zeros_alone : (n h : ℕ) → times (h + 1) (replicate n 0) ≡ 0
 zeros_alone zero h = refl
 zeros_alone (suc n) h = omega (arith, times-cons (h + 1) 0 (replicate n 0), once-other (h + 1) 0 (λ e. absurd (omega arith)), zeros_alone n h)
+
+-- a list of no length is empty
+pub no_members : (xs : List ℕ) → length xs ≡ 0 → xs ≡ []
+no_members [] none = refl
+no_members (x ∷ xs) none = absurd (omega arith)
 
 pub rising_nil : rising [] ≡ []
 unfolding rising
 rising_nil = refl
 
-zeros_times : (n : ℕ) → times 0 (replicate n 0) ≡ n
+pub zeros_times : (n : ℕ) → times 0 (replicate n 0) ≡ n
 zeros_times zero = refl
 zeros_times (suc n) = omega (arith, times-cons 0 0 (replicate n 0), once-same 0, zeros_times n)
 
@@ -78,8 +83,8 @@ distinct_nil = tt
 abbrev zeros_of : ℕ → List ℕ
 zeros_of n = replicate n 0
 
-pub held_empty : (k n : ℕ) (heap table : List ℕ) → 2 ≤ k → k ≤ most_k → IsNextPowerOfTwo (2 * k) n → heap ≡ [] → table ≡ replicate n 0 → IsHeap nat_cmp heap → IsHeld k heap table
-held_empty k n heap table least most size none zeros order =
+pub held_empty : (k n : ℕ) (heap table : List ℕ) → 2 ≤ k → k ≤ most_k → IsPowerOfTwo n → 4 ≤ n → n ≤ most_places → heap ≡ [] → table ≡ replicate n 0 → IsHeap nat_cmp heap → IsHeld k heap table
+held_empty k n heap table least most power wide short none zeros order =
     subst (λ (heap : List ℕ). IsHeld k heap table) (sym none)
     (subst (λ (table : List ℕ). IsHeld k [] table) (sym zeros)
     (record {
@@ -89,7 +94,10 @@ held_empty k n heap table least most size none zeros order =
       items = All-nil IsItem;
       distinct = distinct_nil;
       order = subst (λ (heap : List ℕ). IsHeap nat_cmp heap) none order;
-      size = subst (λ (len : ℕ). IsNextPowerOfTwo (2 * k) len) (sym (length-replicate {A = ℕ} n 0)) size;
+      power = subst (λ (len : ℕ). IsPowerOfTwo len) (sym (length-replicate {A = ℕ} n 0)) power;
+      wide = omega (arith, wide, length-replicate {A = ℕ} n 0);
+      half = omega arith;
+      short = omega (arith, short, length-replicate {A = ℕ} n 0);
       probed = λ h m e under found less. absurd (omega (arith, found, zeros_are n ((home (length (zeros_of n)) h + m) % length (zeros_of n))));
       entries = λ h. zeros_alone n h;
       vacant = omega (arith, zeros_times n, length-replicate {A = ℕ} n 0);

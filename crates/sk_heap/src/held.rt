@@ -1,5 +1,5 @@
 //! The heap and the table together.
-ghost use Rattle.std.specs.Prelude.{◌≡◌, ◌≢◌, ◌↔◌, ◌<◌, ◌≤◌, ℕ, ◌∷◌, length, take, All, IsTrue, IfOk, IsPermutation, nat_eq};
+ghost use Rattle.std.specs.Prelude.{◌≡◌, ◌≢◌, ◌↔◌, ◌+◌, ◌*◌, ◌<◌, ◌≤◌, ℕ, ◌∷◌, length, take, All, IsTrue, IfOk, IsPermutation, nat_eq};
 ghost use Rattle.std.specs.BinaryHeap.{IsHeap, heap_items, heap_len, heap_capacity};
 ghost use Rattle.std.specs.List.{IsDistinct};
 ghost use Rattle.std.specs.Ordering.{nat_cmp};
@@ -36,6 +36,7 @@ fn add(heap: &mut BinaryHeap<u64>, table: &mut [u64], k: usize, at: usize, hash:
     requires item { IsItem hash }
     requires empty { IsFirstEmpty hash table.old at }
     requires few { heap_len heap.old < k }
+    requires half { 2 * (heap_len heap.old + 1) ≤ length table.old }
     requires room { k ≤ heap_capacity heap.old }
     ensures held { IsHeld k (heap_items heap.new) table.new }
     ensures members { IsPermutation (hash ∷ heap_items heap.old) (heap_items heap.new) }
@@ -68,6 +69,7 @@ pub fn put_in(heap: &mut BinaryHeap<u64>, table: &mut [u64], k: usize, hash: u64
     requires held { IsHeld k (heap_items heap.old) table.old }
     requires item { IsItem hash }
     requires below { hash < theta_kept k (rising (heap_items heap.old)) }
+    requires half { heap_len heap.old < k → 2 * (heap_len heap.old + 1) ≤ length table.old }
     requires room { k ≤ heap_capacity heap.old }
     ensures held { IsHeld k (heap_items heap.new) table.new }
     ensures kept { rising (heap_items heap.new) ≡ take k (placed hash (rising (heap_items heap.old))) }

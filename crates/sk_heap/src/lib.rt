@@ -5,6 +5,7 @@ mod at_home;
 mod heap_theta;
 mod held;
 mod kind;
+mod places;
 mod table;
 mod walk;
 

@@ -32,7 +32,7 @@ pub fn rank<'r, S: Source, O: Sink, R: Threads + Wait + Sync>(
 ) -> Result<Ranked<&'r R>, Fault>
     requires within { IsWithin plan.now }
     requires bound { most ≤ source_limit }
-    ensures ranks { TellsOrEnds (rank_manner plan.now) most (setting (S.left source.old) (O.written out.old)) (setting (S.left source.new) (O.written out.new)) result }
+    ensures ranks { TellsOrEnds (rank_manner plan.now) (S.last source.new) most (setting (S.left source.old) (O.written out.old)) (setting (S.left source.new) (O.written out.new)) result }
     ensures quiet { plan.now.window ≡ None → IfErr result (λ fault. fault ≢ Fault.WriteFault → out.new ≡ out.old) }
     ensures reads { HasCauseIn Fault.ReadFault (S.faults source.old) (S.faults source.new) result }
     ensures writes { HasCauseIn Fault.WriteFault (O.faults out.old) (O.faults out.new) result }

@@ -23,6 +23,8 @@ impl<S: Sequential, R: Wait + Drop> Composable for Versioned<S, R> {
 
     ghost TAKES_MEMORY = { true };
 
+    const MERGES_ALONE: bool = true;
+
     ghost is_of = { λ sketch list. entries_in sketch.known ≡ list };
 
     ghost numbers = { λ sketch. sketch.numbers };

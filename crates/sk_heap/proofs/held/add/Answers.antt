@@ -6,4 +6,4 @@ use Rattle.sk_heap.proofs.held.add.Goals as goal
 pub returns-clause-held : goal.returns-clause-held
 returns-clause-held c =
     held_added c.args.k (heap_items c.args.heap.now) c.args.table.now c.requires.held c.args.hash c.args.at c.requires.item c.requires.empty (heap_items c.push.new.self)
-    (search rules) (search rules) (omega arith)
+    (search rules) (search rules) (omega arith) (omega (arith, c.requires.half))
