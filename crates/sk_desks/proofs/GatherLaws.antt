@@ -18,7 +18,7 @@ use Rattle.sk_read.specs.declared.reader.LineFault.{LineFault}
 use Rattle.sk_read.specs.declared.reader.LineFault.TheVariants as line_fault
 use Rattle.sk_read.specs.declared.units.Units.TheVariants.{Lines}
 use Rattle.sk_read.proofs.ItemLaws.{front_is}
-use Rattle.sk_read.proofs.Readings.{given_settled}
+use Rattle.sk_read.proofs.Readings.{given_settled, in_time_within}
 use Rattle.sk_read.proofs.LineEnds.{no_line, settled_so, line_missed_among}
 use Rattle.sk_fill.specs.Fills.{ReadsLine}
 use Rattle.sk_fill.proofs.Filled.{line_read, line_number, line_added, read_number}
@@ -61,13 +61,13 @@ lines_fine names lines (line ∷ group) on fine =
 -- ---- lines that a reader gave, of which one is refused
 
 module _ (names : List (List ℕ)) (plan : Plan) (r : Reading) (most : ℕ) (first left : Option (List ℕ)) (given group : List (List ℕ)) (taken : List ℕ) (bound : r.most ≡ most) (consumed : Consumes first left taken)
-    (read : HasRead r left (given ++ group) taken) (in_time : IsInTime Lines given taken) (fine : AreFine (desk_rules plan names) given)
+    (read : HasRead r left (given ++ group) taken) (in_time : IsInTime r.last Lines given taken) (fine : AreFine (desk_rules plan names) given)
   where
     wrote_then : (more : List (List ℕ)) → All (IsOfTenant names) more → WroteSoFar (desk_rules plan names) None None (given ++ more)
     wrote_then more are = wrote_none (desk_rules plan names) (never plan names) None (given ++ more) (lines_fine names [] more (none_fine names) are plan given fine)
 
     -- memory ran out before any of them was taken
-    memory_ends : EndsBefore (desk_rules plan names) most (setting first None) (setting left None) label.OutOfMemory
+    memory_ends : EndsBefore (desk_rules plan names) r.last most (setting first None) (setting left None) label.OutOfMemory
     memory_ends = record {
       given = given;
       taken = taken;
@@ -87,8 +87,8 @@ module _ (names : List (List ℕ)) (plan : Plan) (r : Reading) (most : ℕ) (fir
             let every : AreWithin line_limit (given ++ group) = subst (λ (m : ℕ). AreWithin m (given ++ group)) read.limit read.has.within in
             subst (AreWithin line_limit) (front_is given (given ++ group) (begins_append given group)) (All-take (λ (l : List ℕ). length l ≤ line_limit) (length given) (given ++ group) every)
 
-    pub stops_within : (n : ℕ) → n ≡ length given + 1 → (f : LabelFault) → StopsWithin names group n f → EndsBefore (desk_rules plan names) most (setting first None) (setting left None) f
-    stops_within n place f (inl memory) = subst (λ (x : LabelFault). EndsBefore (desk_rules plan names) most (setting first None) (setting left None) x) (sym memory) memory_ends
+    pub stops_within : (n : ℕ) → n ≡ length given + 1 → (f : LabelFault) → StopsWithin names group n f → EndsBefore (desk_rules plan names) r.last most (setting first None) (setting left None) f
+    stops_within n place f (inl memory) = subst (λ (x : LabelFault). EndsBefore (desk_rules plan names) r.last most (setting first None) (setting left None) x) (sym memory) memory_ends
     stops_within n place (label.BadLine m) (inr r1) =
         stops_so (λ ls l. (m ≡ length ls + 1) × (WroteSoFar (desk_rules plan names) None None ls × IsBad (desk_rules plan names) l)) (λ ls l. (m ≡ length ls + 1) × WroteSoFar (desk_rules plan names) None None ls × IsBad (desk_rules plan names) l) most first left (λ ls l at. (at.0, at.1.0, at.1.1))
         (line_missed_among (WroteSoFar (desk_rules plan names) None None) (λ (why : Fault) ls l. WroteSoFar (desk_rules plan names) None None ls × IsBad (desk_rules plan names) l) most r first left given group taken (fault.BadItem m) bound consumed
@@ -149,7 +149,7 @@ module _ (names lines : List (List ℕ)) (r r1 r2 : Reading) (old mid new : Opti
 
   -- ---- why the reading ended
 
-  by_lines : (rules : Rules) (most : ℕ) (first : Option (List ℕ)) (s : LineFault) → Ends Lines most (WroteSoFar rules None None) (λ why given unit. ⊥) first new (fault_by s) → EndsBefore rules most (setting first None) (setting new None) (fault_of_lines s)
+  by_lines : (rules : Rules) (most : ℕ) (first : Option (List ℕ)) (s : LineFault) → Ends r2.last Lines most (WroteSoFar rules None None) (λ why given unit. ⊥) first new (fault_by s) → EndsBefore rules r2.last most (setting first None) (setting new None) (fault_of_lines s)
   by_lines rules most first line_fault.ReadFault ends = ends
   by_lines rules most first line_fault.TooMuch ends = ends
   by_lines rules most first (line_fault.LongLine n) ends = ends
@@ -159,7 +159,7 @@ module _ (names lines : List (List ℕ)) (r r1 r2 : Reading) (old mid new : Opti
     wrote plan given given_fine = wrote_none (desk_rules plan names) (never plan names) None (given ++ lines) (fine plan given given_fine)
 
     -- no line came
-    pub stops_at_fault : (s : LineFault) → result ≡ Err s → EndsReading names r old new (fault_of_lines s)
+    pub stops_at_fault : (s : LineFault) → result ≡ Err s → EndsReading names r2.last r old new (fault_of_lines s)
     stops_at_fault s is = λ plan first given taken consumed has given_fine.
         let rules = desk_rules plan names in
         let before = gives given taken has in
@@ -170,7 +170,7 @@ module _ (names lines : List (List ℕ)) (r r1 r2 : Reading) (old mid new : Opti
         (Consumes-trans _ _ _ _ _ (Consumes-trans _ _ _ _ _ consumed before.1) on.1) (wrote plan given given_fine) goes)
 
     -- the line is refused, or memory ran out for it
-    pub stops_at_line : result ≡ Ok true → (line : List ℕ) (n : ℕ) → line ≡ r2.cutter.line → n ≡ r2.cutter.number → (f : LabelFault) → StopsWithin names (line ∷ []) n f → EndsReading names r old new f
+    pub stops_at_line : result ≡ Ok true → (line : List ℕ) (n : ℕ) → line ≡ r2.cutter.line → n ≡ r2.cutter.number → (f : LabelFault) → StopsWithin names (line ∷ []) n f → EndsReading names r2.last r old new f
     stops_at_line is line n own count f stops = λ plan first given taken consumed has given_fine.
         let one = one_line is given taken has in
         stops_within names plan r2 r.most first new (given ++ lines) (r2.cutter.line ∷ []) (taken ++ one.more) bound (Consumes-trans _ _ _ _ _ consumed one.consumed) one.read one.in_time (fine plan given given_fine)
@@ -184,10 +184,10 @@ held_given lines lines' r r2 r3 old new gives held given taken has =
     let on = gives given taken has in
     (on.0, on.1, held new given (taken ++ on.0) on.2)
 
-pub held_stops : (names lines : List (List ℕ)) (r r2 : Reading) (old new : Option (List ℕ)) → GivesNext lines r r2 old new → GoOnFine names lines → r2.most ≡ r.most → (f : LabelFault) → (GoOnFine names lines → StopsHeld names lines r2 f) → EndsReading names r old new f
-held_stops names lines r r2 old new gives fine bound f stops = λ plan first given taken consumed has given_fine.
+pub held_stops : (last : ℕ) (names lines : List (List ℕ)) (r r2 : Reading) (old new : Option (List ℕ)) → GivesNext lines r r2 old new → GoOnFine names lines → r2.most ≡ r.most → (f : LabelFault) → (GoOnFine names lines → StopsHeld names lines last r2 f) → EndsReading names last r old new f
+held_stops last names lines r r2 old new gives fine bound f stops = λ plan first given taken consumed has given_fine.
     let on = gives given taken has in
-    subst (λ (m : ℕ). EndsBefore (desk_rules plan names) m (setting first None) (setting new None) f) bound
+    subst (λ (m : ℕ). EndsBefore (desk_rules plan names) last m (setting first None) (setting new None) f) bound
     (stops fine plan first new given (taken ++ on.0) (Consumes-trans _ _ _ _ _ consumed on.1) on.2 given_fine)
 
 -- what a call of `next_lines` gave
@@ -200,11 +200,11 @@ module _ (names lines0 lines group : List (List ℕ)) (r0 r r' : Reading) (held 
       subst (λ (l : List (List ℕ)). HasRead r' left l taken) (append_assoc given lines group ∙ ap (λ (l : List (List ℕ)). given ++ l) (sym added)) (goes left (given ++ lines) taken (held left given taken has))
 
   -- one of them is refused, or memory ran out
-  pub group_stops : (n : ℕ) → n ≡ r.cutter.number + 1 → r'.most ≡ r0.most → (GoOnFine names lines0 → GoOnFine names lines) → (f : LabelFault) → StopsWithin names group n f → GoOnFine names lines0 → StopsHeld names lines0 r0 f
-  group_stops n count bound on f stops fine0 = λ plan first left given taken consumed has given_fine.
+  pub group_stops : (n : ℕ) → n ≡ r.cutter.number + 1 → r'.most ≡ r0.most → r'.last ≡ r.last → (GoOnFine names lines0 → GoOnFine names lines) → (f : LabelFault) → StopsWithin names group n f → GoOnFine names lines0 → StopsHeld names lines0 r'.last r0 f
+  group_stops n count bound piece on f stops fine0 = λ plan first left given taken consumed has given_fine.
       let before : HasRead r left (given ++ lines) taken = held left given taken has in
       let read : HasRead r' left ((given ++ lines) ++ group) taken = goes left (given ++ lines) taken before in
-      stops_within names plan r' r0.most first left (given ++ lines) group taken bound consumed read before.in_time (on fine0 plan given given_fine)
+      stops_within names plan r' r0.most first left (given ++ lines) group taken bound consumed read (in_time_within Lines (given ++ lines) taken (omega (arith, piece)) before.in_time) (on fine0 plan given given_fine)
       n (omega (arith, count, read_number r left (given ++ lines) taken before)) f stops
 
 pub not_written : {T : Type 0} (result : Result T LabelFault) (f : LabelFault) → IsErrAnd result (λ x. x ≡ f) → (f ≡ label.WriteFault → ⊥) → result ≡ Err label.WriteFault → ⊥
@@ -218,6 +218,7 @@ held_then names a b c r s t (Ok x) one two = record {
   fine = λ fine. two.fine (one.fine fine);
   stopped = tt;
   bound = two.bound ∙ one.bound;
+  piece = two.piece ∙ one.piece;
   fewer = omega (arith, one.fewer, two.fewer);
   quiet = two.quiet;
   no_read = two.no_read;
@@ -226,8 +227,9 @@ held_then names a b c r s t (Err f) one two = record {
   gives = tt;
   fine = tt;
   stopped = λ fine plan first left given taken consumed has given_fine.
-      subst (λ (m : ℕ). EndsBefore (desk_rules plan names) m (setting first None) (setting left None) f) one.bound (two.stopped (one.fine fine) plan first left given taken consumed (one.gives left given taken has) given_fine);
+      subst (λ (m : ℕ). EndsBefore (desk_rules plan names) t.last m (setting first None) (setting left None) f) one.bound (two.stopped (one.fine fine) plan first left given taken consumed (one.gives left given taken has) given_fine);
   bound = two.bound ∙ one.bound;
+  piece = two.piece ∙ one.piece;
   fewer = omega (arith, one.fewer, two.fewer);
   quiet = two.quiet;
   no_read = two.no_read;
@@ -237,15 +239,15 @@ pub held_passed : (names a b : List (List ℕ)) (r s : Reading) (f : LabelFault)
 held_passed names a b r s f (Ok x) is takes = absurd is
 held_passed names a b r s f (Err e) is takes = subst (λ (x : LabelFault). TakesHeld names a b r s (Err x)) (sym is) takes
 
-pub held_all : (names lines lines' : List (List ℕ)) (r r' : Reading) (x : Bool) → GivesHeld lines lines' r r' → (GoOnFine names lines → GoOnFine names lines') → r'.most ≡ r.most → remaining_of r' ≤ remaining_of r → TakesHeld names lines lines' r r' (Ok x)
-held_all names lines lines' r r' x gives fine bound fewer = record { gives = gives; fine = fine; stopped = tt; bound = bound; fewer = fewer; quiet = λ is. cc; no_read = λ is. cc }
+pub held_all : (names lines lines' : List (List ℕ)) (r r' : Reading) (x : Bool) → GivesHeld lines lines' r r' → (GoOnFine names lines → GoOnFine names lines') → r'.most ≡ r.most → r'.last ≡ r.last → remaining_of r' ≤ remaining_of r → TakesHeld names lines lines' r r' (Ok x)
+held_all names lines lines' r r' x gives fine bound piece fewer = record { gives = gives; fine = fine; stopped = tt; bound = bound; piece = piece; fewer = fewer; quiet = λ is. cc; no_read = λ is. cc }
 
 pub held_none : (names lines : List (List ℕ)) (r : Reading) (x : Bool) → TakesHeld names lines lines r r (Ok x)
-held_none names lines r x = held_all names lines lines r r x (λ left given taken has. has) (λ fine. fine) refl (omega arith)
+held_none names lines r x = held_all names lines lines r r x (λ left given taken has. has) (λ fine. fine) refl refl (omega arith)
 
 -- nothing stood in the way of more
 pub held_again : (names a b : List (List ℕ)) (r s : Reading) → TakesHeld names a b r s (Ok false) → TakesHeld names a b r s (Ok true)
-held_again names a b r s takes = held_all names a b r s true takes.gives takes.fine takes.bound takes.fewer
+held_again names a b r s takes = held_all names a b r s true takes.gives takes.fine takes.bound takes.piece takes.fewer
 
 pub stops_quiet : (names lines : List (List ℕ)) (n : ℕ) (f : LabelFault) → StopsWithin names lines n f → f ≡ label.WriteFault → ⊥
 stops_quiet names lines n f (inl memory) is = let no : label.OutOfMemory ≡ label.WriteFault = sym memory ∙ is in cc
@@ -255,13 +257,14 @@ stops_unread : (names lines : List (List ℕ)) (n : ℕ) (f : LabelFault) → St
 stops_unread names lines n f (inl memory) is = let no : label.OutOfMemory ≡ label.ReadFault = sym memory ∙ is in cc
 stops_unread names lines n f (inr r) is = absurd (subst (RefusesAs names r.line (n + length r.before)) is r.refused)
 
-pub held_not : (names lines lines' group : List (List ℕ)) (r r' : Reading) (n : ℕ) (result : Result Bool LabelFault) (f : LabelFault) → IsErrAnd result (λ x. x ≡ f) → StopsWithin names group n f → (GoOnFine names lines → StopsHeld names lines r f) → r'.most ≡ r.most → remaining_of r' ≤ remaining_of r → TakesHeld names lines lines' r r' result
-held_not names lines lines' group r r' n (Ok x) f is stops stopped bound fewer = absurd is
-held_not names lines lines' group r r' n (Err e) f is stops stopped bound fewer = record {
+pub held_not : (names lines lines' group : List (List ℕ)) (r r' : Reading) (n : ℕ) (result : Result Bool LabelFault) (f : LabelFault) → IsErrAnd result (λ x. x ≡ f) → StopsWithin names group n f → (GoOnFine names lines → StopsHeld names lines r'.last r f) → r'.most ≡ r.most → r'.last ≡ r.last → remaining_of r' ≤ remaining_of r → TakesHeld names lines lines' r r' result
+held_not names lines lines' group r r' n (Ok x) f is stops stopped bound piece fewer = absurd is
+held_not names lines lines' group r r' n (Err e) f is stops stopped bound piece fewer = record {
   gives = tt;
   fine = tt;
-  stopped = subst (λ (x : LabelFault). GoOnFine names lines → StopsHeld names lines r x) (sym is) stopped;
+  stopped = subst (λ (x : LabelFault). GoOnFine names lines → StopsHeld names lines r'.last r x) (sym is) stopped;
   bound = bound;
+  piece = piece;
   fewer = fewer;
   quiet = not_written (Err e) f is (stops_quiet names group n f stops);
   no_read = λ same. let read : e ≡ label.ReadFault = cc in stops_unread names group n f stops (sym is ∙ read);
@@ -286,7 +289,7 @@ module _ (names : List (List ℕ)) (r r' : Reading) (old new : Option (List ℕ)
   pub gathers_last : GivesNext lines r r' old new → GoOnFine names lines → r'.ended ≡ true → Gathers names r r' old new lines (Ok false)
   gathers_last gives fine ended = record { gives = gives; fine = fine; end = λ is. ended; progress = λ is. cc; bound = bound; stopped = tt; quiet = λ is. cc }
 
-  pub gathers_not : (result : Result Bool LabelFault) (f : LabelFault) → IsErrAnd result (λ x. x ≡ f) → (f ≡ label.WriteFault → ⊥) → EndsReading names r old new f → Gathers names r r' old new lines result
+  pub gathers_not : (result : Result Bool LabelFault) (f : LabelFault) → IsErrAnd result (λ x. x ≡ f) → (f ≡ label.WriteFault → ⊥) → EndsReading names r'.last r old new f → Gathers names r r' old new lines result
   gathers_not (Ok b) f is quiet stops = absurd is
   gathers_not (Err e) f is quiet stops = record {
     gives = tt;
@@ -294,6 +297,6 @@ module _ (names : List (List ℕ)) (r r' : Reading) (old new : Option (List ℕ)
     end = λ same. cc;
     progress = λ same. cc;
     bound = bound;
-    stopped = subst (EndsReading names r old new) (sym is) stops;
+    stopped = subst (EndsReading names r'.last r old new) (sym is) stops;
     quiet = not_written (Err e) f is quiet;
   }

@@ -28,7 +28,7 @@ none_on_err P (Ok x) Q is = absurd is
 none_on_err P (Err e) Q is = tt
 
 -- no memory was found for one
-pub no_memory : (names : List (List ℕ)) (r : Reading) (left : Option (List ℕ)) → EndsReading names r left left label.OutOfMemory
+pub no_memory : (names : List (List ℕ)) (r : Reading) (left : Option (List ℕ)) → EndsReading names r.last r left left label.OutOfMemory
 no_memory names r left = λ plan first given taken consumed has fine.
     stops_within names plan r r.most first left given [] taken refl consumed (subst (λ (l : List (List ℕ)). HasRead r left l taken) (sym (append-nil given)) has) has.in_time fine (length given + 1) refl label.OutOfMemory (inl refl)
 
@@ -72,10 +72,10 @@ gathered names lines r s old new result gathers is = record {
 
 module _ (names xs ys : List (List ℕ)) (r q s : Reading) (old mid new : Option (List ℕ)) (before : HasGathered names xs r q old mid) (result : Result Bool LabelFault) (gathers : Gathers names q s mid new ys result) where
   -- also if it failed
-  stops : (f : LabelFault) → EndsReading names q mid new f → EndsReading names r old new f
+  stops : (f : LabelFault) → EndsReading names s.last q mid new f → EndsReading names s.last r old new f
   stops f ends = λ plan first given taken consumed has given_fine.
       let on = before.gives given taken has in
-      subst (λ (m : ℕ). EndsBefore (desk_rules plan names) m (setting first None) (setting new None) f) before.bound
+      subst (λ (m : ℕ). EndsBefore (desk_rules plan names) s.last m (setting first None) (setting new None) f) before.bound
       (ends plan first (given ++ xs) (taken ++ on.0) (Consumes-trans _ _ _ _ _ consumed on.1) on.2 (before.fine plan given given_fine))
 
   gives_on : GivesNext ys q s mid new → GivesNext (xs ++ ys) r s old new
@@ -97,7 +97,7 @@ module _ (names xs ys : List (List ℕ)) (r q s : Reading) (old mid new : Option
     end = gathers.end;
     progress = λ is. let less = gathers.progress is in omega (arith, less, before.fewer);
     bound = gathers.bound ∙ before.bound;
-    stopped = if_err_so (EndsReading names q mid new) (EndsReading names r old new) result stops gathers.stopped;
+    stopped = if_err_so (EndsReading names s.last q mid new) (EndsReading names s.last r old new) result stops gathers.stopped;
     quiet = gathers.quiet;
   }
 
@@ -119,8 +119,8 @@ gathers_then_none names lines more r s old new b went (Err e) gathers was is = r
       let gives : GivesNext lines r s old new = subst (λ (x : Result Bool LabelFault). OnOk x (GivesNext lines r s old new)) was gathers.gives in
       let fine : GoOnFine names lines = subst (λ (x : Result Bool LabelFault). OnOk x (GoOnFine names lines)) was gathers.fine in
       let on = gives given taken has in
-      subst (λ (x : LabelFault). EndsBefore (desk_rules plan names) r.most (setting first None) (setting new None) x) (sym is)
-      (subst (λ (m : ℕ). EndsBefore (desk_rules plan names) m (setting first None) (setting new None) label.OutOfMemory) gathers.bound
+      subst (λ (x : LabelFault). EndsBefore (desk_rules plan names) s.last r.most (setting first None) (setting new None) x) (sym is)
+      (subst (λ (m : ℕ). EndsBefore (desk_rules plan names) s.last m (setting first None) (setting new None) label.OutOfMemory) gathers.bound
       (no_memory names s new plan first (given ++ lines) (taken ++ on.0) (Consumes-trans _ _ _ _ _ consumed on.1) on.2 (fine plan given given_fine)));
   quiet = λ same. cc;
 }

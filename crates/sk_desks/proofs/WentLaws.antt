@@ -56,9 +56,9 @@ module _ (plan : Plan) (names : List (List ℕ)) where
       }
 
   -- no memory was found, or the source ended, before that
-  pub first_wrong : (last : List (List ℕ)) (r r' : Reading) (old new : Option (List ℕ)) (result : Result Bool LabelFault) (f : LabelFault) → HasRead r old [] [] → Gathers names r r' old new last result → result ≡ Err f → EndsBefore (desk_rules plan names) r.most (setting old None) (setting new None) f
+  pub first_wrong : (last : List (List ℕ)) (r r' : Reading) (old new : Option (List ℕ)) (result : Result Bool LabelFault) (f : LabelFault) → HasRead r old [] [] → Gathers names r r' old new last result → result ≡ Err f → EndsBefore (desk_rules plan names) r'.last r.most (setting old None) (setting new None) f
   first_wrong last r r' old new result f read gathers is =
-      let stops : EndsReading names r old new f = subst (λ (x : Result Bool LabelFault). IfErr x (EndsReading names r old new)) is gathers.stopped in
+      let stops : EndsReading names r'.last r old new f = subst (λ (x : Result Bool LabelFault). IfErr x (EndsReading names r'.last r old new)) is gathers.stopped in
       stops plan old [] [] (Consumes-nil old) read (nothing_is_fine (desk_rules plan names))
 
   module _ (first : List DeskState) (ts : List DeskTaker) (last : StretchState) (more : Bool) (r : Reading) (old mid : Option (List ℕ)) (went : WentToDesks plan names first (desks ts) last more r old mid) where
@@ -121,13 +121,13 @@ module _ (plan : Plan) (names : List (List ℕ)) where
 
     -- the reading ended early
     pub went_wrong : (r' : Reading) (new : Option (List ℕ)) (next : List (List ℕ)) (result : Result Bool LabelFault) (f : LabelFault) → Gathers names r r' mid new next result → result ≡ Err f →
-        EndsBefore (desk_rules plan names) r.most (setting old None) (setting new None) f
+        EndsBefore (desk_rules plan names) r'.last r.most (setting old None) (setting new None) f
     went_wrong r' new next result f gathers is =
-        let stops : EndsReading names r mid new f = subst (λ (x : Result Bool LabelFault). IfErr x (EndsReading names r mid new)) is gathers.stopped in
+        let stops : EndsReading names r'.last r mid new f = subst (λ (x : Result Bool LabelFault). IfErr x (EndsReading names r'.last r mid new)) is gathers.stopped in
         stops plan old lines went.taken went.consumed went.read went.fine
 
     -- no memory was found after it
-    pub went_then_none : EndsBefore (desk_rules plan names) r.most (setting old None) (setting mid None) fault.OutOfMemory
+    pub went_then_none : EndsBefore (desk_rules plan names) r.last r.most (setting old None) (setting mid None) fault.OutOfMemory
     went_then_none = no_memory names r mid plan old lines went.taken went.consumed went.read went.fine
 
     -- the source has ended, and the last stretch was fed
@@ -157,11 +157,11 @@ pub lines_within : (most : ℕ) (text : List ℕ) → length text < most → mos
 lines_within most text size bound = omega (arith, lines_are_few text)
 
 -- it ended before its source, and nothing was written
-pub ends_early : (plan : Plan) (names names' : List (List ℕ)) (most : ℕ) (left left' w : Option (List ℕ)) (f : LabelFault) → names' ≡ names → (f ≡ fault.WriteFault → ⊥) → EndsBefore (desk_rules plan names') most (setting left None) (setting left' None) f →
-    EndsBefore (desk_rules plan names) most (setting left w) (setting left' w) f
-ends_early plan names names' most left left' w f same quiet ends =
-    subst (λ (l : List (List ℕ)). EndsBefore (desk_rules plan l) most (setting left w) (setting left' w) f) same
-    (ends_quietly (desk_rules plan names') (never plan names') most left left' None w f quiet ends)
+pub ends_early : (last : ℕ) (plan : Plan) (names names' : List (List ℕ)) (most : ℕ) (left left' w : Option (List ℕ)) (f : LabelFault) → names' ≡ names → (f ≡ fault.WriteFault → ⊥) → EndsBefore (desk_rules plan names') last most (setting left None) (setting left' None) f →
+    EndsBefore (desk_rules plan names) last most (setting left w) (setting left' w) f
+ends_early last plan names names' most left left' w f same quiet ends =
+    subst (λ (l : List (List ℕ)). EndsBefore (desk_rules plan l) last most (setting left w) (setting left' w) f) same
+    (ends_quietly (desk_rules plan names') (never plan names') last most left left' None w f quiet ends)
 
 -- lines that are fine by the same names
 pub fine_same : (plan : Plan) (names names' : List (List ℕ)) (lines : List (List ℕ)) → names' ≡ names → AreFine (desk_rules plan names') lines → AreFine (desk_rules plan names) lines

@@ -81,26 +81,27 @@ GivesNext lines r r' old new = (given : List (List ℕ)) (taken : List ℕ) → 
 abbrev pub GoOnFine : List (List ℕ) → List (List ℕ) → Type 0
 GoOnFine names lines = (plan : Plan) (before : List (List ℕ)) → AreFine (desk_rules plan names) before → AreFine (desk_rules plan names) (before ++ lines)
 
--- a source of which a reader had read lines that are fine ended early
-abbrev pub EndsReading : List (List ℕ) → Reading → Option (List ℕ) → Option (List ℕ) → LabelFault → Type 0
-EndsReading names r old new why = (plan : Plan) (first : Option (List ℕ)) (given : List (List ℕ)) (taken : List ℕ) → Consumes first old taken → HasRead r old given taken
-    → AreFine (desk_rules plan names) given → EndsBefore (desk_rules plan names) r.most (setting first None) (setting new None) why
+-- a source of which a reader had read lines that are fine ended early, and its last read gave this many bytes
+abbrev pub EndsReading : List (List ℕ) → ℕ → Reading → Option (List ℕ) → Option (List ℕ) → LabelFault → Type 0
+EndsReading names last r old new why = (plan : Plan) (first : Option (List ℕ)) (given : List (List ℕ)) (taken : List ℕ) → Consumes first old taken → HasRead r old given taken
+    → AreFine (desk_rules plan names) given → EndsBefore (desk_rules plan names) last r.most (setting first None) (setting new None) why
 
 -- the lines of a window went on by those that a reader held
 abbrev pub GivesHeld : List (List ℕ) → List (List ℕ) → Reading → Reading → Type 0
 GivesHeld lines lines' r r' = (left : Option (List ℕ)) (given : List (List ℕ)) (taken : List ℕ) → HasRead r left (given ++ lines) taken → HasRead r' left (given ++ lines') taken
 
 -- one of those that a reader held after the lines of a window is refused, or memory ran out
-abbrev pub StopsHeld : List (List ℕ) → List (List ℕ) → Reading → LabelFault → Type 0
-StopsHeld names lines r why = (plan : Plan) (first left : Option (List ℕ)) (given : List (List ℕ)) (taken : List ℕ) → Consumes first left taken → HasRead r left (given ++ lines) taken
-    → AreFine (desk_rules plan names) given → EndsBefore (desk_rules plan names) r.most (setting first None) (setting left None) why
+abbrev pub StopsHeld : List (List ℕ) → List (List ℕ) → ℕ → Reading → LabelFault → Type 0
+StopsHeld names lines last r why = (plan : Plan) (first left : Option (List ℕ)) (given : List (List ℕ)) (taken : List ℕ) → Consumes first left taken → HasRead r left (given ++ lines) taken
+    → AreFine (desk_rules plan names) given → EndsBefore (desk_rules plan names) last r.most (setting first None) (setting left None) why
 
 -- the lines that a reader held were taken into a window, each of them fine
 pub record TakesHeld (names : List (List ℕ)) (lines lines' : List (List ℕ)) (r r' : Reading) (result : Result Bool LabelFault) : Type 0 where
   pub gives : OnOk result (GivesHeld lines lines' r r')
   pub fine : OnOk result (GoOnFine names lines → GoOnFine names lines')
-  pub stopped : IfErr result (λ why. GoOnFine names lines → StopsHeld names lines r why)
+  pub stopped : IfErr result (λ why. GoOnFine names lines → StopsHeld names lines r'.last r why)
   pub bound : r'.most ≡ r.most
+  pub piece : r'.last ≡ r.last
   pub fewer : remaining_of r' ≤ remaining_of r
   pub quiet : result ≢ Err WriteFault
   pub no_read : result ≢ Err ReadFault
@@ -112,5 +113,5 @@ pub record Gathers (names : List (List ℕ)) (r r' : Reading) (old new : Option 
   pub end : result ≡ Ok false → r'.ended ≡ true
   pub progress : result ≡ Ok true → remaining_of r' < remaining_of r
   pub bound : r'.most ≡ r.most
-  pub stopped : IfErr result (EndsReading names r old new)
+  pub stopped : IfErr result (EndsReading names r'.last r old new)
   pub quiet : result ≢ Err WriteFault

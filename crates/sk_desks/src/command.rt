@@ -52,7 +52,7 @@ pub fn tenants<S: Source, O: Sink, R: Threads + Wait + Sync>(
     requires within { IsWithin plan.now }
     requires names { AreNames (bytes_of names.items) }
     requires bound { most ≤ source_limit }
-    ensures goes { Goes (desk_rules plan.now (bytes_of names.items)) most (setting (S.left source.old) (O.written out.old)) (setting (S.left source.new) (O.written out.new)) result }
+    ensures goes { Goes (desk_rules plan.now (bytes_of names.items)) (S.last source.new) most (setting (S.left source.old) (O.written out.old)) (setting (S.left source.new) (O.written out.new)) result }
     ensures quiet { IfErr result (λ fault. fault ≢ LabelFault.WriteFault → out.new ≡ out.old) }
     ensures reads { HasCauseIn LabelFault.ReadFault (S.faults source.old) (S.faults source.new) result }
     ensures writes { HasCauseIn LabelFault.WriteFault (O.faults out.old) (O.faults out.new) result }
@@ -113,7 +113,7 @@ fn read_all<S: Source, R: Threads + Wait + Sync>(
     requires unused { AreUnused names.now desks.old.items }
     ensures read { IfOk result (λ _. ReadsLines most (λ lines. AreFine (desk_rules plan.now names.now) lines × HaveTaken plan.now.seed desks.old.items desks.new.items lines)
         (S.left source.old) (S.left source.new)) }
-    ensures early { IfErr result (EndsBefore (desk_rules plan.now names.now) most (setting (S.left source.old) None) (setting (S.left source.new) None)) }
+    ensures early { IfErr result (EndsBefore (desk_rules plan.now names.now) (S.last source.new) most (setting (S.left source.old) None) (setting (S.left source.new) None)) }
     ensures quiet { result ≢ Err LabelFault.WriteFault }
     ensures reads { HasCauseIn LabelFault.ReadFault (S.faults source.old) (S.faults source.new) result }
     ensures stays { S.stands_on source.new ≡ S.stands_on source.old }
@@ -155,7 +155,7 @@ fn read_alone<S: Source, R: Wait>(
     requires unused { IsUnused desk.old.names desk.old }
     ensures read { IfOk result (λ _. ReadsLines most (λ lines. AreFine (desk_rules plan.now desk.old.names) lines × TakesLines plan.now.seed desk.old lines desk.new)
         (S.left source.old) (S.left source.new)) }
-    ensures early { IfErr result (EndsBefore (desk_rules plan.now desk.old.names) most (setting (S.left source.old) None) (setting (S.left source.new) None)) }
+    ensures early { IfErr result (EndsBefore (desk_rules plan.now desk.old.names) (S.last source.new) most (setting (S.left source.old) None) (setting (S.left source.new) None)) }
     ensures quiet { result ≢ Err LabelFault.WriteFault }
     ensures reads { HasCauseIn LabelFault.ReadFault (S.faults source.old) (S.faults source.new) result }
     ensures stays { S.stands_on source.new ≡ S.stands_on source.old }
@@ -179,7 +179,7 @@ fn read_with<S: Source, R: Wait>(
     requires unused { IsUnused clerk.old.desk.now.names clerk.old.desk.now }
     ensures read { IfOk result (λ _. ReadsLines most (λ lines. AreFine (desk_rules clerk.old.plan clerk.old.desk.now.names) lines × TakesLines clerk.old.plan.seed clerk.old.desk.now lines clerk.new.desk.now)
         (S.left source.old) (S.left source.new)) }
-    ensures early { IfErr result (EndsBefore (desk_rules clerk.old.plan clerk.old.desk.now.names) most (setting (S.left source.old) None) (setting (S.left source.new) None)) }
+    ensures early { IfErr result (EndsBefore (desk_rules clerk.old.plan clerk.old.desk.now.names) (S.last source.new) most (setting (S.left source.old) None) (setting (S.left source.new) None)) }
     ensures quiet { result ≢ Err LabelFault.WriteFault }
     ensures reads { HasCauseIn LabelFault.ReadFault (S.faults source.old) (S.faults source.new) result }
     ensures stays { S.stands_on source.new ≡ S.stands_on source.old }
@@ -201,10 +201,12 @@ fn read_stretches<S: Source, R: Threads + Wait + Sync>(
 ) -> Result<(), LabelFault>
     requires unused { AreUnused gatherer.old.names.now (map (λ t. t.desk) takers.old.items) }
     requires none { HasRead gatherer.old.reader (S.left source.old) [] [] }
+    requires piece { gatherer.old.reader.last ≤ S.last source.old }
     requires most { last.old.most ≡ window_lines }
     ensures went { OnOk result (WentToDesks plan.now gatherer.old.names.now (map (λ t. t.desk) takers.old.items) (map (λ t. t.desk) takers.new.items) last.new false gatherer.new.reader (S.left source.old) (S.left source.new)) }
     ensures bound { OnOk result (gatherer.new.reader.most ≡ gatherer.old.reader.most) }
-    ensures early { IfErr result (EndsBefore (desk_rules plan.now gatherer.old.names.now) gatherer.old.reader.most (setting (S.left source.old) None) (setting (S.left source.new) None)) }
+    ensures piece { gatherer.new.reader.last ≤ S.last source.new }
+    ensures early { IfErr result (EndsBefore (desk_rules plan.now gatherer.old.names.now) (S.last source.new) gatherer.old.reader.most (setting (S.left source.old) None) (setting (S.left source.new) None)) }
     ensures quiet { result ≢ Err LabelFault.WriteFault }
     ensures reads { HasCauseIn LabelFault.ReadFault (S.faults source.old) (S.faults source.new) result }
     ensures stays { S.stands_on source.new ≡ S.stands_on source.old }

@@ -34,6 +34,7 @@ pub(crate) fn gather_window<S: Source>(
     requires started { (given : List (List ℕ)) × (taken : List ℕ) × HasRead reader.old (S.left source.old) given taken }
     ensures gathers { Gathers window.old.names reader.old reader.new (S.left source.old) (S.left source.new) window.new.lines result }
     ensures names { window.new.names ≡ window.old.names }
+    ensures piece { reader.old.last ≤ S.last source.old → reader.new.last ≤ S.last source.new }
     ensures cause { HasCauseIn LabelFault.ReadFault (S.faults source.old) (S.faults source.new) result }
     ensures stays { S.stands_on source.new ≡ S.stands_on source.old }
 {

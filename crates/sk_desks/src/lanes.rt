@@ -41,6 +41,7 @@ pub(crate) fn feed_in_lanes<S: Source, R: Threads + Wait + Sync>(
     requires started { HasStarted stretch.old gatherer.old.reader (S.left source.old) }
     ensures goes { FeedsAndGathers kind gatherer.old.names.now stretch.old stretch.new takers.old.items takers.new.items gatherer.old.reader gatherer.new.reader (S.left source.old) (S.left source.new) result }
     ensures most { stretch.new.most ≡ window_lines }
+    ensures piece { gatherer.old.reader.last ≤ S.last source.old → gatherer.new.reader.last ≤ S.last source.new }
     ensures names { gatherer.new.names.now ≡ gatherer.old.names.now }
     ensures cause { HasCauseIn LabelFault.ReadFault (S.faults source.old) (S.faults source.new) result }
     ensures stays { S.stands_on source.new ≡ S.stands_on source.old }
@@ -79,6 +80,7 @@ fn gather_beside<S: Source, R: Threads + Wait + Sync>(
     ensures run { HaveRun (took kind) (λ t count. HasRoomAfter count t.desk) crewed.old.lanes.items crewed.new.lanes.items }
     ensures gives { GathersAndGives gatherer.old.names.now supply.old.outlets supply.new.outlets next.new gatherer.old.reader gatherer.new.reader (S.left source.old) (S.left source.new) result }
     ensures most { next.new.most ≡ window_lines }
+    ensures piece { gatherer.old.reader.last ≤ S.last source.old → gatherer.new.reader.last ≤ S.last source.new }
     ensures names { gatherer.new.names.now ≡ gatherer.old.names.now }
     ensures cause { HasCauseIn LabelFault.ReadFault (S.faults source.old) (S.faults source.new) result }
     ensures stays { S.stands_on source.new ≡ S.stands_on source.old }
@@ -95,6 +97,7 @@ fn gather_beside<S: Source, R: Threads + Wait + Sync>(
             requires same { supply.now.most ≡ window_lines }
             ensures gives { GathersAndGives gatherer.entry.now.names.now supply.entry.now.outlets supply.exit.now.outlets next.exit.now gatherer.entry.now.reader gatherer.exit.now.reader (S.left source.entry.now) (S.left source.exit.now) result }
             ensures most { next.exit.now.most ≡ window_lines }
+            ensures piece { gatherer.entry.now.reader.last ≤ S.last source.entry.now → gatherer.exit.now.reader.last ≤ S.last source.exit.now }
             ensures names { gatherer.exit.now.names.now ≡ gatherer.entry.now.names.now }
             ensures cause { HasCauseIn LabelFault.ReadFault (S.faults source.entry.now) (S.faults source.exit.now) result }
             ensures stays { S.stands_on source.exit.now ≡ S.stands_on source.entry.now }
@@ -121,6 +124,7 @@ fn gather_and_give<S: Source, R: Wait>(
     requires same { supply.old.most ≡ window_lines }
     ensures gives { GathersAndGives gatherer.old.names.now supply.old.outlets supply.new.outlets next.new gatherer.old.reader gatherer.new.reader (S.left source.old) (S.left source.new) result }
     ensures most { next.new.most ≡ window_lines }
+    ensures piece { gatherer.old.reader.last ≤ S.last source.old → gatherer.new.reader.last ≤ S.last source.new }
     ensures names { gatherer.new.names.now ≡ gatherer.old.names.now }
     ensures cause { HasCauseIn LabelFault.ReadFault (S.faults source.old) (S.faults source.new) result }
     ensures stays { S.stands_on source.new ≡ S.stands_on source.old }

@@ -1,8 +1,9 @@
 // Lines of a source that are gathered in the windows of a stretch.
-ghost use Rattle.std.specs.Prelude.{◌≡◌, ◌++◌, ◌∷◌, ℕ, List, [], OnOk};
+ghost use Rattle.std.specs.Prelude.{◌≡◌, ◌≤◌, ◌++◌, ◌∷◌, ℕ, List, [], OnOk};
 ghost use Rattle.sk_model.specs.Causes.{HasCauseIn};
 ghost use Rattle.sk_read.specs.Reading.{HasRead};
 ghost use Rattle.sk_fill.specs.Windows.{all_lines};
+ghost use Rattle.sk_fill.specs.Stretches.{StopsAtEnough};
 ghost use Rattle.sk_desks.specs.Entries.{window_lines};
 ghost use Rattle.sk_desks.specs.Gathers.{Gathers};
 
@@ -38,7 +39,9 @@ pub(crate) fn gather_stretch<S: Source>(
     requires started { (given : List (List ℕ)) × (taken : List ℕ) × HasRead gatherer.old.reader (S.left source.old) given taken }
     ensures gathers { Gathers gatherer.old.names.now gatherer.old.reader gatherer.new.reader (S.left source.old) (S.left source.new) (all_lines stretch.new.windows) result }
     ensures first { stretch.new.first ≡ gatherer.old.reader.cutter.number }
+    ensures few { OnOk result (StopsAtEnough ENOUGH ENOUGH_BYTES stretch.new.windows) }
     ensures most { stretch.new.most ≡ window_lines }
+    ensures piece { gatherer.old.reader.last ≤ S.last source.old → gatherer.new.reader.last ≤ S.last source.new }
     ensures names { gatherer.new.names.now ≡ gatherer.old.names.now }
     ensures cause { HasCauseIn LabelFault.ReadFault (S.faults source.old) (S.faults source.new) result }
     ensures stays { S.stands_on source.new ≡ S.stands_on source.old }
@@ -64,6 +67,7 @@ fn gather_more<S: Source>(
         × Gathers gatherer.old.names.now gatherer.old.reader gatherer.new.reader (S.left source.old) (S.left source.new) lines result }
     ensures first { stretch.new.first ≡ stretch.old.first }
     ensures most { stretch.new.most ≡ window_lines }
+    ensures piece { gatherer.old.reader.last ≤ S.last source.old → gatherer.new.reader.last ≤ S.last source.new }
     ensures names { gatherer.new.names.now ≡ gatherer.old.names.now }
     ensures cause { HasCauseIn LabelFault.ReadFault (S.faults source.old) (S.faults source.new) result }
     ensures stays { S.stands_on source.new ≡ S.stands_on source.old }

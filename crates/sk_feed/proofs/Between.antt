@@ -13,7 +13,7 @@ use Rattle.sk_hub.specs.Calls.{GoesOn, Takes}
 use Rattle.sk_feed.specs.Shares.{share, TakeShares}
 use Rattle.sk_feed.specs.Hubs.{Hub, FeedsWindow, FeedsWindows}
 use Rattle.std.proofs.lemmas.List.{get_or_default, take-append-drop}
-use Rattle.sk_feed.proofs.HubLaws.{heart_waits, heart_goes}
+use Rattle.sk_feed.proofs.HubLaws.{may_wait, may_go}
 use Rattle.sk_feed.proofs.Rooms.{taken_before}
 use Rattle.sk_feed.proofs.Shares.{share_append, no_shares, add_up}
 
@@ -136,28 +136,28 @@ some_took keeps hint_of kind lines (u ∷ us) =
 -- ---- all handles
 
 -- a hub that took windows took the first of them, and then the others
-pub first_fed : (keeps : ℕ → ℕ → Bool) (hint_of : List ℕ → List Entry → ℕ) (kind : Kind) (lines : List (List ℕ)) (more : List (List (List ℕ))) (a b : Hub) → FeedsWindows keeps hint_of kind (lines ∷ more) a b
-    → (x : Hub) × FeedsWindow keeps hint_of kind lines a x × FeedsWindows keeps hint_of kind more x b
-first_fed keeps hint_of kind lines more a b fed =
+pub first_fed : (on : Bool) (keeps : ℕ → ℕ → Bool) (hint_of : List ℕ → List Entry → ℕ) (kind : Kind) (lines : List (List ℕ)) (more : List (List (List ℕ))) (a b : Hub) → FeedsWindows on keeps hint_of kind (lines ∷ more) a b
+    → (x : Hub) × FeedsWindow on keeps hint_of kind lines a x × FeedsWindows on keeps hint_of kind more x b
+first_fed on keeps hint_of kind lines more a b fed =
     let vs = first_taken keeps hint_of kind lines more a.updaters b.updaters fed.updaters in (
       record { heart = a.heart; updaters = vs.0; token = a.token },
-      record { heart = heart_waits a.heart; updaters = vs.1; token = refl },
+      record { heart = may_wait on a.heart; updaters = vs.1; token = refl },
       record { heart = fed.heart; updaters = vs.2; token = fed.token },
     )
 
-pub some_fed : (keeps : ℕ → ℕ → Bool) (hint_of : List ℕ → List Entry → ℕ) (kind : Kind) (lines : List (List ℕ)) (a : Hub) → (x : Hub) × FeedsWindow keeps hint_of kind lines a x
-some_fed keeps hint_of kind lines a =
-    let vs = some_took keeps hint_of kind lines a.updaters in (record { heart = a.heart; updaters = vs.0; token = a.token }, record { heart = heart_waits a.heart; updaters = vs.1; token = refl })
+pub some_fed : (on : Bool) (keeps : ℕ → ℕ → Bool) (hint_of : List ℕ → List Entry → ℕ) (kind : Kind) (lines : List (List ℕ)) (a : Hub) → (x : Hub) × FeedsWindow on keeps hint_of kind lines a x
+some_fed on keeps hint_of kind lines a =
+    let vs = some_took keeps hint_of kind lines a.updaters in (record { heart = a.heart; updaters = vs.0; token = a.token }, record { heart = may_wait on a.heart; updaters = vs.1; token = refl })
 
-pub none_fed : (keeps : ℕ → ℕ → Bool) (hint_of : List ℕ → List Entry → ℕ) (kind : Kind) (a : Hub) → FeedsWindows keeps hint_of kind [] a a
-none_fed keeps hint_of kind a = record { heart = heart_waits a.heart; updaters = no_shares keeps hint_of kind a.updaters; token = refl }
+pub none_fed : (on : Bool) (keeps : ℕ → ℕ → Bool) (hint_of : List ℕ → List Entry → ℕ) (kind : Kind) (a : Hub) → FeedsWindows on keeps hint_of kind [] a a
+none_fed on keeps hint_of kind a = record { heart = may_wait on a.heart; updaters = no_shares keeps hint_of kind a.updaters; token = refl }
 
-pub one_fed : (keeps : ℕ → ℕ → Bool) (hint_of : List ℕ → List Entry → ℕ) (kind : Kind) (lines : List (List ℕ)) (a b : Hub) → FeedsWindow keeps hint_of kind lines a b → FeedsWindows keeps hint_of kind (lines ∷ []) a b
-one_fed keeps hint_of kind lines a b fed = record { heart = fed.heart; updaters = fed.updaters; token = fed.token }
+pub one_fed : (on : Bool) (keeps : ℕ → ℕ → Bool) (hint_of : List ℕ → List Entry → ℕ) (kind : Kind) (lines : List (List ℕ)) (a b : Hub) → FeedsWindow on keeps hint_of kind lines a b → FeedsWindows on keeps hint_of kind (lines ∷ []) a b
+one_fed on keeps hint_of kind lines a b fed = record { heart = fed.heart; updaters = fed.updaters; token = fed.token }
 
-pub fed_on : (keeps : ℕ → ℕ → Bool) (hint_of : List ℕ → List Entry → ℕ) (kind : Kind) (windows more : List (List (List ℕ))) (a b c : Hub) → FeedsWindows keeps hint_of kind windows a b → FeedsWindows keeps hint_of kind more b c → FeedsWindows keeps hint_of kind (windows ++ more) a c
-fed_on keeps hint_of kind windows more a b c first then = record {
-  heart = heart_goes a.heart b.heart c.heart first.heart then.heart;
+pub fed_on : (on : Bool) (keeps : ℕ → ℕ → Bool) (hint_of : List ℕ → List Entry → ℕ) (kind : Kind) (windows more : List (List (List ℕ))) (a b c : Hub) → FeedsWindows on keeps hint_of kind windows a b → FeedsWindows on keeps hint_of kind more b c → FeedsWindows on keeps hint_of kind (windows ++ more) a c
+fed_on on keeps hint_of kind windows more a b c first then = record {
+  heart = may_go on a.heart b.heart c.heart first.heart then.heart;
   updaters = add_up keeps hint_of kind windows more a.updaters b.updaters c.updaters first.updaters then.updaters;
   token = then.token ∙ first.token;
 }
@@ -165,13 +165,13 @@ fed_on keeps hint_of kind windows more a b c first then = record {
 -- ---- one window after another
 
 -- the windows before a place were fed, and then the one there
-pub fed_next : (keeps : ℕ → ℕ → Bool) (hint_of : List ℕ → List Entry → ℕ) (kind : Kind) (ws : List WindowState) (w : WindowState) (at : ℕ) (a b c : Hub) → at < length ws → w ≡ get_or ws at w → FeedsWindows keeps hint_of kind (take at (map (λ (z : WindowState). z.lines) ws)) a b → FeedsWindow keeps hint_of kind w.lines b c
-    → FeedsWindows keeps hint_of kind (take (at + 1) (map (λ (z : WindowState). z.lines) ws)) a c
-fed_next keeps hint_of kind ws w at a b c within is before now =
-    subst (λ l. FeedsWindows keeps hint_of kind l a c) (sym (taken_before ws at w within is))
-    (fed_on keeps hint_of kind (take at (map (λ (z : WindowState). z.lines) ws)) (w.lines ∷ []) a b c before (one_fed keeps hint_of kind w.lines b c now))
+pub fed_next : (on : Bool) (keeps : ℕ → ℕ → Bool) (hint_of : List ℕ → List Entry → ℕ) (kind : Kind) (ws : List WindowState) (w : WindowState) (at : ℕ) (a b c : Hub) → at < length ws → w ≡ get_or ws at w → FeedsWindows on keeps hint_of kind (take at (map (λ (z : WindowState). z.lines) ws)) a b → FeedsWindow on keeps hint_of kind w.lines b c
+    → FeedsWindows on keeps hint_of kind (take (at + 1) (map (λ (z : WindowState). z.lines) ws)) a c
+fed_next on keeps hint_of kind ws w at a b c within is before now =
+    subst (λ l. FeedsWindows on keeps hint_of kind l a c) (sym (taken_before ws at w within is))
+    (fed_on on keeps hint_of kind (take at (map (λ (z : WindowState). z.lines) ws)) (w.lines ∷ []) a b c before (one_fed on keeps hint_of kind w.lines b c now))
 
 -- then those from there on
-pub fed_rest : (keeps : ℕ → ℕ → Bool) (hint_of : List ℕ → List Entry → ℕ) (kind : Kind) (windows : List (List (List ℕ))) (at : ℕ) (a b c : Hub) → FeedsWindows keeps hint_of kind (take at windows) a b → FeedsWindows keeps hint_of kind (drop at windows) b c → FeedsWindows keeps hint_of kind windows a c
-fed_rest keeps hint_of kind windows at a b c first then =
-    subst (λ l. FeedsWindows keeps hint_of kind l a c) (take-append-drop at windows) (fed_on keeps hint_of kind (take at windows) (drop at windows) a b c first then)
+pub fed_rest : (on : Bool) (keeps : ℕ → ℕ → Bool) (hint_of : List ℕ → List Entry → ℕ) (kind : Kind) (windows : List (List (List ℕ))) (at : ℕ) (a b c : Hub) → FeedsWindows on keeps hint_of kind (take at windows) a b → FeedsWindows on keeps hint_of kind (drop at windows) b c → FeedsWindows on keeps hint_of kind windows a c
+fed_rest on keeps hint_of kind windows at a b c first then =
+    subst (λ l. FeedsWindows on keeps hint_of kind l a c) (take-append-drop at windows) (fed_on on keeps hint_of kind (take at windows) (drop at windows) a b c first then)

@@ -3,9 +3,10 @@ use Rattle.std.proofs.Common.{◌≡◌, ◌≢◌, ◌↔◌, ◌⊎◌, inl, i
 use Rattle.sk_read.specs.declared.kind.Kind.{Kind}
 use Rattle.sk_hub.specs.declared.answers.Update.{Update}
 use Rattle.sk_hub.specs.declared.answers.Update.TheVariants as update
-use Rattle.sk_hub.specs.Updaters.{UpdaterState, LooksInVain, Keeps, HandsWith}
+use Rattle.sk_hub.specs.Updaters.{UpdaterState, Keeps, HandsWith}
 use Rattle.sk_fill.specs.Windows.{item_in, items_in}
-use Rattle.sk_feed.specs.Calls.{Filter, Accepts, Filters, IsFed, IsFedEach, IsStopped, IsOffered, IsBusyWith, InsistsAfter, ServesAfter, ServesAll, FindsElsewhere, HelpsIfEager}
+use Rattle.sk_hub.specs.Calls.{IsBusyWith}
+use Rattle.sk_feed.specs.Calls.{Filter, Accepts, Filters, IsFed, IsFedEach, IsStopped, IsOffered, InsistsAfter, ServesAfter, ServesAll, FindsElsewhere, HelpsIfEager}
 use Rattle.sk_model.proofs.Lists.{slice_none}
 use Rattle.sk_fill.proofs.Items.{no_items, next_item, next_empty}
 
@@ -14,9 +15,6 @@ use Rattle.sk_fill.proofs.Items.{no_items, next_item, next_empty}
 is_kept : (keeps : Bool) → keeps ≢ false → keeps ≡ true
 is_kept true other = refl
 is_kept false other = absurd (other refl)
-
-pub was_busy : (f : Filter) (u u' : UpdaterState) (item : ℕ) (r : Update) → ((r ≡ update.Filtered) ↔ (f.keeps u.hint item ≡ false)) → r ≡ update.Busy → length u.fill ≡ u.size → LooksInVain u u' → IsBusyWith f u item u'
-was_busy f u u' item r filtered busy full look = record { kept = is_kept (f.keeps u.hint item) (λ dropped. let e = filtered.1 dropped in cc); full = full; look = look }
 
 pub was_filtered : (f : Filter) (u u' : UpdaterState) (item : ℕ) (r : Update) → ((r ≡ update.Filtered) ↔ (f.keeps u.hint item ≡ false)) → (r ≡ update.Filtered → u' ≡ u) → r ≡ update.Filtered → Filters f u item u'
 was_filtered f u u' item r filtered stays is = record { dropped = filtered.0 is; stays = stays is }
@@ -43,7 +41,7 @@ pub accepted_now : (f : Filter) (u v u' : UpdaterState) (item : ℕ) → Accepts
 unfolding InsistsAfter
 accepted_now f u v u' item accepts helps = inr (v, accepts, helps)
 
-pub insists_later : (f : Filter) (u v w u' : UpdaterState) (item times tries : ℕ) → IsBusyWith f u item v → ServesAfter tries v w → InsistsAfter f times w item u' → InsistsAfter f (suc times) u item u'
+pub insists_later : (f : Filter) (u v w u' : UpdaterState) (item times tries : ℕ) → IsBusyWith f.keeps u item v → ServesAfter tries v w → InsistsAfter f times w item u' → InsistsAfter f (suc times) u item u'
 unfolding InsistsAfter
 insists_later f u v w u' item times tries busy serves insists = (v, w, tries, busy, serves, insists)
 
@@ -88,5 +86,5 @@ module _ (f : Filter) (help : Bool) (u : UpdaterState) (kind : Kind) (lines : Li
   lines_fed v at leads = subst (λ l. IsFedEach f help u l v) (append-nil (items_in kind (slice_range lines from at))) (leads v [] (fed_none f help v))
 
 -- and the next is busy
-pub stopped : (f : Filter) (help : Bool) (u v u' : UpdaterState) (items : List ℕ) (next : Option ℕ) (item : ℕ) → help ≡ false → IsFedEach f help u items v → next ≡ Some item → IsBusyWith f v item u' → IsStopped f u items next u'
+pub stopped : (f : Filter) (help : Bool) (u v u' : UpdaterState) (items : List ℕ) (next : Option ℕ) (item : ℕ) → help ≡ false → IsFedEach f help u items v → next ≡ Some item → IsBusyWith f.keeps v item u' → IsStopped f u items next u'
 stopped f help u v u' items next item alone fed is busy = record { before = v; fed = subst (λ h. IsFedEach f h u items v) alone fed; item = item; is_next = is; busy = busy }

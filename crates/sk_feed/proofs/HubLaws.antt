@@ -14,7 +14,7 @@ use Rattle.sk_hub.specs.Calls.{Takes}
 use Rattle.sk_feed.specs.Rounds.{HaveRoom, HaveFew}
 use Rattle.sk_fill.specs.Blocks.{block_of}
 use Rattle.sk_feed.specs.Shares.{TakeShares, share, HaveKeptNone}
-use Rattle.sk_feed.specs.Hubs.{Hub, IsHub, IsUpdaterAt, HeartGoesOn, FeedsWindow, LeavesHub, IsLeft, FeedsWindows}
+use Rattle.sk_feed.specs.Hubs.{Hub, IsHub, IsUpdaterAt, HeartGoesOn, HeartMayGoOn, FeedsWindow, LeavesHub, IsLeft, FeedsWindows}
 use Rattle.sk_feed.proofs.Rounds.{block_within}
 use Rattle.sk_feed.proofs.Shares.{share_one}
 use Rattle.sk_fill.specs.Windows.{items_in}
@@ -30,12 +30,18 @@ heart_goes h h1 h2 a b = record {
   stays = b.stays ∙ λ d. record (a.stays d) { view = h2.view };
 }
 
+pub may_wait : (on : Bool) (h : HeartState) → HeartMayGoOn on h h
+may_wait on h = record { goes = heart_waits h; quiet = λ off. refl }
+
+pub may_go : (on : Bool) (h h1 h2 : HeartState) → HeartMayGoOn on h h1 → HeartMayGoOn on h1 h2 → HeartMayGoOn on h h2
+may_go on h h1 h2 a b = record { goes = heart_goes h h1 h2 a.goes b.goes; quiet = λ off. b.quiet off ∙ a.quiet off }
+
 -- ---- still one hub
 
 -- where its updaters took shares of any windows
-pub hub_took : (keeps : ℕ → ℕ → Bool) (hint_of : List ℕ → List Entry → ℕ) (kind : Kind) (windows : List (List (List ℕ))) (a b : Hub) → IsHub a → FeedsWindows keeps hint_of kind windows a b → IsHub b
-hub_took keeps hint_of kind windows a b hub fed = record {
-  count = fed.updaters.count ∙ hub.count ∙ sym (ap (λ h. h.updaters) fed.heart.stays);
+pub hub_took : (on : Bool) (keeps : ℕ → ℕ → Bool) (hint_of : List ℕ → List Entry → ℕ) (kind : Kind) (windows : List (List (List ℕ))) (a b : Hub) → IsHub a → FeedsWindows on keeps hint_of kind windows a b → IsHub b
+hub_took on keeps hint_of kind windows a b hub fed = record {
+  count = fed.updaters.count ∙ hub.count ∙ sym (ap (λ h. h.updaters) fed.heart.goes.stays);
   updaters = λ i d within.
       let within' : i < length a.updaters = omega (arith, fed.updaters.count) in
       let was = hub.updaters i d within' in let goes = (fed.updaters.each i d within').goes in record {
@@ -47,22 +53,22 @@ hub_took keeps hint_of kind windows a b hub fed = record {
         size = subst (λ t. (size_of t.view i ≡ 0) ⊎ (size_of t.view i ≡ (get_or b.updaters i d).size)) (sym fed.token) (⊎_elim (λ none. inl none) (λ is. inr (is ∙ sym goes.size)) was.size);
       };
   table = ap (λ t. t.table) fed.token ∙ hub.table ∙ sym table;
-  sized = ap (λ t. length t.view.sizes) fed.token ∙ hub.sized ∙ sym (ap (λ h. h.updaters) fed.heart.stays);
+  sized = ap (λ t. length t.view.sizes) fed.token ∙ hub.sized ∙ sym (ap (λ h. h.updaters) fed.heart.goes.stays);
   numbers = ap (λ t. t.view.numbers) fed.token ∙ hub.numbers ∙ sym numbers;
   name = ap (λ t. t.view.name) fed.token ∙ hub.name ∙ sym name;
 }
   where
     table : b.heart.table ≡ a.heart.table
-    table = ap (λ h. h.table) fed.heart.stays
+    table = ap (λ h. h.table) fed.heart.goes.stays
 
     numbers : b.heart.view.numbers ≡ a.heart.view.numbers
-    numbers = ap (λ v. v.numbers) fed.heart.knows.view
+    numbers = ap (λ v. v.numbers) fed.heart.goes.knows.view
 
     name : b.heart.view.name ≡ a.heart.view.name
-    name = ap (λ v. v.name) fed.heart.knows.view
+    name = ap (λ v. v.name) fed.heart.goes.knows.view
 
-pub hub_fed : (keeps : ℕ → ℕ → Bool) (hint_of : List ℕ → List Entry → ℕ) (kind : Kind) (lines : List (List ℕ)) (a b : Hub) → IsHub a → FeedsWindow keeps hint_of kind lines a b → IsHub b
-hub_fed keeps hint_of kind lines a b hub fed = hub_took keeps hint_of kind (lines ∷ []) a b hub (record { heart = fed.heart; updaters = fed.updaters; token = fed.token })
+pub hub_fed : (on : Bool) (keeps : ℕ → ℕ → Bool) (hint_of : List ℕ → List Entry → ℕ) (kind : Kind) (lines : List (List ℕ)) (a b : Hub) → IsHub a → FeedsWindow on keeps hint_of kind lines a b → IsHub b
+hub_fed on keeps hint_of kind lines a b hub fed = hub_took on keeps hint_of kind (lines ∷ []) a b hub (record { heart = fed.heart; updaters = fed.updaters; token = fed.token })
 
 -- ---- how much its updaters have kept
 
@@ -104,9 +110,9 @@ nil_is (x ∷ xs) few = let none : ⊥ = omega arith in absurd none
 share_of_none : (kind : Kind) (n i : ℕ) → i < n → share kind ([] ∷ []) n i ≡ []
 share_of_none kind n i within = share_one kind [] n i ∙ ap (items_in kind) (nil_is (block_of [] i n) (block_within [] i n within)) ∙ no_items kind
 
-pub no_window : (keeps : ℕ → ℕ → Bool) (hint_of : List ℕ → List Entry → ℕ) (kind : Kind) (b : Hub) → FeedsWindow keeps hint_of kind [] b b
-no_window keeps hint_of kind b = record {
-  heart = heart_waits b.heart;
+pub no_window : (on : Bool) (keeps : ℕ → ℕ → Bool) (hint_of : List ℕ → List Entry → ℕ) (kind : Kind) (b : Hub) → FeedsWindow on keeps hint_of kind [] b b
+no_window on keeps hint_of kind b = record {
+  heart = may_wait on b.heart;
   updaters = record {
     count = refl;
     each = λ i d within. let u = get_or b.updaters i d in subst (λ l. Takes keeps hint_of u l u) (sym (share_of_none kind (length b.updaters) i within)) (takes_none keeps hint_of u u (none_refl u));

@@ -8,8 +8,8 @@ use Rattle.sk_hub.specs.Calls.{KeepsNone}
 use Rattle.sk_hub.proofs.Calls.{none_refl, none_trans, takes_then_none}
 use Rattle.sk_read.specs.declared.kind.Kind.{Kind}
 use Rattle.sk_feed.specs.Shares.{share, KeepNone}
-use Rattle.sk_feed.specs.Hubs.{Hub, HeartGoesOn, HasAllPublished, HandsOverEarly, FeedsWindow}
-use Rattle.sk_feed.proofs.HubLaws.{heart_goes}
+use Rattle.sk_feed.specs.Hubs.{Hub, HeartMayGoOn, HasAllPublished, HandsOverEarly, FeedsWindow}
+use Rattle.sk_feed.proofs.HubLaws.{may_go}
 
 pub none_each : (us : List UpdaterState) → KeepNone us us
 none_each us = record { count = refl; each = λ i d within. none_refl (get_or us i d) }
@@ -32,10 +32,10 @@ module _ (us vs : List UpdaterState) (i : ℕ) (u u' : UpdaterState) (none : Kee
   }
 
 -- a window that was fed is so still after updaters were settled
-pub fed_and_settled : (keeps : ℕ → ℕ → Bool) (hint_of : List ℕ → List Entry → ℕ) (kind : Kind) (lines : List (List ℕ)) (a x y : Hub) → FeedsWindow keeps hint_of kind lines a x → HeartGoesOn x.heart y.heart → KeepNone x.updaters y.updaters → y.token ≡ x.token
-    → FeedsWindow keeps hint_of kind lines a y
-fed_and_settled keeps hint_of kind lines a x y fed heart none token = record {
-  heart = heart_goes a.heart x.heart y.heart fed.heart heart;
+pub fed_and_settled : (on : Bool) (keeps : ℕ → ℕ → Bool) (hint_of : List ℕ → List Entry → ℕ) (kind : Kind) (lines : List (List ℕ)) (a x y : Hub) → FeedsWindow on keeps hint_of kind lines a x → HeartMayGoOn on x.heart y.heart → KeepNone x.updaters y.updaters → y.token ≡ x.token
+    → FeedsWindow on keeps hint_of kind lines a y
+fed_and_settled on keeps hint_of kind lines a x y fed heart none token = record {
+  heart = may_go on a.heart x.heart y.heart fed.heart heart;
   updaters = record {
     count = none.count ∙ fed.updaters.count;
     each = λ i d within. takes_then_none keeps hint_of (get_or a.updaters i d) (get_or x.updaters i d) (get_or y.updaters i d) (share kind (lines ∷ []) (length a.updaters) i) (fed.updaters.each i d within)

@@ -2,9 +2,9 @@
 use Rattle.std.specs.Prelude.{◌≡◌, ◌⊎◌, ℕ, zero, suc, ◌<◌, ◌≤◌, ◌&&◌, List, [], ◌∷◌, length, slice_range, slice_index_or, Bool, true, false, Option, Some, IsTrue}
 use Rattle.std.specs.Bool.{MatchBool}
 use Rattle.sk_model.specs.Entries.{Entry}
-use Rattle.sk_hub.specs.Updaters.{UpdaterState, LooksInVain, Keeps, HandsWith}
+use Rattle.sk_hub.specs.Updaters.{UpdaterState, Keeps, HandsWith}
 use Rattle.sk_hub.specs.Rounds.{Sweeps, IsElsewhere}
-use Rattle.sk_hub.specs.Calls.{Takes}
+use Rattle.sk_hub.specs.Calls.{Takes, IsBusyWith}
 use Rattle.sk_read.specs.declared.kind.Kind.{Kind}
 use Rattle.sk_fill.specs.Windows.{item_in, items_in}
 
@@ -28,12 +28,6 @@ pub record Accepts (f : Filter) (u : UpdaterState) (item : ℕ) (u' : UpdaterSta
 pub record Filters (f : Filter) (u : UpdaterState) (item : ℕ) (u' : UpdaterState) : Type 0 where
   pub dropped : f.keeps u.hint item ≡ false
   pub stays : u' ≡ u
-
--- the item is kept by the hint, the buffer is full, and the one look loaded 0
-pub record IsBusyWith (f : Filter) (u : UpdaterState) (item : ℕ) (u' : UpdaterState) : Type 0 where
-  pub kept : f.keeps u.hint item ≡ true
-  pub full : length u.fill ≡ u.size
-  pub look : LooksInVain u u'
 
 -- ---- its help
 
@@ -67,7 +61,7 @@ IsOffered f u item u' = Filters f u item u' ⊎ Accepts f u item u'
 -- it was busy this many times, and served all each time; then the item was taken, and it helped
 unfoldable pub InsistsAfter : Filter → ℕ → UpdaterState → ℕ → UpdaterState → Type 0
 InsistsAfter f zero u item u' = Filters f u item u' ⊎ ((v : UpdaterState) × Accepts f u item v × HelpsIfEager f v u')
-InsistsAfter f (suc times) u item u' = (v : UpdaterState) × (w : UpdaterState) × (tries : ℕ) × IsBusyWith f u item v × ServesAfter tries v w × InsistsAfter f times w item u'
+InsistsAfter f (suc times) u item u' = (v : UpdaterState) × (w : UpdaterState) × (tries : ℕ) × IsBusyWith f.keeps u item v × ServesAfter tries v w × InsistsAfter f times w item u'
 
 -- it was fed the item: with help until it was taken, else once
 abbrev pub IsFed : Filter → Bool → UpdaterState → ℕ → UpdaterState → Type 0
@@ -84,7 +78,7 @@ pub record IsStopped (f : Filter) (u : UpdaterState) (items : List ℕ) (next : 
   pub fed : IsFedEach f false u items before
   pub item : ℕ
   pub is_next : next ≡ Some item
-  pub busy : IsBusyWith f before item u'
+  pub busy : IsBusyWith f.keeps before item u'
 
 -- ---- the lines from one place up to another
 

@@ -1,11 +1,11 @@
 -- The handles of a hub together, and how they continue while a window is fed and reported.
-use Rattle.std.specs.Prelude.{◌≡◌, ◌⊎◌, ℕ, ◌<◌, Bool, true, ◌&&◌, List, [], ◌∷◌, length, slice_index_or, All}
+use Rattle.std.specs.Prelude.{◌≡◌, ◌⊎◌, ℕ, ◌<◌, Bool, true, false, ◌&&◌, List, [], ◌∷◌, length, slice_index_or, All}
 use Rattle.sk_model.specs.Entries.{Entry, entries_by}
 use Rattle.sk_model.specs.Missing.{Begins}
 use Rattle.sk_gate.specs.Hands.{TokenState}
 use Rattle.sk_gate.specs.Views.{known_of, size_of}
 use Rattle.sk_hub.specs.Hearts.{HeartState}
-use Rattle.sk_hub.specs.Rounds.{KnowsAsMuch}
+use Rattle.sk_hub.specs.Rounds.{KnowsAsMuch, Sweeps, IsElsewhere, Refuses}
 use Rattle.sk_hub.specs.Updaters.{UpdaterState, base_of, handed_of}
 use Rattle.sk_hub.specs.declared.opened.Opened.{Opened}
 use Rattle.sk_read.specs.declared.kind.Kind.{Kind}
@@ -47,15 +47,24 @@ pub record HeartGoesOn (h h' : HeartState) : Type 0 where
   pub knows : KnowsAsMuch h.view h'.view
   pub stays : h' ≡ record h { view = h'.view }
 
--- each updater took its share of a window; the token is as it was
-pub record FeedsWindow (keeps : ℕ → ℕ → Bool) (hint_of : List ℕ → List Entry → ℕ) (kind : Kind) (lines : List (List ℕ)) (a b : Hub) : Type 0 where
-  pub heart : HeartGoesOn a.heart b.heart
+-- so it is if it propagates, and else it is as it was
+pub record HeartMayGoOn (propagates : Bool) (h h' : HeartState) : Type 0 where
+  pub goes : HeartGoesOn h h'
+  pub quiet : propagates ≡ false → h' ≡ h
+
+-- the heart took the turn and served each updater once, found it with another seat, or memory ran out for a batch
+abbrev pub TriesToSweep : HeartState → HeartState → Type 0
+TriesToSweep h h' = ((count : ℕ) × Sweeps h.view h.updaters count h'.view) ⊎ (((other : ℕ) × IsElsewhere h.view other h'.view) ⊎ Refuses h.view 0 h.updaters h'.view)
+
+-- each updater took its share of a window; the token is as it was, and so is the heart unless it propagates
+pub record FeedsWindow (propagates : Bool) (keeps : ℕ → ℕ → Bool) (hint_of : List ℕ → List Entry → ℕ) (kind : Kind) (lines : List (List ℕ)) (a b : Hub) : Type 0 where
+  pub heart : HeartMayGoOn propagates a.heart b.heart
   pub updaters : TakeShares keeps hint_of kind (lines ∷ []) a.updaters b.updaters
   pub token : b.token ≡ a.token
 
--- each updater took its share of these windows; the token is as it was
-pub record FeedsWindows (keeps : ℕ → ℕ → Bool) (hint_of : List ℕ → List Entry → ℕ) (kind : Kind) (windows : List (List (List ℕ))) (a b : Hub) : Type 0 where
-  pub heart : HeartGoesOn a.heart b.heart
+-- each updater took its share of these windows; the token is as it was, and so is the heart unless it propagates
+pub record FeedsWindows (propagates : Bool) (keeps : ℕ → ℕ → Bool) (hint_of : List ℕ → List Entry → ℕ) (kind : Kind) (windows : List (List (List ℕ))) (a b : Hub) : Type 0 where
+  pub heart : HeartMayGoOn propagates a.heart b.heart
   pub updaters : TakeShares keeps hint_of kind windows a.updaters b.updaters
   pub token : b.token ≡ a.token
 

@@ -1,5 +1,5 @@
 -- What each updater took, window after window, and a list that has all that they kept.
-use Rattle.std.specs.Prelude.{◌≡◌, ℕ, ◌<◌, Bool, List, [], ◌++◌, length, slice_index_or, flat_map, All}
+use Rattle.std.specs.Prelude.{◌≡◌, ℕ, ◌<◌, Bool, true, List, [], ◌++◌, length, slice_index_or, flat_map, All}
 use Rattle.sk_model.specs.Entries.{Entry, entries_by}
 use Rattle.sk_model.specs.Missing.{Begins}
 use Rattle.sk_compose.specs.Kept.{AreKept}
@@ -8,6 +8,7 @@ use Rattle.sk_read.specs.declared.kind.Kind.{Kind}
 use Rattle.sk_fill.specs.Windows.{items_in}
 use Rattle.sk_fill.specs.Blocks.{block_of}
 use Rattle.sk_hub.specs.Calls.{KeepsNone, Takes}
+use Rattle.sk_feed.specs.Calls.{Filter, IsFedEach}
 
 -- what updater i of n takes of windows, in order: the items of its block of each
 unfoldable pub share : Kind → List (List (List ℕ)) → ℕ → ℕ → List ℕ
@@ -17,6 +18,11 @@ share kind windows n i = flat_map (λ lines. items_in kind (block_of lines i n))
 pub record TakeShares (keeps : ℕ → ℕ → Bool) (hint_of : List ℕ → List Entry → ℕ) (kind : Kind) (windows : List (List (List ℕ))) (us us' : List UpdaterState) : Type 0 where
   pub count : length us' ≡ length us
   pub each : (i : ℕ) (d : UpdaterState) → i < length us → Takes keeps hint_of (slice_index_or us i d) (share kind windows (length us) i) (slice_index_or us' i d)
+
+-- each updater was fed the items of its block one by one, and helped after each that it kept while it was eager
+pub record AreFedEach (f : Filter) (kind : Kind) (lines : List (List ℕ)) (us us' : List UpdaterState) : Type 0 where
+  pub count : length us' ≡ length us
+  pub each : (i : ℕ) (d : UpdaterState) → i < length us → IsFedEach f true (slice_index_or us i d) (items_in kind (block_of lines i (length us))) (slice_index_or us' i d)
 
 -- each updater continues, and has kept nothing more
 pub record KeepNone (us us' : List UpdaterState) : Type 0 where

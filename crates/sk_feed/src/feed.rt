@@ -1,8 +1,8 @@
 //! How the items of a window's lines are fed to an updater.
 ghost use Rattle.std.specs.Prelude.{◌≡◌, ◌≢◌, ◌⊎◌, ℕ, ◌+◌, ◌-◌, ◌<◌, ◌≤◌, [], ◌∷◌, length, true, false, Ok, OnOk, OnErr, IfOk, IsTrue};
 ghost use Rattle.sk_hub.specs.Updaters.{kept_of};
-ghost use Rattle.sk_hub.specs.Calls.{KeepsNone, Takes};
-ghost use Rattle.sk_feed.specs.Calls.{filter_of, IsFed, IsBusyWith, FeedsLines, RunsOutHelping, Filters, Accepts, InsistsAfter, HelpsIfEager, ServesAfter, ServesAll, FindsElsewhere};
+ghost use Rattle.sk_hub.specs.Calls.{KeepsNone, Takes, IsBusyWith};
+ghost use Rattle.sk_feed.specs.Calls.{filter_of, IsFed, FeedsLines, RunsOutHelping, Filters, Accepts, InsistsAfter, HelpsIfEager, ServesAfter, ServesAll, FindsElsewhere};
 ghost use Rattle.sk_model.specs.Width.{IsItem};
 ghost use Rattle.sk_model.specs.Limits.{most_kept};
 
@@ -56,7 +56,7 @@ fn feed_item<C: Composable, R: Wait>(
     ensures taken { result ≡ Ok true → Takes C.keeps_of C.hint_of u.old (item ∷ []) u.new }
     ensures fed { result ≡ Ok true → IsFed (filter_of C.keeps_of C.early_of C.hint_of) help u.old item u.new }
     ensures alone { result ≡ Ok false → help ≡ false }
-    ensures busy { result ≡ Ok false → IsBusyWith (filter_of C.keeps_of C.early_of C.hint_of) u.old item u.new }
+    ensures busy { result ≡ Ok false → IsBusyWith C.keeps_of u.old item u.new }
     ensures none { result ≡ Ok false → KeepsNone u.old u.new }
     ensures refused { OnErr result (KeepsNone u.old u.new ⊎ Takes C.keeps_of C.hint_of u.old (item ∷ []) u.new) }
     ensures helping { OnErr result (IsTrue help) }
@@ -103,7 +103,7 @@ pub fn offer<C: Composable>(u: &mut Updater<C>, item: u64) -> Update
     requires room { length (kept_of u.old) < most_kept }
     ensures taken { result ≢ Update.Busy → Takes C.keeps_of C.hint_of u.old (item ∷ []) u.new }
     ensures none { result ≡ Update.Busy → KeepsNone u.old u.new }
-    ensures busy { result ≡ Update.Busy → IsBusyWith (filter_of C.keeps_of C.early_of C.hint_of) u.old item u.new }
+    ensures busy { result ≡ Update.Busy → IsBusyWith C.keeps_of u.old item u.new }
     ensures filtered { result ≡ Update.Filtered → Filters (filter_of C.keeps_of C.early_of C.hint_of) u.old item u.new }
     ensures accepted { (result ≡ Update.Kept) ⊎ (result ≡ Update.Handed) → Accepts (filter_of C.keeps_of C.early_of C.hint_of) u.old item u.new }
 {

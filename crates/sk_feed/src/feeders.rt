@@ -1,5 +1,5 @@
 //! How a window is fed to the updaters of a hub in threads.
-ghost use Rattle.std.specs.Prelude.{◌≡◌, ◌∷◌, ◌<◌, ◌≤◌, [], length, map, reverse, vec_capacity, OnOk, OnErr, IfOk, IsTrue};
+ghost use Rattle.std.specs.Prelude.{◌≡◌, ◌≢◌, ◌∷◌, ◌<◌, ◌≤◌, [], length, map, reverse, vec_capacity, OnOk, OnErr, IfOk, IsTrue};
 ghost use Rattle.sk_feed.specs.Hubs.{HeartGoesOn};
 ghost use Rattle.sk_feed.specs.Rounds.{HaveRoom, TakeBlocks, TakeFronts};
 ghost use Rattle.sk_feed.specs.Shares.{TakeShares};
@@ -78,6 +78,7 @@ impl<C: Composable> Feeders<C> {
         ensures taken { OnOk result (TakeShares C.keeps_of C.hint_of kind (window.now.lines ∷ []) updaters.old.items updaters.new.items) }
         ensures fronts { TakeFronts C.keeps_of C.hint_of kind window.now.lines updaters.old.items updaters.new.items }
         ensures heart { HeartGoesOn heart.old heart.new }
+        ensures quiet { by ≢ Propagation.ByHeart → heart.new ≡ heart.old }
         ensures cause { OnErr result (IsTrue C.TAKES_MEMORY) }
         ensures stays { self.new ≡ self.old }
     {
@@ -104,6 +105,7 @@ where
     requires most { length feeders.old.items ≤ most_updaters }
     requires threads { 0 < threads }
     ensures heart { HeartGoesOn heart.old heart.new }
+    ensures quiet { by ≢ Propagation.ByHeart → heart.new ≡ heart.old }
     ensures cause { OnErr result (IsTrue C.TAKES_MEMORY) }
     ensures places { vec_capacity feeders.new ≡ vec_capacity feeders.old }
     ensures taken { OnOk result (TakeBlocks C.keeps_of C.hint_of kind window.now.lines (map (λ f. f.updater) feeders.old.items) (map (λ f. f.updater) feeders.new.items)) }

@@ -99,7 +99,7 @@ impl<C: Composable> TakesStretches for Vec<Updater<C>> {
 
 /// Whether updaters are fed one after another: with a sketch by versions most of the work is the merge, by one at a time.
 pub fn take_turns<C: Composable>() -> bool {
-    C::TAKES_MEMORY
+    C::MERGES_ALONE
 }
 
 /// Whether each item that updaters keep is handed over.

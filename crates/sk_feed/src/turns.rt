@@ -1,10 +1,11 @@
 //! A window that is fed in one thread, to one updater after another.
-ghost use Rattle.std.specs.Prelude.{◌∷◌, ◌+◌, ◌-◌, ◌≤◌, [], length, slice_range, OnOk, OnErr, IsTrue};
+ghost use Rattle.std.specs.Prelude.{◌≡◌, ◌≢◌, ◌∷◌, ◌+◌, ◌-◌, ◌≤◌, [], length, slice_range, true, OnOk, OnErr, IsTrue};
 ghost use Rattle.sk_hub.specs.Updaters.{kept_of};
 ghost use Rattle.sk_fill.specs.Windows.{items_in};
 ghost use Rattle.sk_hub.specs.Calls.{Takes};
 ghost use Rattle.sk_feed.specs.Rounds.{HaveRoom};
-ghost use Rattle.sk_feed.specs.Shares.{TakeShares};
+ghost use Rattle.sk_feed.specs.Calls.{filter_of, IsFedEach};
+ghost use Rattle.sk_feed.specs.Shares.{TakeShares, AreFedEach};
 ghost use Rattle.sk_feed.specs.Hubs.{HeartGoesOn};
 ghost use Rattle.sk_model.specs.Limits.{most_updaters, most_kept};
 
@@ -31,7 +32,9 @@ pub fn feed_in_turn<C: Composable, R: Wait>(
     requires most { length updaters.old.items ≤ most_updaters }
     requires room { HaveRoom window.now.lines updaters.old.items }
     ensures taken { OnOk result (TakeShares C.keeps_of C.hint_of kind (window.now.lines ∷ []) updaters.old.items updaters.new.items) }
+    ensures each { OnOk result (by ≡ Propagation.AfterEachItem → AreFedEach (filter_of C.keeps_of C.early_of C.hint_of) kind window.now.lines updaters.old.items updaters.new.items) }
     ensures heart { HeartGoesOn heart.old heart.new }
+    ensures quiet { by ≢ Propagation.ByHeart → heart.new ≡ heart.old }
     ensures cause { OnErr result (IsTrue C.TAKES_MEMORY) }
 {
     let n = updaters.len();
@@ -57,7 +60,9 @@ fn feed_through<C: Composable, R: Wait>(
     requires within { block.to ≤ length window.now.lines }
     requires room { length (kept_of u.old) + (block.to - block.from) ≤ most_kept }
     ensures taken { OnOk result (Takes C.keeps_of C.hint_of u.old (items_in kind (slice_range window.now.lines block.from block.to)) u.new) }
+    ensures each { OnOk result (by ≡ Propagation.AfterEachItem → IsFedEach (filter_of C.keeps_of C.early_of C.hint_of) true u.old (items_in kind (slice_range window.now.lines block.from block.to)) u.new) }
     ensures heart { HeartGoesOn heart.old heart.new }
+    ensures quiet { by ≢ Propagation.ByHeart → heart.new ≡ heart.old }
     ensures cause { OnErr result (IsTrue C.TAKES_MEMORY) }
 {
     if by.helps() {

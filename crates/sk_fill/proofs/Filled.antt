@@ -20,12 +20,12 @@ use Rattle.sk_fill.proofs.Cutting.{one_full, one_unfilled}
 
 -- it was given by the second of two calls
 pub line_read : (r : Reading) (old mid new : Option (List ℕ)) (given : List (List ℕ)) (line taken first second : List ℕ) → Consumes old mid first → Consumes mid new second
-    → HasRead r new (given ++ line ∷ []) ((taken ++ first) ++ second) × IsInTime Lines given ((taken ++ first) ++ second) → ReadsLine r old new given line taken
+    → HasRead r new (given ++ line ∷ []) ((taken ++ first) ++ second) × IsInTime r.last Lines given ((taken ++ first) ++ second) → ReadsLine r old new given line taken
 line_read r old mid new given line taken first second before next has = record {
   more = first ++ second;
   consumed = Consumes-trans _ _ _ _ _ before next;
   read = subst (λ bytes. HasRead r new (given ++ line ∷ []) bytes) (append_assoc taken first second) has.0;
-  in_time = subst (λ bytes. IsInTime Lines given bytes) (append_assoc taken first second) has.1;
+  in_time = subst (λ bytes. IsInTime r.last Lines given bytes) (append_assoc taken first second) has.1;
 }
 
 -- few bytes have few lines
@@ -82,18 +82,19 @@ pub held_line : (r : Reading) (left : Option (List ℕ)) (given : List (List ℕ
 held_line r left given taken result is goes = subst (GoesHeld r left given taken) is goes
 
 -- all lines given so far are in time where fewer were
-pub in_time_on : (given more : List (List ℕ)) (taken : List ℕ) → IsInTime Lines given taken → IsInTime Lines (given ++ more) taken
-in_time_on given more taken is = record {
+pub in_time_on : (last : ℕ) (given more : List (List ℕ)) (taken : List ℕ) → IsInTime last Lines given taken → IsInTime last Lines (given ++ more) taken
+in_time_on last given more taken is = record {
   front = is.front;
   piece = is.piece;
   joined = is.joined;
   size = is.size;
+  few = is.few;
   sound = is.sound;
   earlier = begins_more (complete_units_of Lines is.front) given more is.earlier;
 }
 
 -- the last of the lines that went on, if their reader stands after it
-pub held_last : (r : Reading) (old new : Option (List ℕ)) (given lines lines' : List (List ℕ)) (taken more : List ℕ) → Consumes old new more → EndsWithLine lines lines' → IsInTime Lines (given ++ lines) (taken ++ more) → HasRead r new (given ++ lines') (taken ++ more)
+pub held_last : (r : Reading) (old new : Option (List ℕ)) (given lines lines' : List (List ℕ)) (taken more : List ℕ) → Consumes old new more → EndsWithLine lines lines' → IsInTime r.last Lines (given ++ lines) (taken ++ more) → HasRead r new (given ++ lines') (taken ++ more)
     → (front : List (List ℕ)) × (line : List ℕ) × (lines' ≡ front ++ line ∷ []) × ReadsLine r old new (given ++ front) line taken
 held_last r old new given lines lines' taken more consumed ends in_time read =
     let front = ends.0 in
@@ -106,7 +107,7 @@ held_last r old new given lines lines' taken more consumed ends in_time read =
         more = more;
         consumed = consumed;
         read = subst (λ l. HasRead r new l (taken ++ more)) (ap (λ l. given ++ l) ends.2 ∙ sym (append_assoc given front (line ∷ []))) read;
-        in_time = subst (λ l. IsInTime Lines l (taken ++ more)) (append_assoc given lines begins.0 ∙ ap (λ l. given ++ l) (sym begins.1)) (in_time_on (given ++ lines) begins.0 (taken ++ more) in_time);
+        in_time = subst (λ l. IsInTime r.last Lines l (taken ++ more)) (append_assoc given lines begins.0 ∙ ap (λ l. given ++ l) (sym begins.1)) (in_time_on r.last (given ++ lines) begins.0 (taken ++ more) in_time);
       },
     )
 

@@ -15,6 +15,7 @@ use Rattle.sk_read.specs.declared.reader.LineFault.{LineFault}
 use Rattle.sk_read.specs.declared.units.Units.TheVariants.{Lines}
 use Rattle.sk_read.proofs.ItemLaws.{has_few, last_within}
 use Rattle.sk_read.proofs.LineEnds.{no_line, line_missed}
+use Rattle.sk_read.proofs.Readings.{in_time_within}
 use Rattle.sk_fill.specs.Windows.{FillsNone, IsFullWindow}
 use Rattle.sk_fill.specs.Fills.{RefusesLine, EndsWithLine, TakesHeld, TakesMore}
 use Rattle.sk_fill.proofs.Filled.{read_few}
@@ -63,7 +64,7 @@ module _ (kind : Kind) (most : ℕ) (lines_before lines_found : List (List ℕ))
 
   -- a fault came after them
   fault_held : (why : Fault) → ((first left : Option (List ℕ)) (given : List (List ℕ)) (taken : List ℕ) → Consumes first left taken → HasRead r0 left (given ++ lines_before) taken
-      → Ends Lines r0.most (λ lines. lines ≡ given ++ lines_found) (RefusesLine kind (given ++ lines_found)) first left why) → TakesHeld kind most lines_before lines_found r0 r' (Err why)
+      → Ends r'.last Lines r0.most (λ lines. lines ≡ given ++ lines_found) (RefusesLine kind (given ++ lines_found)) first left why) → TakesHeld kind most lines_before lines_found r0 r' (Err why)
   fault_held why ends = record {
     full = λ is. absurd (not_then (Err why) why true refl is);
     unfilled = λ _. m.unfilled;
@@ -83,26 +84,26 @@ module _ (kind : Kind) (most : ℕ) (lines_before lines_found : List (List ℕ))
       no_line (λ lines. lines ≡ given ++ lines_found) (RefusesLine kind (given ++ lines_found)) r0.most r' first left (given ++ lines_found) taken why bound consumed refl (goes left (given ++ lines_found) taken (m.read left given taken has))))
 
   -- one that is no item
-  pub bad_held : (line : List ℕ) (n : ℕ) → r'.most ≡ r0.most → line ≡ r'.cutter.line → n ≡ r'.cutter.number → 0 < length line → IsNone (item_of kind line)
+  pub bad_held : (line : List ℕ) (n : ℕ) → r'.most ≡ r0.most → r'.last ≡ r.last → line ≡ r'.cutter.line → n ≡ r'.cutter.number → 0 < length line → IsNone (item_of kind line)
       → ((left : Option (List ℕ)) (given : List (List ℕ)) (taken : List ℕ) → HasRead r left given taken → HasRead r' left (given ++ r'.cutter.line ∷ []) taken) → TakesHeld kind most lines_before lines_found r0 r' (Err (fault.BadItem n))
-  bad_held line n bound own number some bad gave = fault_held (fault.BadItem n) (λ first left given taken consumed has.
+  bad_held line n bound same_read own number some bad gave = fault_held (fault.BadItem n) (λ first left given taken consumed has.
       let before = m.read left given taken has in
       let read = gave left (given ++ lines_found) taken before in
       let few = has_few r' ((given ++ lines_found) ++ r'.cutter.line ∷ []) taken read.has in
       let place : n ≡ length (given ++ lines_found) + 1 = omega (arith, number, read.has.number, few, read.has.count, read.bound, read.few, length-append (given ++ lines_found) (r'.cutter.line ∷ [])) in
       line_missed (λ lines. lines ≡ given ++ lines_found) (RefusesLine kind (given ++ lines_found)) r0.most r' first left (given ++ lines_found) r'.cutter.line taken n (fault.BadItem n) bound consumed place refl
-      (subst (λ l. RefusesLine kind (given ++ lines_found) (fault.BadItem n) (given ++ lines_found) l) own (refl, some, bad)) read before.in_time)
+      (subst (λ l. RefusesLine kind (given ++ lines_found) (fault.BadItem n) (given ++ lines_found) l) own (refl, some, bad)) read (in_time_within Lines (given ++ lines_found) taken (omega (arith, same_read)) before.in_time))
 
   -- one for which no memory was found
-  pub no_room_held : (new : List (List ℕ)) (result : Result Bool Fault) → new ≡ lines_found → r'.most ≡ r0.most → IsErrAnd result (λ x. x ≡ fault.OutOfMemory)
+  pub no_room_held : (new : List (List ℕ)) (result : Result Bool Fault) → new ≡ lines_found → r'.most ≡ r0.most → r'.last ≡ r.last → IsErrAnd result (λ x. x ≡ fault.OutOfMemory)
       → ((left : Option (List ℕ)) (given : List (List ℕ)) (taken : List ℕ) → HasRead r left given taken → HasRead r' left (given ++ r'.cutter.line ∷ []) taken) → TakesHeld kind most lines_before new r0 r' result
-  no_room_held new result same bound is gave = subst (λ l. TakesHeld kind most lines_before l r0 r' result) (sym same)
+  no_room_held new result same bound same_read is gave = subst (λ l. TakesHeld kind most lines_before l r0 r' result) (sym same)
       (subst (TakesHeld kind most lines_before lines_found r0 r') (sym (err_is result fault.OutOfMemory is)) (fault_held fault.OutOfMemory (λ first left given taken consumed has.
       let before = m.read left given taken has in
       let read = gave left (given ++ lines_found) taken before in
       let few = has_few r' ((given ++ lines_found) ++ r'.cutter.line ∷ []) taken read.has in
       let place : r'.cutter.number ≡ length (given ++ lines_found) + 1 = omega (arith, read.has.number, few, read.has.count, read.bound, read.few, length-append (given ++ lines_found) (r'.cutter.line ∷ [])) in
-      line_missed (λ lines. lines ≡ given ++ lines_found) (RefusesLine kind (given ++ lines_found)) r0.most r' first left (given ++ lines_found) r'.cutter.line taken r'.cutter.number fault.OutOfMemory bound consumed place tt refl read before.in_time)))
+      line_missed (λ lines. lines ≡ given ++ lines_found) (RefusesLine kind (given ++ lines_found)) r0.most r' first left (given ++ lines_found) r'.cutter.line taken r'.cutter.number fault.OutOfMemory bound consumed place tt refl read (in_time_within Lines (given ++ lines_found) taken (omega (arith, same_read)) before.in_time))))
 
   -- a line went to the window
   line_gave : (lines' : List (List ℕ)) (own : List ℕ) → own ≡ r'.cutter.line → lines' ≡ lines_found ++ own ∷ []

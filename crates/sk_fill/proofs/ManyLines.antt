@@ -17,6 +17,7 @@ use Rattle.sk_read.specs.declared.fault.Fault.TheVariants as fault
 use Rattle.sk_read.specs.declared.kind.Kind.{Kind}
 use Rattle.sk_read.specs.declared.units.Units.TheVariants.{Lines}
 use Rattle.sk_read.proofs.LineEnds.{line_missed_among}
+use Rattle.sk_read.proofs.Readings.{in_time_within}
 use Rattle.sk_fill.specs.Windows.{IsBad, full_bytes, fills, FillsNone}
 use Rattle.sk_fill.specs.Fills.{RefusesLine, RefusesFrom, EndsWithLine, TakesHeld, TakesMore, TakesSome}
 use Rattle.sk_fill.proofs.Filled.{read_few}
@@ -85,9 +86,9 @@ taken_then kind most a b c r s t one two = record {
 }
 
 -- no memory was found for them
-pub no_room_among : (kind : Kind) (most : ℕ) (old : List (List ℕ)) (line : List ℕ) (group : List (List ℕ)) (r r' : Reading) (why : Fault) → why ≡ fault.OutOfMemory → r'.most ≡ r.most → FillsNone most old → All (IsGood kind) old
+pub no_room_among : (kind : Kind) (most : ℕ) (old : List (List ℕ)) (line : List ℕ) (group : List (List ℕ)) (r r' : Reading) (why : Fault) → why ≡ fault.OutOfMemory → r'.most ≡ r.most → r'.last ≡ r.last → FillsNone most old → All (IsGood kind) old
     → ((left : Option (List ℕ)) (given : List (List ℕ)) (taken : List ℕ) → HasRead r left given taken → HasRead r' left (given ++ line ∷ group) taken) → TakesHeld kind most old old r r' (Err why)
-no_room_among kind most old line group r r' why is bound unfilled good gave = subst (λ w. TakesHeld kind most old old r r' (Err w)) (sym is) (record {
+no_room_among kind most old line group r r' why is bound same_read unfilled good gave = subst (λ w. TakesHeld kind most old old r r' (Err w)) (sym is) (record {
   full = λ other. absurd (not_ok true other);
   unfilled = λ _. unfilled;
   good = good;
@@ -97,7 +98,7 @@ no_room_among kind most old line group r r' why is bound unfilled good gave = su
   few = λ left given taken has. read_few r left (given ++ old) taken has;
   stopped = λ first left given taken consumed has.
       line_missed_among (λ l. l ≡ given ++ old) (RefusesLine kind (given ++ old)) r.most r' first left (given ++ old) (line ∷ group) taken fault.OutOfMemory bound consumed
-      (record { front = []; unit = line; begins = (group, refl); stopped = append-nil (given ++ old); fault = tt }) (gave left (given ++ old) taken has) has.in_time;
+      (record { front = []; unit = line; begins = (group, refl); stopped = append-nil (given ++ old); fault = tt }) (gave left (given ++ old) taken has) (in_time_within Lines (given ++ old) taken (omega (arith, same_read)) has.in_time);
 })
   where
     oom : Result Bool Fault
@@ -125,20 +126,20 @@ held_behind kind most a b c r s t result bound one two = record {
     read_by (Err why) gave = tt
 
     stopped_by : (result : Result Bool Fault) → IfErr result (λ why. (first left : Option (List ℕ)) (given : List (List ℕ)) (taken : List ℕ) → Consumes first left taken → HasRead s left (given ++ b) taken
-        → Ends Lines s.most (λ lines. lines ≡ given ++ c) (RefusesLine kind (given ++ c)) first left why)
+        → Ends t.last Lines s.most (λ lines. lines ≡ given ++ c) (RefusesLine kind (given ++ c)) first left why)
         → IfErr result (λ why. (first left : Option (List ℕ)) (given : List (List ℕ)) (taken : List ℕ) → Consumes first left taken → HasRead r left (given ++ a) taken
-        → Ends Lines r.most (λ lines. lines ≡ given ++ c) (RefusesLine kind (given ++ c)) first left why)
+        → Ends t.last Lines r.most (λ lines. lines ≡ given ++ c) (RefusesLine kind (given ++ c)) first left why)
     stopped_by (Ok full) ends = tt
     stopped_by (Err why) ends = λ first left given taken consumed has.
-        subst (λ m. Ends Lines m (λ lines. lines ≡ given ++ c) (RefusesLine kind (given ++ c)) first left why) bound (ends first left given taken consumed (one.read left given taken has))
+        subst (λ m. Ends t.last Lines m (λ lines. lines ≡ given ++ c) (RefusesLine kind (given ++ c)) first left why) bound (ends first left given taken consumed (one.read left given taken has))
 
 -- the first of some lines, and the others
-pub no_room_some : (kind : Kind) (most : ℕ) (old group new : List (List ℕ)) (r r' : Reading) (result : Result Bool Fault) → 0 < length group → new ≡ old → IsErrAnd result (λ x. x ≡ fault.OutOfMemory) → r'.most ≡ r.most → FillsNone most old → All (IsGood kind) old
+pub no_room_some : (kind : Kind) (most : ℕ) (old group new : List (List ℕ)) (r r' : Reading) (result : Result Bool Fault) → 0 < length group → new ≡ old → IsErrAnd result (λ x. x ≡ fault.OutOfMemory) → r'.most ≡ r.most → r'.last ≡ r.last → FillsNone most old → All (IsGood kind) old
     → ((left : Option (List ℕ)) (given : List (List ℕ)) (taken : List ℕ) → HasRead r left given taken → HasRead r' left (given ++ group) taken) → IfErr result (λ why. TakesHeld kind most old new r r' (Err why))
-no_room_some kind most old group new r r' (Ok full) some same is bound unfilled good gave = tt
-no_room_some kind most old [] new r r' (Err why) some same is bound unfilled good gave = absurd (omega arith)
-no_room_some kind most old (line ∷ group) new r r' (Err why) some same is bound unfilled good gave =
-    subst (λ l. TakesHeld kind most old l r r' (Err why)) (sym same) (no_room_among kind most old line group r r' why is bound unfilled good gave)
+no_room_some kind most old group new r r' (Ok full) some same is bound same_read unfilled good gave = tt
+no_room_some kind most old [] new r r' (Err why) some same is bound same_read unfilled good gave = absurd (omega arith)
+no_room_some kind most old (line ∷ group) new r r' (Err why) some same is bound same_read unfilled good gave =
+    subst (λ l. TakesHeld kind most old l r r' (Err why)) (sym same) (no_room_among kind most old line group r r' why is bound same_read unfilled good gave)
 
 -- ---- lines that may be refused
 
@@ -187,10 +188,10 @@ refused_unfilled kind before why most old group new refuses few small = λ n wit
     ∙ few_unfilled most old group few small n (omega (arith, within, ap length begins, length-append new after))
 
 -- a reader gave lines, of which one was refused
-refused_among : (kind : Kind) (most before : ℕ) (old group new : List (List ℕ)) (r r' : Reading) (why : Fault) → r'.most ≡ r.most → RefusesAmong kind before why old group new → FillsNone most new → All (IsGood kind) old
+refused_among : (kind : Kind) (most before : ℕ) (old group new : List (List ℕ)) (r r' : Reading) (why : Fault) → r'.most ≡ r.most → r'.last ≡ r.last → RefusesAmong kind before why old group new → FillsNone most new → All (IsGood kind) old
     → ((left : Option (List ℕ)) (given : List (List ℕ)) (taken : List ℕ) → HasRead r left (given ++ old) taken → length (given ++ old) ≡ before)
     → ((left : Option (List ℕ)) (given : List (List ℕ)) (taken : List ℕ) → HasRead r left given taken → HasRead r' left (given ++ group) taken) → TakesHeld kind most old new r r' (Err why)
-refused_among kind most before old group new r r' why bound refuses unfilled good counted gave = record {
+refused_among kind most before old group new r r' why bound same_read refuses unfilled good counted gave = record {
   full = λ other. absurd (not_ok true other);
   unfilled = λ _. unfilled;
   good = subst (All (IsGood kind)) (sym refuses.kept) (All-append (IsGood kind) old refuses.front good refuses.good);
@@ -204,7 +205,7 @@ refused_among kind most before old group new r r' why bound refuses unfilled goo
       let behind : given ++ new ≡ (given ++ old) ++ refuses.front = ap (λ ls. given ++ ls) refuses.kept ∙ sym (append_assoc given old refuses.front) in
       line_missed_among (λ l. l ≡ given ++ new) (RefusesLine kind (given ++ new)) r.most r' first left (given ++ old) group taken why bound consumed
       (record { front = refuses.front; unit = refuses.line; begins = refuses.begins; stopped = subst (λ g. RefusesLine kind g why ((given ++ old) ++ refuses.front) refuses.line) (sym behind) (refuses.refused ((given ++ old) ++ refuses.front)); fault = subst (λ n. IsOfTaker (n + length refuses.front + 1) why) (sym (counted left given taken has)) refuses.fault })
-      (gave left (given ++ old) taken has) has.in_time;
+      (gave left (given ++ old) taken has) (in_time_within Lines (given ++ old) taken (omega (arith, same_read)) has.in_time);
 }
   where
     err : Result Bool Fault
@@ -214,10 +215,10 @@ refused_among kind most before old group new r r' why bound refuses unfilled goo
     not_ok b other = cc
 
 -- a reader gave lines, of which one was taken out again with those after it
-pub refused_held : (kind : Kind) (most before : ℕ) (old group new : List (List ℕ)) (r r' : Reading) (why : Fault) → r'.most ≡ r.most → RefusesFrom kind before why (length old) (old ++ group) new
+pub refused_held : (kind : Kind) (most before : ℕ) (old group new : List (List ℕ)) (r r' : Reading) (why : Fault) → r'.most ≡ r.most → r'.last ≡ r.last → RefusesFrom kind before why (length old) (old ++ group) new
     → length old + length group ≤ most → length (concat old) + length (concat group) < full_bytes → All (IsGood kind) old
     → ((left : Option (List ℕ)) (given : List (List ℕ)) (taken : List ℕ) → HasRead r left (given ++ old) taken → length (given ++ old) ≡ before)
     → ((left : Option (List ℕ)) (given : List (List ℕ)) (taken : List ℕ) → HasRead r left given taken → HasRead r' left (given ++ group) taken) → TakesHeld kind most old new r r' (Err why)
-refused_held kind most before old group new r r' why bound refuses few small good counted gave =
+refused_held kind most before old group new r r' why bound same_read refuses few small good counted gave =
     let among = refuses_among kind before why old group new refuses in
-    refused_among kind most before old group new r r' why bound among (refused_unfilled kind before why most old group new among few small) good counted gave
+    refused_among kind most before old group new r r' why bound same_read among (refused_unfilled kind before why most old group new among few small) good counted gave

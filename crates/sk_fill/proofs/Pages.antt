@@ -83,7 +83,7 @@ lines_apart (line ∷ page) spans front back text n end is few = absurd (omega (
 -- ---- how many bytes its lines have
 
 module _ (page : PageState) (page_bytes most : ℕ) (spans : List Span) (text : List ℕ) (window : IsWindow page page_bytes spans most text) where
-  all_bytes : length (concat (page.lines ++ lines_at spans text)) ≡ length (concat page.lines) + length text
+  pub all_bytes : length (concat (page.lines ++ lines_at spans text)) ≡ length (concat page.lines) + length text
   all_bytes = omega (arith, concat_more page.lines (lines_at spans text), window.joined)
 
   pub bytes_counted : 0 < length spans → length (concat (page.lines ++ lines_at spans text)) ≡ page_bytes + length text

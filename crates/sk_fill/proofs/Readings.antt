@@ -33,51 +33,51 @@ all_by units most n Gave Gave' old new more all = record { taken = all.taken; co
 some_by : (units : Units) (IsSize : ℕ → Type 0) (Gave Gave' : List (List ℕ) → Type 0) (old new : Option (List ℕ)) → ((given : List (List ℕ)) → Gave given → Gave' given) → ReadsSome units IsSize Gave old new → ReadsSome units IsSize Gave' old new
 some_by units IsSize Gave Gave' old new more all = record { taken = all.taken; consumed = all.consumed; size = all.size; sound = all.sound; gave = more (complete_units_of units all.taken) all.gave }
 
-breaks_by : (units : Units) (most : ℕ) (Known Known' : List (List ℕ) → Type 0) (Comes : List (List ℕ) → List ℕ → Type 0) (old new : Option (List ℕ)) → ((given : List (List ℕ)) → Known given → Known' given) → BreaksOff units most Known Comes old new → BreaksOff units most Known' Comes old new
+breaks_by : {last : ℕ} (units : Units) (most : ℕ) (Known Known' : List (List ℕ) → Type 0) (Comes : List (List ℕ) → List ℕ → Type 0) (old new : Option (List ℕ)) → ((given : List (List ℕ)) → Known given → Known' given) → BreaksOff last units most Known Comes old new → BreaksOff last units most Known' Comes old new
 breaks_by units most Known Known' Comes old new more off = record { given = off.given; taken = off.taken; consumed = off.consumed; size = off.size; in_time = off.in_time; known = more off.given off.known; comes = off.comes }
 
-stops_by : (units : Units) (most : ℕ) (P Q : List (List ℕ) → List ℕ → Type 0) (old new : Option (List ℕ)) → ((given : List (List ℕ)) (unit : List ℕ) → P given unit → Q given unit) → StopsAt units most P old new → StopsAt units most Q old new
+stops_by : {last : ℕ} (units : Units) (most : ℕ) (P Q : List (List ℕ) → List ℕ → Type 0) (old new : Option (List ℕ)) → ((given : List (List ℕ)) (unit : List ℕ) → P given unit → Q given unit) → StopsAt last units most P old new → StopsAt last units most Q old new
 stops_by units most P Q old new more stops =
     (stops.0, breaks_by units most (λ given. P given stops.0) (λ given. Q given stops.0) (λ given text. Begins (given ++ stops.0 ∷ []) (units_of units text) × IsSoundUpTo units (length given + 1) text) old new (λ given. more given stops.0) stops.1)
 
 -- the same ending, where what is known says as much
-pub ends_by : (units : Units) (most : ℕ) (Gave Gave' : List (List ℕ) → Type 0) (Stopped Stopped' : Fault → List (List ℕ) → List ℕ → Type 0) (old new : Option (List ℕ)) (why : Fault)
-    → ((given : List (List ℕ)) → Gave given → Gave' given) → ((why : Fault) (given : List (List ℕ)) (unit : List ℕ) → Stopped why given unit → Stopped' why given unit) → Ends units most Gave Stopped old new why → Ends units most Gave' Stopped' old new why
-ends_by units most Gave Gave' Stopped Stopped' old new fault.OutOfMemory more at (inl off) = inl (breaks_by units most Gave Gave' (λ given text. IsSoundUpTo units (length given) text) old new more off)
-ends_by units most Gave Gave' Stopped Stopped' old new fault.OutOfMemory more at (inr stops) = inr (stops_by units most (Stopped fault.OutOfMemory) (Stopped' fault.OutOfMemory) old new (at fault.OutOfMemory) stops)
-ends_by units most Gave Gave' Stopped Stopped' old new fault.ReadFault more at some = some_by units (λ size. size < most) Gave Gave' old new more some
-ends_by units most Gave Gave' Stopped Stopped' old new fault.TooMuch more at some = some_by units (λ size. size ≡ most) Gave Gave' old new more some
-ends_by units most Gave Gave' Stopped Stopped' old new (fault.LongLine n) more at off = breaks_by units most Gave Gave' (λ given text. (n ≡ length given + 1) × IsLongBehind units (length given) text) old new more off
-ends_by units most Gave Gave' Stopped Stopped' old new (fault.BadCsv n) more at off = breaks_by units most Gave Gave' (λ given text. (n ≡ length given + 1) × IsUnevenBehind units (length given) text) old new more off
-ends_by units most Gave Gave' Stopped Stopped' old new (fault.BadItem n) more at stops = stops_by units most (λ given unit. (n ≡ length given + 1) × Stopped (fault.BadItem n) given unit) (λ given unit. (n ≡ length given + 1) × Stopped' (fault.BadItem n) given unit) old new (λ given unit is. (is.0, at (fault.BadItem n) given unit is.1)) stops
-ends_by units most Gave Gave' Stopped Stopped' old new fault.WriteFault more at stops = stops_by units most (Stopped fault.WriteFault) (Stopped' fault.WriteFault) old new (at fault.WriteFault) stops
+pub ends_by : (last : ℕ) (units : Units) (most : ℕ) (Gave Gave' : List (List ℕ) → Type 0) (Stopped Stopped' : Fault → List (List ℕ) → List ℕ → Type 0) (old new : Option (List ℕ)) (why : Fault)
+    → ((given : List (List ℕ)) → Gave given → Gave' given) → ((why : Fault) (given : List (List ℕ)) (unit : List ℕ) → Stopped why given unit → Stopped' why given unit) → Ends last units most Gave Stopped old new why → Ends last units most Gave' Stopped' old new why
+ends_by last units most Gave Gave' Stopped Stopped' old new fault.OutOfMemory more at (inl off) = inl (breaks_by units most Gave Gave' (λ given text. IsSoundUpTo units (length given) text) old new more off)
+ends_by last units most Gave Gave' Stopped Stopped' old new fault.OutOfMemory more at (inr stops) = inr (stops_by units most (Stopped fault.OutOfMemory) (Stopped' fault.OutOfMemory) old new (at fault.OutOfMemory) stops)
+ends_by last units most Gave Gave' Stopped Stopped' old new fault.ReadFault more at some = some_by units (λ size. size < most) Gave Gave' old new more some
+ends_by last units most Gave Gave' Stopped Stopped' old new fault.TooMuch more at some = some_by units (λ size. size ≡ most) Gave Gave' old new more some
+ends_by last units most Gave Gave' Stopped Stopped' old new (fault.LongLine n) more at off = breaks_by units most Gave Gave' (λ given text. (n ≡ length given + 1) × IsLongBehind units (length given) text) old new more off
+ends_by last units most Gave Gave' Stopped Stopped' old new (fault.BadCsv n) more at off = breaks_by units most Gave Gave' (λ given text. (n ≡ length given + 1) × IsUnevenBehind units (length given) text) old new more off
+ends_by last units most Gave Gave' Stopped Stopped' old new (fault.BadItem n) more at stops = stops_by units most (λ given unit. (n ≡ length given + 1) × Stopped (fault.BadItem n) given unit) (λ given unit. (n ≡ length given + 1) × Stopped' (fault.BadItem n) given unit) old new (λ given unit is. (is.0, at (fault.BadItem n) given unit is.1)) stops
+ends_by last units most Gave Gave' Stopped Stopped' old new fault.WriteFault more at stops = stops_by units most (Stopped fault.WriteFault) (Stopped' fault.WriteFault) old new (at fault.WriteFault) stops
 
 -- what is known of a taker whatever it was given, and wherever it stopped
-pub ends_give : (Q : Fault → Type 0) (units : Units) (most : ℕ) (Gave : List (List ℕ) → Type 0) (Stopped : Fault → List (List ℕ) → List ℕ → Type 0) (old new : Option (List ℕ)) (why : Fault)
-    → ((given : List (List ℕ)) → Gave given → (q : Fault) → q ≢ fault.WriteFault → Q q) → ((q : Fault) (given : List (List ℕ)) (unit : List ℕ) → Stopped q given unit → Q q) → Ends units most Gave Stopped old new why → Q why
-ends_give Q units most Gave Stopped old new fault.OutOfMemory more at (inl off) = more off.given off.known fault.OutOfMemory (λ e. cc)
-ends_give Q units most Gave Stopped old new fault.OutOfMemory more at (inr stops) = at fault.OutOfMemory stops.1.given stops.0 stops.1.known
-ends_give Q units most Gave Stopped old new fault.ReadFault more at some = more (complete_units_of units some.taken) some.gave fault.ReadFault (λ e. cc)
-ends_give Q units most Gave Stopped old new fault.TooMuch more at some = more (complete_units_of units some.taken) some.gave fault.TooMuch (λ e. cc)
-ends_give Q units most Gave Stopped old new (fault.LongLine n) more at off = more off.given off.known (fault.LongLine n) (λ e. cc)
-ends_give Q units most Gave Stopped old new (fault.BadCsv n) more at off = more off.given off.known (fault.BadCsv n) (λ e. cc)
-ends_give Q units most Gave Stopped old new (fault.BadItem n) more at stops = at (fault.BadItem n) stops.1.given stops.0 stops.1.known.1
-ends_give Q units most Gave Stopped old new fault.WriteFault more at stops = at fault.WriteFault stops.1.given stops.0 stops.1.known
+pub ends_give : (last : ℕ) (Q : Fault → Type 0) (units : Units) (most : ℕ) (Gave : List (List ℕ) → Type 0) (Stopped : Fault → List (List ℕ) → List ℕ → Type 0) (old new : Option (List ℕ)) (why : Fault)
+    → ((given : List (List ℕ)) → Gave given → (q : Fault) → q ≢ fault.WriteFault → Q q) → ((q : Fault) (given : List (List ℕ)) (unit : List ℕ) → Stopped q given unit → Q q) → Ends last units most Gave Stopped old new why → Q why
+ends_give last Q units most Gave Stopped old new fault.OutOfMemory more at (inl off) = more off.given off.known fault.OutOfMemory (λ e. cc)
+ends_give last Q units most Gave Stopped old new fault.OutOfMemory more at (inr stops) = at fault.OutOfMemory stops.1.given stops.0 stops.1.known
+ends_give last Q units most Gave Stopped old new fault.ReadFault more at some = more (complete_units_of units some.taken) some.gave fault.ReadFault (λ e. cc)
+ends_give last Q units most Gave Stopped old new fault.TooMuch more at some = more (complete_units_of units some.taken) some.gave fault.TooMuch (λ e. cc)
+ends_give last Q units most Gave Stopped old new (fault.LongLine n) more at off = more off.given off.known (fault.LongLine n) (λ e. cc)
+ends_give last Q units most Gave Stopped old new (fault.BadCsv n) more at off = more off.given off.known (fault.BadCsv n) (λ e. cc)
+ends_give last Q units most Gave Stopped old new (fault.BadItem n) more at stops = at (fault.BadItem n) stops.1.given stops.0 stops.1.known.1
+ends_give last Q units most Gave Stopped old new fault.WriteFault more at stops = at fault.WriteFault stops.1.given stops.0 stops.1.known
 
 -- ---- no memory was found before anything was read
 
-pub nothing_came : (Gave : List (List ℕ) → Type 0) (Stopped : Fault → List (List ℕ) → List ℕ → Type 0) (units : Units) (most : ℕ) (left : Option (List ℕ)) → Gave [] → Ends units most Gave Stopped left left fault.OutOfMemory
+pub nothing_came : (last : ℕ) (Gave : List (List ℕ) → Type 0) (Stopped : Fault → List (List ℕ) → List ℕ → Type 0) (units : Units) (most : ℕ) (left : Option (List ℕ)) → Gave [] → Ends last units most Gave Stopped left left fault.OutOfMemory
 unfolding lines_of
-nothing_came Gave Stopped Lines most left gave = inl (record {
+nothing_came last Gave Stopped Lines most left gave = inl (record {
   given = [];
   taken = [];
   consumed = Consumes-nil left;
   size = omega arith;
-  in_time = nothing_read;
+  in_time = nothing_read last;
   known = gave;
   comes = inl (λ later. ((lines_of later, refl), All-nil (λ (l : List ℕ). length l ≤ line_limit)));
 })
-nothing_came Gave Stopped (Column column) most left gave = inl (record {
+nothing_came last Gave Stopped (Column column) most left gave = inl (record {
   given = [];
   taken = [];
   consumed = Consumes-nil left;
@@ -87,6 +87,7 @@ nothing_came Gave Stopped (Column column) most left gave = inl (record {
     piece = [];
     joined = refl;
     size = omega arith;
+    few = omega arith;
     sound = subst (AreSoundRows column) (sym none) (none_sound column);
     earlier = ([], sym (ap (λ rows. fields_in column rows ++ []) none));
   };
@@ -97,20 +98,20 @@ nothing_came Gave Stopped (Column column) most left gave = inl (record {
     none : complete_records_of [] ≡ []
     none = none_complete [] refl
 
-pub reads_by : (units : Units) (most : ℕ) (Gave Gave' : List (List ℕ) → Type 0) (Stopped Stopped' : Fault → List (List ℕ) → List ℕ → Type 0) (old new : Option (List ℕ)) (r : Result ℕ Fault)
-    → ((given : List (List ℕ)) → Gave given → Gave' given) → ((why : Fault) (given : List (List ℕ)) (unit : List ℕ) → Stopped why given unit → Stopped' why given unit) → Reads units most Gave Stopped old new r → Reads units most Gave' Stopped' old new r
-reads_by units most Gave Gave' Stopped Stopped' old new (Ok n) more at reads = all_by units most n Gave Gave' old new more reads
-reads_by units most Gave Gave' Stopped Stopped' old new (Err why) more at reads = ends_by units most Gave Gave' Stopped Stopped' old new why more at reads
+pub reads_by : (last : ℕ) (units : Units) (most : ℕ) (Gave Gave' : List (List ℕ) → Type 0) (Stopped Stopped' : Fault → List (List ℕ) → List ℕ → Type 0) (old new : Option (List ℕ)) (r : Result ℕ Fault)
+    → ((given : List (List ℕ)) → Gave given → Gave' given) → ((why : Fault) (given : List (List ℕ)) (unit : List ℕ) → Stopped why given unit → Stopped' why given unit) → Reads last units most Gave Stopped old new r → Reads last units most Gave' Stopped' old new r
+reads_by last units most Gave Gave' Stopped Stopped' old new (Ok n) more at reads = all_by units most n Gave Gave' old new more reads
+reads_by last units most Gave Gave' Stopped Stopped' old new (Err why) more at reads = ends_by _ units most Gave Gave' Stopped Stopped' old new why more at reads
 
-pub read_ok : (units : Units) (most : ℕ) (Gave Gave' : List (List ℕ) → Type 0) (Stopped : Fault → List (List ℕ) → List ℕ → Type 0) (old new : Option (List ℕ)) (r : Result ℕ Fault)
-    → ((given : List (List ℕ)) → Gave given → Gave' given) → Reads units most Gave Stopped old new r → IfOk r (λ n. ReadsAll units most n Gave' old new)
-read_ok units most Gave Gave' Stopped old new (Ok n) more reads = all_by units most n Gave Gave' old new more reads
-read_ok units most Gave Gave' Stopped old new (Err why) more reads = tt
+pub read_ok : (last : ℕ) (units : Units) (most : ℕ) (Gave Gave' : List (List ℕ) → Type 0) (Stopped : Fault → List (List ℕ) → List ℕ → Type 0) (old new : Option (List ℕ)) (r : Result ℕ Fault)
+    → ((given : List (List ℕ)) → Gave given → Gave' given) → Reads last units most Gave Stopped old new r → IfOk r (λ n. ReadsAll units most n Gave' old new)
+read_ok last units most Gave Gave' Stopped old new (Ok n) more reads = all_by units most n Gave Gave' old new more reads
+read_ok last units most Gave Gave' Stopped old new (Err why) more reads = tt
 
-pub read_err : (units : Units) (most : ℕ) (Gave Gave' : List (List ℕ) → Type 0) (Stopped Stopped' : Fault → List (List ℕ) → List ℕ → Type 0) (old new : Option (List ℕ)) (r : Result ℕ Fault)
-    → ((given : List (List ℕ)) → Gave given → Gave' given) → ((why : Fault) (given : List (List ℕ)) (unit : List ℕ) → Stopped why given unit → Stopped' why given unit) → Reads units most Gave Stopped old new r → IfErr r (λ why. Ends units most Gave' Stopped' old new why)
-read_err units most Gave Gave' Stopped Stopped' old new (Ok n) more at reads = tt
-read_err units most Gave Gave' Stopped Stopped' old new (Err why) more at reads = ends_by units most Gave Gave' Stopped Stopped' old new why more at reads
+pub read_err : (last : ℕ) (units : Units) (most : ℕ) (Gave Gave' : List (List ℕ) → Type 0) (Stopped Stopped' : Fault → List (List ℕ) → List ℕ → Type 0) (old new : Option (List ℕ)) (r : Result ℕ Fault)
+    → ((given : List (List ℕ)) → Gave given → Gave' given) → ((why : Fault) (given : List (List ℕ)) (unit : List ℕ) → Stopped why given unit → Stopped' why given unit) → Reads last units most Gave Stopped old new r → IfErr r (λ why. Ends last units most Gave' Stopped' old new why)
+read_err last units most Gave Gave' Stopped Stopped' old new (Ok n) more at reads = tt
+read_err last units most Gave Gave' Stopped Stopped' old new (Err why) more at reads = ends_by _ units most Gave Gave' Stopped Stopped' old new why more at reads
 
 -- an error of which it is known which one it is
 pub if_err_is : {T E : Type 0} (r : Result T E) (e : E) (P : E → Type 0) → IsErrAnd r (λ x. x ≡ e) → P e → IfErr r P

@@ -1,5 +1,6 @@
 -- Windows of a source that are read a stretch at a time.
-use Rattle.std.proofs.Common.{◌≡◌, ◌≢◌, ℕ, ◌+◌, ◌<◌, ◌≤◌, Bool, true, false, List, [], ◌∷◌, ◌++◌, length, get_or, set, insert, suc, drop, length-take, take, map, All, Option, Result, Ok, Err, OnOk, IfErr, IsErrAnd, sym, ap, refl, ◌∙◌, subst, arith, append-nil, append_assoc}
+use Rattle.std.specs.List.{concat}
+use Rattle.std.proofs.Common.{◌≡◌, ◌≢◌, ℕ, ◌+◌, ◌-◌, ◌^◌, min, ◌<◌, ◌≤◌, Bool, true, false, List, [], ◌∷◌, ◌++◌, length, get_or, set, insert, suc, drop, length-take, take, map, All, Option, Result, Ok, Err, OnOk, IfErr, IsErrAnd, sym, ap, refl, ◌∙◌, subst, arith, append-nil, append_assoc, length-append}
 use Rattle.std.specs.Io.KnownBytes.{Consumes}
 use Rattle.std.proofs.KnownBytes.{Consumes-nil, Consumes-trans}
 use Rattle.std.proofs.lemmas.List.{take_more_set, map-append}
@@ -14,8 +15,9 @@ use Rattle.sk_read.specs.declared.units.Units.TheVariants.{Lines}
 use Rattle.sk_read.proofs.LineEnds as lineends
 use Rattle.sk_fill.specs.Windows.{WindowState, FillsNone, IsFullWindow, all_lines}
 use Rattle.sk_fill.specs.Fills.{ReadsLine, RefusesLine}
-use Rattle.sk_fill.specs.Stretches.{StretchGoes, GoOnInWindows, RefusesBehind, ReadsWindow, ReadsStretch}
+use Rattle.sk_fill.specs.Stretches.{IsCounted, HaveFewer, StopsAtEnough, StretchGoes, GoOnInWindows, RefusesBehind, ReadsWindow, ReadsStretch}
 use Rattle.sk_fill.proofs.Cutting.{none_unfilled, all_lines_more}
+use Rattle.sk_fill.proofs.Pages.{concat_more}
 use Rattle.sk_fill.proofs.Readings.{ends_by}
 
 pub on_ok_at : (result : Result Bool Fault) (full : Bool) (P : Type 0) → result ≡ Ok full → OnOk result P → P
@@ -53,7 +55,7 @@ window_read false r r' old new given lines taken last rest = rest refl
 
 -- a window that a fault left unfilled
 pub window_failed : (kind : Kind) (most : ℕ) (lines : List (List ℕ)) (r r' : Reading) (old new : Option (List ℕ)) (why : Fault) (result : Result Bool Fault) → IsErrAnd result (λ x. x ≡ why) → r'.most ≡ r.most → FillsNone most lines → All (IsGood kind) lines
-    → ((first : Option (List ℕ)) (given : List (List ℕ)) (taken : List ℕ) → Consumes first old taken → HasRead r old given taken → Ends Lines r.most (λ l. l ≡ given ++ lines) (RefusesLine kind (given ++ lines)) first new why)
+    → ((first : Option (List ℕ)) (given : List (List ℕ)) (taken : List ℕ) → Consumes first old taken → HasRead r old given taken → Ends r'.last Lines r.most (λ l. l ≡ given ++ lines) (RefusesLine kind (given ++ lines)) first new why)
     → ReadsWindow kind most lines r r' old new result
 window_failed kind most lines r r' old new why (Ok full) is bound unfilled good stopped = absurd is
 window_failed kind most lines r r' old new why (Err e) is bound unfilled good stopped = record {
@@ -64,7 +66,7 @@ window_failed kind most lines r r' old new why (Err e) is bound unfilled good st
   end = λ same. absurd (no_ok (Err e) e false refl same);
   progress = λ same. absurd (no_ok (Err e) e true refl same);
   bound = bound;
-  stopped = λ first given taken consumed has. subst (λ x. Ends Lines r.most (λ l. l ≡ given ++ lines) (RefusesLine kind (given ++ lines)) first new x) (sym is) (stopped first given taken consumed has);
+  stopped = λ first given taken consumed has. subst (λ x. Ends r'.last Lines r.most (λ l. l ≡ given ++ lines) (RefusesLine kind (given ++ lines)) first new x) (sym is) (stopped first given taken consumed has);
 }
 
 -- one that was filled, or in which the source ended
@@ -116,6 +118,20 @@ pub no_window_read : (kind : Kind) (most : ℕ) (r : Reading) (left : Option (Li
 no_window_read kind most r left result is least =
     window_failed kind most [] r r left left fault.OutOfMemory result is refl (none_unfilled most least) (All-nil (IsGood kind))
     (λ first given taken consumed has. lineends.no_memory (λ l. l ≡ given ++ []) (RefusesLine kind (given ++ [])) r.most r first left given taken refl consumed (sym (append-nil given)) has)
+
+-- ---- how large a stretch grows
+
+-- the counts, one window more
+pub counted_more : (count size more bytes count' size' : ℕ) (windows windows' : List (List (List ℕ))) (lines : List (List ℕ)) → IsCounted count size windows → windows' ≡ windows ++ lines ∷ [] → more ≡ length lines → length (concat lines) ≤ bytes
+    → count' ≡ min (count + more) (2 ^ 64 - 1) → size' ≡ min (size + bytes) (2 ^ 64 - 1) → IsCounted count' size' windows'
+counted_more count size more bytes count' size' windows windows' lines counted added is least count_is size_is = subst (IsCounted count' size') (sym added) (record {
+  lines = omega (arith, count_is, counted.lines, is, ap length (all_lines_more windows lines), length-append (all_lines windows) lines);
+  bytes = omega (arith, size_is, counted.bytes, least, ap (λ l. length (concat l)) (all_lines_more windows lines), concat_more (all_lines windows) lines);
+})
+
+-- windows that are not enough, and one more
+pub one_more : (enough bytes : ℕ) (windows windows' : List (List (List ℕ))) (lines : List (List ℕ)) → windows' ≡ windows ++ lines ∷ [] → (0 < length windows → HaveFewer enough bytes windows) → StopsAtEnough enough bytes windows'
+one_more enough bytes windows windows' lines added fewer = record { before = windows; last = lines; joined = added; fewer = fewer }
 
 -- ---- a stretch
 
@@ -194,9 +210,9 @@ module _ (kind : Kind) (most : ℕ) (windows : List (List (List ℕ))) (lines : 
     bound = one.bound ∙ goes.bound;
     stopped = λ first given taken consumed has.
         let before = goes.read given taken has in
-        subst (λ x. Ends Lines r.most (GoOnInWindows kind most given) (RefusesBehind kind most given) first new x) (sym is)
-        (subst (λ m. Ends Lines m (GoOnInWindows kind most given) (RefusesBehind kind most given) first new why) goes.bound
-        (ends_by Lines q.most (λ l. l ≡ (given ++ all_lines windows) ++ lines) (GoOnInWindows kind most given) (RefusesLine kind ((given ++ all_lines windows) ++ lines)) (RefusesBehind kind most given) first new why
+        subst (λ x. Ends r'.last Lines r.most (GoOnInWindows kind most given) (RefusesBehind kind most given) first new x) (sym is)
+        (subst (λ m. Ends r'.last Lines m (GoOnInWindows kind most given) (RefusesBehind kind most given) first new why) goes.bound
+        (ends_by _ Lines q.most (λ l. l ≡ (given ++ all_lines windows) ++ lines) (GoOnInWindows kind most given) (RefusesLine kind ((given ++ all_lines windows) ++ lines)) (RefusesBehind kind most given) first new why
         (go_on given) (refuses given)
         (on_err_at failed why _ was one.stopped first (given ++ all_lines windows) (taken ++ before.0) (Consumes-trans _ _ _ _ _ consumed before.1) before.2)));
   }
@@ -238,7 +254,7 @@ read_then_none kind most windows r r' old new full read (Err e) least stretch wa
   bound = stretch.bound;
   stopped = λ first given taken consumed has.
       let now = on_ok_at read full _ was stretch.read given taken has in
-      subst (λ x. Ends Lines r.most (GoOnInWindows kind most given) (RefusesBehind kind most given) first new x) (sym is)
+      subst (λ x. Ends r'.last Lines r.most (GoOnInWindows kind most given) (RefusesBehind kind most given) first new x) (sym is)
       (lineends.no_memory (GoOnInWindows kind most given) (RefusesBehind kind most given) r.most r' first new (given ++ all_lines windows) (taken ++ now.0) stretch.bound (Consumes-trans _ _ _ _ _ consumed now.1) (go_on full was given) now.2);
 }
   where

@@ -25,7 +25,7 @@ pub record ReadsLine (r : Reading) (old new : Option (List ℕ)) (given : List (
   pub more : List ℕ
   pub consumed : Consumes old new more
   pub read : HasRead r new (given ++ line ∷ []) (taken ++ more)
-  pub in_time : IsInTime Lines given (taken ++ more)
+  pub in_time : IsInTime r.last Lines given (taken ++ more)
 
 -- a reader gave its memory away, with the lines that it had given since the last read
 pub record GivesAway (old new : Reading) : Type 0 where
@@ -55,7 +55,7 @@ pub record TakesHeld (kind : Kind) (most : ℕ) (old new : List (List ℕ)) (r r
   pub none : result ≡ Ok false → (left : Option (List ℕ)) (given : List (List ℕ)) (taken : List ℕ) → HasRead r left (given ++ old) taken → HoldsNone r' (given ++ new) taken
   pub few : (left : Option (List ℕ)) (given : List (List ℕ)) (taken : List ℕ) → HasRead r left (given ++ old) taken → length (given ++ new) ≤ most_kept
   pub stopped : IfErr result (λ why. (first left : Option (List ℕ)) (given : List (List ℕ)) (taken : List ℕ) → Consumes first left taken → HasRead r left (given ++ old) taken
-      → Ends Lines r.most (λ lines. lines ≡ given ++ new) (RefusesLine kind (given ++ new)) first left why)
+      → Ends r'.last Lines r.most (λ lines. lines ≡ given ++ new) (RefusesLine kind (given ++ new)) first left why)
 
 -- the lines of a window went on by those that a reader held, and it stays unfilled
 pub record TakesMore (kind : Kind) (most : ℕ) (old new : List (List ℕ)) (r r' : Reading) : Type 0 where

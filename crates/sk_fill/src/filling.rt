@@ -40,9 +40,10 @@ pub fn fill<S: Source>(
     ensures few { (given : List (List ℕ)) (taken : List ℕ) → HasRead reader.old (S.left source.old) given taken → length (given ++ window.new.lines) ≤ most_kept }
     ensures progress { result ≡ Ok true → remaining_of reader.new < remaining_of reader.old }
     ensures bound { reader.new.most ≡ reader.old.most }
+    ensures piece { reader.old.last ≤ S.last source.old → reader.new.last ≤ S.last source.new }
     ensures stopped { IfErr result (λ why. (first : Option (List ℕ)) (given : List (List ℕ)) (taken : List ℕ) → Consumes first (S.left source.old) taken
         → HasRead reader.old (S.left source.old) given taken
-        → Ends units.Lines reader.old.most (λ lines. lines ≡ given ++ window.new.lines) (RefusesLine kind (given ++ window.new.lines)) first (S.left source.new) why) }
+        → Ends reader.new.last units.Lines reader.old.most (λ lines. lines ≡ given ++ window.new.lines) (RefusesLine kind (given ++ window.new.lines)) first (S.left source.new) why) }
     ensures cause { HasCauseIn Fault.ReadFault (S.faults source.old) (S.faults source.new) result }
     ensures stays { S.stands_on source.new ≡ S.stands_on source.old }
 {

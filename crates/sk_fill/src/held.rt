@@ -27,6 +27,7 @@ pub(crate) fn take_held(
     ensures cause { result ≢ Err Fault.ReadFault }
     ensures remaining { remaining_of reader.new ≤ remaining_of reader.old }
     ensures bound { reader.new.most ≡ reader.old.most }
+    ensures piece { reader.new.last ≡ reader.old.last }
 {
     if take_runs(window, reader, kind)? {
         return Ok(true);
@@ -46,6 +47,7 @@ fn take_runs(window: &mut Window, reader: &mut LineReader, kind: Kind) -> Result
     ensures most { window.new.most ≡ window.old.most }
     ensures remaining { remaining_of reader.new ≤ remaining_of reader.old }
     ensures bound { reader.new.most ≡ reader.old.most }
+    ensures piece { reader.new.last ≡ reader.old.last }
 {
     'run: while window.has_room_for(reader.rest().len()) {
         if !take_run(window, reader, kind)? {
@@ -74,6 +76,7 @@ fn take_run(window: &mut Window, reader: &mut LineReader, kind: Kind) -> Result<
     ensures remaining { remaining_of reader.new ≤ remaining_of reader.old }
     ensures progress { result ≡ Ok true → remaining_of reader.new < remaining_of reader.old }
     ensures bound { reader.new.most ≡ reader.old.most }
+    ensures piece { reader.new.last ≡ reader.old.last }
 {
     let before = reader.number();
     let from = reader.front().len();
@@ -136,6 +139,7 @@ fn take_lines(window: &mut Window, reader: &mut LineReader, kind: Kind) -> Resul
     ensures cause { result ≢ Err Fault.ReadFault }
     ensures remaining { remaining_of reader.new ≤ remaining_of reader.old }
     ensures bound { reader.new.most ≡ reader.old.most }
+    ensures piece { reader.new.last ≡ reader.old.last }
 {
     'line: while reader.next_held()? {
         let line = reader.line();

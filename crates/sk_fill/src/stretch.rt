@@ -1,9 +1,10 @@
 //! Windows of a source's lines that are read before they are fed.
-ghost use Rattle.std.specs.Prelude.{◌≡◌, ◌<◌, ◌≤◌, ◌++◌, ◌∷◌, ℕ, List, [], length, map, take, All, Option, Some, OnOk, IfOk};
+ghost use Rattle.std.specs.Prelude.{◌≡◌, ◌<◌, ◌≤◌, ◌-◌, ◌^◌, ◌++◌, ◌∷◌, ℕ, List, [], length, map, min, take, All, Option, Some, true, false, OnOk, OnErr, IfOk};
+ghost use Rattle.std.specs.List.{concat};
 ghost use Rattle.sk_model.specs.Causes.{HasCauseIn};
 ghost use Rattle.sk_read.specs.Reading.{HasRead};
-ghost use Rattle.sk_fill.specs.Windows.{most_lines};
-ghost use Rattle.sk_fill.specs.Stretches.{ReadsStretch, ReadsWindow};
+ghost use Rattle.sk_fill.specs.Windows.{most_lines, all_lines};
+ghost use Rattle.sk_fill.specs.Stretches.{ReadsStretch, ReadsWindow, stretch_bytes, HaveFewer, StopsAtEnough};
 
 use crate::filling::fill;
 use crate::window::Window;
@@ -22,7 +23,7 @@ pub struct Stretch {
     // only the first are in use: the others keep their memory
     windows: Vec<Window>,
     used: usize,
-    // how many lines those in use have, and how many bytes these
+    // how many lines those in use have, and about how many bytes these, or as many as can be counted
     lines: usize,
     size: usize,
     // how many lines each takes at most
@@ -35,13 +36,14 @@ pub struct Stretch {
 impl Model for Stretch {
     ghost use Rattle.std.specs.Prelude.{◌≡◌, ◌≤◌, length, take, map, All};
     ghost use Rattle.sk_fill.specs.Windows.{most_lines};
-    ghost use Rattle.sk_fill.specs.Stretches.{StretchState};
+    ghost use Rattle.sk_fill.specs.Stretches.{StretchState, IsCounted};
 
     ghost Value = { StretchState };
 
     ghost view = { λ b. record { windows = map (λ w. w.lines) (take b.used b.windows.items); most = b.most; first = b.first } };
 
-    ghost invariant = { λ b. (b.used ≤ length b.windows.items) × (1 ≤ b.most) × (b.most ≤ most_lines) × All (λ w. w.most ≡ b.most) b.windows.items };
+    ghost invariant = { λ b. (b.used ≤ length b.windows.items) × (1 ≤ b.most) × (b.most ≤ most_lines) × All (λ w. w.most ≡ b.most) b.windows.items
+        × IsCounted b.lines b.size (map (λ w. w.lines) (take b.used b.windows.items)) };
 }
 
 impl Stretch {
@@ -91,13 +93,17 @@ impl Stretch {
         self.most
     }
 
-    /// How many lines it has.
-    pub fn lines(&self) -> usize {
+    /// How many lines it has, or as many as can be counted.
+    pub fn lines(&self) -> usize
+        ensures { result ≡ min (length (all_lines self.now.windows)) (2 ^ 64 - 1) }
+    {
         self.lines
     }
 
-    /// About how many bytes its lines have.
-    pub fn size(&self) -> usize {
+    /// About how many bytes its lines have, and no fewer, or as many as can be counted.
+    pub fn size(&self) -> usize
+        ensures { min (length (concat (all_lines self.now.windows))) (2 ^ 64 - 1) ≤ result }
+    {
         self.size
     }
 
@@ -116,22 +122,27 @@ impl Stretch {
         Window::new(self.alloc, self.most)
     }
 
-    /// Appends a window.
+    /// Appends a window. On an error those that it has are as they were.
     pub fn push(&mut self, window: Window) -> Result<(), OutOfMemory>
         requires most { window.most ≡ self.old.most }
         ensures windows { OnOk result (self.new.windows ≡ self.old.windows ++ window.lines ∷ []) }
+        ensures refused { OnErr result (self.new.windows ≡ self.old.windows) }
         ensures most { self.new.most ≡ self.old.most }
         ensures first { self.new.first ≡ self.old.first }
     {
-        self.lines = self.lines.saturating_add(window.len() as usize);
-        self.size = self.size.saturating_add(window.size());
+        let lines = self.lines.saturating_add(window.len() as usize);
+        let size = self.size.saturating_add(window.size());
         self.windows.insert(self.used, window)?;
+        self.lines = lines;
+        self.size = size;
         self.used += 1;
         Ok(())
     }
 
     /// Whether it takes no further window, if `enough` lines are enough, or about 1 MiB of long ones.
-    pub fn is_full(&self, enough: usize) -> bool {
+    pub fn is_full(&self, enough: usize) -> bool
+        ensures few { result ≡ false → HaveFewer enough stretch_bytes self.now.windows }
+    {
         self.lines >= enough || self.size >= FULL_BYTES
     }
 
@@ -147,6 +158,7 @@ impl Stretch {
             × ReadsWindow kind self.old.most lines reader.old reader.new (S.left source.old) (S.left source.new) result }
         ensures most { self.new.most ≡ self.old.most }
         ensures first { self.new.first ≡ self.old.first }
+        ensures piece { reader.old.last ≤ S.last source.old → reader.new.last ≤ S.last source.new }
         ensures cause { HasCauseIn Fault.ReadFault (S.faults source.old) (S.faults source.new) result }
         ensures stays { S.stands_on source.new ≡ S.stands_on source.old }
     {
@@ -196,6 +208,8 @@ pub fn fill_stretch<S: Source>(
     ensures reads { ReadsStretch kind stretch.old.most stretch.new.windows reader.old reader.new (S.left source.old) (S.left source.new) result }
     ensures most { stretch.new.most ≡ stretch.old.most }
     ensures first { stretch.new.first ≡ reader.old.cutter.number }
+    ensures few { OnOk result (StopsAtEnough enough stretch_bytes stretch.new.windows) }
+    ensures piece { reader.old.last ≤ S.last source.old → reader.new.last ≤ S.last source.new }
     ensures cause { HasCauseIn Fault.ReadFault (S.faults source.old) (S.faults source.new) result }
     ensures stays { S.stands_on source.new ≡ S.stands_on source.old }
 {

@@ -170,9 +170,10 @@ impl Window {
         self.most - self.len()
     }
 
-    /// About how many bytes its lines have.
+    /// About how many bytes its lines have, and no fewer.
     pub fn size(&self) -> usize
-        ensures { self.now.apart ≡ 0 → result ≡ self.now.bytes }
+        ensures page { self.now.apart ≡ 0 → result ≡ self.now.bytes }
+        ensures least { length (concat self.now.lines) ≤ result }
     {
         self.page.size().saturating_add(self.text.len())
     }

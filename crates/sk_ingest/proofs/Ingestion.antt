@@ -107,7 +107,7 @@ unit_goes t units unit a b x y r s p rest went small good least full fed told = 
         (subst (λ n. HaveFew n (rest ++ unit ∷ []) b.updaters) (sym (one_unit_more units unit)) (few_left (length units) rest unit b.updaters went.few)) fed.updaters
 
     left : IsHub y × HaveFew (length (units ++ unit ∷ [])) [] y.updaters
-    left = reported_hub t (length units + 1) (length (units ++ unit ∷ [])) x y s p (hub_fed t.keeps t.hint_of t.plan.kind (rest ++ unit ∷ []) b x went.hub fed) few told
+    left = reported_hub t (length units + 1) (length (units ++ unit ∷ [])) x y s p (hub_fed t.plan.propagator t.keeps t.hint_of t.plan.kind (rest ++ unit ∷ []) b x went.hub fed) few told
 
 -- and where its report stopped
 pub report_stops : {R : Type 0} (t : Terms R) (how : Stop) (units : List (List ℕ)) (unit : List ℕ) (a b x y : Hub) (r s p : R) (rest : List (List ℕ)) → WindowsWent t units a r rest b s → IsGood t.plan.kind unit → 1 ≤ t.plan.window → fills t.plan.window (rest ++ unit ∷ []) ≡ true
@@ -166,7 +166,7 @@ rest_fed t units a b x r s rest went fed = record {
   between = b;
   goes = went.goes;
   last = fed;
-  hub = hub_fed t.keeps t.hint_of t.plan.kind rest b x went.hub fed;
+  hub = hub_fed t.plan.propagator t.keeps t.hint_of t.plan.kind rest b x went.hub fed;
 }
 
 -- ---- what was kept on the way
@@ -178,7 +178,7 @@ pub heart_by_reported : {R : Type 0} (t : Terms R) (before : ℕ) (windows : Lis
 unfolding Reported
 heart_by_reported t before [] a b r s has = subst (λ h. HeartGoesOn a.heart h.heart) (sym has.0) (heart_waits a.heart)
 heart_by_reported t before (lines ∷ more) a b r s has =
-    heart_goes a.heart has.0.heart b.heart has.3.heart
+    heart_goes a.heart has.0.heart b.heart has.3.heart.goes
     (heart_goes has.0.heart has.1.heart b.heart (heart_told t (before + length lines) has.0 has.1 r has.2 has.4) (heart_by_reported t (before + length lines) more has.1 b has.2 s has.5))
 
 left_kept : (keeps : ℕ → ℕ → Bool) (hint_of : List ℕ → List Entry → ℕ) (u u' : UpdaterState) → IsLeft u u' → KeepsMore keeps hint_of u [] u'
@@ -212,7 +212,7 @@ kept_by_ingest t units a b r s i =
     (shares_kept t.keeps t.hint_of t.plan.kind (i.rest ∷ []) i.between.updaters b.updaters i.last.updaters)
 
 pub heart_by_ingest : {R : Type 0} (t : Terms R) (units : List (List ℕ)) (a b : Hub) (r s : R) → Ingests t units a r b s → HeartGoesOn a.heart b.heart
-heart_by_ingest t units a b r s i = heart_goes a.heart i.between.heart b.heart (heart_by_reported t 0 i.goes.windows a i.between r s i.goes.reported) i.last.heart
+heart_by_ingest t units a b r s i = heart_goes a.heart i.between.heart b.heart (heart_by_reported t 0 i.goes.windows a i.between r s i.goes.reported) i.last.heart.goes
 
 -- these windows have all units
 pub windows_ingested : {R : Type 0} (t : Terms R) (units : List (List ℕ)) (a b : Hub) (r s : R) (i : Ingests t units a r b s) → all_lines (i.goes.windows ++ i.rest ∷ []) ≡ units
@@ -221,13 +221,13 @@ windows_ingested t units a b r s i = all_lines_more i.goes.windows i.rest ∙ sy
 -- ---- takers
 
 -- the reading of a taker of windows, at the hub and the report that it left
-pub windows_read : {R : Type 0} (keeps : ℕ → ℕ → Bool) (hint_of : List ℕ → List Entry → ℕ) (reports : R → ℕ → Hub → Hub → R → Type 0) (breaks : R → Stop → ℕ → Hub → Hub → R → Type 0) (Q : Type 0) (Q' : Fault → Type 0) (plan own : Intake) (units u : Units) (most : ℕ) (a x b : Hub) (r y s : R) (lines rest : List (List ℕ)) (S : Type 0) (old new : Option (List ℕ)) (result : Result ℕ Fault)
+pub windows_read : {R : Type 0} (last : ℕ) (keeps : ℕ → ℕ → Bool) (hint_of : List ℕ → List Entry → ℕ) (reports : R → ℕ → Hub → Hub → R → Type 0) (breaks : R → Stop → ℕ → Hub → Hub → R → Type 0) (Q : Type 0) (Q' : Fault → Type 0) (plan own : Intake) (units u : Units) (most : ℕ) (a x b : Hub) (r y s : R) (lines rest : List (List ℕ)) (S : Type 0) (old new : Option (List ℕ)) (result : Result ℕ Fault)
     → u ≡ units → x ≡ b → y ≡ s → lines ≡ rest
-    → Reads u most (λ l. (own ≡ plan) × S × WindowsWent (terms_of keeps hint_of reports breaks own) l a r lines x y × Q) (λ why l unit. (own ≡ plan) × StopsAtUnit (terms_of keeps hint_of reports breaks own) a r y why l unit × Q' why) old new result
-    → Reads units most (λ l. WindowsWent (terms_of keeps hint_of reports breaks plan) l a r rest b s) (StopsAtUnit (terms_of keeps hint_of reports breaks plan) a r s) old new result
-windows_read {R} keeps hint_of reports breaks Q Q' plan own units u most a x b r y s lines rest S old new result unit_is hub_is report_is lines_are reads =
-    subst (λ v. Reads v most (λ l. WindowsWent (terms_of keeps hint_of reports breaks plan) l a r rest b s) (StopsAtUnit (terms_of keeps hint_of reports breaks plan) a r s) old new result) unit_is
-    (reads_by u most Went (λ l. WindowsWent (terms_of keeps hint_of reports breaks plan) l a r rest b s) Stops (StopsAtUnit (terms_of keeps hint_of reports breaks plan) a r s) old new result
+    → Reads last u most (λ l. (own ≡ plan) × S × WindowsWent (terms_of keeps hint_of reports breaks own) l a r lines x y × Q) (λ why l unit. (own ≡ plan) × StopsAtUnit (terms_of keeps hint_of reports breaks own) a r y why l unit × Q' why) old new result
+    → Reads last units most (λ l. WindowsWent (terms_of keeps hint_of reports breaks plan) l a r rest b s) (StopsAtUnit (terms_of keeps hint_of reports breaks plan) a r s) old new result
+windows_read {R} last keeps hint_of reports breaks Q Q' plan own units u most a x b r y s lines rest S old new result unit_is hub_is report_is lines_are reads =
+    subst (λ v. Reads last v most (λ l. WindowsWent (terms_of keeps hint_of reports breaks plan) l a r rest b s) (StopsAtUnit (terms_of keeps hint_of reports breaks plan) a r s) old new result) unit_is
+    (reads_by _ u most Went (λ l. WindowsWent (terms_of keeps hint_of reports breaks plan) l a r rest b s) Stops (StopsAtUnit (terms_of keeps hint_of reports breaks plan) a r s) old new result
     (λ (given : List (List ℕ)) (went : Went given). subst (λ p. WindowsWent (terms_of keeps hint_of reports breaks p) given a r rest b s) went.0
     (subst (λ h. WindowsWent (terms_of keeps hint_of reports breaks own) given a r rest h s) hub_is
     (subst (λ (z : R). WindowsWent (terms_of keeps hint_of reports breaks own) given a r rest x z) report_is

@@ -76,7 +76,7 @@ module _ (t : Terms (Unit {0})) (units : List (List ℕ)) (a b : Hub) (w : ItemW
 
     -- and fills the window, which is fed
     pub unit_fills_held : (x : Hub) (v : ItemWindowState) → has_filled w' ≡ true → 1 ≤ t.plan.window → t.plan.interim ≡ false
-        → ((lines : List (List ℕ)) → Holds t.plan.kind lines w' → FeedsWindow t.keeps t.hint_of t.plan.kind lines b x) → Holds t.plan.kind [] v → ItemsWent t (units ++ unit ∷ []) a v x
+        → ((lines : List (List ℕ)) → Holds t.plan.kind lines w' → FeedsWindow t.plan.propagator t.keeps t.hint_of t.plan.kind lines b x) → Holds t.plan.kind [] v → ItemsWent t (units ++ unit ∷ []) a v x
     unit_fills_held x v full least off fed cleared = record {
       rest = [];
       went = unit_goes t units unit a b x x tt tt tt went.rest went.went small good least (filled_is ∙ full) (fed (went.rest ++ unit ∷ []) unit_holds) (quiet_so t (length units + 1) x tt off);
@@ -86,12 +86,12 @@ module _ (t : Terms (Unit {0})) (units : List (List ℕ)) (a b : Hub) (w : ItemW
 -- ---- its reading
 
 -- at the window and the hub that it left
-pub fields_read : (keeps : ℕ → ℕ → Bool) (hint_of : List ℕ → List Entry → ℕ) (plan own : Intake) (units u : Units) (most : ℕ) (a x b : Hub) (v w : ItemWindowState) (old new : Option (List ℕ)) (result : Result ℕ Fault) → u ≡ units → x ≡ b → v ≡ w
-    → Reads u most (λ l. (own ≡ plan) × IsOfPlan own v × ItemsWent (unreported keeps hint_of own) l a v x) (λ why l unit. (own ≡ plan) × StopsAtUnit (unreported keeps hint_of own) a tt tt why l unit) old new result
-    → Reads units most (λ l. ItemsWent (unreported keeps hint_of plan) l a w b) (StopsAtUnit (unreported keeps hint_of plan) a tt tt) old new result
-fields_read keeps hint_of plan own units u most a x b v w old new result unit_is hub_is window_is reads =
-    subst (λ z. Reads z most (λ l. ItemsWent (unreported keeps hint_of plan) l a w b) (StopsAtUnit (unreported keeps hint_of plan) a tt tt) old new result) unit_is
-    (reads_by u most Went (λ l. ItemsWent (unreported keeps hint_of plan) l a w b) Stops (StopsAtUnit (unreported keeps hint_of plan) a tt tt) old new result
+pub fields_read : (last : ℕ) (keeps : ℕ → ℕ → Bool) (hint_of : List ℕ → List Entry → ℕ) (plan own : Intake) (units u : Units) (most : ℕ) (a x b : Hub) (v w : ItemWindowState) (old new : Option (List ℕ)) (result : Result ℕ Fault) → u ≡ units → x ≡ b → v ≡ w
+    → Reads last u most (λ l. (own ≡ plan) × IsOfPlan own v × ItemsWent (unreported keeps hint_of own) l a v x) (λ why l unit. (own ≡ plan) × StopsAtUnit (unreported keeps hint_of own) a tt tt why l unit) old new result
+    → Reads last units most (λ l. ItemsWent (unreported keeps hint_of plan) l a w b) (StopsAtUnit (unreported keeps hint_of plan) a tt tt) old new result
+fields_read last keeps hint_of plan own units u most a x b v w old new result unit_is hub_is window_is reads =
+    subst (λ z. Reads last z most (λ l. ItemsWent (unreported keeps hint_of plan) l a w b) (StopsAtUnit (unreported keeps hint_of plan) a tt tt) old new result) unit_is
+    (reads_by _ u most Went (λ l. ItemsWent (unreported keeps hint_of plan) l a w b) Stops (StopsAtUnit (unreported keeps hint_of plan) a tt tt) old new result
     (λ (given : List (List ℕ)) (went : Went given). subst (λ p. ItemsWent (unreported keeps hint_of p) given a w b) went.0
     (subst (λ h. ItemsWent (unreported keeps hint_of own) given a w h) hub_is (subst (λ z. ItemsWent (unreported keeps hint_of own) given a z x) window_is went.2)))
     (λ (why : Fault) (given : List (List ℕ)) (unit : List ℕ) (stops : Stops why given unit). subst (λ p. StopsAtUnit (unreported keeps hint_of p) a tt tt why given unit) stops.0 stops.1)

@@ -9,3 +9,4 @@ pub mod SupplyLaws
 pub mod TakerLaws
 pub mod ItemWindows
 pub mod ItemizedLaws
+pub mod Reports

@@ -20,7 +20,7 @@ use Rattle.sk_hub.specs.Calls.{Takes}
 use Rattle.sk_fill.specs.Blocks.{block_of}
 use Rattle.sk_feed.specs.Rounds.{HaveFew}
 use Rattle.sk_feed.specs.Shares.{share, TakeShares}
-use Rattle.sk_feed.specs.Hubs.{Hub, IsHub, FeedsWindow, HeartGoesOn}
+use Rattle.sk_feed.specs.Hubs.{Hub, IsHub, FeedsWindow, HeartMayGoOn}
 use Rattle.sk_ingest.specs.Ingests.{Terms, Feeds, IsReported, Reported, GoesThrough, Ingests, GoesSoFar, StopsAtUnit, EndsEarly}
 use Rattle.sk_ingest.specs.Takers.{UnitsWent, IsAlone, unreported}
 use Rattle.sk_fill.proofs.Units.{item_is}
@@ -31,7 +31,7 @@ use Rattle.sk_feed.proofs.Shares.{share_one}
 use Rattle.sk_hub.proofs.Calls.{none_refl, takes_none, takes_trans}
 use Rattle.sk_feed.proofs.Between.{parts_taken}
 use Rattle.sk_fill.proofs.Cutting.{no_units, unit_left, unit_fills}
-use Rattle.sk_feed.proofs.HubLaws.{heart_waits, heart_goes, hub_fed, few_left, few_fed, no_window}
+use Rattle.sk_feed.proofs.HubLaws.{may_wait, may_go, hub_fed, few_left, few_fed, no_window}
 use Rattle.sk_fill.proofs.Readings.{reads_by, ends_by, all_by}
 use Rattle.sk_ingest.proofs.Ingestion.{one_unit_more, no_windows, reported_next}
 use Rattle.sk_ingest.proofs.Unreported.{unreported_hub, quiet_so}
@@ -68,7 +68,7 @@ alone_start t a r least hub few = record {
     rest = [];
     between = a;
     goes = record { windows = []; cut = no_units t.plan.window least; good = All-nil (IsGood t.plan.kind); reported = no_windows t 0 a r };
-    last = no_window t.keeps t.hint_of t.plan.kind a;
+    last = no_window t.plan.propagator t.keeps t.hint_of t.plan.kind a;
     hub = hub;
   };
   few = few;
@@ -76,7 +76,7 @@ alone_start t a r least hub few = record {
 
 -- one unit more: its item, if it has one, was taken
 pub unit_by_itself : {R : Type 0} (t : Terms R) (units : List (List ℕ)) (unit : List ℕ) (a b x : Hub) (r s : R) → UnitsWent t units a r b s → IsGood t.plan.kind unit → 1 ≤ t.plan.window → t.plan.interim ≡ false → length b.updaters ≡ 1
-    → HeartGoesOn b.heart x.heart → x.token ≡ b.token → length x.updaters ≡ length b.updaters → ((d : UpdaterState) → Takes t.keeps t.hint_of (get_or b.updaters 0 d) (items_in t.plan.kind (unit ∷ [])) (get_or x.updaters 0 d))
+    → HeartMayGoOn t.plan.propagator b.heart x.heart → x.token ≡ b.token → length x.updaters ≡ length b.updaters → ((d : UpdaterState) → Takes t.keeps t.hint_of (get_or b.updaters 0 d) (items_in t.plan.kind (unit ∷ [])) (get_or x.updaters 0 d))
     → UnitsWent t (units ++ unit ∷ []) a r x s
 unit_by_itself {R} t units unit a b x r s went good least unreported one heart token same taken = go (fills t.plan.window (went.ingests.rest ++ unit ∷ [])) refl
   where
@@ -89,20 +89,20 @@ unit_by_itself {R} t units unit a b x r s went good least unreported one heart t
     fed : Feeds t (rest ++ unit ∷ []) went.ingests.between x
     fed =
         let between : length went.ingests.between.updaters ≡ 1 = omega (arith, one, went.ingests.last.updaters.count) in record {
-          heart = heart_goes went.ingests.between.heart b.heart x.heart went.ingests.last.heart heart;
+          heart = may_go t.plan.propagator went.ingests.between.heart b.heart x.heart went.ingests.last.heart heart;
           updaters = lone_more t.keeps t.hint_of t.plan.kind rest (unit ∷ []) went.ingests.between.updaters b.updaters x.updaters between same went.ingests.last.updaters taken;
           token = token ∙ went.ingests.last.token;
         }
 
-    step : FeedsWindow t.keeps t.hint_of t.plan.kind (unit ∷ []) b x
+    step : FeedsWindow t.plan.propagator t.keeps t.hint_of t.plan.kind (unit ∷ []) b x
     step = record {
       heart = heart;
-      updaters = lone_more t.keeps t.hint_of t.plan.kind [] (unit ∷ []) b.updaters b.updaters x.updaters one same (no_window t.keeps t.hint_of t.plan.kind b).updaters taken;
+      updaters = lone_more t.keeps t.hint_of t.plan.kind [] (unit ∷ []) b.updaters b.updaters x.updaters one same (no_window t.plan.propagator t.keeps t.hint_of t.plan.kind b).updaters taken;
       token = token;
     }
 
     hub : IsHub x
-    hub = hub_fed t.keeps t.hint_of t.plan.kind (unit ∷ []) b x went.ingests.hub step
+    hub = hub_fed t.plan.propagator t.keeps t.hint_of t.plan.kind (unit ∷ []) b x went.ingests.hub step
 
     few : HaveFew (length (units ++ unit ∷ [])) [] x.updaters
     few = few_fed t.keeps t.hint_of t.plan.kind (length (units ++ unit ∷ [])) (unit ∷ []) b.updaters x.updaters
@@ -133,7 +133,7 @@ unit_by_itself {R} t units unit a b x r s went good least unreported one heart t
           reported = reported_next t 0 goes.windows (rest ++ unit ∷ []) a went.ingests.between x x r s s goes.reported fed
               (quiet_so t (0 + (length (all_lines goes.windows) + length (rest ++ unit ∷ []))) x s unreported);
         };
-        last = no_window t.keeps t.hint_of t.plan.kind x;
+        last = no_window t.plan.propagator t.keeps t.hint_of t.plan.kind x;
         hub = hub;
       };
       few = few;
@@ -142,7 +142,7 @@ unit_by_itself {R} t units unit a b x r s went good least unreported one heart t
 -- ---- many units
 
 -- no unit more: the one updater has taken nothing
-idle_alone : {R : Type 0} (t : Terms R) (units : List (List ℕ)) (a b x : Hub) (r s : R) → UnitsWent t units a r b s → length b.updaters ≡ 1 → HeartGoesOn b.heart x.heart → x.token ≡ b.token → length x.updaters ≡ length b.updaters
+idle_alone : {R : Type 0} (t : Terms R) (units : List (List ℕ)) (a b x : Hub) (r s : R) → UnitsWent t units a r b s → length b.updaters ≡ 1 → HeartMayGoOn t.plan.propagator b.heart x.heart → x.token ≡ b.token → length x.updaters ≡ length b.updaters
     → ((d : UpdaterState) → Takes t.keeps t.hint_of (get_or b.updaters 0 d) (items_in t.plan.kind []) (get_or x.updaters 0 d)) → UnitsWent t units a r x s
 idle_alone {R} t units a b x r s went one heart token same taken = record {
   ingests = record {
@@ -150,7 +150,7 @@ idle_alone {R} t units a b x r s went one heart token same taken = record {
     between = went.ingests.between;
     goes = went.ingests.goes;
     last = fed;
-    hub = hub_fed t.keeps t.hint_of t.plan.kind [] b x went.ingests.hub step;
+    hub = hub_fed t.plan.propagator t.keeps t.hint_of t.plan.kind [] b x went.ingests.hub step;
   };
   few = few_fed t.keeps t.hint_of t.plan.kind (length units) [] b.updaters x.updaters went.few step.updaters;
 }
@@ -158,28 +158,28 @@ idle_alone {R} t units a b x r s went one heart token same taken = record {
     fed : Feeds t went.ingests.rest went.ingests.between x
     fed =
         let between : length went.ingests.between.updaters ≡ 1 = omega (arith, one, went.ingests.last.updaters.count) in record {
-          heart = heart_goes went.ingests.between.heart b.heart x.heart went.ingests.last.heart heart;
+          heart = may_go t.plan.propagator went.ingests.between.heart b.heart x.heart went.ingests.last.heart heart;
           updaters = subst (λ l. TakeShares t.keeps t.hint_of t.plan.kind (l ∷ []) went.ingests.between.updaters x.updaters) (append-nil went.ingests.rest)
               (lone_more t.keeps t.hint_of t.plan.kind went.ingests.rest [] went.ingests.between.updaters b.updaters x.updaters between same went.ingests.last.updaters taken);
           token = token ∙ went.ingests.last.token;
         }
 
-    step : FeedsWindow t.keeps t.hint_of t.plan.kind [] b x
+    step : FeedsWindow t.plan.propagator t.keeps t.hint_of t.plan.kind [] b x
     step = record {
       heart = heart;
-      updaters = lone_more t.keeps t.hint_of t.plan.kind [] [] b.updaters b.updaters x.updaters one same (no_window t.keeps t.hint_of t.plan.kind b).updaters taken;
+      updaters = lone_more t.keeps t.hint_of t.plan.kind [] [] b.updaters b.updaters x.updaters one same (no_window t.plan.propagator t.keeps t.hint_of t.plan.kind b).updaters taken;
       token = token;
     }
 
 -- lines more: their items were taken
 pub lines_one_by_one : {R : Type 0} (t : Terms R) (units lines : List (List ℕ)) (a b x : Hub) (r s : R) (e : UpdaterState) → UnitsWent t units a r b s → All (IsGood t.plan.kind) lines → 1 ≤ t.plan.window → t.plan.interim ≡ false → length b.updaters ≡ 1
-    → HeartGoesOn b.heart x.heart → x.token ≡ b.token → length x.updaters ≡ length b.updaters → ((d : UpdaterState) → Takes t.keeps t.hint_of (get_or b.updaters 0 d) (items_in t.plan.kind lines) (get_or x.updaters 0 d))
+    → HeartMayGoOn t.plan.propagator b.heart x.heart → x.token ≡ b.token → length x.updaters ≡ length b.updaters → ((d : UpdaterState) → Takes t.keeps t.hint_of (get_or b.updaters 0 d) (items_in t.plan.kind lines) (get_or x.updaters 0 d))
     → UnitsWent t (units ++ lines) a r x s
 lines_one_by_one t units [] a b x r s e went good least off one heart token same taken =
     subst (λ l. UnitsWent t l a r x s) (sym (append-nil units)) (idle_alone t units a b x r s went one heart token same taken)
 lines_one_by_one {R} t units (line ∷ lines) a b x r s e went good least off one heart token same taken =
     subst (λ l. UnitsWent t l a r x s) (append_assoc units (line ∷ []) lines)
-    (lines_one_by_one t (units ++ line ∷ []) lines a y x r s e first (All-tail (IsGood t.plan.kind) line lines good) least off refl (heart_waits x.heart) token (same ∙ one)
+    (lines_one_by_one t (units ++ line ∷ []) lines a y x r s e first (All-tail (IsGood t.plan.kind) line lines good) least off refl (may_wait t.plan.propagator x.heart) token (same ∙ one)
     (λ d. subst (Takes t.keeps t.hint_of parts.0 (items_in t.plan.kind lines)) (get_or_default x.updaters 0 e d (omega (arith, same, one))) parts.2))
   where
     parts : (v : UpdaterState) × Takes t.keeps t.hint_of (get_or b.updaters 0 e) (items_in t.plan.kind (line ∷ [])) v × Takes t.keeps t.hint_of v (items_in t.plan.kind lines) (get_or x.updaters 0 e)
@@ -217,7 +217,7 @@ none_took keeps hint_of kind (byte ∷ rest) us none = let no : ⊥ = omega arit
 
 -- these were fed to it
 pub lines_taken : (keeps : ℕ → ℕ → Bool) (hint_of : List ℕ → List Entry → ℕ) (plan : Intake) (units lines : List (List ℕ)) (kept : List ℕ) (hint : ℕ) (a b : Hub) (heart : HeartState) (u u' : UpdaterState) → UnitsWent (unreported keeps hint_of plan) units a tt b tt → IsAlone plan b
-    → All (IsGood plan.kind) lines → HeartGoesOn b.heart heart → u ≡ get_or b.updaters 0 u → hint ≡ hint_of u.view.numbers (base_of u) → kept ≡ filter (keeps hint) (items_in plan.kind lines) → Takes keeps hint_of u kept u'
+    → All (IsGood plan.kind) lines → HeartMayGoOn plan.propagator b.heart heart → u ≡ get_or b.updaters 0 u → hint ≡ hint_of u.view.numbers (base_of u) → kept ≡ filter (keeps hint) (items_in plan.kind lines) → Takes keeps hint_of u kept u'
     → UnitsWent (unreported keeps hint_of plan) (units ++ lines) a tt (record { heart = heart; updaters = set b.updaters 0 u'; token = b.token }) tt
 lines_taken keeps hint_of plan units lines kept hint a b heart u u' went alone good goes read is those taken =
     lines_one_by_one (unreported keeps hint_of plan) units lines a b (record { heart = heart; updaters = set b.updaters 0 u'; token = b.token }) tt tt u went good alone.least alone.unreported alone.one goes refl (length-set b.updaters 0 u')
@@ -279,23 +279,23 @@ stops_quietly t units unit a x y r fault.TooMuch off stops = absurd stops
 stops_quietly t units unit a x y r (fault.LongLine n) off stops = absurd stops
 stops_quietly t units unit a x y r (fault.BadCsv n) off stops = absurd stops
 
-pub early_quietly : {R : Type 0} (t : Terms R) (units : Units) (old new : Option (List ℕ)) (a : Hub) (x y : Unit {0}) (r : R) (why : Fault) → t.plan.interim ≡ false → EndsEarly (unreported t.keeps t.hint_of t.plan) units old new a x y why → EndsEarly t units old new a r r why
-early_quietly t units old new a x y r why off (inl ends) =
+pub early_quietly : {R : Type 0} (t : Terms R) (last : ℕ) (units : Units) (old new : Option (List ℕ)) (a : Hub) (x y : Unit {0}) (r : R) (why : Fault) → t.plan.interim ≡ false → EndsEarly (unreported t.keeps t.hint_of t.plan) last units old new a x y why → EndsEarly t last units old new a r r why
+early_quietly t last units old new a x y r why off (inl ends) =
     let u = unreported t.keeps t.hint_of t.plan in
-    inl (ends_by units t.plan.most (GoesSoFar u a x y) (GoesSoFar t a r r) (StopsAtUnit u a x y) (StopsAtUnit t a r r) old new why
+    inl (ends_by _ units t.plan.most (GoesSoFar u a x y) (GoesSoFar t a r r) (StopsAtUnit u a x y) (StopsAtUnit t a r r) old new why
     (λ given goes. so_far_quietly t given a x y r off goes) (λ q given unit stops. stops_quietly t given unit a x y r q off stops) ends)
-early_quietly t units old new a x y r why off (inr out) =
+early_quietly t last units old new a x y r why off (inr out) =
     inr (out.0, (out.1.0, all_by units t.plan.most out.1.0 (GoesSoFar (unreported t.keeps t.hint_of t.plan) a x y) (GoesSoFar t a r r) old new (λ given goes. so_far_quietly t given a x y r off goes) out.1.1))
 
 -- ---- its reading
 
 -- at the hub that it left
-pub alone_read : (keeps : ℕ → ℕ → Bool) (hint_of : List ℕ → List Entry → ℕ) (plan own : Intake) (units u : Units) (most : ℕ) (a x b : Hub) (old new : Option (List ℕ)) (result : Result ℕ Fault) → u ≡ units → x ≡ b
-    → Reads u most (λ l. (own ≡ plan) × IsAlone own x × UnitsWent (unreported keeps hint_of own) l a tt x tt) (λ why l unit. (own ≡ plan) × StopsAtUnit (unreported keeps hint_of own) a tt tt why l unit) old new result
-    → Reads units most (λ l. UnitsWent (unreported keeps hint_of plan) l a tt b tt) (StopsAtUnit (unreported keeps hint_of plan) a tt tt) old new result
-alone_read keeps hint_of plan own units u most a x b old new result unit_is hub_is reads =
-    subst (λ v. Reads v most (λ l. UnitsWent (unreported keeps hint_of plan) l a tt b tt) (StopsAtUnit (unreported keeps hint_of plan) a tt tt) old new result) unit_is
-    (reads_by u most Went (λ l. UnitsWent (unreported keeps hint_of plan) l a tt b tt) Stops (StopsAtUnit (unreported keeps hint_of plan) a tt tt) old new result
+pub alone_read : (last : ℕ) (keeps : ℕ → ℕ → Bool) (hint_of : List ℕ → List Entry → ℕ) (plan own : Intake) (units u : Units) (most : ℕ) (a x b : Hub) (old new : Option (List ℕ)) (result : Result ℕ Fault) → u ≡ units → x ≡ b
+    → Reads last u most (λ l. (own ≡ plan) × IsAlone own x × UnitsWent (unreported keeps hint_of own) l a tt x tt) (λ why l unit. (own ≡ plan) × StopsAtUnit (unreported keeps hint_of own) a tt tt why l unit) old new result
+    → Reads last units most (λ l. UnitsWent (unreported keeps hint_of plan) l a tt b tt) (StopsAtUnit (unreported keeps hint_of plan) a tt tt) old new result
+alone_read last keeps hint_of plan own units u most a x b old new result unit_is hub_is reads =
+    subst (λ v. Reads last v most (λ l. UnitsWent (unreported keeps hint_of plan) l a tt b tt) (StopsAtUnit (unreported keeps hint_of plan) a tt tt) old new result) unit_is
+    (reads_by _ u most Went (λ l. UnitsWent (unreported keeps hint_of plan) l a tt b tt) Stops (StopsAtUnit (unreported keeps hint_of plan) a tt tt) old new result
     (λ (given : List (List ℕ)) (went : Went given). subst (λ p. UnitsWent (unreported keeps hint_of p) given a tt b tt) went.0 (subst (λ h. UnitsWent (unreported keeps hint_of own) given a tt h tt) hub_is went.2))
     (λ (why : Fault) (given : List (List ℕ)) (unit : List ℕ) (stops : Stops why given unit). subst (λ p. StopsAtUnit (unreported keeps hint_of p) a tt tt why given unit) stops.0 stops.1)
     reads)

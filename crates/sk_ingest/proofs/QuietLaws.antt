@@ -36,16 +36,16 @@ module _ {R : Type 0} (t : Terms R) (silent : t.plan.interim ≡ false) (r s : R
   at_unit a (fault.LongLine n) units unit stops = absurd stops
   at_unit a (fault.BadCsv n) units unit stops = absurd stops
 
-  ended : (units : Units) (left left' : Option (List ℕ)) (a : Hub) (f : Fault) → Ends units t.plan.most (GoesSoFar t a r s) (StopsAtUnit t a r s) left left' f → s ≡ r
-  ended units left left' a fault.OutOfMemory (inl off) = so_far a off.given off.known
-  ended units left left' a fault.OutOfMemory (inr stop) = at_unit a fault.OutOfMemory stop.1.given stop.0 stop.1.known
-  ended units left left' a fault.ReadFault some = so_far a _ some.gave
-  ended units left left' a fault.TooMuch some = so_far a _ some.gave
-  ended units left left' a (fault.LongLine n) off = so_far a off.given off.known
-  ended units left left' a (fault.BadCsv n) off = so_far a off.given off.known
-  ended units left left' a (fault.BadItem n) stop = at_unit a (fault.BadItem n) stop.1.given stop.0 stop.1.known.1
-  ended units left left' a fault.WriteFault stop = at_unit a fault.WriteFault stop.1.given stop.0 stop.1.known
+  ended : (last : ℕ) (units : Units) (left left' : Option (List ℕ)) (a : Hub) (f : Fault) → Ends last units t.plan.most (GoesSoFar t a r s) (StopsAtUnit t a r s) left left' f → s ≡ r
+  ended last units left left' a fault.OutOfMemory (inl off) = so_far a off.given off.known
+  ended last units left left' a fault.OutOfMemory (inr stop) = at_unit a fault.OutOfMemory stop.1.given stop.0 stop.1.known
+  ended last units left left' a fault.ReadFault some = so_far a _ some.gave
+  ended last units left left' a fault.TooMuch some = so_far a _ some.gave
+  ended last units left left' a (fault.LongLine n) off = so_far a off.given off.known
+  ended last units left left' a (fault.BadCsv n) off = so_far a off.given off.known
+  ended last units left left' a (fault.BadItem n) stop = at_unit a (fault.BadItem n) stop.1.given stop.0 stop.1.known.1
+  ended last units left left' a fault.WriteFault stop = at_unit a fault.WriteFault stop.1.given stop.0 stop.1.known
 
-  pub quiet_early : (units : Units) (left left' : Option (List ℕ)) (a : Hub) (f : Fault) → EndsEarly t units left left' a r s f → s ≡ r
-  quiet_early units left left' a f (inl ends) = ended units left left' a f ends
-  quiet_early units left left' a f (inr (is, (n, reads))) = so_far a _ reads.gave
+  pub quiet_early : (last : ℕ) (units : Units) (left left' : Option (List ℕ)) (a : Hub) (f : Fault) → EndsEarly t last units left left' a r s f → s ≡ r
+  quiet_early last units left left' a f (inl ends) = ended last units left left' a f ends
+  quiet_early last units left left' a f (inr (is, (n, reads))) = so_far a _ reads.gave

@@ -12,6 +12,7 @@ use Rattle.sk_read.specs.Reads.{Ends, ReadsAll}
 use Rattle.sk_read.specs.declared.fault.Fault.{Fault}
 use Rattle.sk_read.specs.declared.fault.Fault.TheVariants as fault
 use Rattle.sk_read.specs.declared.items.Intake.{Intake}
+use Rattle.sk_read.specs.declared.units.Units.{Units}
 use Rattle.sk_read.specs.declared.units.Units.TheVariants.{Lines}
 use Rattle.sk_read.proofs.LineEnds as lineends
 use Rattle.sk_fill.specs.Windows.{IsFullWindow, all_lines}
@@ -45,7 +46,7 @@ pub record StretchesWent (keeps : ℕ → ℕ → Bool) (hint_of : List ℕ → 
   pub unfilled : more ≡ false → EndUnfilled plan.window waiting
   pub ended : more ≡ false → r.ended ≡ true
   pub good : All (IsGood plan.kind) (all_lines fed ++ all_lines waiting)
-  pub feeds : FeedsWindows keeps hint_of plan.kind fed a b
+  pub feeds : FeedsWindows plan.propagator keeps hint_of plan.kind fed a b
   pub most : r.most ≡ plan.most
 
 -- before the first stretch
@@ -61,7 +62,7 @@ none_went keeps hint_of plan a r left most has = record {
   unfilled = λ is. absurd (not_both (answer true) refl (ok_is true false is));
   ended = λ is. absurd (not_both (answer true) refl (ok_is true false is));
   good = All-nil (IsGood plan.kind);
-  feeds = none_fed keeps hint_of plan.kind a;
+  feeds = none_fed plan.propagator keeps hint_of plan.kind a;
   most = most;
 }
 
@@ -70,7 +71,7 @@ both_joined fed waiting = flat_map-append (λ lines. lines) fed waiting
 
 module _ (keeps : ℕ → ℕ → Bool) (hint_of : List ℕ → List Entry → ℕ) (plan : Intake) (waiting : List (List (List ℕ))) (before : ℕ) (more : Bool) (a b : Hub) (r : Reading) (old mid : Option (List ℕ)) (went : StretchesWent keeps hint_of plan waiting before more a b r old mid) where
   -- its windows are fed, and a further one is read
-  pub stretches_go : (windows : List (List (List ℕ))) (behind : ℕ) (result : Result Bool Fault) (further : Bool) (c : Hub) (r' : Reading) (new : Option (List ℕ)) → more ≡ true → FeedsWindows keeps hint_of plan.kind waiting b c → ReadsStretch plan.kind plan.window windows r r' mid new result → result ≡ Ok further → behind ≡ r.cutter.number
+  pub stretches_go : (windows : List (List (List ℕ))) (behind : ℕ) (result : Result Bool Fault) (further : Bool) (c : Hub) (r' : Reading) (new : Option (List ℕ)) → more ≡ true → FeedsWindows plan.propagator keeps hint_of plan.kind waiting b c → ReadsStretch plan.kind plan.window windows r r' mid new result → result ≡ Ok further → behind ≡ r.cutter.number
       → StretchesWent keeps hint_of plan windows behind further a c r' old new
   stretches_go windows behind result further c r' new is fed stretch was first =
       let given = all_lines went.fed ++ all_lines waiting in
@@ -85,7 +86,7 @@ module _ (keeps : ℕ → ℕ → Bool) (hint_of : List ℕ → List Entry → �
         unfilled = λ to. stretch.unfilled (was ∙ ok_is further false to);
         ended = λ to. stretch.end (was ∙ ok_is further false to);
         good = subst (λ l. All (IsGood plan.kind) (l ++ all_lines windows)) (sym (both_joined went.fed waiting)) (All-append (IsGood plan.kind) given (all_lines windows) went.good (on_ok_at result further _ was stretch.good));
-        feeds = fed_on keeps hint_of plan.kind went.fed waiting a b c went.feeds fed;
+        feeds = fed_on plan.propagator keeps hint_of plan.kind went.fed waiting a b c went.feeds fed;
         most = stretch.bound ∙ went.most;
       }
 
@@ -118,7 +119,7 @@ module _ (keeps : ℕ → ℕ → Bool) (hint_of : List ℕ → List Entry → �
   stretches_lines = length-append (all_lines went.fed) (all_lines waiting) ∙ ap (λ n. n + length (all_lines waiting)) (sym went.count)
 
   pub stretches_hub : IsHub a → IsHub b
-  stretches_hub hub = hub_took keeps hint_of plan.kind went.fed a b hub went.feeds
+  stretches_hub hub = hub_took plan.propagator keeps hint_of plan.kind went.fed a b hub went.feeds
 
   pub stretches_room : HaveFew 0 [] a.updaters → HaveRoomFor waiting b.updaters
   stretches_room few =
@@ -127,10 +128,10 @@ module _ (keeps : ℕ → ℕ → Bool) (hint_of : List ℕ → List Entry → �
 
   -- a fault of the reading of a further one
   pub stretches_fail : (windows : List (List (List ℕ))) (why : Fault) (failed : Result Bool Fault) (r' : Reading) (new : Option (List ℕ)) → 1 ≤ plan.window → plan.interim ≡ false → more ≡ true → ReadsStretch plan.kind plan.window windows r r' mid new failed → failed ≡ Err why
-      → EndsEarly (unreported keeps hint_of plan) Lines old new a tt tt why
+      → EndsEarly (unreported keeps hint_of plan) r'.last Lines old new a tt tt why
   stretches_fail windows why failed r' new least off is stretch was =
-      inl (subst (λ m. Ends Lines m (GoesSoFar t a tt tt) (StopsAtUnit t a tt tt) old new why) went.most
-      (ends_by Lines r.most (GoOnInWindows plan.kind plan.window given) (GoesSoFar t a tt tt) (RefusesBehind plan.kind plan.window given) (StopsAtUnit t a tt tt) old new why so_far stops
+      inl (subst (λ m. Ends r'.last Lines m (GoesSoFar t a tt tt) (StopsAtUnit t a tt tt) old new why) went.most
+      (ends_by _ Lines r.most (GoOnInWindows plan.kind plan.window given) (GoesSoFar t a tt tt) (RefusesBehind plan.kind plan.window given) (StopsAtUnit t a tt tt) old new why so_far stops
       (on_err_at failed why _ was stretch.stopped old given went.taken went.consumed went.read)))
     where
       t : Terms (Unit {0})
@@ -172,15 +173,15 @@ module _ (keeps : ℕ → ℕ → Bool) (hint_of : List ℕ → List Entry → �
       (subst Gave (both_joined went.fed waiting) gave) (went.read, went.ended is) number
 
   -- these are fed, too
-  pub stretches_end : (n : ℕ) (c : Hub) → plan.interim ≡ false → more ≡ false → n ≡ r.cutter.number → IsHub a → FeedsWindows keeps hint_of plan.kind waiting b c → ReadsAll Lines plan.most n (λ units. Ingests (unreported keeps hint_of plan) units a tt c tt) old mid
+  pub stretches_end : (n : ℕ) (c : Hub) → plan.interim ≡ false → more ≡ false → n ≡ r.cutter.number → IsHub a → FeedsWindows plan.propagator keeps hint_of plan.kind waiting b c → ReadsAll Lines plan.most n (λ units. Ingests (unreported keeps hint_of plan) units a tt c tt) old mid
   stretches_end n c off is number hub fed =
       all_read (λ units. Ingests (unreported keeps hint_of plan) units a tt c tt) n is number
       (ingests_all (unreported keeps hint_of plan) (went.fed ++ waiting) (all_windows is) a c tt off (subst (All (IsGood plan.kind)) (sym (both_joined went.fed waiting)) went.good) hub
-      (fed_on keeps hint_of plan.kind went.fed waiting a b c went.feeds fed))
+      (fed_on plan.propagator keeps hint_of plan.kind went.fed waiting a b c went.feeds fed))
 
   -- no memory was found for that
-  pub stretches_out : plan.interim ≡ false → more ≡ false → EndsEarly (unreported keeps hint_of plan) Lines old mid a tt tt fault.OutOfMemory
-  stretches_out off is =
+  pub stretches_out : (last : ℕ) → plan.interim ≡ false → more ≡ false → EndsEarly (unreported keeps hint_of plan) last Lines old mid a tt tt fault.OutOfMemory
+  stretches_out last off is =
       let ends = all_windows is in
       inr (
         refl,
@@ -195,7 +196,7 @@ module _ (keeps : ℕ → ℕ → Bool) (hint_of : List ℕ → List Entry → �
 
 -- ---- a stretch and those after it were fed, and one more was read
 
-module _ (keeps : ℕ → ℕ → Bool) (hint_of : List ℕ → List Entry → ℕ) (plan : Intake) (s next : StretchState) (a b c : Hub) (r r' : Reading) (old mid new : Option (List ℕ)) (result : Result Bool Fault) (went : StretchesWent keeps hint_of plan s.windows s.first true a b r old mid) (on : FeedsAndReads (λ windows. FeedsWindows keeps hint_of plan.kind windows b c) plan.kind plan.window s next r r' mid new result) where
+module _ (keeps : ℕ → ℕ → Bool) (hint_of : List ℕ → List Entry → ℕ) (plan : Intake) (s next : StretchState) (a b c : Hub) (r r' : Reading) (old mid new : Option (List ℕ)) (result : Result Bool Fault) (went : StretchesWent keeps hint_of plan s.windows s.first true a b r old mid) (on : FeedsAndReads (λ windows. FeedsWindows plan.propagator keeps hint_of plan.kind windows b c) plan.kind plan.window s next r r' mid new result) where
   waited : StretchesWent keeps hint_of plan (s.windows ++ on.more) s.first true a b on.between old on.mid
   waited = stretches_wait keeps hint_of plan s.windows s.first true a b r old mid went on.more on.between on.mid refl on.goes
 
@@ -205,8 +206,13 @@ module _ (keeps : ℕ → ℕ → Bool) (hint_of : List ℕ → List Entry → �
       (stretches_go keeps hint_of plan (s.windows ++ on.more) s.first true a b on.between old on.mid waited on.last next.first result further c r' new refl (on_ok_at result further _ was on.fed) on.reads was (on_ok_at result further _ was on.first))
 
   -- a fault came
-  pub feeds_fail : (why : Fault) → 1 ≤ plan.window → plan.interim ≡ false → result ≡ Err why → EndsEarly (unreported keeps hint_of plan) Lines old new a tt tt why
+  pub feeds_fail : (why : Fault) → 1 ≤ plan.window → plan.interim ≡ false → result ≡ Err why → EndsEarly (unreported keeps hint_of plan) r'.last Lines old new a tt tt why
   feeds_fail why least off was = stretches_fail keeps hint_of plan (s.windows ++ on.more) s.first true a b on.between old on.mid waited on.last why result r' new least off refl on.reads was
+
+-- with a read of more bytes it ended so too
+pub early_within : {R : Type 0} (t : Terms R) (x y : ℕ) (units : Units) (old new : Option (List ℕ)) (a : Hub) (r s : R) (why : Fault) → x ≤ y → EndsEarly t x units old new a r s why → EndsEarly t y units old new a r s why
+early_within t x y units old new a r s why within (inl ends) = inl (lineends.ends_within (GoesSoFar t a r s) (StopsAtUnit t a r s) t.plan.most x y units old new why within ends)
+early_within t x y units old new a r s why within (inr out) = inr out
 
 -- ---- what a call says of the count of faults
 

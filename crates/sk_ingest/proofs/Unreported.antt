@@ -18,12 +18,12 @@ pub quiet_so : {R : Type 0} (t : Terms R) (line : ℕ) (x : Hub) (r : R) → t.p
 quiet_so t line x r off = subst (λ i. MatchBool i (IsReady t.plan x × LeavesHub x x × IsHub x × t.reports r line x x r) ((x ≡ x) × (r ≡ r))) (sym off) (refl, refl)
 
 -- between windows that were fed together there are hubs
-hubs_between : {R : Type 0} (t : Terms R) (before : ℕ) (windows : List (List (List ℕ))) (last : List (List ℕ)) (a b : Hub) (r : R) → t.plan.interim ≡ false → FeedsWindows t.keeps t.hint_of t.plan.kind (windows ++ last ∷ []) a b
+hubs_between : {R : Type 0} (t : Terms R) (before : ℕ) (windows : List (List (List ℕ))) (last : List (List ℕ)) (a b : Hub) (r : R) → t.plan.interim ≡ false → FeedsWindows t.plan.propagator t.keeps t.hint_of t.plan.kind (windows ++ last ∷ []) a b
     → (between : Hub) × Reported t before windows a r between r × Feeds t last between b
 unfolding Reported
 hubs_between t before [] last a b r off fed = (a, (refl, refl), record { heart = fed.heart; updaters = fed.updaters; token = fed.token })
 hubs_between t before (lines ∷ more) last a b r off fed =
-    let x = first_fed t.keeps t.hint_of t.plan.kind lines (more ++ last ∷ []) a b fed in
+    let x = first_fed t.plan.propagator t.keeps t.hint_of t.plan.kind lines (more ++ last ∷ []) a b fed in
     let rest = hubs_between t (before + length lines) more last x.0 b r off x.2 in
     (rest.0, (x.0, x.0, r, x.1, quiet_so t (before + length lines) x.0 r off, rest.1), rest.2)
 
@@ -32,7 +32,7 @@ some_hub : {R : Type 0} (t : Terms R) (before : ℕ) (windows : List (List (List
 unfolding Reported
 some_hub t before [] a r off = (a, (refl, refl))
 some_hub t before (lines ∷ more) a r off =
-    let x = some_fed t.keeps t.hint_of t.plan.kind lines a in
+    let x = some_fed t.plan.propagator t.keeps t.hint_of t.plan.kind lines a in
     let rest = some_hub t (before + length lines) more x.0 r off in
     (rest.0, (x.0, x.0, r, x.1, quiet_so t (before + length lines) x.0 r off, rest.1))
 
@@ -41,10 +41,10 @@ cut_so_far t units windows rest a r off cut good =
     let b = some_hub t 0 windows a r off in (rest, b.0, record { windows = windows; cut = cut; good = good; reported = b.1 })
 
 -- all windows were fed, and the last of them is not full
-pub ingests_all : {R : Type 0} (t : Terms R) (windows : List (List (List ℕ))) (ends : EndUnfilled t.plan.window windows) (a b : Hub) (r : R) → t.plan.interim ≡ false → All (IsGood t.plan.kind) (all_lines windows) → IsHub a → FeedsWindows t.keeps t.hint_of t.plan.kind windows a b
+pub ingests_all : {R : Type 0} (t : Terms R) (windows : List (List (List ℕ))) (ends : EndUnfilled t.plan.window windows) (a b : Hub) (r : R) → t.plan.interim ≡ false → All (IsGood t.plan.kind) (all_lines windows) → IsHub a → FeedsWindows t.plan.propagator t.keeps t.hint_of t.plan.kind windows a b
     → Ingests t (all_lines windows) a r b r
 ingests_all t windows ends a b r off good hub fed =
-    let hubs = hubs_between t 0 ends.before ends.last a b r off (subst (λ l. FeedsWindows t.keeps t.hint_of t.plan.kind l a b) ends.joined fed) in record {
+    let hubs = hubs_between t 0 ends.before ends.last a b r off (subst (λ l. FeedsWindows t.plan.propagator t.keeps t.hint_of t.plan.kind l a b) ends.joined fed) in record {
       rest = ends.last;
       between = hubs.0;
       goes = record {
@@ -54,5 +54,5 @@ ingests_all t windows ends a b r off good hub fed =
         reported = hubs.1;
       };
       last = hubs.2;
-      hub = hub_took t.keeps t.hint_of t.plan.kind windows a b hub fed;
+      hub = hub_took t.plan.propagator t.keeps t.hint_of t.plan.kind windows a b hub fed;
     }

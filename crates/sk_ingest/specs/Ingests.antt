@@ -29,7 +29,7 @@ terms_of keeps hint_of reports breaks plan = record { keeps = keeps; hint_of = h
 
 -- each updater took its share of a window
 abbrev pub Feeds : {R : Type 0} → Terms R → List (List ℕ) → Hub → Hub → Type 0
-Feeds t lines a b = FeedsWindow t.keeps t.hint_of t.plan.kind lines a b
+Feeds t lines a b = FeedsWindow t.plan.propagator t.keeps t.hint_of t.plan.kind lines a b
 
 -- what a report meets: the handles of one hub, and with a propagator each updater is settled
 pub record IsReady (plan : Intake) (a : Hub) : Type 0 where
@@ -95,7 +95,8 @@ StopsAtUnit t a r s fault.TooMuch units unit = ⊥
 StopsAtUnit t a r s (fault.LongLine n) units unit = ⊥
 StopsAtUnit t a r s (fault.BadCsv n) units unit = ⊥
 
--- the reading ended before the source did, or memory ran out for the last window of a source read to its end
-abbrev pub EndsEarly : {R : Type 0} → Terms R → Units → Option (List ℕ) → Option (List ℕ) → Hub → R → R → Fault → Type 0
-EndsEarly t units left left' a r s why = Ends units t.plan.most (GoesSoFar t a r s) (StopsAtUnit t a r s) left left' why
+-- the reading, whose last read gave this many bytes, ended before the source did, or memory ran out for the last window
+-- of a source read to its end
+abbrev pub EndsEarly : {R : Type 0} → Terms R → ℕ → Units → Option (List ℕ) → Option (List ℕ) → Hub → R → R → Fault → Type 0
+EndsEarly t last units left left' a r s why = Ends last units t.plan.most (GoesSoFar t a r s) (StopsAtUnit t a r s) left left' why
     ⊎ ((why ≡ fault.OutOfMemory) × ((n : ℕ) × ReadsAll units t.plan.most n (GoesSoFar t a r s) left left'))

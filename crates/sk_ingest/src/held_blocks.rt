@@ -7,7 +7,7 @@ ghost use Rattle.sk_hub.specs.Updaters.{UpdaterState, kept_of};
 ghost use Rattle.sk_hub.specs.Calls.{Takes};
 ghost use Rattle.sk_fill.specs.Windows.{most_lines};
 ghost use Rattle.sk_feed.specs.Rounds.{HaveRoom};
-ghost use Rattle.sk_feed.specs.Hubs.{hub_of, IsHub, FeedsWindow, HeartGoesOn};
+ghost use Rattle.sk_feed.specs.Hubs.{hub_of, IsHub, FeedsWindow, HeartMayGoOn};
 ghost use Rattle.sk_ingest.specs.ItemWindows.{AreHeld, items_held, held_block, Holds, TakeHeld};
 
 use crate::item_window::ItemWindow;
@@ -31,7 +31,7 @@ pub(crate) fn pass_held<C: Composable, R: Wait>(
     requires hub { IsHub (hub_of opened.old) }
     requires room { (units : List (List ℕ)) × Holds plan.now.kind units window.old × HaveRoom units opened.old.updaters.items }
     ensures fed { OnOk result ((units : List (List ℕ)) → Holds plan.now.kind units window.old
-        → FeedsWindow C.keeps_of C.hint_of plan.now.kind units (hub_of opened.old) (hub_of opened.new)) }
+        → FeedsWindow plan.now.propagator C.keeps_of C.hint_of plan.now.kind units (hub_of opened.old) (hub_of opened.new)) }
     ensures cleared { OnOk result (Holds plan.now.kind [] window.new) }
     ensures most { window.new.most ≡ window.old.most }
 {
@@ -50,7 +50,7 @@ pub(crate) fn feed_held_window<C: Composable, R: Wait>(
     requires hub { IsHub (hub_of opened.old) }
     requires room { (units : List (List ℕ)) × Holds plan.now.kind units window.now × HaveRoom units opened.old.updaters.items }
     ensures fed { OnOk result ((units : List (List ℕ)) → Holds plan.now.kind units window.now
-        → FeedsWindow C.keeps_of C.hint_of plan.now.kind units (hub_of opened.old) (hub_of opened.new)) }
+        → FeedsWindow plan.now.propagator C.keeps_of C.hint_of plan.now.kind units (hub_of opened.old) (hub_of opened.new)) }
 {
     // It shows the proof how many updaters a hub has at most.
     let _admitted = opened.heart.admitted();
@@ -72,7 +72,7 @@ fn feed_held_blocks<C: Composable, R: Wait>(
     requires room { (i : ℕ) (d : UpdaterState) → i < length updaters.old.items
         → length (kept_of (slice_index_or updaters.old.items i d)) + length (held_block held.now i (length updaters.old.items)) ≤ most_kept }
     ensures taken { OnOk result (TakeHeld C.keeps_of C.hint_of held.now updaters.old.items updaters.new.items) }
-    ensures heart { HeartGoesOn heart.old heart.new }
+    ensures heart { HeartMayGoOn plan.now.propagator heart.old heart.new }
 {
     let n = updaters.len();
     'updater: for i in 0..n {
@@ -95,7 +95,7 @@ fn feed_held<C: Composable, R: Wait>(
     requires items { AreHeld held.now }
     requires room { length (kept_of u.old) + length held.now ≤ most_kept }
     ensures taken { OnOk result (Takes C.keeps_of C.hint_of u.old (items_held held.now) u.new) }
-    ensures heart { HeartGoesOn heart.old heart.new }
+    ensures heart { HeartMayGoOn plan.now.propagator heart.old heart.new }
 {
     let mut at = 0;
     'group: while at < held.len() {
@@ -118,7 +118,7 @@ fn feed_group<C: Composable, R: Wait>(
     requires items { AreHeld held.now }
     requires room { length (kept_of u.old) + length held.now ≤ most_kept }
     ensures taken { OnOk result (Takes C.keeps_of C.hint_of u.old (items_held held.now) u.new) }
-    ensures heart { HeartGoesOn heart.old heart.new }
+    ensures heart { HeartMayGoOn plan.now.propagator heart.old heart.new }
 {
     let mut kept = [0; GROUP];
     let count = keep_items::<C>(u.hint(), held, &mut kept);

@@ -47,7 +47,7 @@ where
     ensures ok { IfOk result (λ n. ReadsAll (units_by plan.now.column) plan.now.most n
         (λ units. Ingests (terms_of C.keeps_of C.hint_of P.reports P.breaks plan.now) units (hub_of opened.old) report.old (hub_of opened.new) report.new)
         (S.left source.old) (S.left source.new)) }
-    ensures refused { IfErr result (EndsEarly (terms_of C.keeps_of C.hint_of P.reports P.breaks plan.now) (units_by plan.now.column)
+    ensures refused { IfErr result (EndsEarly (terms_of C.keeps_of C.hint_of P.reports P.breaks plan.now) (S.last source.new) (units_by plan.now.column)
         (S.left source.old) (S.left source.new) (hub_of opened.old) report.old report.new) }
     ensures reads { HasCauseIn Fault.ReadFault (S.faults source.old) (S.faults source.new) result }
     ensures writes { HasCauseIn Fault.WriteFault (P.faults report.old) (P.faults report.new) result }
@@ -91,7 +91,7 @@ fn ingest_one_by_one<S: Source, C: Composable, R: Wait>(
     requires bound { plan.now.most ≤ source_limit }
     requires alone { IsAlone plan.now (hub_of opened.old) }
     requires start { UnitsWent (unreported C.keeps_of C.hint_of plan.now) [] (hub_of opened.old) tt (hub_of opened.old) tt }
-    ensures read { Reads (units_by plan.now.column) plan.now.most (λ units. UnitsWent (unreported C.keeps_of C.hint_of plan.now) units (hub_of opened.old) tt (hub_of opened.new) tt)
+    ensures read { Reads (S.last source.new) (units_by plan.now.column) plan.now.most (λ units. UnitsWent (unreported C.keeps_of C.hint_of plan.now) units (hub_of opened.old) tt (hub_of opened.new) tt)
         (StopsAtUnit (unreported C.keeps_of C.hint_of plan.now) (hub_of opened.old) tt tt) (S.left source.old) (S.left source.new) result }
     ensures cause { HasCauseIn Fault.ReadFault (S.faults source.old) (S.faults source.new) result }
     ensures stays { S.stands_on source.new ≡ S.stands_on source.old }

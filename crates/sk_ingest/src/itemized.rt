@@ -37,7 +37,7 @@ pub(crate) fn ingest_fields<S: Source, C: Composable, R: Wait>(
     ensures ok { IfOk result (λ n. ReadsAll (units_by plan.now.column) plan.now.most n
         (λ units. Ingests (unreported C.keeps_of C.hint_of plan.now) units (hub_of opened.old) tt (hub_of opened.new) tt)
         (S.left source.old) (S.left source.new)) }
-    ensures refused { IfErr result (EndsEarly (unreported C.keeps_of C.hint_of plan.now) (units_by plan.now.column)
+    ensures refused { IfErr result (EndsEarly (unreported C.keeps_of C.hint_of plan.now) (S.last source.new) (units_by plan.now.column)
         (S.left source.old) (S.left source.new) (hub_of opened.old) tt tt) }
     ensures cause { HasCauseIn Fault.ReadFault (S.faults source.old) (S.faults source.new) result }
     ensures stays { S.stands_on source.new ≡ S.stands_on source.old }
@@ -60,7 +60,7 @@ fn read_fields<S: Source, C: Composable, R: Wait>(
     requires bound { plan.now.most ≤ source_limit }
     requires plan { IsOfPlan plan.now window.old }
     requires start { ItemsWent (unreported C.keeps_of C.hint_of plan.now) [] (hub_of opened.old) window.old (hub_of opened.old) }
-    ensures read { Reads (units_by plan.now.column) plan.now.most
+    ensures read { Reads (S.last source.new) (units_by plan.now.column) plan.now.most
         (λ units. ItemsWent (unreported C.keeps_of C.hint_of plan.now) units (hub_of opened.old) window.new (hub_of opened.new))
         (StopsAtUnit (unreported C.keeps_of C.hint_of plan.now) (hub_of opened.old) tt tt) (S.left source.old) (S.left source.new) result }
     ensures cause { HasCauseIn Fault.ReadFault (S.faults source.old) (S.faults source.new) result }

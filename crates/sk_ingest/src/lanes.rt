@@ -41,6 +41,7 @@ where
     ensures goes { FeedsAndReads (λ windows. TakeShares C.keeps_of C.hint_of kind windows updaters.old.items updaters.new.items)
         kind stretch.old.most stretch.old stretch.new reader.old reader.new (S.left source.old) (S.left source.new) result }
     ensures most { OnOk result (stretch.new.most ≡ stretch.old.most) }
+    ensures piece { reader.old.last ≤ S.last source.old → reader.new.last ≤ S.last source.new }
     ensures cause { HasCauseIn Fault.ReadFault (S.faults source.old) (S.faults source.new) result }
     ensures stays { S.stands_on source.new ≡ S.stands_on source.old }
 {
@@ -81,6 +82,7 @@ pub(crate) fn feed_in_lanes<S: Source, T: TakesStretches + Send, R: Threads + Wa
     ensures goes { FeedsAndReads (λ windows. TakeAll (T.took kind) windows takers.old.items takers.new.items)
         kind stretch.old.most stretch.old stretch.new reader.old reader.new (S.left source.old) (S.left source.new) result }
     ensures most { OnOk result (stretch.new.most ≡ stretch.old.most) }
+    ensures piece { reader.old.last ≤ S.last source.old → reader.new.last ≤ S.last source.new }
     ensures cause { HasCauseIn Fault.ReadFault (S.faults source.old) (S.faults source.new) result }
     ensures stays { S.stands_on source.new ≡ S.stands_on source.old }
 {
@@ -111,6 +113,7 @@ fn supply_beside<S: Source, T: TakesStretches + Send, R: Threads + Wait + Sync>(
     ensures run { HaveRun (T.took kind) T.keeps_at_most crewed.old.lanes.items crewed.new.lanes.items }
     ensures supplies { Supplies kind next.old.most supply.old.outlets supply.new.outlets next.new reader.old reader.new (S.left source.old) (S.left source.new) result }
     ensures most { next.new.most ≡ next.old.most }
+    ensures piece { reader.old.last ≤ S.last source.old → reader.new.last ≤ S.last source.new }
     ensures cause { HasCauseIn Fault.ReadFault (S.faults source.old) (S.faults source.new) result }
     ensures stays { S.stands_on source.new ≡ S.stands_on source.old }
 {
@@ -126,6 +129,7 @@ fn supply_beside<S: Source, T: TakesStretches + Send, R: Threads + Wait + Sync>(
             requires same { supply.now.most ≡ next.now.most }
             ensures supplies { Supplies kind next.entry.now.most supply.entry.now.outlets supply.exit.now.outlets next.exit.now reader.entry.now reader.exit.now (S.left source.entry.now) (S.left source.exit.now) result }
             ensures most { next.exit.now.most ≡ next.entry.now.most }
+            ensures piece { reader.entry.now.last ≤ S.last source.entry.now → reader.exit.now.last ≤ S.last source.exit.now }
             ensures cause { HasCauseIn Fault.ReadFault (S.faults source.entry.now) (S.faults source.exit.now) result }
             ensures stays { S.stands_on source.exit.now ≡ S.stands_on source.entry.now }
         {

@@ -7,7 +7,7 @@ ghost use Rattle.sk_lines.specs.Spans.{AreBehind, lines_at};
 ghost use Rattle.sk_read.specs.Faults.{IsOfTaker};
 ghost use Rattle.sk_read.specs.Reads.{StopsAmong};
 ghost use Rattle.sk_hub.specs.Calls.{Takes};
-ghost use Rattle.sk_feed.specs.Hubs.{Hub, hub_of, HeartGoesOn};
+ghost use Rattle.sk_feed.specs.Hubs.{Hub, hub_of, HeartMayGoOn};
 ghost use Rattle.sk_ingest.specs.Ingests.{StopsAtUnit};
 ghost use Rattle.sk_ingest.specs.Takers.{UnitsWent, IsAlone, unreported};
 
@@ -130,7 +130,7 @@ pub(crate) fn feed_items<C: Composable, R: Wait>(
     requires items { AreItems items.now }
     requires room { length (kept_of u.old) + length items.now ≤ most_kept }
     ensures taken { OnOk result (Takes C.keeps_of C.hint_of u.old items.now u.new) }
-    ensures heart { HeartGoesOn heart.old heart.new }
+    ensures heart { HeartMayGoOn plan.now.propagator heart.old heart.new }
     ensures some { OnErr result (0 < length items.now) }
 {
     let mut at = 0;
@@ -156,13 +156,13 @@ fn feed_some<C: Composable, R: Wait>(
     requires room { length (kept_of u.old) + length items.now ≤ most_kept }
     ensures count { IfOk result (λ n. (0 < n) × (n ≤ length items.now)) }
     ensures taken { IfOk result (λ n. Takes C.keeps_of C.hint_of u.old (take n items.now) u.new) }
-    ensures heart { HeartGoesOn heart.old heart.new }
+    ensures heart { HeartMayGoOn plan.now.propagator heart.old heart.new }
 {
     let count = u.update_each(items);
     if count == items.len() {
         return Ok(count);
     }
-    propagate_until_taken(rt, heart, u, items[count], Propagation::of(plan))?;
+    propagate_until_taken(rt, heart, u, items[count], plan)?;
     Ok(count + 1)
 }
 
@@ -178,10 +178,10 @@ fn feed_one<C: Composable, R: Wait>(
     requires item { IsItem item }
     requires room { length (kept_of u.old) < most_kept }
     ensures taken { OnOk result (Takes C.keeps_of C.hint_of u.old (item ∷ []) u.new) }
-    ensures heart { HeartGoesOn heart.old heart.new }
+    ensures heart { HeartMayGoOn plan.now.propagator heart.old heart.new }
 {
     match offer(u, item) {
-        Update::Busy => propagate_until_taken(rt, heart, u, item, Propagation::of(plan)),
+        Update::Busy => propagate_until_taken(rt, heart, u, item, plan),
         Update::Filtered | Update::Kept | Update::Handed => Ok(()),
     }
 }
@@ -193,13 +193,14 @@ fn propagate_until_taken<C: Composable, R: Wait>(
     heart: &mut Heart<C>,
     u: &mut Updater<C>,
     item: u64,
-    by: Propagation,
+    plan: &Intake,
 ) -> Result<(), OutOfMemory>
     requires item { IsItem item }
     requires room { length (kept_of u.old) < most_kept }
     ensures taken { OnOk result (Takes C.keeps_of C.hint_of u.old (item ∷ []) u.new) }
-    ensures heart { HeartGoesOn heart.old heart.new }
+    ensures heart { HeartMayGoOn plan.now.propagator heart.old heart.new }
 {
+    let by = Propagation::of(plan);
     'again: for _ in rt.forever() {
         match offer(u, item) {
             Update::Busy => propagate(rt, heart, u, by)?,

@@ -89,8 +89,8 @@ fn make_ready<C: Composable, R: Wait>(
     ensures ready { OnOk result (plan.now.interim ≡ true → IsReady plan.now (hub_of opened.new)) }
 
     // What was fed is fed still.
-    ensures fed { OnOk result ((a : Hub) (lines : List (List ℕ)) → FeedsWindow C.keeps_of C.hint_of plan.now.kind lines a (hub_of opened.old)
-        → FeedsWindow C.keeps_of C.hint_of plan.now.kind lines a (hub_of opened.new)) }
+    ensures fed { OnOk result ((a : Hub) (lines : List (List ℕ)) → FeedsWindow plan.now.propagator C.keeps_of C.hint_of plan.now.kind lines a (hub_of opened.old)
+        → FeedsWindow plan.now.propagator C.keeps_of C.hint_of plan.now.kind lines a (hub_of opened.new)) }
     ensures name { opened.new.heart.view.name ≡ opened.old.heart.view.name }
 {
     if !plan.interim || !plan.propagator {

@@ -43,7 +43,7 @@ where
     ensures ok { IfOk result (λ n. ReadsAll (units_by plan.now.column) plan.now.most n
         (λ units. Ingests (unreported C.keeps_of C.hint_of plan.now) units (hub_of opened.old) tt (hub_of opened.new) tt)
         (S.left source.old) (S.left source.new)) }
-    ensures refused { IfErr result (EndsEarly (unreported C.keeps_of C.hint_of plan.now) (units_by plan.now.column)
+    ensures refused { IfErr result (EndsEarly (unreported C.keeps_of C.hint_of plan.now) (S.last source.new) (units_by plan.now.column)
         (S.left source.old) (S.left source.new) (hub_of opened.old) tt tt) }
     ensures cause { HasCauseIn Fault.ReadFault (S.faults source.old) (S.faults source.new) result }
     ensures stays { S.stands_on source.new ≡ S.stands_on source.old }
@@ -74,9 +74,10 @@ where
     requires hub { IsHub (hub_of opened.old) }
     requires few { HaveFew stretch.old.first [] opened.old.updaters.items }
     requires started { HasStarted stretch.old reader.old (S.left source.old) }
-    ensures goes { FeedsAndReads (λ windows. FeedsWindows C.keeps_of C.hint_of plan.now.kind windows (hub_of opened.old) (hub_of opened.new))
+    ensures goes { FeedsAndReads (λ windows. FeedsWindows plan.now.propagator C.keeps_of C.hint_of plan.now.kind windows (hub_of opened.old) (hub_of opened.new))
         plan.now.kind stretch.old.most stretch.old stretch.new reader.old reader.new (S.left source.old) (S.left source.new) result }
     ensures most { OnOk result (stretch.new.most ≡ stretch.old.most) }
+    ensures piece { reader.old.last ≤ S.last source.old → reader.new.last ≤ S.last source.new }
     ensures cause { HasCauseIn Fault.ReadFault (S.faults source.old) (S.faults source.new) result }
     ensures stays { S.stands_on source.new ≡ S.stands_on source.old }
 {

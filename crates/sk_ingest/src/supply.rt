@@ -27,6 +27,7 @@ pub(crate) fn read_and_give<S: Source, R: Wait>(
     requires same { supply.old.most ≡ next.old.most }
     ensures supplies { Supplies kind next.old.most supply.old.outlets supply.new.outlets next.new reader.old reader.new (S.left source.old) (S.left source.new) result }
     ensures most { next.new.most ≡ next.old.most }
+    ensures piece { reader.old.last ≤ S.last source.old → reader.new.last ≤ S.last source.new }
     ensures cause { HasCauseIn Fault.ReadFault (S.faults source.old) (S.faults source.new) result }
     ensures stays { S.stands_on source.new ≡ S.stands_on source.old }
 {

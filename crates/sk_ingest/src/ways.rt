@@ -1,7 +1,9 @@
 //! A window that is fed to the updaters of a hub, in the way that a plan wants.
-ghost use Rattle.std.specs.Prelude.{◌≡◌, ◌<◌, ◌≤◌, length, map, take, OnOk, IfOk};
+ghost use Rattle.std.specs.Prelude.{◌≡◌, ◌<◌, ◌≤◌, length, map, take, true, false, OnOk, IfOk};
 ghost use Rattle.sk_model.specs.Limits.{most_updaters};
+ghost use Rattle.sk_feed.specs.Calls.{filter_of};
 ghost use Rattle.sk_feed.specs.Rounds.{HaveRoom, HaveRoomFor};
+ghost use Rattle.sk_feed.specs.Shares.{AreFedEach};
 ghost use Rattle.sk_feed.specs.Hubs.{hub_of, IsHub, FeedsWindow, FeedsWindows};
 
 use sk_compose::Composable;
@@ -22,7 +24,8 @@ const LEAST_IN_THREADS: u32 = 4_096;
 // So is a stretch of fewer lines, if these have fewer bytes.
 const LEAST_BYTES: usize = 262_144;
 
-// Feeds a window to all updaters, one after another: to each its block.
+// Feeds a window to all updaters, one after another: to each its block. If the hub is asked before the end and has no
+// propagator, each helps after an item that it keeps while it is eager.
 pub(crate) fn feed_window<C: Composable, R: Wait>(
     rt: &R,
     opened: &mut Opened<C>,
@@ -31,7 +34,9 @@ pub(crate) fn feed_window<C: Composable, R: Wait>(
 ) -> Result<(), OutOfMemory>
     requires hub { IsHub (hub_of opened.old) }
     requires room { HaveRoom window.now.lines opened.old.updaters.items }
-    ensures fed { OnOk result (FeedsWindow C.keeps_of C.hint_of plan.now.kind window.now.lines (hub_of opened.old) (hub_of opened.new)) }
+    ensures fed { OnOk result (FeedsWindow plan.now.propagator C.keeps_of C.hint_of plan.now.kind window.now.lines (hub_of opened.old) (hub_of opened.new)) }
+    ensures helped { OnOk result (plan.now.propagator ≡ false → plan.now.interim ≡ true
+        → AreFedEach (filter_of C.keeps_of C.early_of C.hint_of) plan.now.kind window.now.lines opened.old.updaters.items opened.new.updaters.items) }
 {
     // It shows the proof how many updaters a hub has at most.
     let _admitted = opened.heart.admitted();
@@ -79,7 +84,7 @@ where
     requires places { most_updaters ≤ feeders.old.most }
     requires room { HaveRoom window.now.lines opened.old.updaters.items }
     requires hub { IsHub (hub_of opened.old) }
-    ensures fed { OnOk result (FeedsWindow C.keeps_of C.hint_of plan.now.kind window.now.lines (hub_of opened.old) (hub_of opened.new)) }
+    ensures fed { OnOk result (FeedsWindow plan.now.propagator C.keeps_of C.hint_of plan.now.kind window.now.lines (hub_of opened.old) (hub_of opened.new)) }
     ensures stays { feeders.new ≡ feeders.old }
 {
     if window.len() < LEAST_IN_THREADS || feeders.threads() < 2 || are_eager(&opened.updaters) {
@@ -87,14 +92,9 @@ where
     }
     // It shows the proof how many updaters a hub has at most.
     let _admitted = opened.heart.admitted();
-    feeders.feed_window(
-        rt,
-        &mut opened.heart,
-        &mut opened.updaters,
-        window,
-        plan.kind,
-        Propagation::of(plan),
-    )
+    let by = Propagation::of(plan);
+    let updaters = &mut opened.updaters;
+    feeders.feed_window(rt, &mut opened.heart, updaters, window, plan.kind, by)
 }
 
 // Feeds the windows of a stretch to all updaters, one after another.
@@ -106,7 +106,7 @@ pub(crate) fn feed_stretch<C: Composable, R: Wait>(
 ) -> Result<(), OutOfMemory>
     requires hub { IsHub (hub_of opened.old) }
     requires room { HaveRoomFor stretch.now.windows opened.old.updaters.items }
-    ensures fed { OnOk result (FeedsWindows C.keeps_of C.hint_of plan.now.kind stretch.now.windows (hub_of opened.old) (hub_of opened.new)) }
+    ensures fed { OnOk result (FeedsWindows plan.now.propagator C.keeps_of C.hint_of plan.now.kind stretch.now.windows (hub_of opened.old) (hub_of opened.new)) }
 {
     feed_windows_in_turn(rt, opened, stretch.windows(), plan)
 }
@@ -120,7 +120,7 @@ fn feed_windows_in_turn<C: Composable, R: Wait>(
 ) -> Result<(), OutOfMemory>
     requires hub { IsHub (hub_of opened.old) }
     requires room { HaveRoomFor (map (λ w. w.lines) windows.now) opened.old.updaters.items }
-    ensures fed { OnOk result (FeedsWindows C.keeps_of C.hint_of plan.now.kind (map (λ w. w.lines) windows.now) (hub_of opened.old) (hub_of opened.new)) }
+    ensures fed { OnOk result (FeedsWindows plan.now.propagator C.keeps_of C.hint_of plan.now.kind (map (λ w. w.lines) windows.now) (hub_of opened.old) (hub_of opened.new)) }
 {
     'window: for next in 0..windows.len() {
         feed_window(rt, opened, &windows[next], plan)?;

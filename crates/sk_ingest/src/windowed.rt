@@ -119,7 +119,7 @@ pub(crate) fn read_field_windows<S: Source, C: Composable, P: Report<C>, R: Wait
     ensures stays { S.stands_on source.new ≡ S.stands_on source.old }
     ensures report { ReportGoesOn P.faults P.stands_on P.sketch Fault.WriteFault report.old report.new result }
     ensures setup { OnOk result (IsSetUp plan.now window.new (hub_of opened.new) (P.sketch report.new)) }
-    ensures read { Reads (units_by plan.now.column) plan.now.most
+    ensures read { Reads (S.last source.new) (units_by plan.now.column) plan.now.most
         (λ units. WindowsWent (terms_of C.keeps_of C.hint_of P.reports P.breaks plan.now) units (hub_of opened.old) report.old window.new.lines (hub_of opened.new) report.new)
         (StopsAtUnit (terms_of C.keeps_of C.hint_of P.reports P.breaks plan.now) (hub_of opened.old) report.old report.new) (S.left source.old) (S.left source.new) result }
     ensures reads { HasCauseIn Fault.ReadFault (S.faults source.old) (S.faults source.new) result }

@@ -37,7 +37,7 @@ where
     requires empty { round.old.window.lines ≡ [] }
     requires setup { IsSetUp plan.now round.old.window (hub_of opened.old) (P.sketch report.old) }
     requires start { WindowsWent (terms_of C.keeps_of C.hint_of P.reports P.breaks plan.now) [] (hub_of opened.old) report.old [] (hub_of opened.old) report.old }
-    ensures read { Reads (units_by plan.now.column) plan.now.most
+    ensures read { Reads (S.last source.new) (units_by plan.now.column) plan.now.most
         (λ units. WindowsWent (terms_of C.keeps_of C.hint_of P.reports P.breaks plan.now) units (hub_of opened.old) report.old round.new.window.lines (hub_of opened.new) report.new)
         (StopsAtUnit (terms_of C.keeps_of C.hint_of P.reports P.breaks plan.now) (hub_of opened.old) report.old report.new) (S.left source.old) (S.left source.new) result }
     ensures reads { HasCauseIn Fault.ReadFault (S.faults source.old) (S.faults source.new) result }

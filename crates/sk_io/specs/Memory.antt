@@ -32,10 +32,20 @@ called c = record c { made = one_more c.made }
 abbrev pub failed : Calls → Calls
 failed c = record c { faults = one_more c.faults }
 
--- a source: the bytes that it has left, the most that it gives a call, and its calls
+-- a text that is read: the bytes that are left, and how many the last read gave
+pub record TextState : Type 0 where
+  pub left : List ℕ
+  pub last : ℕ
+
+-- before the first read
+abbrev pub unread_text : List ℕ → TextState
+unread_text bytes = record { left = bytes; last = 0 }
+
+-- a source: the bytes that it has left, the most that it gives a call, how many the last read gave, and its calls
 pub record SourceState : Type 0 where
   pub left : List ℕ
   pub piece : ℕ
+  pub last : ℕ
   pub calls : Calls
 
 -- how many bytes the next read gives to a buffer of this length
@@ -46,7 +56,7 @@ next_given s len = min (min len s.piece) (length s.left)
 abbrev pub after_read : SourceState → ℕ → SourceState
 after_read s len = if next_fails s.calls
     then record s { calls = failed (called s.calls) }
-    else record s { left = drop (next_given s len) s.left; calls = called s.calls }
+    else record s { left = drop (next_given s len) s.left; last = next_given s len; calls = called s.calls }
 
 -- a sink: the bytes that were written, the most that it holds, the most that it takes a call, and
 -- its calls
@@ -71,13 +81,14 @@ after_write s bytes = if refuses s
     else record s { written = s.written ++ take (next_taken s (length bytes)) bytes; calls = called s.calls }
 
 -- a shelf: its files, its calls of `open` and of `read`, the names that were opened, as long as there was memory for
--- them, and the file that was opened or read last
+-- them, the file that was opened or read last, and how many bytes the last read gave
 pub record ShelfState : Type 0 where
   pub files : List (List ℕ × List ℕ)
   pub opens : Calls
   pub reads : Calls
   pub opened : Option (List (List ℕ))
   pub last : MemFile
+  pub last_read : ℕ
 
 -- each file as its name with its bytes
 abbrev pub stored : {Z Y : Type 0} → List (String Z × Vec ℕ Y) → List (List ℕ × List ℕ)
@@ -105,11 +116,11 @@ after_open s name = if cannot_open s name
     then record s { opens = failed (called s.opens) }
     else record s { opens = called s.opens }
 
--- after a read of this file
-abbrev pub after_shelf_read : ShelfState → MemFile → ShelfState
-after_shelf_read s file = if next_fails s.reads
+-- after a read of this file that gives this many bytes if it does not fail
+abbrev pub after_shelf_read : ShelfState → MemFile → ℕ → ShelfState
+after_shelf_read s file n = if next_fails s.reads
     then record s { reads = failed (called s.reads); last = file }
-    else record s { reads = called s.reads; last = file }
+    else record s { reads = called s.reads; last = file; last_read = n }
 
 -- a link: its traffic, how many bytes may be written on it, the most that one call moves, and its calls
 pub record LinkState : Type 0 where

@@ -3,6 +3,7 @@ ghost use Rattle.std.specs.Prelude.{◌≡◌, ◌<◌, ◌≤◌, ◌↔◌, le
 ghost use Rattle.std.specs.Io.{ReadsAtMost};
 ghost use Rattle.std.specs.Io.KnownBytes.{ReadConsumes};
 ghost use Rattle.sk_model.specs.Causes.{HasCauseIn};
+ghost use Rattle.sk_io.specs.Base.{LastRead};
 
 use crate::stream::{Failed, Source};
 
@@ -36,6 +37,7 @@ pub fn read_within<S: Source>(
     ensures bound { ReadsAtMost result piece.new }
     ensures room { IfOk result (λ n. n ≤ room) }
     ensures bytes { ReadConsumes (S.left source.old) (S.left source.new) result piece.new }
+    ensures last { LastRead (S.last source.old) (S.last source.new) result }
     ensures too_much { IsErrOf result BoundFault.TooMuch ↔ (room ≡ 0) }
     ensures cause { HasCauseIn BoundFault.ReadFault (S.faults source.old) (S.faults source.new) result }
     ensures stays { S.stands_on source.new ≡ S.stands_on source.old }

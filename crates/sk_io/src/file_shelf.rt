@@ -2,6 +2,7 @@ ghost use Rattle.std.specs.Prelude.{◌≡◌, ◌<◌, None, length};
 ghost use Rattle.std.specs.Io.{ReadsAtMost};
 ghost use Rattle.std.specs.Io.KnownBytes.{ReadConsumes};
 ghost use Rattle.sk_model.specs.Causes.{HasCause};
+ghost use Rattle.sk_io.specs.Base.{LastRead};
 
 use crate::opener::Opener;
 use crate::shelf::Shelf;
@@ -15,6 +16,8 @@ pub struct FileShelf<R> {
     rt: R,
     open_faults: u64,
     read_faults: u64,
+    // how many bytes the last read gave
+    last_read: usize,
 }
 
 impl<R: Opener> FileShelf<R> {
@@ -28,6 +31,7 @@ impl<R: Opener> FileShelf<R> {
             rt,
             open_faults: 0,
             read_faults: 0,
+            last_read: 0,
         }
     }
 }
@@ -38,6 +42,8 @@ impl<R: Opener> Shelf for FileShelf<R> {
     ghost open_faults = { λ s. s.open_faults };
 
     ghost read_faults = { λ s. s.read_faults };
+
+    ghost last_read = { λ s. s.last_read };
 
     ghost files = { λ _. None };
 
@@ -60,6 +66,7 @@ impl<R: Opener> Shelf for FileShelf<R> {
         ensures bytes { ReadConsumes None None result buf.new }
         ensures last { let shelf = ⟦<FileShelf<R> as Shelf>⟧ in
             shelf.rest self.new ≡ shelf.left self.new file.new }
+        ensures given { let last = ⟦<FileShelf<R> as Shelf>⟧.last_read in LastRead (last self.old) (last self.new) result }
         ensures file { ReadConsumes (R.File.remaining file.old) (R.File.remaining file.new) result buf.new }
         ensures cause { let faults = ⟦<FileShelf<R> as Shelf>⟧.read_faults in
             HasCause (faults self.old) (faults self.new) result }
@@ -67,7 +74,10 @@ impl<R: Opener> Shelf for FileShelf<R> {
             (shelf.open_faults self.new ≡ shelf.open_faults self.old) × (shelf.opened self.new ≡ shelf.opened self.old) }
     {
         match read_some(file, buf) {
-            Ok(n) => Ok(n),
+            Ok(n) => {
+                self.last_read = n;
+                Ok(n)
+            }
             Err(_) => Err(count_fault(&mut self.read_faults)),
         }
     }

@@ -49,6 +49,8 @@ pub trait Link {
 #[derive(Drop)]
 pub struct OnLink<'a, L: Link> {
     pub link: &'a mut L,
+    /// How many bytes the last read by this source gave.
+    pub last: usize,
 }
 
 impl<'a, L: Link> OnLink<'a, L> {
@@ -56,8 +58,9 @@ impl<'a, L: Link> OnLink<'a, L> {
     pub fn new(link: &'a mut L) -> Self
         ensures link { result.link.ghost_name ≡ link.entry.ghost_name }
         ensures link_now { result.link.now ≡ link.old }
+        ensures last { result.last ≡ 0 }
     {
-        OnLink { link }
+        OnLink { link, last: 0 }
     }
 }
 
@@ -65,6 +68,8 @@ impl<L: Link> Source for OnLink<'_, L> {
     ghost left = { λ s. left_of (L.traffic s.link.now) };
 
     ghost faults = { λ s. L.faults s.link.now };
+
+    ghost last = { λ s. s.last };
 
     ghost stands_on = { λ s. record {
       borrows = s.link.ghost_name ∷ [];
@@ -75,7 +80,8 @@ impl<L: Link> Source for OnLink<'_, L> {
     } };
 
     fn read(&mut self, buf: &mut [u8]) -> Result<usize, Failed> {
-        self.link.read(buf)
+        self.last = self.link.read(buf)?;
+        Ok(self.last)
     }
 }
 

@@ -3,6 +3,7 @@ ghost use Rattle.std.specs.Io.{ReadsAtMost};
 ghost use Rattle.std.specs.Io.KnownBytes.{ReadConsumes};
 ghost use Rattle.std.specs.Option.{option_map};
 ghost use Rattle.sk_model.specs.Causes.{HasCause};
+ghost use Rattle.sk_io.specs.Base.{LastRead};
 ghost use Rattle.sk_io.specs.Files.{file_named, Opens};
 ghost use Rattle.sk_io.specs.Memory.{planned, next_fails, cannot_open, after_open, after_shelf_read, unread, bytes_of, stored, names_in};
 
@@ -23,6 +24,8 @@ pub struct MemShelf {
     opened: Option<Vec<String>>,
     // the file that was opened or read last
     last: MemFile,
+    // how many bytes the last read gave
+    last_read: usize,
 }
 
 impl Model for MemShelf {
@@ -31,7 +34,7 @@ impl Model for MemShelf {
     ghost Value = { ShelfState };
 
     ghost view = { λ s.
-        record { files = stored s.files.items; opens = s.opens; reads = s.reads; opened = names_in s.opened; last = s.last } };
+        record { files = stored s.files.items; opens = s.opens; reads = s.reads; opened = names_in s.opened; last = s.last; last_read = s.last_read } };
 }
 
 /// An open file of a `MemShelf`: its number there, from 0, and how many bytes it has given.
@@ -51,6 +54,7 @@ impl MemShelf {
           reads = planned read_fails.items;
           opened = Some [];
           last = result.last;
+          last_read = 0;
         } }
     {
         MemShelf {
@@ -59,6 +63,7 @@ impl MemShelf {
             opens: Plan::new(open_fails),
             reads: Plan::new(read_fails),
             last: MemFile { number: 0, at: 0 },
+            last_read: 0,
         }
     }
 
@@ -80,6 +85,8 @@ impl Shelf for MemShelf {
 
     ghost read_faults = { λ s. s.reads.faults };
 
+    ghost last_read = { λ s. s.last_read };
+
     ghost files = { λ s. Some s.files };
 
     ghost opened = { λ s. s.opened };
@@ -96,6 +103,7 @@ impl Shelf for MemShelf {
         ensures opened { Opens self.old.opened self.new.opened (name.now ∷ []) }
         ensures cause { HasCause self.old.opens.faults self.new.opens.faults result }
         ensures fails { is_err result ≡ cannot_open self.old name.now }
+        ensures given { self.new.last_read ≡ self.old.last_read }
         ensures shelf { self.new ≡ record (after_open self.old name.now) { opened = self.new.opened; last = self.new.last } }
     {
         note(&mut self.opened, name);
@@ -117,10 +125,11 @@ impl Shelf for MemShelf {
         requires { 0 < length buf.old }
         ensures bound { ReadsAtMost result buf.new }
         ensures bytes { ReadConsumes (Some (unread self.old file.old)) (Some (unread self.new file.new)) result buf.new }
+        ensures given { LastRead self.old.last_read self.new.last_read result }
         ensures cause { HasCause self.old.reads.faults self.new.reads.faults result }
         ensures fails { is_err result ≡ next_fails self.old.reads }
         ensures count { IfOk result (λ n. n ≡ min (length buf.old) (length (unread self.old file.old))) }
-        ensures shelf { self.new ≡ after_shelf_read self.old file.new }
+        ensures shelf { self.new ≡ after_shelf_read self.old file.new (min (length buf.old) (length (unread self.old file.old))) }
         ensures last { self.new.last ≡ file.new }
     {
         if self.reads.call() {
@@ -131,6 +140,7 @@ impl Shelf for MemShelf {
         let n = give(left_of(&self.files, file), buf, most);
         file.at += n;
         self.last = *file;
+        self.last_read = n;
         Ok(n)
     }
 }

@@ -2,7 +2,7 @@ ghost use Rattle.std.specs.Prelude.{◌≡◌, ◌<◌, ◌≤◌, [], ◌++◌,
 ghost use Rattle.std.specs.Io.{ReadsAtMost};
 ghost use Rattle.std.specs.Io.KnownBytes.{ReadConsumes};
 ghost use Rattle.sk_model.specs.Causes.{HasCause};
-ghost use Rattle.sk_io.specs.Base.{nothing};
+ghost use Rattle.sk_io.specs.Base.{nothing, LastRead};
 ghost use Rattle.sk_io.specs.Memory.{planned, next_fails, next_given, after_read};
 
 use crate::plan::Plan;
@@ -15,6 +15,8 @@ use std::marker::Model;
 pub struct MemSource {
     rest: Rest,
     piece: usize,
+    // how many bytes the last read gave
+    last: usize,
     plan: Plan,
 }
 
@@ -24,7 +26,7 @@ impl Model for MemSource {
 
     ghost Value = { SourceState };
 
-    ghost view = { λ s. record { left = s.rest; piece = s.piece; calls = s.plan } };
+    ghost view = { λ s. record { left = s.rest; piece = s.piece; last = s.last; calls = s.plan } };
 
     ghost invariant = { λ s. 0 < s.piece };
 }
@@ -34,11 +36,12 @@ impl MemSource {
     /// `fails`, counted from 0, fail.
     pub fn new(bytes: Vec<u8>, piece: usize, fails: Vec<u64>) -> Self
         requires { 0 < piece }
-        ensures { result ≡ record { left = bytes.items; piece = piece; calls = planned fails.items } }
+        ensures { result ≡ record { left = bytes.items; piece = piece; last = 0; calls = planned fails.items } }
     {
         MemSource {
             rest: Rest::new(bytes),
             piece,
+            last: 0,
             plan: Plan::new(fails),
         }
     }
@@ -49,6 +52,8 @@ impl Source for MemSource {
 
     ghost faults = { λ s. s.calls.faults };
 
+    ghost last = { λ s. s.last };
+
     ghost stands_on = { λ _. nothing };
 
     /// Fails exactly at the calls with the listed numbers.
@@ -56,6 +61,7 @@ impl Source for MemSource {
         requires { 0 < length buf.old }
         ensures bound { ReadsAtMost result buf.new }
         ensures bytes { ReadConsumes (Some self.old.left) (Some self.new.left) result buf.new }
+        ensures last { LastRead self.old.last self.new.last result }
         ensures cause { HasCause self.old.calls.faults self.new.calls.faults result }
         ensures fails { is_err result ≡ next_fails self.old.calls }
         ensures count { IfOk result (λ n. n ≡ next_given self.old (length buf.old)) }
@@ -64,6 +70,7 @@ impl Source for MemSource {
         if self.plan.call() {
             return Err(self.plan.fail());
         }
-        Ok(self.rest.give(buf, self.piece))
+        self.last = self.rest.give(buf, self.piece);
+        Ok(self.last)
     }
 }

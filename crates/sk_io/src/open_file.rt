@@ -33,6 +33,7 @@ impl<'a, F: Shelf> OpenFile<'a, F> {
         ensures opened { Opens (F.opened shelf.old) (F.opened (shelf_in result).now) (name.now ∷ []) }
         ensures cause { HasCause (F.open_faults shelf.old) (F.open_faults (shelf_in result).now) result }
         ensures reads { F.read_faults (shelf_in result).now ≡ F.read_faults shelf.old }
+        ensures given { F.last_read (shelf_in result).now ≡ F.last_read shelf.old }
         ensures files { F.files (shelf_in result).now ≡ F.files shelf.old }
     {
         match shelf.open(name) {
@@ -55,6 +56,8 @@ impl<F: Shelf> Source for OpenFile<'_, F> {
     ghost left = { λ s. F.left s.shelf.now s.file };
 
     ghost faults = { λ s. F.read_faults s.shelf.now };
+
+    ghost last = { λ s. F.last_read s.shelf.now };
 
     ghost stands_on = { λ s. record {
       borrows = s.shelf.ghost_name ∷ [];

@@ -3,7 +3,7 @@ ghost use Rattle.std.specs.Prelude.{◌≡◌, ◌<◌, [], ◌∷◌, ℕ, List
 ghost use Rattle.std.specs.Io.{ReadsAtMost};
 ghost use Rattle.std.specs.Io.KnownBytes.{ReadConsumes};
 ghost use Rattle.sk_model.specs.Causes.{HasCause};
-ghost use Rattle.sk_io.specs.Base.{Base};
+ghost use Rattle.sk_io.specs.Base.{Base, LastRead};
 ghost use Rattle.sk_io.specs.Files.{told_file, IsMissing, Opens};
 
 use crate::stream::{Failed, Source};
@@ -17,6 +17,9 @@ pub trait Shelf {
 
     /// How often a `read` has failed. The count stops at the largest `u64`.
     ghost read_faults: { Self → ℕ };
+
+    /// How many bytes the last `read` gave that did not fail, 0 before the first.
+    ghost last_read: { Self → ℕ };
 
     /// The bytes of each file with its name, if the shelf knows them.
     ghost files: { Self → Option (List (List ℕ × List ℕ)) };
@@ -39,6 +42,7 @@ pub trait Shelf {
         ensures opened { Opens (opened self.old) (opened self.new) (name.now ∷ []) }
         ensures cause { HasCause (open_faults self.old) (open_faults self.new) result }
         ensures reads { read_faults self.new ≡ read_faults self.old }
+        ensures given { last_read self.new ≡ last_read self.old }
         ensures files { files self.new ≡ files self.old };
 
     /// Reads some bytes to the start of `buf`, none only at the end. A read that fails takes none.
@@ -46,6 +50,7 @@ pub trait Shelf {
         requires { 0 < length buf.old }
         ensures bound { ReadsAtMost result buf.new }
         ensures bytes { ReadConsumes (left self.old file.old) (left self.new file.new) result buf.new }
+        ensures given { LastRead (last_read self.old) (last_read self.new) result }
         ensures last { rest self.new ≡ left self.new file.new }
         ensures cause { HasCause (read_faults self.old) (read_faults self.new) result }
         ensures opens { (open_faults self.new ≡ open_faults self.old) × (opened self.new ≡ opened self.old) }
@@ -76,6 +81,8 @@ impl<F: Shelf> Source for OnShelf<'_, F> {
     ghost left = { λ s. F.left s.shelf.now s.file.now };
 
     ghost faults = { λ s. F.read_faults s.shelf.now };
+
+    ghost last = { λ s. F.last_read s.shelf.now };
 
     ghost stands_on = { λ s. record {
       borrows = s.shelf.ghost_name ∷ s.file.ghost_name ∷ [];

@@ -14,6 +14,8 @@ use std::io::Read;
 #[derive(Drop)]
 pub struct StdSource<R> {
     inner: R,
+    // how many bytes the last read gave
+    last: usize,
     faults: u64,
 }
 
@@ -21,9 +23,14 @@ impl<R: Read> StdSource<R> {
     /// A source of what `inner` gives.
     pub fn new(inner: R) -> Self
         ensures left { ⟦<StdSource<R> as Source>⟧.left result ≡ R.remaining inner }
+        ensures last { ⟦<StdSource<R> as Source>⟧.last result ≡ 0 }
         ensures faults { ⟦<StdSource<R> as Source>⟧.faults result ≡ 0 }
     {
-        StdSource { inner, faults: 0 }
+        StdSource {
+            inner,
+            last: 0,
+            faults: 0,
+        }
     }
 }
 
@@ -32,11 +39,16 @@ impl<R: Read> Source for StdSource<R> {
 
     ghost faults = { λ s. s.faults };
 
+    ghost last = { λ s. s.last };
+
     ghost stands_on = { λ _. nothing };
 
     fn read(&mut self, buf: &mut [u8]) -> Result<usize, Failed> {
         match read_some(&mut self.inner, buf) {
-            Ok(n) => Ok(n),
+            Ok(n) => {
+                self.last = n;
+                Ok(n)
+            }
             Err(_) => Err(count_fault(&mut self.faults)),
         }
     }

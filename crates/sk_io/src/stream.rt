@@ -3,7 +3,7 @@ ghost use Rattle.std.specs.Prelude.{◌≡◌, ◌<◌, ℕ, List, Option, lengt
 ghost use Rattle.std.specs.Io.{ReadsAtMost, WritesAtMost};
 ghost use Rattle.std.specs.Io.KnownBytes.{Appends, ReadConsumes, WriteAppends};
 ghost use Rattle.sk_model.specs.Causes.{HasCause, AppendsPart};
-ghost use Rattle.sk_io.specs.Base.{Base};
+ghost use Rattle.sk_io.specs.Base.{Base, LastRead};
 
 /// A call on a stream failed, and raised its count of faults.
 #[derive(Clone, Copy, Debug, PartialEq, Eq)]
@@ -17,6 +17,9 @@ pub trait Source {
     /// How often a read has failed. The count stops at the largest `u64`, and only a read that fails moves it.
     ghost faults: { Self → ℕ };
 
+    /// How many bytes the last read gave that did not fail, 0 before the first.
+    ghost last: { Self → ℕ };
+
     /// What no read changes.
     ghost stands_on: { Self → Base };
 
@@ -25,6 +28,7 @@ pub trait Source {
         requires { 0 < length buf.old }
         ensures bound { ReadsAtMost result buf.new }
         ensures bytes { ReadConsumes (left self.old) (left self.new) result buf.new }
+        ensures last { LastRead (last self.old) (last self.new) result }
         ensures cause { HasCause (faults self.old) (faults self.new) result }
         ensures stays { stands_on self.new ≡ stands_on self.old };
 }

@@ -6,15 +6,17 @@ use Rattle.sk_model.specs.Limits.{line_limit}
 use Rattle.sk_model.specs.Lines.{lines_of, AreWithin}
 use Rattle.sk_model.specs.Missing.{Begins}
 use Rattle.sk_read.specs.Reads.{IsSettled, BreaksOff, StopsAt, Ends}
-use Rattle.sk_read.specs.Units.{units_of, IsSoundUpTo, IsUnevenBehind}
+use Rattle.sk_read.specs.Units.{units_by, units_of, IsSoundUpTo, IsUnevenBehind}
 use Rattle.sk_read.specs.declared.fault.Fault.{Fault}
 use Rattle.sk_read.specs.declared.fault.Fault.TheVariants as fault
 use Rattle.sk_read.specs.declared.units.Units.TheVariants.{Lines}
-use Rattle.sk_read.proofs.LineEnds.{settled_so}
+use Rattle.sk_read.proofs.LineEnds.{settled_so, breaks_within}
 use Rattle.sk_label.specs.declared.fault.LineStop.{LineStop}
 use Rattle.sk_label.specs.declared.fault.LineStop.TheVariants as stop
 use Rattle.sk_label.specs.Rules.{Rules, IsBad, IsRefused}
-use Rattle.sk_label.specs.Goes.{setting, EndsBefore, WroteSoFar, WrotePartAt}
+use Rattle.sk_label.specs.declared.fault.LabelFault.{LabelFault}
+use Rattle.sk_label.specs.declared.fault.LabelFault.TheVariants as label
+use Rattle.sk_label.specs.Goes.{Setting, setting, EndsBefore, WroteSoFar, WrotePartAt}
 use Rattle.sk_label.specs.Stops.{Takes, StopsBy}
 use Rattle.sk_label.specs.Faults.{fault_at}
 use Rattle.sk_label.specs.Carrying.{Shown, Carried, BreaksAt, Broke, Dropped, fault_by}
@@ -59,15 +61,15 @@ broke_at Went a b c lines line why carried stops cause = record {
 
 -- ---- its end
 
-pub stops_so : (Known Known' : List (List ℕ) → List ℕ → Type 0) (most : ℕ) (old new : Option (List ℕ)) → ((lines : List (List ℕ)) (line : List ℕ) → Known lines line → Known' lines line) → StopsAt Lines most Known old new →
-    StopsAt Lines most Known' old new
+pub stops_so : {last : ℕ} (Known Known' : List (List ℕ) → List ℕ → Type 0) (most : ℕ) (old new : Option (List ℕ)) → ((lines : List (List ℕ)) (line : List ℕ) → Known lines line → Known' lines line) → StopsAt last Lines most Known old new →
+    StopsAt last Lines most Known' old new
 stops_so Known Known' most old new so (line, off) = (
   line,
   record { given = off.given; taken = off.taken; consumed = off.consumed; size = off.size; in_time = off.in_time; known = so off.given line off.known; comes = off.comes },
 )
 
-pub breaks_so : (Known Known' : List (List ℕ) → Type 0) (Comes Comes' : List (List ℕ) → List ℕ → Type 0) (most : ℕ) (old new : Option (List ℕ)) → ((lines : List (List ℕ)) → Known lines → Known' lines) →
-    ((lines : List (List ℕ)) (text : List ℕ) → Comes lines text → Comes' lines text) → BreaksOff Lines most Known Comes old new → BreaksOff Lines most Known' Comes' old new
+pub breaks_so : {last : ℕ} (Known Known' : List (List ℕ) → Type 0) (Comes Comes' : List (List ℕ) → List ℕ → Type 0) (most : ℕ) (old new : Option (List ℕ)) → ((lines : List (List ℕ)) → Known lines → Known' lines) →
+    ((lines : List (List ℕ)) (text : List ℕ) → Comes lines text → Comes' lines text) → BreaksOff last Lines most Known Comes old new → BreaksOff last Lines most Known' Comes' old new
 breaks_so Known Known' Comes Comes' most old new so on off = record {
   given = off.given;
   taken = off.taken;
@@ -78,6 +80,16 @@ breaks_so Known Known' Comes Comes' most old new so on off = record {
   comes = settled_so (λ (text : List ℕ). Begins off.given (lines_of text) × Comes off.given text) (λ (text : List ℕ). Begins off.given (lines_of text) × Comes' off.given text) new off.taken
       (λ text here. (here.0, on off.given text here.1)) off.comes;
 }
+
+-- with a read of more bytes it ended so too
+pub ends_within : (rules : Rules) (a b most : ℕ) (old new : Setting) (f : LabelFault) → a ≤ b → EndsBefore rules a most old new f → EndsBefore rules b most old new f
+ends_within rules a b most old new label.OutOfMemory within off = breaks_within a b (units_by 0) most _ _ old.left new.left within off
+ends_within rules a b most old new label.ReadFault within some = some
+ends_within rules a b most old new label.TooMuch within some = some
+ends_within rules a b most old new (label.LongLine n) within off = breaks_within a b (units_by 0) most _ _ old.left new.left within off
+ends_within rules a b most old new (label.BadLine n) within stops = (stops.0, breaks_within a b (units_by 0) most _ _ old.left new.left within stops.1)
+ends_within rules a b most old new (label.Refused n) within stops = (stops.0, breaks_within a b (units_by 0) most _ _ old.left new.left within stops.1)
+ends_within rules a b most old new label.WriteFault within stops = (stops.0, breaks_within a b (units_by 0) most _ _ old.left new.left within stops.1)
 
 take_within : (m n : ℕ) (xs : List (List ℕ)) → m ≤ n → take m (take n xs) ≡ take m xs
 take_within zero n xs within = refl
@@ -92,7 +104,7 @@ sound_before n text sound =
     subst (AreWithin line_limit) (take_within n (n + 1) (lines_of text) (omega arith)) (All-take Short n (take (n + 1) (lines_of text)) sound)
 
 -- no column of records is read
-no_record : (Known : List (List ℕ) → Type 0) (n most : ℕ) (old new : Option (List ℕ)) → BreaksOff Lines most Known (λ lines text. (n ≡ length lines + 1) × IsUnevenBehind Lines (length lines) text) old new → ⊥
+no_record : {last : ℕ} (Known : List (List ℕ) → Type 0) (n most : ℕ) (old new : Option (List ℕ)) → BreaksOff last Lines most Known (λ lines text. (n ≡ length lines + 1) × IsUnevenBehind Lines (length lines) text) old new → ⊥
 no_record Known n most old new off = go off.comes
   where
     go : IsSettled (λ text. Begins off.given (units_of Lines text) × ((n ≡ length off.given + 1) × IsUnevenBehind Lines (length off.given) text)) new off.taken → ⊥
@@ -107,8 +119,8 @@ module _ (Went : List (List ℕ) → Type 0) (a b : Shown) (most : ℕ) (old new
   same Comes lines text comes = comes
 
   -- it stopped at a line of this number
-  stop_ends : (n : ℕ) (why : LineStop) → StopsAt Lines most (λ lines line. (n ≡ length lines + 1) × Broke a b lines line why) old new →
-      EndsBefore a.rules most (setting old a.written) (setting new b.written) (fault_at why n)
+  stop_ends : {last : ℕ} (n : ℕ) (why : LineStop) → StopsAt last Lines most (λ lines line. (n ≡ length lines + 1) × Broke a b lines line why) old new →
+      EndsBefore a.rules last most (setting old a.written) (setting new b.written) (fault_at why n)
   stop_ends n stop.OutOfMemory stops =
       breaks_so (λ lines. (n ≡ length lines + 1) × Broke a b lines stops.0 stop.OutOfMemory) (WroteSoFar a.rules a.written b.written)
       (λ lines text. Begins (lines ++ stops.0 ∷ []) (units_of Lines text) × IsSoundUpTo Lines (length lines + 1) text) (λ lines text. IsSoundUpTo Lines (length lines) text) most old new
@@ -122,15 +134,15 @@ module _ (Went : List (List ℕ) → Type 0) (a b : Shown) (most : ℕ) (old new
       stops_so (λ lines line. (n ≡ length lines + 1) × Broke a b lines line stop.Refused) (λ lines line. (n ≡ length lines + 1) × WroteSoFar a.rules a.written b.written lines × IsRefused a.rules lines line) most old new
       (λ lines line at. (at.0, at.1.breaks.0, at.1.breaks.1)) stops
 
-  pub ends_before : (carried : Option LineStop) (f : Fault) → Ends Lines most (Carried Went a b) (Dropped a b carried) old new f →
-      EndsBefore a.rules most (setting old a.written) (setting new b.written) (fault_by f carried)
-  ends_before carried fault.OutOfMemory (inl off) =
+  pub ends_before : (last : ℕ) (carried : Option LineStop) (f : Fault) → Ends last Lines most (Carried Went a b) (Dropped a b carried) old new f →
+      EndsBefore a.rules last most (setting old a.written) (setting new b.written) (fault_by f carried)
+  ends_before last carried fault.OutOfMemory (inl off) =
       breaks_so (Carried Went a b) (WroteSoFar a.rules a.written b.written) (λ lines text. IsSoundUpTo Lines (length lines) text) (λ lines text. IsSoundUpTo Lines (length lines) text) most old new known
       (same (λ lines text. IsSoundUpTo Lines (length lines) text)) off
-  ends_before carried fault.OutOfMemory (inr stops) = absurd stops.1.known
-  ends_before carried fault.ReadFault some = record { taken = some.taken; consumed = some.consumed; size = some.size; sound = some.sound; gave = some.gave.wrote }
-  ends_before carried fault.TooMuch some = record { taken = some.taken; consumed = some.consumed; size = some.size; sound = some.sound; gave = some.gave.wrote }
-  ends_before carried (fault.LongLine n) off = record {
+  ends_before last carried fault.OutOfMemory (inr stops) = absurd stops.1.known
+  ends_before last carried fault.ReadFault some = record { taken = some.taken; consumed = some.consumed; size = some.size; sound = some.sound; gave = some.gave.wrote }
+  ends_before last carried fault.TooMuch some = record { taken = some.taken; consumed = some.consumed; size = some.size; sound = some.sound; gave = some.gave.wrote }
+  ends_before last carried (fault.LongLine n) off = record {
     given = off.given;
     taken = off.taken;
     consumed = off.consumed;
@@ -139,7 +151,7 @@ module _ (Went : List (List ℕ) → Type 0) (a b : Shown) (most : ℕ) (old new
     known = off.known.wrote;
     comes = off.comes;
   }
-  ends_before carried (fault.BadCsv n) off = absurd (no_record (Carried Went a b) n most old new off)
-  ends_before carried fault.WriteFault stops = absurd stops.1.known
-  ends_before None (fault.BadItem n) stops = absurd stops.1.known.1
-  ends_before (Some why) (fault.BadItem n) stops = stop_ends n why stops
+  ends_before last carried (fault.BadCsv n) off = absurd (no_record (Carried Went a b) n most old new off)
+  ends_before last carried fault.WriteFault stops = absurd stops.1.known
+  ends_before last None (fault.BadItem n) stops = absurd stops.1.known.1
+  ends_before last (Some why) (fault.BadItem n) stops = stop_ends n why stops

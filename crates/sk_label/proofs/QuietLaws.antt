@@ -24,18 +24,18 @@ pub reads_so : (Gave Gave' : List (List ℕ) → Type 0) (most : ℕ) (old new :
 reads_so Gave Gave' most old new so (n, all) = (n, record { taken = all.taken; consumed = all.consumed; end = all.end; size = all.size; sound = all.sound; number = all.number; gave = so _ all.gave })
 
 -- the fault of the whole
-pub goes_by : {T : Type 0} (rules : Rules) (most : ℕ) (old new : Setting) (r : Result T LabelFault) (f : LabelFault) → IsErrAnd r (λ x. x ≡ f) → EndsAt rules most old new f → Goes rules most old new r
-goes_by rules most old new (Ok x) f is ends = absurd is
-goes_by rules most old new (Err e) f is ends = subst (λ (x : LabelFault). EndsAt rules most old new x) (sym is) ends
+pub goes_by : {T : Type 0} (last : ℕ) (rules : Rules) (most : ℕ) (old new : Setting) (r : Result T LabelFault) (f : LabelFault) → IsErrAnd r (λ x. x ≡ f) → EndsAt rules last most old new f → Goes rules last most old new r
+goes_by {T} last rules most old new (Ok x) f is ends = absurd is
+goes_by {T} last rules most old new (Err e) f is ends = subst (λ (x : LabelFault). EndsAt rules last most old new x) (sym is) ends
 
 -- memory ran out before anything was read
-pub ends_at_start : (rules : Rules) (most : ℕ) (left written : Option (List ℕ)) → EndsBefore rules most (setting left written) (setting left written) OutOfMemory
-ends_at_start rules most left written = record {
+pub ends_at_start : (last : ℕ) (rules : Rules) (most : ℕ) (left written : Option (List ℕ)) → EndsBefore rules last most (setting left written) (setting left written) OutOfMemory
+ends_at_start last rules most left written = record {
   given = [];
   taken = [];
   consumed = Consumes-nil left;
   size = omega arith;
-  in_time = nothing_read;
+  in_time = nothing_read last;
   known = wrote_nothing rules written;
   comes = inl (λ later. (begins_nil (lines_of later), All-nil (λ (l : List ℕ). length l ≤ line_limit)));
 }
@@ -62,19 +62,19 @@ module _ (rules : Rules) (never : (before : List (List ℕ)) (line : List ℕ) �
   wrote_part_whole w w' lines fine part = wrote_part_last rules w w w' lines (wrote_none w lines fine) part
 
   -- it ended before its source, whatever its sink was written before
-  pub ends_quietly : (most : ℕ) (old new v w : Option (List ℕ)) (f : LabelFault) → f ≢ WriteFault → EndsBefore rules most (setting old v) (setting new v) f → EndsBefore rules most (setting old w) (setting new w) f
-  ends_quietly most old new v w OutOfMemory quiet off =
+  pub ends_quietly : (last : ℕ) (most : ℕ) (old new v w : Option (List ℕ)) (f : LabelFault) → f ≢ WriteFault → EndsBefore rules last most (setting old v) (setting new v) f → EndsBefore rules last most (setting old w) (setting new w) f
+  ends_quietly last most old new v w OutOfMemory quiet off =
       breaks_so (WroteSoFar rules v v) (WroteSoFar rules w w) (λ lines text. IsSoundUpTo Lines (length lines) text) (λ lines text. IsSoundUpTo Lines (length lines) text) most old new
       (λ lines wrote. wrote_none w lines wrote.fine) (λ lines text comes. comes) off
-  ends_quietly most old new v w ReadFault quiet some = record { taken = some.taken; consumed = some.consumed; size = some.size; sound = some.sound; gave = wrote_none w _ some.gave.fine }
-  ends_quietly most old new v w TooMuch quiet some = record { taken = some.taken; consumed = some.consumed; size = some.size; sound = some.sound; gave = wrote_none w _ some.gave.fine }
-  ends_quietly most old new v w (LongLine n) quiet off =
+  ends_quietly last most old new v w ReadFault quiet some = record { taken = some.taken; consumed = some.consumed; size = some.size; sound = some.sound; gave = wrote_none w _ some.gave.fine }
+  ends_quietly last most old new v w TooMuch quiet some = record { taken = some.taken; consumed = some.consumed; size = some.size; sound = some.sound; gave = wrote_none w _ some.gave.fine }
+  ends_quietly last most old new v w (LongLine n) quiet off =
       breaks_so (WroteSoFar rules v v) (WroteSoFar rules w w) (λ lines text. (n ≡ length lines + 1) × IsLongBehind Lines (length lines) text) (λ lines text. (n ≡ length lines + 1) × IsLongBehind Lines (length lines) text) most old new
       (λ lines wrote. wrote_none w lines wrote.fine) (λ lines text comes. comes) off
-  ends_quietly most old new v w (BadLine n) quiet stops =
+  ends_quietly last most old new v w (BadLine n) quiet stops =
       stops_so (λ lines line. (n ≡ length lines + 1) × WroteSoFar rules v v lines × IsBad rules line) (λ lines line. (n ≡ length lines + 1) × WroteSoFar rules w w lines × IsBad rules line) most old new
       (λ lines line at. (at.0, wrote_none w lines at.1.fine, at.2)) stops
-  ends_quietly most old new v w (Refused n) quiet stops =
+  ends_quietly last most old new v w (Refused n) quiet stops =
       stops_so (λ lines line. (n ≡ length lines + 1) × WroteSoFar rules v v lines × IsRefused rules lines line) (λ lines line. (n ≡ length lines + 1) × WroteSoFar rules w w lines × IsRefused rules lines line) most old new
       (λ lines line at. (at.0, wrote_none w lines at.1.fine, at.2)) stops
-  ends_quietly most old new v w WriteFault quiet stops = absurd (quiet refl)
+  ends_quietly last most old new v w WriteFault quiet stops = absurd (quiet refl)

@@ -44,19 +44,19 @@ pub record WrotePartLast (rules : Rules) (old new : Option (List ℕ)) (lines : 
 abbrev pub ReadsLines : ℕ → (List (List ℕ) → Type 0) → Option (List ℕ) → Option (List ℕ) → Type 0
 ReadsLines most Gave left left' = (n : ℕ) × ReadsAll (units_by 0) most n Gave left left'
 
--- if it ends before its source
-abbrev pub EndsBefore : Rules → ℕ → Setting → Setting → LabelFault → Type 0
-EndsBefore rules most old new OutOfMemory = BreaksOff (units_by 0) most (WroteSoFar rules old.written new.written)
+-- if it ends before its source, whose last read gave this many bytes
+abbrev pub EndsBefore : Rules → ℕ → ℕ → Setting → Setting → LabelFault → Type 0
+EndsBefore rules last most old new OutOfMemory = BreaksOff last (units_by 0) most (WroteSoFar rules old.written new.written)
     (λ lines text. IsSoundUpTo (units_by 0) (length lines) text) old.left new.left
-EndsBefore rules most old new ReadFault = ReadsSome (units_by 0) (λ size. size < most) (WroteSoFar rules old.written new.written) old.left new.left
-EndsBefore rules most old new TooMuch = ReadsSome (units_by 0) (λ size. size ≡ most) (WroteSoFar rules old.written new.written) old.left new.left
-EndsBefore rules most old new (LongLine n) = BreaksOff (units_by 0) most (WroteSoFar rules old.written new.written)
+EndsBefore rules last most old new ReadFault = ReadsSome (units_by 0) (λ size. size < most) (WroteSoFar rules old.written new.written) old.left new.left
+EndsBefore rules last most old new TooMuch = ReadsSome (units_by 0) (λ size. size ≡ most) (WroteSoFar rules old.written new.written) old.left new.left
+EndsBefore rules last most old new (LongLine n) = BreaksOff last (units_by 0) most (WroteSoFar rules old.written new.written)
     (λ lines text. (n ≡ length lines + 1) × IsLongBehind (units_by 0) (length lines) text) old.left new.left
-EndsBefore rules most old new (BadLine n) = StopsAt (units_by 0) most
+EndsBefore rules last most old new (BadLine n) = StopsAt last (units_by 0) most
     (λ lines line. (n ≡ length lines + 1) × WroteSoFar rules old.written new.written lines × IsBad rules line) old.left new.left
-EndsBefore rules most old new (Refused n) = StopsAt (units_by 0) most
+EndsBefore rules last most old new (Refused n) = StopsAt last (units_by 0) most
     (λ lines line. (n ≡ length lines + 1) × WroteSoFar rules old.written new.written lines × IsRefused rules lines line) old.left new.left
-EndsBefore rules most old new WriteFault = StopsAt (units_by 0) most (WrotePartAt rules old.written new.written) old.left new.left
+EndsBefore rules last most old new WriteFault = StopsAt last (units_by 0) most (WrotePartAt rules old.written new.written) old.left new.left
 
 -- if it read all, and then ran out of memory, or failed to write
 abbrev pub EndsAfter : Rules → ℕ → Setting → Setting → LabelFault → Type 0
@@ -64,14 +64,14 @@ EndsAfter rules most old new OutOfMemory = ReadsLines most (WroteSoFar rules old
 EndsAfter rules most old new WriteFault = ReadsLines most (WrotePartLast rules old.written new.written) old.left new.left
 EndsAfter rules most old new other = ⊥
 
-abbrev pub EndsAt : Rules → ℕ → Setting → Setting → LabelFault → Type 0
-EndsAt rules most old new fault = EndsBefore rules most old new fault ⊎ EndsAfter rules most old new fault
+abbrev pub EndsAt : Rules → ℕ → ℕ → Setting → Setting → LabelFault → Type 0
+EndsAt rules last most old new fault = EndsBefore rules last most old new fault ⊎ EndsAfter rules most old new fault
 
--- how a command went
-abbrev pub Goes : {T : Type 0} → Rules → ℕ → Setting → Setting → Result T LabelFault → Type 0
-Goes rules most old new result = MatchResult result
+-- how a command went over a source whose last read gave this many bytes
+abbrev pub Goes : {T : Type 0} → Rules → ℕ → ℕ → Setting → Setting → Result T LabelFault → Type 0
+Goes rules last most old new result = MatchResult result
     (λ _. ReadsLines most (WroteAll rules old.written new.written) old.left new.left)
-    (λ fault. EndsAt rules most old new fault)
+    (λ fault. EndsAt rules last most old new fault)
 
 -- ---- its reading
 
@@ -80,7 +80,7 @@ abbrev pub CountsLines : ℕ → Option (List ℕ) → Option (List ℕ) → ℕ
 CountsLines most left left' n = ReadsAll (units_by 0) most n (λ lines. Unit {0}) left left'
 
 -- how the lines were read, where this is so of a taker that was given them
-abbrev pub ReadsTaken : {T : Type 0} → Rules → ℕ → (List (List ℕ) → Type 0) → Setting → Setting → Result T LabelFault → Type 0
-ReadsTaken rules most Went old new result = MatchResult result
+abbrev pub ReadsTaken : {T : Type 0} → Rules → ℕ → ℕ → (List (List ℕ) → Type 0) → Setting → Setting → Result T LabelFault → Type 0
+ReadsTaken rules last most Went old new result = MatchResult result
     (λ _. ReadsLines most (λ lines. WroteSoFar rules old.written new.written lines × Went lines) old.left new.left)
-    (λ fault. EndsBefore rules most old new fault)
+    (λ fault. EndsBefore rules last most old new fault)

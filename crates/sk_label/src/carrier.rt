@@ -53,7 +53,7 @@ pub fn read_labelled<S: Source, T: LineTaker>(
 ) -> Result<u64, LabelFault>
     requires bound { most ≤ source_limit }
     requires start { T.went taker.old taker.old [] }
-    ensures read { ReadsTaken (T.rules taker.old) most (T.went taker.old taker.new) (setting (S.left source.old) (T.written taker.old)) (setting (S.left source.new) (T.written taker.new)) result }
+    ensures read { ReadsTaken (T.rules taker.old) (S.last source.new) most (T.went taker.old taker.new) (setting (S.left source.old) (T.written taker.old)) (setting (S.left source.new) (T.written taker.new)) result }
     ensures count { IfOk result (CountsLines most (S.left source.old) (S.left source.new)) }
     ensures reads { HasCauseIn LabelFault.ReadFault (S.faults source.old) (S.faults source.new) result }
     ensures writes { HasCauseIn LabelFault.WriteFault (T.faults taker.old) (T.faults taker.new) result }
@@ -73,7 +73,7 @@ fn read_carried<S: Source, T: LineTaker>(
 ) -> Result<u64, LabelFault>
     requires bound { most ≤ source_limit }
     requires start { T.went carrier.old.taker.now carrier.old.taker.now [] }
-    ensures read { ReadsTaken (T.rules carrier.old.taker.now) most (T.went carrier.old.taker.now carrier.new.taker.now)
+    ensures read { ReadsTaken (T.rules carrier.old.taker.now) (S.last source.new) most (T.went carrier.old.taker.now carrier.new.taker.now)
         (setting (S.left source.old) (T.written carrier.old.taker.now)) (setting (S.left source.new) (T.written carrier.new.taker.now)) result }
     ensures count { IfOk result (CountsLines most (S.left source.old) (S.left source.new)) }
     ensures reads { HasCauseIn LabelFault.ReadFault (S.faults source.old) (S.faults source.new) result }

@@ -1,14 +1,19 @@
 -- Stretches that are given to all rings.
-use Rattle.std.proofs.Common.{◌≡◌, ℕ, ◌+◌, ◌<◌, ◌≤◌, List, [], ◌∷◌, ◌++◌, length, get_or, All, Result, Ok, Err, OnOk, sym, ap, refl, ◌∙◌, subst, arith, append-nil, append_assoc}
+use Rattle.std.proofs.Common.{◌≡◌, ◌⊎◌, inl, inr, ⊎_elim, ℕ, ◌+◌, ◌<◌, ◌≤◌, List, [], ◌∷◌, ◌++◌, length, get_or, All, Result, Ok, Err, OnOk, OnErr, sym, ap, refl, ◌∙◌, subst, arith, append-nil, append_assoc}
+use Rattle.std.proofs.lemmas.Bool.{cases_lt}
 use Rattle.rtrb.specs.Ring.{sent, SameProducer}
 use Rattle.rtrb.specs.declared.producer.Producer.{Producer}
 use Rattle.sk_model.specs.Limits.{most_kept}
 use Rattle.sk_fill.specs.Windows.{all_lines}
 use Rattle.sk_fill.specs.Stretches.{StretchState}
 use Rattle.sk_feed.specs.Deliveries.{windows_of, EndAt, IsNext}
-use Rattle.sk_lanes.specs.Rings.{GaveEach, AllEnd}
+use Rattle.sk_lanes.specs.Rings.{GaveEach, GaveSome, AllEnd}
 use Rattle.sk_feed.proofs.Done.{DoneTo}
 use Rattle.sk_feed.proofs.DeliveryLaws.{end_later, ends_once, lines_one}
+
+pub on_err : {T E P : Type 0} (r : Result T E) → P → OnErr r P
+on_err (Ok x) p = tt
+on_err (Err e) p = p
 
 module _ {A P : Type 0} where
   -- a ring was given these stretches
@@ -17,6 +22,22 @@ module _ {A P : Type 0} where
 
   pub gave_all : (os os' : List (Producer StretchState A P)) (more : List StretchState) (n : ℕ) → n ≡ length os → DoneTo (Gave more) os os' n → GaveEach os os' more
   gave_all os os' more n is done = record { count = done.count; each = λ i d within. done.done i d (omega arith) within }
+
+  -- the rings before a place were given these, and the others are as they were
+  pub gave_so_far : (os os' : List (Producer StretchState A P)) (more : List StretchState) (n : ℕ) → DoneTo (Gave more) os os' n → GaveSome os os' more
+  gave_so_far os os' more n to = record {
+    count = to.count;
+    each = λ i d within. ⊎_elim
+        (λ before. let done = to.done i d before within in (done.0, inr done.1))
+        (λ behind. subst (λ o. SameProducer (get_or os i d) o × ((sent o ≡ sent (get_or os i d)) ⊎ (sent o ≡ sent (get_or os i d) ++ more))) (sym (to.later i d (omega arith))) (((refl, refl, refl, refl), refl), inl refl))
+        (cases_lt i n);
+  }
+
+  pub some_of_all : (os os' : List (Producer StretchState A P)) (more : List StretchState) → GaveEach os os' more → GaveSome os os' more
+  some_of_all os os' more gave = record { count = gave.count; each = λ i d within. let done = gave.each i d within in (done.0, inr done.1) }
+
+  pub some_of_none : (os os' : List (Producer StretchState A P)) (more : List StretchState) → os ≡ os' → GaveSome os os' more
+  some_of_none os os' more same = subst (λ l. GaveSome os l more) same (record { count = refl; each = λ i d within. (((refl, refl, refl, refl), refl), inl refl) })
 
   pub gave_none : (os : List (Producer StretchState A P)) → GaveEach os os []
   gave_none os = record { count = refl; each = λ i d within. (((refl, refl, refl, refl), refl), sym (append-nil (sent (get_or os i d)))) }

@@ -1,5 +1,5 @@
 -- Rings to which stretches are given.
-use Rattle.std.specs.Prelude.{◌≡◌, ℕ, ◌<◌, List, ◌++◌, length, slice_index_or, All}
+use Rattle.std.specs.Prelude.{◌≡◌, ◌⊎◌, ℕ, ◌<◌, List, ◌++◌, length, slice_index_or, All}
 use Rattle.std.specs.declared.alloc.Global.{Global}
 use Rattle.rtrb.specs.Ring.{sent, SameProducer}
 use Rattle.rtrb.specs.declared.producer.Producer.{Producer}
@@ -20,6 +20,12 @@ pub record SupplyState : Type 0 where
 pub record GaveEach {A P : Type 0} (os os' : List (Producer StretchState A P)) (more : List StretchState) : Type 0 where
   pub count : length os' ≡ length os
   pub each : (i : ℕ) (d : Producer StretchState A P) → i < length os → SameProducer (slice_index_or os i d) (slice_index_or os' i d) × (sent (slice_index_or os' i d) ≡ sent (slice_index_or os i d) ++ more)
+
+-- none of these rings has lost anything: each was given these stretches, too, or nothing
+pub record GaveSome {A P : Type 0} (os os' : List (Producer StretchState A P)) (more : List StretchState) : Type 0 where
+  pub count : length os' ≡ length os
+  pub each : (i : ℕ) (d : Producer StretchState A P) → i < length os
+      → SameProducer (slice_index_or os i d) (slice_index_or os' i d) × ((sent (slice_index_or os' i d) ≡ sent (slice_index_or os i d)) ⊎ (sent (slice_index_or os' i d) ≡ sent (slice_index_or os i d) ++ more))
 
 -- the first n lines of the source end with what was given to each of these rings
 abbrev pub AllEnd : {A P : Type 0} → List (Producer StretchState A P) → ℕ → Type 0

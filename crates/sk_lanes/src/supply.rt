@@ -1,10 +1,10 @@
 //! Stretches that were read, and are given to takers in other threads.
-ghost use Rattle.std.specs.Prelude.{◌≡◌, ◌+◌, ◌≤◌, ◌∷◌, ◌++◌, [], length, All, OnOk, IfSome};
+ghost use Rattle.std.specs.Prelude.{◌≡◌, ◌+◌, ◌≤◌, ◌∷◌, ◌++◌, [], length, All, OnOk, OnErr, IfSome};
 ghost use Rattle.rtrb.specs.Ring.{sent, SameProducer};
 ghost use Rattle.sk_model.specs.Limits.{most_kept};
 ghost use Rattle.sk_fill.specs.Windows.{all_lines};
 ghost use Rattle.sk_feed.specs.Deliveries.{IsNext};
-ghost use Rattle.sk_lanes.specs.Rings.{AllEnd, GaveEach};
+ghost use Rattle.sk_lanes.specs.Rings.{AllEnd, GaveEach, GaveSome};
 
 use crate::pool::Pool;
 use rtrb::PushError;
@@ -45,12 +45,14 @@ impl Supply {
         self.pool.wait_for_one(rt, crew)
     }
 
-    /// Gives a stretch to all takers. It waits for room in their rings; an error comes only when out of memory.
+    /// Gives a stretch to all takers. It waits for room in their rings; an error comes only when out of memory. Then those
+    /// rings have it that were given it before, and keep it and all that they had; else it is let go.
     pub fn give<R: Wait>(&mut self, rt: &R, stretch: Stretch) -> Result<(), OutOfMemory>
         requires next { AllEnd self.old.outlets stretch.first }
         requires few { stretch.first + length (all_lines stretch.windows) ≤ most_kept }
         requires most { stretch.most ≡ self.old.most }
         ensures gave { OnOk result (GaveEach self.old.outlets self.new.outlets (stretch ∷ [])) }
+        ensures refused { OnErr result (GaveSome self.old.outlets self.new.outlets (stretch ∷ [])) }
         ensures ends { OnOk result (AllEnd self.new.outlets (stretch.first + length (all_lines stretch.windows))) }
         ensures most { self.new.most ≡ self.old.most }
     {
@@ -68,11 +70,13 @@ fn give_each<R: Wait>(
     outlets: &mut Vec<Outlet>,
 ) -> Result<(), OutOfMemory>
     requires { All (λ o. IsNext (sent o) delivery.now) outlets.old.items }
-    ensures { OnOk result (GaveEach outlets.old.items outlets.new.items (delivery.now ∷ [])) }
+    ensures gave { OnOk result (GaveEach outlets.old.items outlets.new.items (delivery.now ∷ [])) }
+    ensures refused { OnErr result (GaveSome outlets.old.items outlets.new.items (delivery.now ∷ [])) }
 {
     'outlet: for i in 0..outlets.len() {
+        let share = delivery.share()?;
         let outlet = &mut outlets[i];
-        push_waiting(rt, outlet, delivery.share()?);
+        push_waiting(rt, outlet, share);
     }
     Ok(())
 }

@@ -1,5 +1,5 @@
 -- What answered lines add up to.
-use Rattle.std.proofs.Common.{◌≡◌, ℕ, ◌+◌, ◌≤◌, nat_lt, false, All, List, [], ◌∷◌, ◌++◌, length, sym, ap, ◌∙◌, subst, arith, append-nil, append_assoc, length-append}
+use Rattle.std.proofs.Common.{◌≡◌, inl, inr, ℕ, ◌+◌, ◌≤◌, nat_lt, false, All, List, [], ◌∷◌, ◌++◌, length, sym, ap, ◌∙◌, subst, arith, append-nil, append_assoc, length-append}
 use Rattle.std.proofs.lemmas.Bool.Decides.{nat_tests}
 use Rattle.std.proofs.lemmas.List.Elements.{All-nil, All-cons}
 use Rattle.sk_compose.specs.Numbers.{k_of}
@@ -13,7 +13,7 @@ use Rattle.sk_hub.proofs.Calls.{goes_trans, goes_same, takes_none, takes_trans, 
 use Rattle.sk_theta.specs.Sizes.{Sizes}
 use Rattle.sk_line.specs.Pumps.{IsPumped}
 use Rattle.sk_line.specs.Requests.{client_request, added_item}
-use Rattle.sk_line.specs.Serving.{Answered, AnswersLine, AnswersEach, AnswersRequest, item_kept, items_kept, counted_on, kept_since, answered_busy, KeepsItem, DropsItem, item_offered, items_offered, theta_keeps, theta_hint, TakesOffered}
+use Rattle.sk_line.specs.Serving.{Answered, AnswersLine, AnswersEach, AnswersRequest, IsHelped, item_kept, items_kept, counted_on, kept_since, answered_busy, KeepsItem, DropsItem, item_offered, items_offered, theta_keeps, theta_hint, TakesOffered}
 use Rattle.sk_line.specs.declared.answers.Answer.{Answer}
 use Rattle.sk_line.specs.declared.answers.Answer.TheVariants as answer
 use Rattle.sk_line.specs.declared.requests.Request.{Request}
@@ -92,9 +92,9 @@ busy_sync shape request.Sync line n u u' is d old =
     omega (arith, now, d.look.more, length-append (handed_of d.before) d.before.fill)
 busy_sync shape _ line n u u' is d old = cc
 
-pub busy_is_bounded : (shape : Sizes) (u v w : UpdaterState) (answered : List Answered) (line : List ℕ) → AnswersEach shape u answered v → AnswersLine shape v (answered_busy line) w →
+pub busy_is_bounded : (shape : Sizes) (u v w : UpdaterState) (answered : List Answered) (line : List ℕ) (pumps : ℕ) → AnswersEach shape u answered v → AnswersLine shape v (answered_busy line pumps) w →
     (client_request line ≡ request.Add → u.size + 1 ≤ kept_since (length (kept_of u)) answered) × (client_request line ≡ request.Sync → 1 ≤ kept_since (length (kept_of u)) answered)
-busy_is_bounded shape u v w answered line each takes =
+busy_is_bounded shape u v w answered line pumps each takes =
     let n = kept_since (length (kept_of u)) answered in
     let behind : AreBehind n v = answers_behind shape (length (kept_of u)) u answered v each (omega arith) in
     let pumped : AreBehind n takes.pumped = pumped_behind n v takes.pumped takes.pump behind in
@@ -164,3 +164,23 @@ pub no_answer_quits : (shape : Sizes) (u : UpdaterState) (answered : List Answer
 unfolding AnswersEach
 no_answer_quits shape u [] u' each = All-nil IsNoQuit
 no_answer_quits shape u (t ∷ answered) u' each = All-cons IsNoQuit t answered (takes_no_quit shape u t each.0 each.1) (no_answer_quits shape each.0 answered u' each.2)
+
+-- ---- how often the pump was called
+
+abbrev AreTwo : Answered → Type 0
+AreTwo t = t.answer ≡ answer.Synced → 2 ≤ t.pumps
+
+helped_twice : (shape : Sizes) (r : Request) (line : List ℕ) (a : Answer) (u u' : UpdaterState) (n : ℕ) → AnswersRequest shape r line a u u' → IsHelped r u u' n → a ≡ answer.Synced → 2 ≤ n
+helped_twice shape request.Sync line answer.Synced u u' n d (inr twice) is = twice
+helped_twice shape request.Sync line answer.Synced u u' n d (inl hands) is = let same : u'.fill ≡ u.fill = ap (λ z. z.fill) hands.look.state in absurd (hands.some (sym same ∙ d.fill))
+helped_twice shape request.Add line answer.Synced u u' n d helped is = absurd d
+helped_twice shape request.Ask line answer.Synced u u' n d helped is = absurd d
+helped_twice shape request.Quit line answer.Synced u u' n d helped is = absurd d
+helped_twice shape request.Bad line answer.Synced u u' n d helped is = absurd d
+helped_twice shape r line a u u' n d helped is = cc
+
+pub syncs_are_helped : (shape : Sizes) (u : UpdaterState) (answered : List Answered) (u' : UpdaterState) → AnswersEach shape u answered u' → All (λ (t : Answered). t.answer ≡ answer.Synced → 2 ≤ t.pumps) answered
+unfolding AnswersEach
+syncs_are_helped shape u [] u' each = All-nil AreTwo
+syncs_are_helped shape u (t ∷ answered) u' each =
+    All-cons AreTwo t answered (helped_twice shape (client_request t.line) t.line t.answer each.1.pumped each.0 t.pumps each.1.does each.1.helped) (syncs_are_helped shape each.0 answered u' each.2)

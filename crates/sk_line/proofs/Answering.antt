@@ -1,9 +1,10 @@
 -- Answering, one after another.
-use Rattle.std.proofs.Common.{◌≡◌, ℕ, suc, List, [], ◌∷◌, ◌++◌, length, refl, sym, ap, ◌∙◌, subst, append_assoc, append-nil}
+use Rattle.std.proofs.Common.{◌≡◌, ℕ, ◌+◌, suc, List, [], ◌∷◌, ◌++◌, length, refl, sym, ap, ◌∙◌, subst, append_assoc, append-nil}
+use Rattle.std.proofs.lemmas.List.Sums.{sum_by_push}
 use Rattle.sk_hub.specs.Updaters.{UpdaterState}
 use Rattle.sk_theta.specs.Sizes.{Sizes}
 use Rattle.sk_line.specs.Replies.{reply_line}
-use Rattle.sk_line.specs.Serving.{Answered, AnswersLine, AnswersEach, lines_in, replies_to}
+use Rattle.sk_line.specs.Serving.{Answered, AnswersLine, AnswersEach, lines_in, replies_to, pumps_for}
 
 pub answers_more : (shape : Sizes) (u v w : UpdaterState) (answered : List Answered) (t : Answered) → AnswersEach shape u answered v → AnswersLine shape v t w → AnswersEach shape u (answered ++ t ∷ []) w
 unfolding AnswersEach
@@ -25,3 +26,6 @@ replies_more (s ∷ answered) t = ap (λ (l : List ℕ). reply_line s.answer ++ 
 pub lines_count : (answered : List Answered) → length (lines_in answered) ≡ length answered
 lines_count [] = refl
 lines_count (s ∷ answered) = ap (λ (n : ℕ). suc n) (lines_count answered)
+
+pub pumps_more : (answered : List Answered) (t : Answered) → pumps_for (answered ++ t ∷ []) ≡ pumps_for answered + t.pumps
+pumps_more answered t = sum_by_push (λ (s : Answered). s.pumps) answered t

@@ -7,7 +7,7 @@ use Rattle.sk_theta.specs.Sizes.{Sizes}
 use Rattle.sk_read.specs.Reading.{Reading, HasRead, Goes, remaining_of}
 use Rattle.sk_read.specs.declared.reader.LineFault.{LineFault}
 use Rattle.sk_line.specs.Pumps.{HasRisen}
-use Rattle.sk_line.specs.Serving.{Answered, AnswersEach, lines_in, replies_to}
+use Rattle.sk_line.specs.Serving.{Answered, AnswersEach, lines_in, replies_to, pumps_for}
 use Rattle.sk_line.specs.Sessions.{SessionState, ComesTo}
 use Rattle.sk_line.specs.declared.sessions.End.{End}
 
@@ -15,7 +15,7 @@ use Rattle.sk_line.specs.declared.sessions.End.{End}
 pub record IsUnderWay (shape : Sizes) (a : SessionState) (answered : List Answered) (taken : List ℕ) (r : Reading) (b : SessionState) : Type 0 where
   pub exchanges : Exchanges a.traffic b.traffic taken (replies_to answered)
   pub takes : AnswersEach shape a.updater answered b.updater
-  pub pumped : HasRisen (length answered) a.pumps b.pumps
+  pub pumped : HasRisen (pumps_for answered) a.pumps b.pumps
   pub read : HasRead r (left_of b.traffic) (lines_in answered) taken
 
 -- so it is after one line more, or it ended

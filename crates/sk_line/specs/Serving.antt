@@ -1,5 +1,5 @@
 -- What an updater does for a client's requests.
-use Rattle.std.specs.Prelude.{◌≡◌, ℕ, ◌+◌, nat_lt, Bool, List, [], ◌∷◌, ◌++◌, length, map, flat_map, fold}
+use Rattle.std.specs.Prelude.{◌≡◌, ◌≢◌, ◌⊎◌, ℕ, ◌+◌, ◌≤◌, nat_lt, Bool, List, [], ◌∷◌, ◌++◌, length, map, flat_map, fold, sum_by}
 use Rattle.sk_model.specs.Entries.{Entry, items_of_entries, entries_by}
 use Rattle.sk_model.specs.Missing.{Begins}
 use Rattle.sk_model.specs.Sketch as k_min
@@ -89,16 +89,29 @@ AnswersRequest shape request.Sync line answer u u' = AnswersSync answer u u'
 AnswersRequest shape request.Quit line answer u u' = ⊥
 AnswersRequest shape request.Bad line answer u u' = AnswersBad answer u u'
 
--- a line that was read, and its answer
+-- what is in the fill buffer could not be handed over, since a look loaded 0
+pub record HandsInVain (u u' : UpdaterState) : Type 0 where
+  pub some : u.fill ≢ []
+  pub look : LooksInVain u u'
+
+-- a sync that handed over what there was called the pump once more, before its look: n times in all
+abbrev pub IsHelped : Request → UpdaterState → UpdaterState → ℕ → Type 0
+IsHelped request.Sync u u' n = HandsInVain u u' ⊎ (2 ≤ n)
+IsHelped _ u u' n = Unit {0}
+
+-- a line that was read, its answer, and how often the pump was called for it
 pub record Answered : Type 0 where
   pub line : List ℕ
   pub answer : Answer
+  pub pumps : ℕ
 
 -- one pumping, and what is done for the line
 pub record AnswersLine (shape : Sizes) (u : UpdaterState) (t : Answered) (u' : UpdaterState) : Type 0 where
   pub pumped : UpdaterState
   pub pump : IsPumped u pumped
+  pub once : 1 ≤ t.pumps
   pub does : AnswersRequest shape (client_request t.line) t.line t.answer pumped u'
+  pub helped : IsHelped (client_request t.line) pumped u' t.pumps
 
 -- so it was for each of these lines, one after another
 unfoldable pub AnswersEach : Sizes → UpdaterState → List Answered → UpdaterState → Type 0
@@ -111,6 +124,10 @@ lines_in answered = map (λ t. t.line) answered
 
 abbrev pub replies_to : List Answered → List ℕ
 replies_to answered = flat_map (λ t. reply_line t.answer) answered
+
+-- how often the pump was called for all of them
+abbrev pub pumps_for : List Answered → ℕ
+pumps_for answered = sum_by (λ t. t.pumps) answered
 
 -- ---- what was kept
 
@@ -133,8 +150,8 @@ abbrev pub kept_since : ℕ → List Answered → ℕ
 kept_since n answered = fold (λ m t. counted_on m t.answer) n answered
 
 -- a line that was answered `busy`
-abbrev pub answered_busy : List ℕ → Answered
-answered_busy line = record { line = line; answer = Busy }
+abbrev pub answered_busy : List ℕ → ℕ → Answered
+answered_busy line pumps = record { line = line; answer = Busy; pumps = pumps }
 
 -- ---- what was offered
 

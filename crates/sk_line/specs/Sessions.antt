@@ -7,13 +7,13 @@ use Rattle.sk_model.specs.Missing.{Begins}
 use Rattle.sk_io.specs.Traffic.{Traffic, Exchanges, SendsPart, left_of}
 use Rattle.sk_theta.specs.Sizes.{Sizes}
 use Rattle.sk_read.specs.Reading.{HaveEnded}
-use Rattle.sk_read.specs.Reads.{IsSettled, IsInTime}
+use Rattle.sk_read.specs.Reads.{piece_limit, IsSettled, IsInTime}
 use Rattle.sk_read.specs.declared.units.Units.TheVariants.{Lines}
 use Rattle.sk_hub.specs.Updaters.{UpdaterState}
 use Rattle.sk_line.specs.Pumps.{IsPumped, HasRisen}
 use Rattle.sk_line.specs.Replies.{reply_line}
 use Rattle.sk_line.specs.Requests.{client_request}
-use Rattle.sk_line.specs.Serving.{Answered, AnswersEach, lines_in, replies_to}
+use Rattle.sk_line.specs.Serving.{Answered, AnswersEach, lines_in, replies_to, pumps_for}
 use Rattle.sk_line.specs.declared.requests.Request.TheVariants.{Quit as AsksToQuit}
 use Rattle.sk_line.specs.declared.sessions.End.{End}
 use Rattle.sk_line.specs.declared.sessions.End.TheVariants.{Quit, Closed, LinkFault, Long, TooMuch, OutOfMemory}
@@ -35,7 +35,7 @@ pub record Went (shape : Sizes) (a : SessionState) (answered : List Answered) (t
   pub last : UpdaterState
   pub takes : AnswersEach shape a.updater answered last
   pub pump : IsPumped last b.updater
-  pub pumped : HasRisen (length answered) a.pumps b.pumps
+  pub pumped : HasRisen (pumps_for answered) a.pumps b.pumps
 
 -- the link was read to its end, and each line of all that came was answered
 pub record Closes (shape : Sizes) (most : ℕ) (a b : SessionState) : Type 0 where
@@ -56,7 +56,7 @@ pub record Quits (shape : Sizes) (most : ℕ) (a b : SessionState) : Type 0 wher
   pub quit : client_request line ≡ AsksToQuit
   pub lines : IsSettled (λ text. Begins (lines_in answered ++ line ∷ []) (lines_of text)) (left_of b.traffic) taken
   pub within : AreWithin line_limit (lines_in answered ++ line ∷ [])
-  pub in_time : IsInTime Lines (lines_in answered) taken
+  pub in_time : IsInTime piece_limit Lines (lines_in answered) taken
   pub size : length taken ≤ most
 
 -- the next line, with this number, is the first that is too long
@@ -66,7 +66,7 @@ pub record IsTooLong (shape : Sizes) (most n : ℕ) (a b : SessionState) : Type 
   pub went : Went shape a answered taken b
   pub number : n ≡ length answered + 1
   pub lines : IsSettled (λ text. Begins (lines_in answered) (lines_of text) × IsFirstLong line_limit (length answered) (lines_of text)) (left_of b.traffic) taken
-  pub in_time : IsInTime Lines (lines_in answered) taken
+  pub in_time : IsInTime piece_limit Lines (lines_in answered) taken
   pub size : length taken ≤ most
 
 -- so many bytes were read; each line that ended in them was answered, and none is too long
@@ -86,10 +86,10 @@ pub record IsCutOff (shape : Sizes) (most : ℕ) (a b : SessionState) : Type 0 w
   pub exchanges : Exchanges a.traffic before taken (replies_to answered)
   pub part : SendsPart before b.traffic (reply_line last.answer)
   pub takes : AnswersEach shape a.updater (answered ++ last ∷ []) b.updater
-  pub pumped : HasRisen (length answered + 1) a.pumps b.pumps
+  pub pumped : HasRisen (pumps_for (answered ++ last ∷ [])) a.pumps b.pumps
   pub lines : IsSettled (λ text. Begins (lines_in answered ++ last.line ∷ []) (lines_of text)) (left_of b.traffic) taken
   pub within : AreWithin line_limit (lines_in answered ++ last.line ∷ [])
-  pub in_time : IsInTime Lines (lines_in answered) taken
+  pub in_time : IsInTime piece_limit Lines (lines_in answered) taken
   pub size : length taken ≤ most
 
 -- to which end a session came that takes at most so many bytes

@@ -6,6 +6,7 @@ ghost use Rattle.sk_hub.specs.Calls.{GoesOn};
 ghost use Rattle.sk_theta.specs.Sizes.{Sizes};
 ghost use Rattle.sk_line.specs.Requests.{client_request};
 ghost use Rattle.sk_line.specs.Serving.{Answered, AnswersLine, AnswersEach, items_kept, kept_since, answered_busy, items_offered, TakesOffered};
+ghost use Rattle.sk_line.specs.declared.answers.Answer.TheVariants as answer;
 ghost use Rattle.sk_line.specs.declared.requests.Request.TheVariants as request;
 
 /// After the answers to some lines an updater has also kept exactly the items of the adds that were answered
@@ -22,6 +23,12 @@ pub fn no_answer_quits()
         → All (λ t. client_request t.line ≡ request.Quit → ⊥) answered }
 {}
 
+/// For each sync that was answered `synced` the pump was called twice: before its line, and before its look.
+pub fn a_sync_is_helped()
+    ensures { (shape : Sizes) (u : UpdaterState) (answered : List Answered) (v : UpdaterState) → AnswersEach shape u answered v
+        → All (λ t. t.answer ≡ answer.Synced → 2 ≤ t.pumps) answered }
+{}
+
 /// Of the items of all adds that were answered `kept` or `filtered`, in order, the updater has kept each
 /// that its base does not filter: so what is published in the end has the estimate of all of them.
 pub fn answers_take_items()
@@ -32,7 +39,7 @@ pub fn answers_take_items()
 /// Counted since the last `synced`, an add is `busy` only if more items were kept than a buffer
 /// holds, and a sync only if one was.
 pub fn busy_is_bounded()
-    ensures { (shape : Sizes) (u v w : UpdaterState) (answered : List Answered) (line : List ℕ) → AnswersEach shape u answered v → AnswersLine shape v (answered_busy line) w
+    ensures { (shape : Sizes) (u v w : UpdaterState) (answered : List Answered) (line : List ℕ) (pumps : ℕ) → AnswersEach shape u answered v → AnswersLine shape v (answered_busy line pumps) w
         → (client_request line ≡ request.Add → u.size + 1 ≤ kept_since (length (kept_of u)) answered)
         × (client_request line ≡ request.Sync → 1 ≤ kept_since (length (kept_of u)) answered) }
 {}

@@ -1,14 +1,14 @@
 //! What is done for a request.
-ghost use Rattle.std.specs.Prelude.{◌≡◌, ◌<◌, ◌≤◌, [], length, IsNone, IfSome};
+ghost use Rattle.std.specs.Prelude.{◌≡◌, ◌⊎◌, ℕ, ◌+◌, ◌<◌, ◌≤◌, [], length, IsNone, IfSome};
 ghost use Rattle.std.specs.Bool.{OnTrue, OnFalse};
 ghost use Rattle.sk_compose.specs.Numbers.{k_of};
-ghost use Rattle.sk_hub.specs.Updaters.{kept_of, LooksInVain};
+ghost use Rattle.sk_hub.specs.Updaters.{kept_of};
 ghost use Rattle.sk_hub.specs.Calls.{KeepsNone};
 ghost use Rattle.sk_model.specs.Limits.{least_k, most_k, most_kept};
 ghost use Rattle.sk_model.specs.Murmur.{hash_of};
 ghost use Rattle.sk_line.specs.Pumps.{HasRisen};
 ghost use Rattle.sk_line.specs.Requests.{client_request};
-ghost use Rattle.sk_line.specs.Serving.{AnswersAdd, AnswersAsk, AnswersSync, AnswersRequest};
+ghost use Rattle.sk_line.specs.Serving.{AnswersAdd, AnswersAsk, AnswersSync, AnswersRequest, HandsInVain, IsHelped};
 
 use crate::answers::Answer;
 use crate::pumps::Pump;
@@ -32,6 +32,7 @@ pub(crate) fn serve<P: Pump<C>, C: ThetaWord, R: Wait>(
     ensures done { IfSome result (λ answer. AnswersRequest shape.now (client_request line.now) line.now answer u.old u.new) }
     ensures quit { IsNone result → client_request line.now ≡ Request.Quit }
     ensures left { IsNone result → u.new ≡ u.old }
+    ensures helped { IfSome result (λ answer. (n : ℕ) × IsHelped (client_request line.now) u.old u.new (n + 1) × HasRisen n (P.pumps pump.old) (P.pumps pump.new)) }
     ensures pumps { HasRisen 0 (P.pumps pump.old) (P.pumps pump.new) }
     ensures stays { P.stands_on pump.new ≡ P.stands_on pump.old }
 {
@@ -73,6 +74,7 @@ fn ask<C: ThetaWord>(u: &mut Updater<C>, k: u32) -> Answer
 // Sees to it that all that was kept is published, if that needs no wait.
 fn sync<P: Pump<C>, C: ThetaWord, R: Wait>(rt: &R, u: &mut Updater<C>, pump: &mut P) -> Answer
     ensures synced { AnswersSync result u.old u.new }
+    ensures helped { HandsInVain u.old u.new ⊎ HasRisen 1 (P.pumps pump.old) (P.pumps pump.new) }
     ensures pumps { HasRisen 0 (P.pumps pump.old) (P.pumps pump.new) }
     ensures stays { P.stands_on pump.new ≡ P.stands_on pump.old }
 {
@@ -89,7 +91,7 @@ fn sync<P: Pump<C>, C: ThetaWord, R: Wait>(rt: &R, u: &mut Updater<C>, pump: &mu
 // Hands over what the fill buffer has, unless what was handed over last is not published.
 fn hand_over<C: ThetaWord>(u: &mut Updater<C>) -> bool
     ensures handed { OnTrue result (KeepsNone u.old u.new × (u.new.fill ≡ [])) }
-    ensures busy { OnFalse result (LooksInVain u.old u.new) }
+    ensures busy { OnFalse result (HandsInVain u.old u.new) }
 {
     match u.flush() {
         Flush::Busy => false,

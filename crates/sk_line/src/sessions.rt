@@ -152,7 +152,7 @@ fn next_line<L: Link>(link: &mut L, reader: &mut LineReader) -> Result<bool, Lin
     ensures most { reader.new.most ≡ reader.old.most }
     ensures cause { HasCauseIn LineFault.ReadFault (L.faults link.old) (L.faults link.new) result }
 {
-    next_over(&mut OnLink { link }, reader)
+    next_over(&mut OnLink { link, last: 0 }, reader)
 }
 
 // The same, of what comes over the link.

@@ -1,6 +1,7 @@
 // Lines cut out of pieces of a text.
 ghost use Rattle.std.specs.Prelude.{◌≡◌, ◌≢◌, ◌↔◌, ◌⊎◌, ◌+◌, ◌<◌, ◌≤◌, ℕ, List, [], ◌++◌, length, slice_range, take, Ok, IfOk, IsErr, IsErrOf, true, false};
 ghost use Rattle.std.specs.Str.Lines.{strip_carriage_return};
+ghost use Rattle.sk_io.specs.Base.{LastRead};
 ghost use Rattle.sk_model.specs.Causes.{HasCauseIn};
 ghost use Rattle.sk_model.specs.Lines.{lines_of, open_lines_of, IsFirstLong};
 ghost use Rattle.sk_lines.specs.Padded.{padded};
@@ -145,6 +146,7 @@ impl Lines {
         ensures most { IfOk result (λ n. n ≤ MOST_PIECE) }
         ensures room { IfOk result (λ n. n ≤ room) }
         ensures too_much { IsErrOf result BoundFault.TooMuch ↔ (room ≡ 0) }
+        ensures last { LastRead (S.last source.old) (S.last source.new) result }
         ensures cause { HasCauseIn BoundFault.ReadFault (S.faults source.old) (S.faults source.new) result }
         ensures stays { S.stands_on source.new ≡ S.stands_on source.old }
     {

@@ -1,6 +1,7 @@
 //! A text with a block of zeros and room for more after it.
 ghost use Rattle.std.specs.Prelude.{◌≡◌, ◌↔◌, ◌+◌, ◌^◌, ◌<◌, ◌≤◌, ℕ, List, ◌++◌, length, take, drop, replicate, vec_len, vec_capacity, IfOk, OnOk, OnErr, IsErrOf};
 ghost use Rattle.sk_model.specs.Causes.{HasCauseIn};
+ghost use Rattle.sk_io.specs.Base.{LastRead};
 ghost use Rattle.sk_lines.specs.Cutter.{IsRead};
 ghost use Rattle.sk_lines.specs.Padded.{padded, with_more};
 
@@ -157,6 +158,7 @@ impl Padded {
         ensures most { IfOk result (λ n. n ≤ MOST_PIECE) }
         ensures room { IfOk result (λ n. n ≤ room) }
         ensures too_much { IsErrOf result BoundFault.TooMuch ↔ (room ≡ 0) }
+        ensures last { LastRead (S.last source.old) (S.last source.new) result }
         ensures cause { HasCauseIn BoundFault.ReadFault (S.faults source.old) (S.faults source.new) result }
         ensures stays { S.stands_on source.new ≡ S.stands_on source.old }
     {
@@ -184,6 +186,7 @@ fn read_behind<S: Source>(
     ensures most { IfOk result (λ n. n ≤ MOST_PIECE) }
     ensures room { IfOk result (λ n. n ≤ room) }
     ensures too_much { IsErrOf result BoundFault.TooMuch ↔ (room ≡ 0) }
+    ensures last { LastRead (S.last source.old) (S.last source.new) result }
     ensures cause { HasCauseIn BoundFault.ReadFault (S.faults source.old) (S.faults source.new) result }
     ensures stays { S.stands_on source.new ≡ S.stands_on source.old }
 {

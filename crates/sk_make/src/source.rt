@@ -3,7 +3,8 @@ ghost use Rattle.std.specs.Prelude.{◌≡◌, ◌≢◌, ◌+◌, ◌<◌, ◌�
 ghost use Rattle.std.specs.Io.{ReadsAtMost};
 ghost use Rattle.std.specs.Io.KnownBytes.{ReadConsumes};
 ghost use Rattle.sk_model.specs.Causes.{HasCause};
-ghost use Rattle.sk_io.specs.Base.{nothing};
+ghost use Rattle.sk_io.specs.Base.{nothing, LastRead};
+ghost use Rattle.sk_io.specs.Memory.{unread_text};
 ghost use Rattle.sk_quant.specs.Limits.{key_end};
 ghost use Rattle.sk_make.specs.Made.{made_text, text_of, numbers_from, most_made};
 
@@ -17,22 +18,25 @@ use std::marker::Model;
 pub const MOST_MADE: u64 = 10_000_000;
 
 /// A source that makes its text as it is read: numbers of a key, a line each. It never fails, and holds one line at
-/// a time. Contracts see the bytes that are left.
+/// a time. Contracts see the bytes that are left and how many the last read gave.
 #[derive(Drop)]
 pub struct MakeSource {
     line: Line,
     numbers: Numbers,
     // how many lines are still to be made
     due: u64,
+    // how many bytes the last read gave
+    last: usize,
 }
 
 impl Model for MakeSource {
-    ghost use Rattle.std.specs.Prelude.{ℕ, List, ◌+◌, ◌≤◌, ◌++◌};
+    ghost use Rattle.std.specs.Prelude.{◌+◌, ◌≤◌, ◌++◌};
+    ghost use Rattle.sk_io.specs.Memory.{TextState};
     ghost use Rattle.sk_make.specs.Made.{text_of, numbers_from, most_made};
 
-    ghost Value = { List ℕ };
+    ghost Value = { TextState };
 
-    ghost view = { λ s. s.line ++ text_of (numbers_from s.numbers.key s.numbers.next s.due) };
+    ghost view = { λ s. record { left = s.line ++ text_of (numbers_from s.numbers.key s.numbers.next s.due); last = s.last } };
 
     ghost invariant = { λ s. s.numbers.next + s.due ≤ most_made };
 }
@@ -42,13 +46,14 @@ impl MakeSource {
     pub fn new(n: u64, key: u64) -> Result<Self, OutOfMemory>
         requires lines { n ≤ most_made }
         requires key { key < key_end }
-        ensures text { IfOk result (λ source. source ≡ made_text n key) }
+        ensures text { IfOk result (λ source. source ≡ unread_text (made_text n key)) }
         ensures ok { IsOk result }
     {
         Ok(MakeSource {
             line: Line::new(),
             numbers: Numbers::new(key),
             due: n,
+            last: 0,
         })
     }
 
@@ -56,8 +61,8 @@ impl MakeSource {
     fn give(&mut self, buf: &mut [u8]) -> usize
         requires { 0 < length buf.old }
         ensures fits { result ≤ length buf.new }
-        ensures bytes { self.old ≡ take result buf.new ++ self.new }
-        ensures end { result ≡ 0 → self.new ≡ [] }
+        ensures bytes { self.old.left ≡ take result buf.new ++ self.new.left }
+        ensures end { result ≡ 0 → self.new.left ≡ [] }
     {
         refill(&mut self.line, &mut self.numbers, &mut self.due);
         self.line.give(buf)
@@ -79,9 +84,11 @@ fn refill(line: &mut Line, numbers: &mut Numbers, due: &mut u64)
 }
 
 impl Source for MakeSource {
-    ghost left = { λ s. Some s };
+    ghost left = { λ s. Some s.left };
 
     ghost faults = { λ _. 0 };
+
+    ghost last = { λ s. s.last };
 
     ghost stands_on = { λ _. nothing };
 
@@ -89,19 +96,22 @@ impl Source for MakeSource {
     fn read(&mut self, buf: &mut [u8]) -> Result<usize, Failed>
         requires { 0 < length buf.old }
         ensures bound { ReadsAtMost result buf.new }
-        ensures bytes { ReadConsumes (Some self.old) (Some self.new) result buf.new }
+        ensures bytes { ReadConsumes (Some self.old.left) (Some self.new.left) result buf.new }
+        ensures last { LastRead self.old.last self.new.last result }
         ensures cause { HasCause 0 0 result }
-        ensures answer { result ≡ Ok (min (length buf.old) (length self.old)) }
-        ensures source { self.new ≡ drop (length buf.old) self.old }
+        ensures answer { result ≡ Ok (min (length buf.old) (length self.old.left)) }
+        ensures source { self.new.left ≡ drop (length buf.old) self.old.left }
     {
         let mut at = 0;
         'fill: while at < buf.len() {
             let n = self.give(&mut buf[at..]);
             if n == 0 {
+                self.last = at;
                 return Ok(at);
             }
             at += n;
         }
+        self.last = at;
         Ok(at)
     }
 }

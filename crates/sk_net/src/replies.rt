@@ -79,6 +79,7 @@ impl Replies {
     /// Sends all that waits. If it fails, what was not sent waits on.
     pub fn send<W: Write>(&mut self, out: &mut W) -> Result<(), Failed>
         ensures all { OnOk result (self.new.bytes ≡ []) }
+        ensures none { self.old.bytes ≡ [] → out.new ≡ out.old }
         ensures bytes { Keeps (append_known (W.contents out.old) self.old.bytes)
             (append_known (W.contents out.new) self.new.bytes) }
     {
@@ -119,6 +120,7 @@ fn send_from<W: Write>(out: &mut W, bytes: &[u8], place: &mut usize) -> Result<(
     requires { place.old ≤ length bytes.now }
     ensures within { place.new ≤ length bytes.now }
     ensures all { OnOk result (place.new ≡ length bytes.now) }
+    ensures none { drop place.old bytes.now ≡ [] → out.new ≡ out.old }
     ensures bytes { Keeps (append_known (W.contents out.old) (drop place.old bytes.now))
         (append_known (W.contents out.new) (drop place.new bytes.now)) }
 {

@@ -13,6 +13,7 @@ use crate::replies::Replies;
 use crate::tcp_link::TcpLink;
 use sk_io::{Door, DoorFault, Failed, Link, count_fault};
 use std::alloc::{AllocError, Global};
+use std::io;
 use std::io::ErrorKind;
 use std::net::{Net, OpenListener, OpenStream, SocketAddr};
 use std::time::Duration;
@@ -139,11 +140,12 @@ impl<R: Net> Door for TcpDoor<R> {
         let Some(listening) = &self.listening else {
             unreachable!()
         };
-        let Ok(stream) = next_stream(&listening.listener, self.send_wait) else {
+        let mut accepted = self.accepted;
+        let Ok(stream) = next_stream(&listening.listener, &mut accepted, self.send_wait) else {
             return Err(count_fault(&mut self.faults));
         };
         let replies = self.spare.pop().unwrap_or(Replies::none(self.alloc));
-        self.accepted = self.accepted.saturating_add(1);
+        self.accepted = accepted;
         Ok(TcpLink::new(stream, replies))
     }
 
@@ -170,18 +172,33 @@ fn spare_replies(alloc: Global, links: u32) -> Result<Vec<Replies>, AllocError>
 }
 
 // Waits for the next connection that its peer has not broken off yet. Each wait of its sends lasts this long at most.
-fn next_stream<L: OpenListener>(listener: &L, send_wait: Duration) -> Result<L::Stream, Failed>
+fn next_stream<L: OpenListener>(
+    listener: &L,
+    accepted: &mut u64,
+    send_wait: Duration,
+) -> Result<L::Stream, Failed>
 where
     L::Stream: OpenStream + Drop,
+    ensures counts { OnOk result (Rose accepted.old accepted.new) }
 {
     'next: for _ in 0..u64::MAX {
-        match listener.accept() {
-            Ok((stream, _)) => return prepared(stream, send_wait),
+        match accept_counted(listener, accepted) {
+            Ok(stream) => return prepared(stream, send_wait),
             Err(e) if is_passing(e.kind()) => {}
             Err(_) => return Err(Failed),
         }
     }
     Err(Failed)
+}
+
+// The only accept of a connection. It counts each that it gets.
+fn accept_counted<L: OpenListener>(listener: &L, accepted: &mut u64) -> io::Result<L::Stream>
+    ensures counts { OnOk result (Rose accepted.old accepted.new) }
+    ensures none { OnErr result (accepted.new ≡ accepted.old) }
+{
+    let (stream, _) = listener.accept()?;
+    *accepted = accepted.saturating_add(1);
+    Ok(stream)
 }
 
 // A stream that sends without delay, and ends each wait after this long. A peer that is gone refuses neither.

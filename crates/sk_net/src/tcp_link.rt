@@ -4,7 +4,7 @@ ghost use Rattle.std.specs.Io.{ReadsAtMost, WritesAtMost};
 ghost use Rattle.std.specs.Io.KnownBytes.{IsAtEnd, Keeps, WriteAppends, append_known};
 ghost use Rattle.sk_model.specs.Causes.{HasCause};
 ghost use Rattle.sk_io.specs.Traffic.{Receives, Sends, left_of};
-ghost use Rattle.sk_net.specs.Links.{stream_of, waiting_of};
+ghost use Rattle.sk_net.specs.Links.{ReadsNext, stream_of, waiting_of};
 
 use crate::replies::Replies;
 use sk_io::{Failed, Link, count_fault, read_some};
@@ -43,6 +43,7 @@ impl<S: Read + Write + OpenStream> TcpLink<S> {
         ensures sent { OnOk result (length (waiting_of self.new) ≡ 0) }
         ensures bytes { Keeps (append_known (S.contents (stream_of self.old)) (waiting_of self.old))
             (append_known (S.contents (stream_of self.new)) (waiting_of self.new)) }
+        ensures none { waiting_of self.old ≡ [] → stream_of self.new ≡ stream_of self.old }
         ensures cause { let faults = ⟦<TcpLink<S> as Link>⟧.faults in HasCause (faults self.old) (faults self.new) result }
     {
         let Ok(()) = self.replies.send(&mut self.stream) else {
@@ -97,6 +98,7 @@ impl<S: Read + Write + OpenStream> Link for TcpLink<S> {
         ensures end { IfOk result (λ n. n ≡ 0 → IsAtEnd (left_of None)) }
         ensures cause { let faults = ⟦<TcpLink<S> as Link>⟧.faults in HasCause (faults self.old) (faults self.new) result }
         ensures sent { OnOk result (length (waiting_of self.new) ≡ 0) }
+        ensures next { ReadsNext S.contents S.remaining self.old self.new result buf.new }
         ensures ended { IfOk result (λ n. n ≡ 0 → IsAtEnd (S.remaining (stream_of self.new))) }
     {
         self.send()?;

@@ -4,7 +4,7 @@ use crate::{ClosedLink, TcpDoor, TcpLink};
 use sk_io::{Door, DoorFault, Failed, Link, send_all};
 use std::alloc::Global;
 use std::fmt::Debug;
-use std::io::{Read, Write};
+use std::io::{ErrorKind, Read, Write};
 use std::net::{Ipv4Addr, Net, Shutdown, SocketAddr, TcpStream};
 use std::process::Abort;
 use std::test::Fail;
@@ -87,6 +87,20 @@ fn clients_get_their_replies(rt: HostRuntime) -> Result<(), Fail> {
         door.close(server.join(&rt));
         expect(&rt, door.closed(), [SOUND].as_slice());
     }
+    Ok(())
+}
+
+#[test]
+fn another_address_of_the_machine_is_refused(rt: HostRuntime) -> Result<(), Fail> {
+    let door = door_for(&rt, rt.alloc(), 1)?;
+    let port = door.port().unwrap_or(0);
+    let other = SocketAddr::from((Ipv4Addr::new(127, 0, 0, 2), port));
+    let refused = match TcpStream::connect(&rt, other) {
+        Ok(_) => false,
+        Err(e) => e.kind() == ErrorKind::ConnectionRefused,
+    };
+    expect(&rt, refused, true);
+    expect(&rt, client_of(&rt, Some(port)).is_ok(), true);
     Ok(())
 }
 

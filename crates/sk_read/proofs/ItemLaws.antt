@@ -65,5 +65,5 @@ not_written : (n : ℕ) → WriteFault ≡ BadItem n → ⊥
 not_written n is = cc
 
 -- a taker of items never stops for a write
-pub no_write : (kind : Kind) (Stands : List ℕ → Type 0) (units : Units) (most : ℕ) (old new : Option (List ℕ)) (r : Result ℕ Fault) → Reads units most (Gave kind Stands) (Missed kind Stands) old new r → r ≢ Err WriteFault
-no_write kind Stands units most old new r reads is = not_written _ (MatchResult-at_err _ _ WriteFault is reads).1.known.0
+pub no_write : (last : ℕ) (kind : Kind) (Stands : List ℕ → Type 0) (units : Units) (most : ℕ) (old new : Option (List ℕ)) (r : Result ℕ Fault) → Reads last units most (Gave kind Stands) (Missed kind Stands) old new r → r ≢ Err WriteFault
+no_write last kind Stands units most old new r reads is = not_written _ (MatchResult-at_err _ _ WriteFault is reads).1.known.0

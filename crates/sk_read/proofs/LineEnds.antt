@@ -15,10 +15,10 @@ use Rattle.sk_read.specs.declared.units.Units.{Units}
 use Rattle.sk_read.specs.declared.units.Units.TheVariants.{Lines}
 use Rattle.sk_read.specs.Faults.{fault_by, IsOfTaker}
 use Rattle.sk_read.specs.Reading.{Reading, HasRead, Goes}
-use Rattle.sk_read.specs.Reads.{IsSettled, IsInTime, ReadsAll, StopsAt, StopsAmong, Ends, Reads}
+use Rattle.sk_read.specs.Reads.{IsSettled, IsInTime, BreaksOff, ReadsAll, StopsAt, StopsAmong, Ends, Reads}
 use Rattle.sk_read.specs.Units.{IsSoundUpTo}
 use Rattle.sk_read.proofs.ItemLaws.{front_is, has_few}
-use Rattle.sk_read.proofs.Readings.{given_settled, in_time_more, nothing_read}
+use Rattle.sk_read.proofs.Readings.{given_settled, in_time_within, in_time_more, nothing_read}
 
 pub settled_so : (P Q : List ℕ → Type 0) (left : Option (List ℕ)) (taken : List ℕ) → ((text : List ℕ) → P text → Q text) → IsSettled P left taken → IsSettled Q left taken
 settled_so P Q left taken so (inl always) = inl (λ later. so (taken ++ later) (always later))
@@ -33,7 +33,7 @@ settled_told P (Some text) (Some rest) taken consumed (inr here) = subst P (sym 
 
 -- a taker stopped at a line, and lines after it may have been given too
 line_stops : (Stopped : List (List ℕ) → List ℕ → Type 0) (most : ℕ) (r : Reading) (old left : Option (List ℕ)) (given : List (List ℕ)) (line : List ℕ) (all : List (List ℕ)) (taken : List ℕ) → r.most ≡ most →
-    Consumes old left taken → Stopped given line → Begins (given ++ line ∷ []) all → HasRead r left all taken → IsInTime Lines given taken → StopsAt Lines most Stopped old left
+    Consumes old left taken → Stopped given line → Begins (given ++ line ∷ []) all → HasRead r left all taken → IsInTime r.last Lines given taken → StopsAt r.last Lines most Stopped old left
 line_stops Stopped most r old left given line all taken is consumed stopped among read in_time = (
   line,
   record {
@@ -71,35 +71,59 @@ begins_behind given front more unit begins = (
   ap (λ (l : List (List ℕ)). given ++ l) begins.1 ∙ sym (append_assoc given (front ++ unit ∷ []) begins.0) ∙ ap (λ (l : List (List ℕ)). l ++ begins.0) (sym (append_assoc given front (unit ∷ []))),
 )
 
+-- a read of more bytes is as good
+pub breaks_within : (a b : ℕ) (units : Units) (most : ℕ) (Known : List (List ℕ) → Type 0) (Comes : List (List ℕ) → List ℕ → Type 0) (old new : Option (List ℕ)) → a ≤ b →
+    BreaksOff a units most Known Comes old new → BreaksOff b units most Known Comes old new
+breaks_within a b units most Known Comes old new within off = record {
+  given = off.given;
+  taken = off.taken;
+  consumed = off.consumed;
+  size = off.size;
+  in_time = in_time_within units off.given off.taken within off.in_time;
+  known = off.known;
+  comes = off.comes;
+}
+
 module _ (Gave : List (List ℕ) → Type 0) (Stopped : Fault → List (List ℕ) → List ℕ → Type 0) (most : ℕ) where
+  -- with a read of more bytes it ended so too
+  pub ends_within : (a b : ℕ) (units : Units) (old new : Option (List ℕ)) (f : Fault) → a ≤ b → Ends a units most Gave Stopped old new f → Ends b units most Gave Stopped old new f
+  ends_within a b units old new fault.OutOfMemory within (inl off) = inl (breaks_within a b units most Gave _ old new within off)
+  ends_within a b units old new fault.OutOfMemory within (inr stops) = inr (stops.0, breaks_within a b units most _ _ old new within stops.1)
+  ends_within a b units old new fault.ReadFault within ends = ends
+  ends_within a b units old new fault.TooMuch within ends = ends
+  ends_within a b units old new (fault.LongLine n) within off = breaks_within a b units most Gave _ old new within off
+  ends_within a b units old new (fault.BadCsv n) within off = breaks_within a b units most Gave _ old new within off
+  ends_within a b units old new (fault.BadItem n) within stops = (stops.0, breaks_within a b units most _ _ old new within stops.1)
+  ends_within a b units old new fault.WriteFault within stops = (stops.0, breaks_within a b units most _ _ old new within stops.1)
+
   -- a taker stopped at a unit, for this fault
-  pub taker_ends : (units : Units) (old new : Option (List ℕ)) (given : List (List ℕ)) (unit : List ℕ) (n : ℕ) (f : Fault) → n ≡ length given + 1 → IsOfTaker n f → Stopped f given unit →
-      ((Known : List (List ℕ) → List ℕ → Type 0) → Known given unit → StopsAt units most Known old new) → Ends units most Gave Stopped old new f
-  taker_ends units old new given unit n (fault.BadItem m) place of stopped stops = stops (λ given unit. (m ≡ length given + 1) × Stopped (fault.BadItem m) given unit) (of ∙ place, stopped)
-  taker_ends units old new given unit n fault.OutOfMemory place of stopped stops = inr (stops (Stopped fault.OutOfMemory) stopped)
-  taker_ends units old new given unit n fault.WriteFault place of stopped stops = stops (Stopped fault.WriteFault) stopped
-  taker_ends units old new given unit n _ place of stopped stops = absurd of
+  pub taker_ends : (last : ℕ) (units : Units) (old new : Option (List ℕ)) (given : List (List ℕ)) (unit : List ℕ) (n : ℕ) (f : Fault) → n ≡ length given + 1 → IsOfTaker n f → Stopped f given unit →
+      ((Known : List (List ℕ) → List ℕ → Type 0) → Known given unit → StopsAt last units most Known old new) → Ends last units most Gave Stopped old new f
+  taker_ends last units old new given unit n (fault.BadItem m) place of stopped stops = stops (λ given unit. (m ≡ length given + 1) × Stopped (fault.BadItem m) given unit) (of ∙ place, stopped)
+  taker_ends last units old new given unit n fault.OutOfMemory place of stopped stops = inr (stops (Stopped fault.OutOfMemory) stopped)
+  taker_ends last units old new given unit n fault.WriteFault place of stopped stops = stops (Stopped fault.WriteFault) stopped
+  taker_ends last units old new given unit n _ place of stopped stops = absurd of
 
   -- the fault of the whole
-  pub ends_read : (units : Units) (old new : Option (List ℕ)) (f : Fault) (r : Result ℕ Fault) → IsErrAnd r (λ (x : Fault). x ≡ f) → Ends units most Gave Stopped old new f → Reads units most Gave Stopped old new r
-  ends_read units old new f (Ok n) is ends = absurd is
-  ends_read units old new f (Err e) is ends = subst (λ (x : Fault). Ends units most Gave Stopped old new x) (sym is) ends
+  pub ends_read : (a b : ℕ) (units : Units) (old new : Option (List ℕ)) (f : Fault) (r : Result ℕ Fault) → IsErrAnd r (λ (x : Fault). x ≡ f) → a ≤ b → Ends a units most Gave Stopped old new f → Reads b units most Gave Stopped old new r
+  ends_read a b units old new f (Ok n) is within ends = absurd is
+  ends_read a b units old new f (Err e) is within ends = subst (λ (x : Fault). Ends b units most Gave Stopped old new x) (sym is) (ends_within a b units old new f within ends)
 
   -- no memory before the first read
-  pub nothing_came : (left : Option (List ℕ)) → Gave [] → Ends Lines most Gave Stopped left left fault.OutOfMemory
-  nothing_came left gave = inl (record {
+  pub nothing_came : (last : ℕ) (left : Option (List ℕ)) → Gave [] → Ends last Lines most Gave Stopped left left fault.OutOfMemory
+  nothing_came last left gave = inl (record {
     given = [];
     taken = [];
     consumed = Consumes-nil left;
     size = omega arith;
-    in_time = nothing_read;
+    in_time = nothing_read last;
     known = gave;
     comes = inl (λ later. ((lines_of later, refl), All-nil (λ (l : List ℕ). length l ≤ line_limit)));
   })
 
   -- out of memory after the lines given
   pub no_memory : (r : Reading) (old left : Option (List ℕ)) (given : List (List ℕ)) (taken : List ℕ) → r.most ≡ most → Consumes old left taken → Gave given → HasRead r left given taken →
-      Ends Lines most Gave Stopped old left fault.OutOfMemory
+      Ends r.last Lines most Gave Stopped old left fault.OutOfMemory
   no_memory r old left given taken is consumed gave read = inl (record {
     given = given;
     taken = taken;
@@ -114,7 +138,7 @@ module _ (Gave : List (List ℕ) → Type 0) (Stopped : Fault → List (List ℕ
 
   -- no line came
   pub no_line : (r : Reading) (old left : Option (List ℕ)) (given : List (List ℕ)) (taken : List ℕ) (s : LineFault) → r.most ≡ most → Consumes old left taken → Gave given → Goes r left given taken (Err s) →
-      Ends Lines most Gave Stopped old left (fault_by s)
+      Ends r.last Lines most Gave Stopped old left (fault_by s)
   no_line r old left given taken stop.ReadFault is consumed gave goes = record {
     taken = taken;
     consumed = consumed;
@@ -142,19 +166,19 @@ module _ (Gave : List (List ℕ) → Type 0) (Stopped : Fault → List (List ℕ
 
   -- a taker stopped at a line, for this fault
   pub line_missed : (r : Reading) (old left : Option (List ℕ)) (given : List (List ℕ)) (line taken : List ℕ) (n : ℕ) (f : Fault) → r.most ≡ most → Consumes old left taken → n ≡ length given + 1 → IsOfTaker n f →
-      Stopped f given line → HasRead r left (given ++ line ∷ []) taken → IsInTime Lines given taken → Ends Lines most Gave Stopped old left f
+      Stopped f given line → HasRead r left (given ++ line ∷ []) taken → IsInTime r.last Lines given taken → Ends r.last Lines most Gave Stopped old left f
   line_missed r old left given line taken n f is consumed place of stopped read in_time =
-      taker_ends Lines old left given line n f place of stopped (λ (Known : List (List ℕ) → List ℕ → Type 0) known.
+      taker_ends r.last Lines old left given line n f place of stopped (λ (Known : List (List ℕ) → List ℕ → Type 0) known.
       line_stops Known most r old left given line (given ++ line ∷ []) taken is consumed known (begins_refl (given ++ line ∷ [])) read in_time)
 
   -- a taker of lines that come after those given stopped at one of them, for this fault
   pub line_missed_among : (r : Reading) (old left : Option (List ℕ)) (given more : List (List ℕ)) (taken : List ℕ) (f : Fault) → r.most ≡ most → Consumes old left taken → StopsAmong Stopped f given more →
-      HasRead r left (given ++ more) taken → IsInTime Lines given taken → Ends Lines most Gave Stopped old left f
+      HasRead r left (given ++ more) taken → IsInTime r.last Lines given taken → Ends r.last Lines most Gave Stopped old left f
   line_missed_among r old left given more taken f is consumed stops read in_time =
       let before = given ++ stops.front in
-      taker_ends Lines old left before stops.unit (length given + length stops.front + 1) f (omega (arith, length-append given stops.front)) stops.fault stops.stopped
+      taker_ends r.last Lines old left before stops.unit (length given + length stops.front + 1) f (omega (arith, length-append given stops.front)) stops.fault stops.stopped
       (λ (Known : List (List ℕ) → List ℕ → Type 0) known.
-      line_stops Known most r old left before stops.unit (given ++ more) taken is consumed known (begins_behind given stops.front more stops.unit stops.begins) read (in_time_more Lines given stops.front taken in_time))
+      line_stops Known most r old left before stops.unit (given ++ more) taken is consumed known (begins_behind given stops.front more stops.unit stops.begins) read (in_time_more Lines given stops.front taken (omega arith) in_time))
 
   -- the last line was given
   pub all_lines : (r : Reading) (old left : Option (List ℕ)) (given : List (List ℕ)) (taken : List ℕ) (n : ℕ) → r.most ≡ most → Consumes old left taken → Gave given → Goes r left given taken (Ok false) →

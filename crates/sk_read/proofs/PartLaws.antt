@@ -263,71 +263,94 @@ started p new taken held found has which bytes cut place count most ended = reco
     go (suc n) cut = cut_later st.StartRecord (10 ∷ []) held st.StartRecord (state_of new.place) 1 (suc n) base cut (omega arith)
 
 -- one piece more after records of which all that ended were given
-pub rows_in_time : (rows : List Row) (taken more : List ℕ) → complete_records_of taken ≡ rows → length more ≤ piece_limit → AreInTime rows (taken ++ more)
-rows_in_time rows taken more complete size = record {
+pub rows_in_time : (last : ℕ) (rows : List Row) (taken more : List ℕ) → complete_records_of taken ≡ rows → length more ≤ last → length more ≤ piece_limit → AreInTime last rows (taken ++ more)
+rows_in_time last rows taken more complete within size = record {
   front = taken;
   piece = more;
   joined = refl;
-  size = size;
+  size = within;
+  few = size;
   earlier = ([], sym (ap (λ (l : List Row). l ++ []) complete ∙ append-nil rows));
 }
 
 pub held_more : (p mid new : Parts) (left now : Option (List ℕ)) (rows : List Row) (taken more : List ℕ) (found : ℕ) → HasHeld p left rows taken → p.cut ≡ 1 → p.ended ≡ false → Holds p mid more →
-    length more ≤ piece_limit → (mid.ended ≡ true → IsAtEnd now) → IsCut (state_of p.place) more (state_of new.place) found → new.bytes.items ≡ mid.bytes.items → new.taken ≡ mid.taken → new.most ≡ mid.most →
+    length more ≤ piece_limit → new.last ≡ mid.last → (mid.ended ≡ true → IsAtEnd now) → IsCut (state_of p.place) more (state_of new.place) found → new.bytes.items ≡ mid.bytes.items → new.taken ≡ mid.taken → new.most ≡ mid.most →
     new.ended ≡ mid.ended → (found ≡ 0 → new.cut ≡ p.cut) → (0 < found → new.cut ≡ length p.bytes.items + found) → HasHeld new now rows (taken ++ more)
-held_more p mid new left now rows taken more found held one going holds size end cut bytes count most ended stays later = record {
+held_more p mid new left now rows taken more found held one going holds size last end cut bytes count most ended stays later = record {
   has = takes_more p mid new rows taken more found held.has going holds cut bytes count most stays later;
   end = λ over. (end (sym ended ∙ over), omega (arith, (holds.end (sym ended ∙ over)).1, count, most));
-  in_time = rows_in_time rows taken more (complete_is p rows taken held.has one going) size;
+  in_time = rows_in_time new.last rows taken more (complete_is p rows taken held.has one going) (omega (arith, last, holds.last)) size;
 }
 
 -- no byte came after records of which all that ended were given
-pub lacks_row : (p : Parts) (left : Option (List ℕ)) (rows : List Row) (taken more : List ℕ) (most : ℕ) (f : Fault) → HasHeld p left rows taken → p.cut ≡ 1 → p.ended ≡ false → most ≡ p.most →
-    length more ≤ piece_limit → LacksBytes p more f → Lacks most rows (taken ++ more) f
-lacks_row p left rows taken more most fault.ReadFault held one going is size lacks =
+pub lacks_row : (last : ℕ) (p : Parts) (left : Option (List ℕ)) (rows : List Row) (taken more : List ℕ) (most : ℕ) (f : Fault) → HasHeld p left rows taken → p.cut ≡ 1 → p.ended ≡ false → most ≡ p.most →
+    length more ≤ piece_limit → length more ≤ last → LacksBytes p more f → Lacks last most rows (taken ++ more) f
+lacks_row last p left rows taken more most fault.ReadFault held one going is size within lacks =
     let same : taken ≡ taken ++ more = sym (ap (λ (l : List ℕ). taken ++ l) lacks.0 ∙ append-nil taken) in
     subst (λ (l : List ℕ). (complete_records_of l ≡ rows) × (length l < most)) same (complete_is p rows taken held.has one going, omega (arith, held.has.count, lacks.1, is))
-lacks_row p left rows taken more most fault.TooMuch held one going is size lacks =
+lacks_row last p left rows taken more most fault.TooMuch held one going is size within lacks =
     let same : taken ≡ taken ++ more = sym (ap (λ (l : List ℕ). taken ++ l) lacks.0 ∙ append-nil taken) in
     subst (λ (l : List ℕ). (complete_records_of l ≡ rows) × (length l ≡ most)) same (complete_is p rows taken held.has one going, omega (arith, held.has.count, lacks.1, is))
-lacks_row p left rows taken more most fault.OutOfMemory held one going is size lacks = (
+lacks_row last p left rows taken more most fault.OutOfMemory held one going is size within lacks = (
   omega (arith, length-append taken more, held.has.count, lacks, is),
-  rows_in_time rows taken more (complete_is p rows taken held.has one going) size,
+  rows_in_time last rows taken more (complete_is p rows taken held.has one going) within size,
   λ later. (
     records default_config (p.bytes.items ++ (more ++ later)),
     ap records_of (append_assoc taken more later) ∙ held.has.follows (more ++ later) (λ over. absurd (false≢true (sym going ∙ over))),
   ),
 )
-lacks_row p left rows taken more most _ held one going is size lacks = absurd lacks
+lacks_row last p left rows taken more most _ held one going is size within lacks = absurd lacks
 
 -- no byte came after the first of a byte order mark
-pub lacks_mark : (p : Parts) (taken more : List ℕ) (most : ℕ) (f : Fault) → is_mark_front taken ≡ true → length taken ≤ 3 → length taken ≡ p.taken → most ≡ p.most → length more ≤ 1 → LacksBytes p more f →
-    Lacks most [] (taken ++ more) f
-lacks_mark p taken more most fault.ReadFault front small count is size lacks =
+pub lacks_mark : (last : ℕ) (p : Parts) (taken more : List ℕ) (most : ℕ) (f : Fault) → is_mark_front taken ≡ true → length taken ≤ 3 → length taken ≡ p.taken → most ≡ p.most → length more ≤ 1 → length more ≤ last → LacksBytes p more f →
+    Lacks last most [] (taken ++ more) f
+lacks_mark last p taken more most fault.ReadFault front small count is size within lacks =
     let same : taken ≡ taken ++ more = sym (ap (λ (l : List ℕ). taken ++ l) lacks.0 ∙ append-nil taken) in
     subst (λ (l : List ℕ). (complete_records_of l ≡ []) × (length l < most)) same (none_complete taken front, omega (arith, count, lacks.1, is))
-lacks_mark p taken more most fault.TooMuch front small count is size lacks =
+lacks_mark last p taken more most fault.TooMuch front small count is size within lacks =
     let same : taken ≡ taken ++ more = sym (ap (λ (l : List ℕ). taken ++ l) lacks.0 ∙ append-nil taken) in
     subst (λ (l : List ℕ). (complete_records_of l ≡ []) × (length l ≡ most)) same (none_complete taken front, omega (arith, count, lacks.1, is))
-lacks_mark p taken more most fault.OutOfMemory front small count is size lacks = (
+lacks_mark last p taken more most fault.OutOfMemory front small count is size within lacks = (
   omega (arith, length-append taken more, count, lacks, is),
-  rows_in_time [] taken more (none_complete taken front) (omega (arith, size)),
+  rows_in_time last [] taken more (none_complete taken front) within (omega (arith, size)),
   λ later. (records_of ((taken ++ more) ++ later), refl),
 )
-lacks_mark p taken more most _ front small count is size lacks = absurd lacks
+lacks_mark last p taken more most _ front small count is size within lacks = absurd lacks
 
--- the first bytes
-pub first_in_time : (taken : List ℕ) → length taken ≤ 3 → AreInTime [] taken
-first_in_time taken small = rows_in_time [] [] taken (none_complete [] refl) (omega (arith, small))
+-- before the first read
+pub none_in_time : (last : ℕ) → AreInTime last [] []
+none_in_time last = rows_in_time last [] [] [] (none_complete [] refl) (omega arith) (omega arith)
+
+-- a read of more bytes is as good
+pub rows_within : (a b : ℕ) (rows : List Row) (taken : List ℕ) → a ≤ b → AreInTime a rows taken → AreInTime b rows taken
+rows_within a b rows taken within is = record {
+  front = is.front;
+  piece = is.piece;
+  joined = is.joined;
+  size = omega (arith, is.size, within);
+  few = is.few;
+  earlier = is.earlier;
+}
+
+-- the first of a byte order mark are few
+pub mark_small : (taken : List ℕ) → is_mark_front taken ≡ true → length taken ≤ 2
+mark_small [] is = omega arith
+mark_small (a ∷ []) is = omega arith
+mark_small (a ∷ b ∷ []) is = omega arith
+mark_small (a ∷ b ∷ c ∷ rest) is = absurd (false≢true is)
+
+-- one byte more after the first of a byte order mark
+pub mark_in_time : (last : ℕ) (taken more : List ℕ) → is_mark_front taken ≡ true → last ≡ length more → length more ≤ 1 → AreInTime last [] (taken ++ more)
+mark_in_time last taken more front is size = rows_in_time last [] taken more (none_complete taken front) (omega (arith, is)) (omega (arith, size))
 
 -- what is known of a call that failed
 pub at_err : {A : Type 0} (r : Result A Fault) (f : Fault) (P : A → Type 0) (Q : Fault → Type 0) → IsErrAnd r (λ (x : Fault). x ≡ f) → Q f → MatchResult r P Q
 at_err (Ok a) f P Q is holds = absurd is
 at_err (Err e) f P Q is holds = subst Q (sym is) holds
 
-pub refilled_err : (p : Parts) (left : Option (List ℕ)) (rows : List Row) (taken : List ℕ) (f : Fault) (r : Result Bool Fault) → IsErrAnd r (λ (x : Fault). x ≡ f) → Lacks p.most rows taken f → Refills p left rows taken r
+pub refilled_err : (p : Parts) (left : Option (List ℕ)) (rows : List Row) (taken : List ℕ) (f : Fault) (r : Result Bool Fault) → IsErrAnd r (λ (x : Fault). x ≡ f) → Lacks p.last p.most rows taken f → Refills p left rows taken r
 refilled_err p left rows taken f (Ok b) is lacks = absurd is
-refilled_err p left rows taken f (Err e) is lacks = subst (Lacks p.most rows taken) (sym is) lacks
+refilled_err p left rows taken f (Err e) is lacks = subst (Lacks p.last p.most rows taken) (sym is) lacks
 
 pub held_still : (p : Parts) (left : Option (List ℕ)) (rows : List Row) (taken : List ℕ) → HasHeld p left rows taken → HasHeld p left rows (taken ++ [])
 held_still p left rows taken held = subst (HasHeld p left rows) (sym (append-nil taken)) held

@@ -71,7 +71,7 @@ given_settled r left given taken read = go r.ended refl
 
 -- a step of the reader
 pub read_on : (old new : Reading) (left now : Option (List ℕ)) (given more : List (List ℕ)) (taken fed : List ℕ) → HasRead old left given taken → HasGiven new more fed → (new.ended ≡ true → IsAtEnd now) →
-    new.cutter.limit ≡ old.cutter.limit → new.most ≡ old.most → new.taken ≤ new.most → IsInTime Lines more fed → HasRead new now more fed
+    new.cutter.limit ≡ old.cutter.limit → new.most ≡ old.most → new.taken ≤ new.most → IsInTime new.last Lines more fed → HasRead new now more fed
 read_on old new left now given more taken fed read has end limit most bound in_time = record {
   has = has;
   end = end;
@@ -81,13 +81,38 @@ read_on old new left now given more taken fed read has end limit most bound in_t
   in_time = in_time;
 }
 
--- more lines were given
-pub in_time_more : (units : Units) (given more : List (List ℕ)) (taken : List ℕ) → IsInTime units given taken → IsInTime units (given ++ more) taken
-in_time_more units given more taken is = record {
+-- a read more than these bytes is as good
+pub in_time_within : {a b : ℕ} (units : Units) (given : List (List ℕ)) (taken : List ℕ) → a ≤ b → IsInTime a units given taken → IsInTime b units given taken
+in_time_within {a} {b} units given taken within is = record {
   front = is.front;
   piece = is.piece;
   joined = is.joined;
-  size = is.size;
+  size = omega (arith, is.size, within);
+  few = is.few;
+  sound = is.sound;
+  earlier = is.earlier;
+}
+
+-- no read is longer than a piece may be
+pub in_time_ever : {a : ℕ} (units : Units) (given : List (List ℕ)) (taken : List ℕ) → IsInTime a units given taken → IsInTime piece_limit units given taken
+in_time_ever {a} units given taken is = record {
+  front = is.front;
+  piece = is.piece;
+  joined = is.joined;
+  size = is.few;
+  few = is.few;
+  sound = is.sound;
+  earlier = is.earlier;
+}
+
+-- more lines were given
+pub in_time_more : {a b : ℕ} (units : Units) (given more : List (List ℕ)) (taken : List ℕ) → a ≤ b → IsInTime a units given taken → IsInTime b units (given ++ more) taken
+in_time_more {a} {b} units given more taken within is = record {
+  front = is.front;
+  piece = is.piece;
+  joined = is.joined;
+  size = omega (arith, is.size, within);
+  few = is.few;
   sound = is.sound;
   earlier = begins_more (complete_units_of units is.front) given more is.earlier;
 }
@@ -148,23 +173,24 @@ have_ended r given taken limit stands = (
     less_one xs y = ap (λ (m : ℕ). take m (xs ++ y ∷ [])) (omega (arith, length-append xs (y ∷ []))) ∙ front_is xs (xs ++ y ∷ []) (y ∷ [], refl)
 
 -- a piece more after lines of which all that ended were given
-pub fed_in_time : (given : List (List ℕ)) (taken more : List ℕ) → HaveEnded given taken → length more ≤ piece_limit → IsInTime Lines given (taken ++ more)
-fed_in_time given taken more ended size = record {
+pub fed_in_time : (last : ℕ) (given : List (List ℕ)) (taken more : List ℕ) → HaveEnded given taken → last ≡ length more → length more ≤ piece_limit → IsInTime last Lines given (taken ++ more)
+fed_in_time last given taken more ended is size = record {
   front = taken;
   piece = more;
   joined = refl;
-  size = size;
+  size = omega (arith, is);
+  few = size;
   sound = ended.1;
   earlier = ([], sym (ap (λ (l : List (List ℕ)). l ++ []) ended.0 ∙ append-nil given) ∙ refl);
 }
 
 -- the next line is too long
-pub goes_long : (old r : Reading) (left : Option (List ℕ)) (given : List (List ℕ)) (taken : List ℕ) (n : ℕ) → HasRead old left given taken → r.most ≡ old.most → IsLongNext old n → Goes r left given taken (Err (fault.LongLine n))
-goes_long old r left given taken n read most long =
+pub goes_long : (old r : Reading) (left : Option (List ℕ)) (given : List (List ℕ)) (taken : List ℕ) (n : ℕ) → HasRead old left given taken → r.most ≡ old.most → r.last ≡ old.last → IsLongNext old n → Goes r left given taken (Err (fault.LongLine n))
+goes_long old r left given taken n read most same long =
     let found = long given taken read.has in (
       found.0,
       omega (arith, read.has.count, read.bound, most),
-      read.in_time,
+      in_time_within Lines given taken (omega (arith, same)) read.in_time,
       inl (λ later. (
         (found.1 later).begins,
         subst (λ (m : ℕ). IsFirstLong m (length given) (lines_of (taken ++ later))) read.limit (found.1 later).first,
@@ -186,34 +212,35 @@ goes_passed r left given taken s (Err why) is goes = subst (λ (x : LineFault). 
 
 -- how the end of a source was found
 pub goes_end : (old r : Reading) (left : Option (List ℕ)) (given : List (List ℕ)) (taken : List ℕ) (result : Result Bool LineFault) → HasRead old left given taken → IsAtEnd left →
-    r.cutter.limit ≡ old.cutter.limit → r.most ≡ old.most → r.taken ≡ old.taken → r.ended ≡ true → (result ≡ Ok true → GivesLine old r) →
+    r.cutter.limit ≡ old.cutter.limit → r.most ≡ old.most → r.taken ≡ old.taken → r.last ≡ old.last → r.ended ≡ true → (result ≡ Ok true → GivesLine old r) →
     (result ≡ Ok false → (given : List (List ℕ)) (taken : List ℕ) → HasGiven old given taken → (lines_of taken ≡ given) × HasGiven r given taken) →
     ((n : ℕ) → result ≡ Err (fault.LongLine n) → IsLongLast old n) → result ≢ Err fault.ReadFault → result ≢ Err fault.TooMuch → Goes r left given taken result
-goes_end old r left given taken (Ok true) read end limit most same ended line none long no_read no_much = (
+goes_end old r left given taken (Ok true) read end limit most same last ended line none long no_read no_much = (
   read_on old r left left given (given ++ r.cutter.line ∷ []) taken taken read (line refl given taken read.has) (λ _. end) limit most (omega (arith, same, most, read.bound))
-      (in_time_more Lines given (r.cutter.line ∷ []) taken read.in_time),
-  read.in_time,
+      (in_time_more Lines given (r.cutter.line ∷ []) taken (omega (arith, last)) read.in_time),
+  in_time_within Lines given taken (omega (arith, last)) read.in_time,
 )
-goes_end old r left given taken (Ok false) read end limit most same ended line none long no_read no_much =
-    (read_on old r left left given given taken taken read (none refl given taken read.has).1 (λ _. end) limit most (omega (arith, same, most, read.bound)) read.in_time, ended)
-goes_end old r left given taken (Err fault.ReadFault) read end limit most same ended line none long no_read no_much = absurd (no_read refl)
-goes_end old r left given taken (Err fault.TooMuch) read end limit most same ended line none long no_read no_much = absurd (no_much refl)
-goes_end old r left given taken (Err (fault.LongLine n)) read end limit most same ended line none long no_read no_much =
+goes_end old r left given taken (Ok false) read end limit most same last ended line none long no_read no_much =
+    (read_on old r left left given given taken taken read (none refl given taken read.has).1 (λ _. end) limit most (omega (arith, same, most, read.bound)) (in_time_within Lines given taken (omega (arith, last)) read.in_time), ended)
+goes_end old r left given taken (Err fault.ReadFault) read end limit most same last ended line none long no_read no_much = absurd (no_read refl)
+goes_end old r left given taken (Err fault.TooMuch) read end limit most same last ended line none long no_read no_much = absurd (no_much refl)
+goes_end old r left given taken (Err (fault.LongLine n)) read end limit most same last ended line none long no_read no_much =
     let found = long n refl given taken read.has in (
       found.0,
       omega (arith, read.has.count, read.bound, most),
-      read.in_time,
+      in_time_within Lines given taken (omega (arith, last)) read.in_time,
       inr (end, (found.1.begins, subst (λ (m : ℕ). IsFirstLong m (length given) (lines_of taken)) read.limit found.1.first)),
     )
 
 -- before the first read
-pub nothing_read : IsInTime Lines [] []
+pub nothing_read : (last : ℕ) → IsInTime last Lines [] []
 unfolding lines_of
-nothing_read = record {
+nothing_read last = record {
   front = [];
   piece = [];
   joined = refl;
   size = omega arith;
+  few = omega arith;
   sound = All-cons (λ (l : List ℕ). length l ≤ line_limit) [] [] (omega arith) (All-nil (λ (l : List ℕ). length l ≤ line_limit));
   earlier = ([], refl);
 }

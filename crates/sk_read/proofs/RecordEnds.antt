@@ -135,12 +135,13 @@ reaches : (rows some more all : List Row) (next : Row) → Begins (some ++ next 
 reaches rows some more all next begins settled =
     subst (λ (l : List Row). Begins l all) (sym (append_assoc rows some (next ∷ []))) (begins_trans (rows ++ (some ++ next ∷ [])) (rows ++ more) all (begins_under rows (some ++ next ∷ []) more begins) settled)
 
-fields_in_time : (column : ℕ) (rows given : List Row) (taken : List ℕ) → Begins rows given → AreSoundRows column rows → AreInTime rows taken → IsInTime (Column column) (fields_in column given) taken
-fields_in_time column rows given taken begins sound is = record {
+fields_in_time : (last column : ℕ) (rows given : List Row) (taken : List ℕ) → Begins rows given → AreSoundRows column rows → AreInTime last rows taken → IsInTime last (Column column) (fields_in column given) taken
+fields_in_time last column rows given taken begins sound is = record {
   front = is.front;
   piece = is.piece;
   joined = is.joined;
   size = is.size;
+  few = is.few;
   sound = sound_begins column (complete_records_of is.front) rows is.earlier sound;
   earlier = fields_begin column (complete_records_of is.front) given (begins_trans (complete_records_of is.front) rows given is.earlier begins);
 }
@@ -181,26 +182,26 @@ uneven_behind column given all next begins sound why = record {
 
 -- ---- where the reading ended
 
-module _ (Gave : List (List ℕ) → Type 0) (Stopped : Fault → List (List ℕ) → List ℕ → Type 0) (column most : ℕ) (old left : Option (List ℕ)) (taken : List ℕ) (consumed : Consumes old left taken) where
+module _ (Gave : List (List ℕ) → Type 0) (Stopped : Fault → List (List ℕ) → List ℕ → Type 0) (last column most : ℕ) (old left : Option (List ℕ)) (taken : List ℕ) (consumed : Consumes old left taken) where
   abbrev E : Fault → Type 0
-  E f = Ends (Column column) most Gave Stopped old left f
+  E f = Ends last (Column column) most Gave Stopped old left f
 
   -- the reading broke off after these records
-  off : (Known : List (List ℕ) → Type 0) (Comes : List (List ℕ) → List ℕ → Type 0) (rows given : List Row) → length taken ≤ most → AreInTime rows taken → AreSoundRows column rows → Begins rows given →
+  off : (Known : List (List ℕ) → Type 0) (Comes : List (List ℕ) → List ℕ → Type 0) (rows given : List Row) → length taken ≤ most → AreInTime last rows taken → AreSoundRows column rows → Begins rows given →
       Known (fields_in column given) → IsSettled (λ (text : List ℕ). Begins (fields_in column given) (fields_in column (records_of text)) × Comes (fields_in column given) text) left taken →
-      BreaksOff (Column column) most Known Comes old left
+      BreaksOff last (Column column) most Known Comes old left
   off Known Comes rows given size in_time sound begins known comes = record {
     given = fields_in column given;
     taken = taken;
     consumed = consumed;
     size = size;
-    in_time = fields_in_time column rows given taken begins sound in_time;
+    in_time = fields_in_time last column rows given taken begins sound in_time;
     known = known;
     comes = comes;
   }
 
   -- no record came after these
-  pub no_row : (rows : List Row) (f : Fault) → AreSoundRows column rows → Gave (fields_in column rows) → Lacks most rows taken f → E f
+  pub no_row : (rows : List Row) (f : Fault) → AreSoundRows column rows → Gave (fields_in column rows) → Lacks last most rows taken f → E f
   no_row rows fault.ReadFault sound gave lacks = record {
     taken = taken;
     consumed = consumed;
@@ -223,9 +224,9 @@ module _ (Gave : List (List ℕ) → Type 0) (Stopped : Fault → List (List ℕ
   no_row rows _ sound gave lacks = absurd lacks
 
   -- the reading broke off after some of some more records, at the next one
-  off_at : (rows more : List Row) (f : Fault) (Known : List (List ℕ) → Type 0) (Comes : List (List ℕ) → List ℕ → Type 0) → length taken ≤ most → AreInTime rows taken → AreSoundRows column rows →
+  off_at : (rows more : List Row) (f : Fault) (Known : List (List ℕ) → Type 0) (Comes : List (List ℕ) → List ℕ → Type 0) → length taken ≤ most → AreInTime last rows taken → AreSoundRows column rows →
       IsSettled (λ (text : List ℕ). Begins (rows ++ more) (records_of text)) left taken → (at : EndsAt column Gave Stopped rows more f) → Known (fields_in column (rows ++ at.some)) →
-      ((all : List ℕ) → Begins ((rows ++ at.some) ++ at.next ∷ []) (records_of all) → Comes (fields_in column (rows ++ at.some)) all) → BreaksOff (Column column) most Known Comes old left
+      ((all : List ℕ) → Begins ((rows ++ at.some) ++ at.next ∷ []) (records_of all) → Comes (fields_in column (rows ++ at.some)) all) → BreaksOff last (Column column) most Known Comes old left
   off_at rows more f Known Comes size in_time sound settled at known comes =
       let given = rows ++ at.some in
       off Known Comes rows given size in_time sound (begins_append rows at.some) known
@@ -234,8 +235,8 @@ module _ (Gave : List (List ℕ) → Type 0) (Stopped : Fault → List (List ℕ
       (fields_begin column given (records_of text) (begins_trans given (given ++ at.next ∷ []) (records_of text) (begins_append given (at.next ∷ [])) begins), comes text begins)) settled)
 
   -- a taker stopped at the field of one of some more records
-  stops_at : (rows more : List Row) (f : Fault) (Known : List (List ℕ) → List ℕ → Type 0) → length taken ≤ most → AreInTime rows taken → AreSoundRows column rows → IsSettled (λ (text : List ℕ). Begins (rows ++ more) (records_of text)) left taken →
-      (at : EndsAt column Gave Stopped rows more f) → StopsBehind column Stopped (rows ++ at.some) at.next f → Known (fields_in column (rows ++ at.some)) (field_of column at.next) → StopsAt (Column column) most Known old left
+  stops_at : (rows more : List Row) (f : Fault) (Known : List (List ℕ) → List ℕ → Type 0) → length taken ≤ most → AreInTime last rows taken → AreSoundRows column rows → IsSettled (λ (text : List ℕ). Begins (rows ++ more) (records_of text)) left taken →
+      (at : EndsAt column Gave Stopped rows more f) → StopsBehind column Stopped (rows ++ at.some) at.next f → Known (fields_in column (rows ++ at.some)) (field_of column at.next) → StopsAt last (Column column) most Known old left
   stops_at rows more f Known size in_time sound settled at behind known =
       let given = rows ++ at.some in
       let unit = field_of column at.next in
@@ -248,7 +249,7 @@ module _ (Gave : List (List ℕ) → Type 0) (Stopped : Fault → List (List ℕ
       )
 
   -- one of some more records was refused, or memory ran out after some of them
-  pub broke : (rows more : List Row) (f : Fault) → length taken ≤ most → AreInTime rows taken → AreSoundRows column rows → IsSettled (λ (text : List ℕ). Begins (rows ++ more) (records_of text)) left taken →
+  pub broke : (rows more : List Row) (f : Fault) → length taken ≤ most → AreInTime last rows taken → AreSoundRows column rows → IsSettled (λ (text : List ℕ). Begins (rows ++ more) (records_of text)) left taken →
       Breaks column Gave Stopped rows more f → E f
   broke rows more fault.OutOfMemory size in_time sound settled (inl breaks) =
       let given = rows ++ breaks.some in
@@ -291,15 +292,16 @@ cut_by p left rows taken false is filled = absurd (false≢true is)
 
 -- the whole records held were given
 pub held_on : (p new : Parts) (left : Option (List ℕ)) (rows more : List Row) (taken : List ℕ) → HasHeld p left rows taken → HasTaken new (rows ++ more) taken → new.most ≡ p.most → new.taken ≡ p.taken →
-    new.ended ≡ p.ended → HasHeld new left (rows ++ more) taken
-held_on p new left rows more taken held has most count ended = record {
+    new.ended ≡ p.ended → new.last ≡ p.last → HasHeld new left (rows ++ more) taken
+held_on p new left rows more taken held has most count ended last = record {
   has = has;
   end = λ over. let at = held.end (sym ended ∙ over) in (at.0, omega (arith, at.1, most, count));
   in_time = record {
     front = held.in_time.front;
     piece = held.in_time.piece;
     joined = held.in_time.joined;
-    size = held.in_time.size;
+    size = omega (arith, held.in_time.size, last);
+    few = held.in_time.few;
     earlier = begins_more (complete_records_of held.in_time.front) rows more held.in_time.earlier;
   };
 }

@@ -5,7 +5,7 @@ use Rattle.sk_read.specs.Reading.{Reading}
 use Rattle.sk_model.specs.Limits.{line_limit, source_limit}
 
 abbrev pub reading_of : Inside → Reading
-reading_of a = record { cutter = a.lines; taken = a.taken; most = a.most; ended = a.ended }
+reading_of a = record { cutter = a.lines; taken = a.taken; last = a.last; most = a.most; ended = a.ended }
 
 pub record IsKept (a : Inside) : Type 0 where
   pub bound : a.taken ≤ a.most

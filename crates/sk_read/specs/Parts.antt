@@ -33,6 +33,7 @@ pub record Holds (old new : Parts) (more : List ℕ) : Type 0 where
   pub taken : new.taken ≡ old.taken + length more
   pub bound : new.taken ≤ new.most
   pub end : new.ended ≡ true → (more ≡ []) × (new.taken < new.most)
+  pub last : new.last ≡ length more
   pub going : new.ended ≡ false → 1 ≤ length more
   pub cut : new.cut ≡ old.cut
   pub place : new.place ≡ old.place
@@ -66,20 +67,21 @@ pub record HasStarted (p : Parts) (taken : List ℕ) : Type 0 where
   pub bound : p.taken ≤ p.most
   pub few : p.most ≤ source_limit
 
--- of the bytes taken, all but those of the last read were examined: the records that have ended in them are
--- among these
-pub record AreInTime (rows : List Row) (taken : List ℕ) : Type 0 where
+-- of the bytes taken, all but those of the last read, which gave this many, were examined: the records that have
+-- ended in them are among these
+pub record AreInTime (last : ℕ) (rows : List Row) (taken : List ℕ) : Type 0 where
   pub front : List ℕ
   pub piece : List ℕ
   pub joined : taken ≡ front ++ piece
-  pub size : length piece ≤ piece_limit
+  pub size : length piece ≤ last
+  pub few : length piece ≤ piece_limit
   pub earlier : Begins (complete_records_of front) rows
 
 -- of a source that has this left these bytes were taken, and exactly these records of them given
 pub record HasHeld (p : Parts) (left : Option (List ℕ)) (rows : List Row) (taken : List ℕ) : Type 0 where
   pub has : HasTaken p rows taken
   pub end : p.ended ≡ true → IsAtEnd left × (p.taken < p.most)
-  pub in_time : AreInTime rows taken
+  pub in_time : AreInTime p.last rows taken
 
 -- why no byte came after those held, if these more bytes were taken
 abbrev pub LacksBytes : Parts → List ℕ → Fault → Type 0
@@ -88,15 +90,15 @@ LacksBytes old more fault.TooMuch = (more ≡ []) × (old.taken ≡ old.most)
 LacksBytes old more fault.OutOfMemory = old.taken + length more ≤ old.most
 LacksBytes old more _ = ⊥
 
--- why no record came after these, if these bytes were taken
-abbrev pub Lacks : ℕ → List Row → List ℕ → Fault → Type 0
-Lacks most rows taken fault.ReadFault = (complete_records_of taken ≡ rows) × (length taken < most)
-Lacks most rows taken fault.TooMuch = (complete_records_of taken ≡ rows) × (length taken ≡ most)
-Lacks most rows taken fault.OutOfMemory = (length taken ≤ most) × AreInTime rows taken × ((later : List ℕ) → Begins rows (records_of (taken ++ later)))
-Lacks most rows taken _ = ⊥
+-- why no record came after these, if these bytes were taken, of which the last read gave this many
+abbrev pub Lacks : ℕ → ℕ → List Row → List ℕ → Fault → Type 0
+Lacks last most rows taken fault.ReadFault = (complete_records_of taken ≡ rows) × (length taken < most)
+Lacks last most rows taken fault.TooMuch = (complete_records_of taken ≡ rows) × (length taken ≡ most)
+Lacks last most rows taken fault.OutOfMemory = (length taken ≤ most) × AreInTime last rows taken × ((later : List ℕ) → Begins rows (records_of (taken ++ later)))
+Lacks last most rows taken _ = ⊥
 
 -- how a call of `refill` went after these records: a whole record is held, or the source has ended
 abbrev pub Refills : Parts → Option (List ℕ) → List Row → List ℕ → Result Bool Fault → Type 0
 Refills p left rows taken (Ok true) = HasHeld p left rows taken × (1 < p.cut)
 Refills p left rows taken (Ok false) = HasHeld p left rows taken × (p.ended ≡ true)
-Refills p left rows taken (Err f) = Lacks p.most rows taken f
+Refills p left rows taken (Err f) = Lacks p.last p.most rows taken f

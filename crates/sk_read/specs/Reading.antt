@@ -12,11 +12,12 @@ use Rattle.sk_read.specs.declared.units.Units.TheVariants.{Lines}
 use Rattle.sk_read.specs.Items.{complete_lines_of}
 use Rattle.sk_read.specs.Reads.{piece_limit, IsSettled, IsInTime}
 
--- the lines that were cut, how many bytes were taken of the source and how many may be, and whether
--- the source was read to its end
+-- the lines that were cut, how many bytes were taken of the source, how many the last read gave and how many may be
+-- taken, and whether the source was read to its end
 pub record Reading : Type 0 where
   pub cutter : Cutter
   pub taken : ℕ
+  pub last : ℕ
   pub most : ℕ
   pub ended : Bool
 
@@ -41,6 +42,7 @@ pub record Feeds (old new : Reading) (more : List ℕ) : Type 0 where
   pub limit : new.cutter.limit ≡ old.cutter.limit
   pub most : new.most ≡ old.most
   pub ended : new.ended ≡ old.ended
+  pub last : new.last ≡ length more
   pub size : length more ≤ piece_limit
   pub bound : new.taken ≤ new.most
 
@@ -76,7 +78,7 @@ pub record HasRead (r : Reading) (left : Option (List ℕ)) (given : List (List 
   pub limit : r.cutter.limit ≡ line_limit
   pub bound : r.taken ≤ r.most
   pub few : r.most ≤ source_limit
-  pub in_time : IsInTime Lines given taken
+  pub in_time : IsInTime r.last Lines given taken
 
 -- a line was given of the bytes held: it lies where those given before it end
 pub record MovesOn (old new : Cutter) : Type 0 where
@@ -89,11 +91,11 @@ HaveEnded given taken = (complete_lines_of taken ≡ given) × AreWithin line_li
 
 -- how a call of `next` went, where these lines were given before it, and these bytes taken after it
 abbrev pub Goes : Reading → Option (List ℕ) → List (List ℕ) → List ℕ → Result Bool LineFault → Type 0
-Goes r left given taken (Ok true) = HasRead r left (given ++ r.cutter.line ∷ []) taken × IsInTime Lines given taken
+Goes r left given taken (Ok true) = HasRead r left (given ++ r.cutter.line ∷ []) taken × IsInTime r.last Lines given taken
 Goes r left given taken (Ok false) = HasRead r left given taken × (r.ended ≡ true)
 Goes r left given taken (Err stop.ReadFault) = HaveEnded given taken × (length taken < r.most)
 Goes r left given taken (Err stop.TooMuch) = HaveEnded given taken × (length taken ≡ r.most)
-Goes r left given taken (Err (stop.LongLine n)) = (n ≡ length given + 1) × (length taken ≤ r.most) × IsInTime Lines given taken
+Goes r left given taken (Err (stop.LongLine n)) = (n ≡ length given + 1) × (length taken ≤ r.most) × IsInTime r.last Lines given taken
     × IsSettled (λ text. Begins given (lines_of text) × IsFirstLong line_limit (length given) (lines_of text)) left taken
 
 -- of the bytes taken no complete line is left to give

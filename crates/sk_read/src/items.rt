@@ -95,7 +95,7 @@ pub fn read_items<S: Source, T: Taker>(
 ) -> Result<u64, Fault>
     requires bound { intake.now.most ≤ source_limit }
     requires empty { T.stands_for taker.old [] }
-    ensures read { Reads (units_by intake.now.column) intake.now.most (Gave intake.now.kind (T.stands_for taker.new)) (Missed intake.now.kind (T.stands_for taker.new))
+    ensures read { Reads (S.last source.new) (units_by intake.now.column) intake.now.most (Gave intake.now.kind (T.stands_for taker.new)) (Missed intake.now.kind (T.stands_for taker.new))
         (S.left source.old) (S.left source.new) result }
     ensures cause { HasCauseIn Fault.ReadFault (S.faults source.old) (S.faults source.new) result }
     ensures writes_nothing { result ≢ Err Fault.WriteFault }

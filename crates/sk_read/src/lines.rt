@@ -23,7 +23,7 @@ pub(crate) fn read_lines<S: Source, T: UnitTaker>(
 ) -> Result<u64, Fault>
     requires bound { most ≤ source_limit }
     requires start { T.went taker.old taker.old [] }
-    ensures read { Reads units.Lines most (T.went taker.old taker.new) (T.stopped taker.old taker.new) (S.left source.old) (S.left source.new) result }
+    ensures read { Reads (S.last source.new) units.Lines most (T.went taker.old taker.new) (T.stopped taker.old taker.new) (S.left source.old) (S.left source.new) result }
     ensures cause { HasCauseIn Fault.ReadFault (S.faults source.old) (S.faults source.new) result }
     ensures stays { S.stands_on source.new ≡ S.stands_on source.old }
     ensures taker { T.stands_on taker.new ≡ T.stands_on taker.old }
@@ -51,6 +51,7 @@ fn give_held<T: UnitTaker>(
         → GivesMore reader.new left given taken (λ more. StopsAmong (T.stopped start taker.new) why given more)) }
     ensures all { OnOk result (HasNoShortLine reader.new.cutter) }
     ensures most { reader.new.most ≡ reader.old.most }
+    ensures piece { reader.new.last ≡ reader.old.last }
     ensures remaining { remaining_of reader.new ≤ remaining_of reader.old }
     ensures stays { T.stands_on taker.new ≡ T.stands_on taker.old }
 {

@@ -50,6 +50,8 @@ impl From<BoundFault> for LineFault {
 pub struct LineReader {
     lines: Lines,
     taken: u64,
+    // how many bytes the last read gave
+    last: usize,
     most: u64,
     ended: bool,
 }
@@ -72,10 +74,12 @@ impl LineReader {
         requires { most ≤ source_limit }
         ensures read { IfOk result (λ reader. (left : Option (List ℕ)) → HasRead reader left [] []) }
         ensures most { IfOk result (λ reader. reader.most ≡ most) }
+        ensures piece { IfOk result (λ reader. reader.last ≡ 0) }
     {
         Ok(LineReader {
             lines: Lines::new(alloc, LINE_LIMIT)?,
             taken: 0,
+            last: 0,
             most,
             ended: false,
         })
@@ -92,11 +96,13 @@ impl LineReader {
         ensures too_much { IsErrOf result LineFault.TooMuch → self.old.taken ≡ self.old.most }
         ensures err { OnErr result ((self.new.most ≡ self.old.most) × Keeps (S.left source.old) (S.left source.new)) }
         ensures no_long { (n : ℕ) → result ≢ Err (LineFault.LongLine n) }
+        ensures piece { self.old.last ≤ S.last source.old → self.new.last ≤ S.last source.new }
         ensures cause { HasCauseIn LineFault.ReadFault (S.faults source.old) (S.faults source.new) result }
         ensures stays { S.stands_on source.new ≡ S.stands_on source.old }
     {
         let n = self.lines.feed_from(source, self.most - self.taken)?;
         self.taken += n as u64;
+        self.last = n;
         Ok(n > 0)
     }
 }
@@ -117,6 +123,7 @@ impl LineReader {
         ensures limit { self.new.cutter.limit ≡ self.old.cutter.limit }
         ensures ended { self.new.ended ≡ self.old.ended }
         ensures most { (self.new.most ≡ self.old.most) × (self.new.taken ≡ self.old.taken) }
+        ensures piece { self.new.last ≡ self.old.last }
         ensures remaining { remaining_of self.new ≤ remaining_of self.old }
         ensures bound { self.new.taken ≤ self.new.most }
     {
@@ -135,6 +142,7 @@ impl LineReader {
         ensures only_long { (result ≢ Err LineFault.ReadFault) × (result ≢ Err LineFault.TooMuch) }
         ensures limit { self.new.cutter.limit ≡ self.old.cutter.limit }
         ensures most { (self.new.most ≡ self.old.most) × (self.new.taken ≡ self.old.taken) }
+        ensures piece { self.new.last ≡ self.old.last }
         ensures ended { self.new.ended ≡ true }
         ensures bound { self.new.taken ≤ self.new.most }
     {
@@ -158,6 +166,7 @@ impl LineReader {
         ensures plain { result ≡ Ok true → HasNoLf self.new.cutter.line }
         ensures progress { result ≡ Ok true → remaining_of self.new < remaining_of self.old }
         ensures most { self.new.most ≡ self.old.most }
+        ensures piece { self.old.last ≤ S.last source.old → self.new.last ≤ S.last source.new }
         ensures cause { HasCauseIn LineFault.ReadFault (S.faults source.old) (S.faults source.new) result }
         ensures stays { S.stands_on source.new ≡ S.stands_on source.old }
     {
@@ -176,6 +185,7 @@ impl LineReader {
         ensures plain { result ≡ Ok true → HasNoLf self.new.cutter.line }
         ensures progress { result ≡ Ok true → remaining_of self.new < remaining_of self.old }
         ensures most { self.new.most ≡ self.old.most }
+        ensures piece { self.old.last ≤ S.last source.old → self.new.last ≤ S.last source.new }
         ensures cause { HasCauseIn LineFault.ReadFault (S.faults source.old) (S.faults source.new) result }
         ensures stays { S.stands_on source.new ≡ S.stands_on source.old }
     {
@@ -207,6 +217,7 @@ impl LineReader {
         ensures progress { result ≡ Ok true → remaining_of self.new < remaining_of self.old }
         ensures remaining { remaining_of self.new ≤ remaining_of self.old }
         ensures most { self.new.most ≡ self.old.most }
+        ensures piece { self.new.last ≡ self.old.last }
     {
         match self.cut() {
             Next::Line => Ok(true),

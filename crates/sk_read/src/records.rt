@@ -32,7 +32,7 @@ pub(crate) fn read_records<S: Source, T: UnitTaker>(
 ) -> Result<u64, Fault>
     requires bound { most ≤ source_limit }
     requires start { T.went taker.old taker.old [] }
-    ensures read { Reads (units.Column column) most (T.went taker.old taker.new) (T.stopped taker.old taker.new) (S.left source.old) (S.left source.new) result }
+    ensures read { Reads (S.last source.new) (units.Column column) most (T.went taker.old taker.new) (T.stopped taker.old taker.new) (S.left source.old) (S.left source.new) result }
     ensures cause { HasCauseIn Fault.ReadFault (S.faults source.old) (S.faults source.new) result }
     ensures stays { S.stands_on source.new ≡ S.stands_on source.old }
     ensures taker { T.stands_on taker.new ≡ T.stands_on taker.old }

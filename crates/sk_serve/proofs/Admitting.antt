@@ -30,6 +30,10 @@ admitted_more h h1 h2 n first then =
     let next : h.admitted + n + 1 ≡ h.admitted + (n + 1) = omega arith in
     then ∙ ap (λ (z : HeartState). record z { admitted = z.admitted + 1 }) first ∙ ap (λ m. record h { admitted = m }) next
 
+-- it admitted some, and then maybe more
+pub admits_then : (h h1 h2 : HeartState) (n : ℕ) → h1 ≡ record h { admitted = n } → h2 ≡ record h1 { admitted = h2.admitted } → h2 ≡ record h { admitted = h2.admitted }
+admits_then h h1 h2 n first then = then ∙ ap (λ (z : HeartState). record z { admitted = h2.admitted }) first
+
 -- after some were admitted, and their links accepted, one more can be
 pub still_can : (plan : ServePlan) (count n : ℕ) (h h1 : HeartState) (a b : DoorView) (texts : List (Option (List ℕ))) → n < count → h1 ≡ record h { admitted = h.admitted + n } → LetsIn texts a b → CanServe plan count h a → CanServe plan 1 h1 b
 still_can plan count n h h1 a b texts below is came can = record {

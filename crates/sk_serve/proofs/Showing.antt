@@ -35,12 +35,12 @@ use Rattle.sk_serve.specs.Around.{Surroundings, surroundings, armed_for}
 use Rattle.sk_serve.specs.Doors.{DoorView}
 use Rattle.sk_serve.specs.Headline.{ServesExactly}
 use Rattle.sk_serve.specs.Plans.{IsServable}
-use Rattle.sk_serve.specs.Served.{Served, ShowsSessions, ServesSessions, StopsServing, ends_of}
-use Rattle.sk_hub.proofs.Taking.{exactly_taken}
+use Rattle.sk_serve.specs.Served.{Served, IsServed, AreServed, IsListed, ShareOneList, ShowsSessions, ServesSessions, StopsServing, ends_of}
+use Rattle.sk_hub.proofs.Taking.{exactly_taken, taken_with_view}
 use Rattle.sk_serve.specs.Waves.{IsHeartOf, HasDrainedThem, ServesSome, ServesAndAsks}
 use Rattle.sk_serve.specs.Texts.{session_lines, served_text}
 use Rattle.sk_serve.specs.Serves.{WritesPart, ServeEnds, ServesPlan}
-use Rattle.sk_serve.proofs.Conclusions.{one_estimate, shares_list}
+use Rattle.sk_serve.proofs.Conclusions.{of_list, one_estimate, shares_list}
 
 -- ---- the last ask
 
@@ -56,16 +56,38 @@ in_range n i below =
 pub word_is : (plan : ServePlan) (h h' : HeartState) (word : ℕ) → IsHeartOf plan h → IsRelaxedReply packed h.view word h'.view → word ≡ packed_of plan.k (items_of_entries h'.view.seen)
 word_is plan h h' word hub r = r.value ∙ ap (λ k. packed_of k (items_of_entries h'.view.seen)) hub.k
 
+-- what the list has of sessions whose updaters a heart drained, after an ask; it may have admitted others before that
+lists : (h h' h'' : HeartState) (sessions : List Served) (word : ℕ) → HasDrainedThem sessions h → h' ≡ record h { admitted = h'.admitted } → IsRelaxedReply packed h'.view word h''.view → HasDrained h'.view h''.view → (i : ℕ) (d : Served) → i < length sessions → IsListed i (get_or sessions i d) h''.view.seen
+lists h h' h'' sessions word s admits r drained i d inside =
+    let u = (get_or sessions i d).updater in
+    let taken = taken_with_view h h' u (ap (λ z. z.view) admits) (s.taken_in i d inside) in record {
+      kept = ap (λ n. entries_by n h''.view.seen) (sym (s.numbered i d inside)) ∙ exactly_taken h' h'' u drained taken;
+      seen = begins_trans _ _ _ taken.hears r.grows;
+      base = begins_trans _ _ _ taken.base r.grows;
+    }
+
+all_entries : (plan : ServePlan) (h h' h'' : HeartState) (word : ℕ) → h' ≡ record h { admitted = h'.admitted } → IsWholeHeart h' → IsHeartOf plan h → IsRelaxedReply packed h'.view word h''.view → All (IsEntry plan.sessions) h''.view.seen
+all_entries plan h h' h'' word admits whole hub r =
+    subst (λ n. All (IsEntry n) h''.view.seen) (whole.sized ∙ ap (λ (z : HeartState). z.updaters) admits ∙ hub.updaters) r.entries
+
+-- these sessions share the list of that ask
+pub share_list : (plan : ServePlan) (most : ℕ) (h h' h'' : HeartState) (sessions : List Served) (word : ℕ) → AreServed plan most 0 sessions → HasDrainedThem sessions h → h' ≡ record h { admitted = h'.admitted } → IsWholeHeart h' → IsHeartOf plan h
+    → IsRelaxedReply packed h'.view word h''.view → HasDrained h'.view h''.view → ShareOneList plan sessions
+share_list plan most h h' h'' sessions word served d admits whole hub r drained = record {
+  list = h''.view.seen;
+  only = all_entries plan h h' h'' word admits whole hub r;
+  are = λ i e inside.
+      let session = get_or sessions i e in
+      let here : 0 + i ≡ i = omega arith in
+      of_list plan most i session h''.view.seen (subst (λ n. IsServed plan most n session) here (served i e inside)) (lists h h' h'' sessions word d admits r drained i e inside);
+}
+
 pub shows : (plan : ServePlan) (sessions : List Served) (h h' : HeartState) (word : ℕ) → length sessions ≡ plan.sessions → HasDrainedThem sessions h → IsWholeHeart h → IsHeartOf plan h → IsRelaxedReply packed h.view word h'.view → HasDrained h.view h'.view → ShowsSessions plan sessions h'
 shows plan sessions h h' word count d whole hub r drained = record {
   drained = ap (λ v. v.drained) r.stays ∙ all_drained;
   known = λ i below. ap (λ v. known_of v i) r.stays ∙ sym (listed_at i below);
-  listed = λ i e within. record {
-    kept = ap (λ n. entries_by n h'.view.seen) (sym (d.numbered i e within)) ∙ exactly_taken h h' (get_or sessions i e).updater drained (d.taken_in i e within);
-    seen = begins_trans _ _ _ (d.taken_in i e within).hears r.grows;
-    base = begins_trans _ _ _ (d.taken_in i e within).base r.grows;
-  };
-  entries = subst (λ n. All (IsEntry n) h'.view.seen) (whole.sized ∙ hub.updaters) r.entries;
+  listed = lists h h h' sessions word d refl r drained;
+  entries = all_entries plan h h h' word refl whole hub r;
   steps = (h.view.steps, ap (λ v. v.steps) r.stays ∙ ap (λ n. h.view.steps ++ Ask n ∷ []) (word_is plan h h' word hub r));
 }
   where

@@ -12,14 +12,15 @@ use Rattle.sk_hub.specs.Drains.{HasTakenIn}
 use Rattle.sk_hub.specs.Updaters.{UpdaterState}
 use Rattle.sk_hub.proofs.Taking.{taken_with_view}
 use Rattle.sk_line.specs.declared.sessions.End.{End}
+use Rattle.sk_machine.specs.Coarse.{IsEntry}
 use Rattle.sk_model.proofs.Lists.{range_split}
 use Rattle.sk_serve.specs.declared.fault.ServeFault.{ServeFault}
 use Rattle.sk_serve.specs.declared.fault.ServeFault.TheVariants.{NetFault}
 use Rattle.sk_serve.specs.declared.plan.ServePlan.{ServePlan}
 use Rattle.sk_serve.specs.Doors.{DoorView, LetsIn, LetsOut, LetsThrough}
 use Rattle.sk_serve.specs.Plans.{IsServable}
-use Rattle.sk_serve.specs.Served.{Served, IsServed, AreServed, IsUnread, StopsServing, links_of, ends_of}
-use Rattle.sk_serve.specs.Waves.{Visit, texts_by, ClosesUnread, StopsShort, ClosesLinks, DrainsFrom, ServesWave, ServesSome, IsNewHub, next_count}
+use Rattle.sk_serve.specs.Served.{Served, IsServed, AreServed, IsUnread, ShareOneList, StopsServing, links_of, ends_of}
+use Rattle.sk_serve.specs.Waves.{Visit, texts_by, ClosesUnread, StopsShort, StopsInWave, ClosesLinks, DrainsFrom, ServesWave, ServesSome, IsNewHub, next_count}
 use Rattle.sk_serve.proofs.Closed.{closes_none, closes_more, through_none, through_late, through_more}
 use Rattle.sk_serve.proofs.Each.{each_none, each_append}
 
@@ -133,20 +134,36 @@ wave_ends plan most h h' a b ends ends' w = ap length w.ended ∙ length-append 
 
 -- ---- a server that stops early
 
+-- before the first wave
+pub stops_first : (plan : ServePlan) (most : ℕ) (h : HeartState) (door : DoorView) → IsServable plan → IsNewHub plan h → StopsInWave plan most h h door door
+stops_first plan most h door within new = record {
+  sessions = [];
+  ends = [];
+  last = h;
+  between = door;
+  some = none_served plan most h door [] refl new;
+  left = omega (arith, within.sessions.0);
+  waves = 0;
+  whole = omega arith;
+  short = stops_at_once (next_count plan h) door (omega (arith, new.admitted, within.sessions.0, within.wave));
+  heart = refl;
+}
+
 -- a wave was not accepted whole
-pub stops : (plan : ServePlan) (most : ℕ) (fault : ServeFault) (h h' : HeartState) (a b c : DoorView) (ends : List End) (sessions : List Served) → a.doorway.port ≡ Some plan.port → ServesSome plan most h h' a b ends sessions → length sessions < plan.sessions → StopsShort (next_count plan h') b c
-    → (waves : ℕ) → length sessions ≡ min (waves * plan.wave) plan.sessions → StopsServing plan most a.doorway c.doorway fault
-stops plan most fault h h' a b c ends sessions port s few u waves whole =
-    let all : length sessions + length u.unread < plan.sessions = omega (arith, u.fewer, few, s.heart.admitted) in
+pub stops : (plan : ServePlan) (most : ℕ) (fault : ServeFault) (h h' : HeartState) (a c : DoorView) → a.doorway.port ≡ Some plan.port → (s : StopsInWave plan most h h' a c) → ShareOneList plan s.sessions → StopsServing plan most a.doorway c.doorway fault
+stops plan most fault h h' a c port s share =
+    let u = s.short in
+    let all : length s.sessions + length u.unread < plan.sessions = omega (arith, u.fewer, s.left, s.some.heart.admitted) in
     record {
-      sessions = sessions;
+      sessions = s.sessions;
       unread = u.unread;
-      served = s.served;
+      served = s.some.served;
+      share = share;
       none = u.none;
-      passes = (through_more (links_of sessions) u.unread a b c s.through u.through).passes;
-      listens = λ _. u.through.port ∙ s.through.port ∙ port;
-      waves = waves;
-      whole = whole;
+      passes = (through_more (links_of s.sessions) u.unread a s.between c s.some.through u.through).passes;
+      listens = λ _. u.through.port ∙ s.some.through.port ∙ port;
+      waves = s.waves;
+      whole = s.whole;
       in_wave = omega (arith, u.fewer);
       within = omega (arith, all);
       fewer = λ _. all;
@@ -154,11 +171,12 @@ stops plan most fault h h' a b c ends sessions port s few u waves whole =
 
 -- all waves were served
 pub stops_after_all : (plan : ServePlan) (most : ℕ) (fault : ServeFault) (h h' : HeartState) (a b : DoorView) (ends : List End) (sessions : List Served) → IsServable plan → a.doorway.port ≡ Some plan.port → ¬ (fault ≡ NetFault) → ServesSome plan most h h' a b ends sessions → length sessions ≡ plan.sessions
-    → StopsServing plan most a.doorway b.doorway fault
-stops_after_all plan most fault h h' a b ends sessions within port other s all = record {
+    → ShareOneList plan sessions → StopsServing plan most a.doorway b.doorway fault
+stops_after_all plan most fault h h' a b ends sessions within port other s all share = record {
   sessions = sessions;
   unread = [];
   served = s.served;
+  share = share;
   none = All-nil IsUnread;
   passes = (through_more (links_of sessions) [] a b b s.through (through_none b)).passes;
   listens = λ _. s.through.port ∙ port;
@@ -179,6 +197,7 @@ none_accepted plan most fault before now within coming closed = record {
   sessions = [];
   unread = [];
   served = each_none (IsServed plan most) 0;
+  share = record { list = []; only = All-nil (IsEntry plan.sessions); are = λ i d inside. absurd (omega arith) };
   none = All-nil IsUnread;
   passes = pass_none before now coming closed;
   listens = λ some. absurd (omega arith);
@@ -195,6 +214,7 @@ stops_from plan most fault before before' now coming closed s = record {
   sessions = s.sessions;
   unread = s.unread;
   served = s.served;
+  share = s.share;
   none = s.none;
   passes = pass_from before before' now _ coming closed s.passes;
   listens = s.listens;

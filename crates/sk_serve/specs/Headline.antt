@@ -1,20 +1,17 @@
 -- What a server that ends well did, in every interleaving of its sessions.
-use Rattle.std.specs.Prelude.{◌≡◌, ◌≢◌, ℕ, ◌<◌, List, [], length, map, Some, slice_index_or}
+use Rattle.std.specs.Prelude.{◌≡◌, ◌≢◌, ℕ, ◌<◌, List, length, map, Some, slice_index_or}
 use Rattle.std.specs.Io.KnownBytes.{Appends}
-use Rattle.sk_model.specs.Entries.{Entry, entries_by, items_of_entries}
+use Rattle.sk_model.specs.Entries.{Entry, items_of_entries}
 use Rattle.sk_model.specs.Sketch.{estimate_of}
 use Rattle.sk_io.specs.Traffic.{Pass}
 use Rattle.sk_gate.specs.Hands.{TokenState}
 use Rattle.sk_hub.specs.Hearts.{HeartState}
-use Rattle.sk_line.specs.Serving.{items_kept}
 use Rattle.sk_line.specs.declared.sessions.End.TheVariants.{OutOfMemory}
-use Rattle.sk_report.specs.Sizes.{size_at}
 use Rattle.sk_report.specs.Texts.{reply_of}
 use Rattle.sk_report.specs.declared.remains.Remains.{Remains}
 use Rattle.sk_watch.specs.Places.{told}
 use Rattle.sk_serve.specs.Around.{Surroundings, armed_for}
-use Rattle.sk_serve.specs.Lists.{AreBusyBehind, HoldsReplies, SayOfOneList}
-use Rattle.sk_serve.specs.Served.{Served, IsServed, ShowsSessions, all_offered, ends_of, links_of}
+use Rattle.sk_serve.specs.Served.{Served, IsServed, IsOfList, ShowsSessions, all_offered, ends_of, links_of}
 use Rattle.sk_serve.specs.Texts.{served_text}
 use Rattle.sk_serve.specs.declared.plan.ServePlan.{ServePlan}
 
@@ -22,14 +19,8 @@ use Rattle.sk_serve.specs.declared.plan.ServePlan.{ServePlan}
 pub record SharesList (plan : ServePlan) (most i : ℕ) (s : Served) (list : List Entry) : Type 0 where
   pub served : IsServed plan most i s
   pub memory : s.end ≢ OutOfMemory
-  -- the list has of it exactly the items of the adds that were answered `kept`, in order
-  pub kept : entries_by i list ≡ items_kept plan.seed s.answered
-  -- each answer is of a prefix of the list, no shorter than the one before
-  pub answers : SayOfOneList plan.k plan.seed i (size_at plan.sizes i) [] [] s.answered list
-  -- what was kept before it is the cause of each `busy`
-  pub busy : AreBusyBehind (size_at plan.sizes i) s.answered
-  -- its link's record holds their replies; if no call of it failed all of them, and sent
-  pub replies : HoldsReplies s.ended s.answered
+  -- what it was answered is of the list, and its link's record holds that
+  pub of_list : IsOfList plan i s list
 
 -- a heart that drained the updater of each session and shows this list, and the token of the same hub
 pub record HubShows (plan : ServePlan) (sessions : List Served) (list : List Entry) (left : Remains) : Type 0 where

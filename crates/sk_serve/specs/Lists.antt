@@ -33,7 +33,7 @@ SayOfOneList k seed i size from kept (t ∷ answered) list = (front : List Entry
 -- since the last `synced` before it, an add that was answered `busy` has more items kept than a buffer holds, and a sync
 -- that was has one at least
 abbrev pub AreBusyBehind : ℕ → List Answered → Type 0
-AreBusyBehind size answered = (front rest : List Answered) (line : List ℕ) → answered ≡ front ++ answered_busy line ∷ rest
+AreBusyBehind size answered = (front rest : List Answered) (line : List ℕ) (pumps : ℕ) → answered ≡ front ++ answered_busy line pumps ∷ rest
     → (client_request line ≡ Add → size + 1 ≤ kept_since 0 front) × (client_request line ≡ Sync → 1 ≤ kept_since 0 front)
 
 -- the bytes written on a link that was closed are a prefix of the replies to these lines; if no call of it failed they

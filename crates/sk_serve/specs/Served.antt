@@ -14,13 +14,14 @@ use Rattle.sk_machine.specs.declared.views.Move.TheVariants.{Ask}
 use Rattle.sk_gate.specs.Views.{known_of}
 use Rattle.sk_hub.specs.Hearts.{HeartState}
 use Rattle.sk_hub.specs.Updaters.{UpdaterState, base_of, kept_of}
-use Rattle.sk_line.specs.Serving.{Answered, items_offered}
+use Rattle.sk_line.specs.Serving.{Answered, items_kept, items_offered}
 use Rattle.sk_line.specs.Sessions.{SessionState, session_state, ComesTo, SessionEnds}
 use Rattle.sk_line.specs.declared.sessions.End.{End}
 use Rattle.sk_line.specs.declared.sessions.End.TheVariants.{Quit, Closed, LinkFault, Long, TooMuch, OutOfMemory}
 use Rattle.sk_report.specs.Sizes.{size_at}
 use Rattle.sk_serve.specs.declared.fault.ServeFault.{ServeFault}
 use Rattle.sk_serve.specs.declared.fault.ServeFault.TheVariants.{NetFault}
+use Rattle.sk_serve.specs.Lists.{AreBusyBehind, HoldsReplies, SayOfOneList}
 use Rattle.sk_serve.specs.declared.plan.ServePlan.{ServePlan}
 use Rattle.sk_serve.specs.Plans.{shape_of}
 
@@ -73,6 +74,25 @@ pub record IsServed (plan : ServePlan) (most i : ℕ) (s : Served) : Type 0 wher
 -- they were those from this number on, in order
 abbrev pub AreServed : ServePlan → ℕ → ℕ → List Served → Type 0
 AreServed plan most from sessions = (i : ℕ) (d : Served) → i < length sessions → IsServed plan most (from + i) (slice_index_or sessions i d)
+
+-- ---- one list of updates for all of them
+
+-- what session i was answered is of this list
+pub record IsOfList (plan : ServePlan) (i : ℕ) (s : Served) (list : List Entry) : Type 0 where
+  -- the list has of it exactly the items of the adds that were answered `kept`, in order
+  pub kept : entries_by i list ≡ items_kept plan.seed s.answered
+  -- each answer is of a prefix of the list, no shorter than the one before
+  pub answers : SayOfOneList plan.k plan.seed i (size_at plan.sizes i) [] [] s.answered list
+  -- what was kept before it is the cause of each `busy`
+  pub busy : AreBusyBehind (size_at plan.sizes i) s.answered
+  -- its link's record holds the replies; if no call of it failed all of them, and sent
+  pub replies : s.end ≢ OutOfMemory → HoldsReplies s.ended s.answered
+
+-- all these sessions share one list of updates, which are of the hub's updaters
+pub record ShareOneList (plan : ServePlan) (sessions : List Served) : Type 0 where
+  pub list : List Entry
+  pub only : All (IsEntry plan.sessions) list
+  pub are : (i : ℕ) (d : Served) → i < length sessions → IsOfList plan i (slice_index_or sessions i d) list
 
 -- ---- what a heart shows of them
 
@@ -130,12 +150,13 @@ pub record IsUnread (ended : Ended) : Type 0 where
   pub faults : ended.faults ≡ 0
   pub waiting : ended.waiting ≡ 0
 
--- whole waves of sessions were served, and of the next one some links were accepted and closed unread, all in the order
--- in which they came; at a fault of the door fewer links came than the plan has sessions
+-- whole waves of sessions were served, which share one list, and of the next wave some links were accepted and closed
+-- unread, all in the order in which they came; at a fault of the door fewer links came than the plan has sessions
 pub record StopsServing (plan : ServePlan) (most : ℕ) (before now : Doorway) (fault : ServeFault) : Type 0 where
   pub sessions : List Served
   pub unread : List Ended
   pub served : AreServed plan most 0 sessions
+  pub share : ShareOneList plan sessions
   pub none : All IsUnread unread
   pub passes : Pass before now (links_of sessions ++ unread)
   pub listens : 0 < length sessions + length unread → now.port ≡ Some plan.port

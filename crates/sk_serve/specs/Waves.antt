@@ -1,5 +1,5 @@
 -- A wave of sessions, from the accepts of its links until its updaters are drained.
-use Rattle.std.specs.Prelude.{◌≡◌, ℕ, ◌+◌, ◌-◌, ◌<◌, ◌≤◌, min, List, [], ◌++◌, length, All, Option, Some, slice_index_or, map}
+use Rattle.std.specs.Prelude.{◌≡◌, ℕ, ◌+◌, ◌*◌, ◌-◌, ◌<◌, ◌≤◌, min, List, [], ◌++◌, length, All, Option, Some, slice_index_or, map}
 use Rattle.std.specs.List.{range_with_len}
 use Rattle.atomic_table.specs.Seated.{TableId}
 use Rattle.sk_model.specs.Entries.{items_of_entries}
@@ -162,6 +162,20 @@ pub record ServesSome (plan : ServePlan) (most : ℕ) (h h' : HeartState) (old n
   pub heart : HasDrainedThem sessions h'
   pub hub : IsHeartOf plan h'
   pub table : h'.table ≡ h.table
+
+-- some of these sessions are left after whole waves of them, and the next wave was not accepted whole. The heart has
+-- admitted some of its updaters since it drained the last one
+pub record StopsInWave (plan : ServePlan) (most : ℕ) (h h' : HeartState) (old new : DoorView) : Type 0 where
+  pub sessions : List Served
+  pub ends : List End
+  pub last : HeartState
+  pub between : DoorView
+  pub some : ServesSome plan most h last old between ends sessions
+  pub left : length sessions < plan.sessions
+  pub waves : ℕ
+  pub whole : length sessions ≡ min (waves * plan.wave) plan.sessions
+  pub short : StopsShort (next_count plan last) between new
+  pub heart : h' ≡ record last { admitted = h'.admitted }
 
 -- ---- all of them
 

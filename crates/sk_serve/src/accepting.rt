@@ -26,6 +26,7 @@ pub(crate) fn accept_wave<D: Door>(
     ensures count { IfOk result (λ jobs. length jobs.items ≡ count) }
     ensures ready { IfOk result (λ jobs. AreReady plan.now heart.old.table heart.old.admitted (visit_of D.Link.Link) jobs.items) }
     ensures heart { OnOk result (heart.new ≡ record heart.old { admitted = heart.old.admitted + count }) }
+    ensures admits { OnErr result (heart.new ≡ record heart.old { admitted = heart.new.admitted }) }
     ensures accepts { IfOk result (λ jobs. LetsIn (texts_by (visit_of D.Link.Link) jobs.items) (door_of D.Door door.old) (door_of D.Door door.new)) }
     ensures short { OnErr result (StopsShort count (door_of D.Door door.old) (door_of D.Door door.new)) }
     ensures net { HasNetCause (D.faults door.old) (D.faults door.new) result }
@@ -53,6 +54,7 @@ fn accept_one<D: Door>(
     requires can { CanServe plan.now 1 heart.old (door_of D.Door door.old) }
     ensures ready { IfOk result (λ job. IsReady plan.now heart.old.table heart.old.admitted (visit_of D.Link.Link job)) }
     ensures heart { OnOk result (heart.new ≡ record heart.old { admitted = heart.old.admitted + 1 }) }
+    ensures admits { OnErr result (heart.new ≡ record heart.old { admitted = heart.new.admitted }) }
     ensures accepts { IfOk result (λ job. LetsIn (text_of (D.Link.traffic job.link) ∷ []) (door_of D.Door door.old) (door_of D.Door door.new)) }
     ensures none { OnErr result (door_of D.Door door.new ≡ record (door_of D.Door door.old) { faults = D.faults door.new }) }
     ensures net { HasNetCause (D.faults door.old) (D.faults door.new) result }

@@ -106,11 +106,13 @@ where
     ensures net { HasNetCause (D.faults door.old) (D.faults door.new) result }
 {
     door.listen(plan.port, plan.sessions)?;
-    let ends = serve_waves(rt, alloc, plan, most, heart, door)?;
-    had_memory(ends.as_slice())?;
+    let served = serve_waves(rt, alloc, plan, most, heart, door);
     // Its clause says how many updaters the hub has.
     let _admitted = heart.admitted();
+    // However it ended, this shows the list that all replies were of.
     let word = heart.ask();
+    let ends = served?;
+    had_memory(ends.as_slice())?;
     Ok((ends, word))
 }
 

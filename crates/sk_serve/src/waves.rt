@@ -1,5 +1,5 @@
 //! Sessions in waves: those of one run in parallel, and the next begins once all their updaters are drained.
-ghost use Rattle.std.specs.Prelude.{◌≡◌, ℕ, ◌+◌, ◌<◌, ◌≤◌, [], true, length, vec_capacity, is_some, List, All, IfOk, OnOk, OnErr, IfErr};
+ghost use Rattle.std.specs.Prelude.{◌≡◌, ℕ, ◌+◌, ◌<◌, ◌≤◌, [], true, length, vec_capacity, is_some, List, All, IfOk, OnOk, OnErr};
 ghost use Rattle.atomic_table.specs.Seated.{TableId};
 ghost use Rattle.sk_compose.specs.Numbers.{k_of};
 ghost use Rattle.sk_hub.specs.Updaters.{kept_of};
@@ -7,8 +7,8 @@ ghost use Rattle.sk_model.specs.Limits.{most_kept};
 ghost use Rattle.sk_serve.specs.Doors.{door_of};
 ghost use Rattle.sk_serve.specs.Faults.{HasNetCause};
 ghost use Rattle.sk_serve.specs.Plans.{IsServable};
-ghost use Rattle.sk_serve.specs.Served.{AreClosed, Served, StopsServing};
-ghost use Rattle.sk_serve.specs.Waves.{CanServe, visit_of, texts_by, left_after, next_count, AreReady, WereRun, StopsShort, AreOfHub, ClosesLinks, DrainsFrom, ServesWave, ServesSome};
+ghost use Rattle.sk_serve.specs.Served.{AreClosed, Served};
+ghost use Rattle.sk_serve.specs.Waves.{CanServe, visit_of, texts_by, left_after, next_count, AreReady, WereRun, StopsShort, StopsInWave, AreOfHub, ClosesLinks, DrainsFrom, ServesWave, ServesSome};
 
 use crate::accepting::accept_wave;
 use crate::fault::ServeFault;
@@ -37,7 +37,7 @@ where
     requires drained { heart.old.view.drained ≡ [] }
     ensures serves { IfOk result (λ ends. (sessions : List Served) × (length sessions ≡ plan.now.sessions)
         × ServesSome plan.now most heart.old heart.new (door_of D.Door door.old) (door_of D.Door door.new) ends.items sessions) }
-    ensures stops { IfErr result (λ fault. StopsServing plan.now most (D.doorway door.old) (D.doorway door.new) fault) }
+    ensures stops { OnErr result (StopsInWave plan.now most heart.old heart.new (door_of D.Door door.old) (door_of D.Door door.new)) }
     ensures closed { OnErr result (AreClosed (D.accepted door.old) (D.accepted door.new) (D.doorway door.old) (D.doorway door.new)) }
     ensures net { HasNetCause (D.faults door.old) (D.faults door.new) result }
 {
@@ -67,6 +67,7 @@ where
     ensures serves { OnOk result (ServesWave plan.now most heart.old heart.new (door_of D.Door door.old) (door_of D.Door door.new) ends.old.items ends.new.items) }
     ensures reserved { OnOk result (vec_capacity ends.new ≡ vec_capacity ends.old) }
     ensures short { OnErr result (StopsShort (next_count plan.now heart.old) (door_of D.Door door.old) (door_of D.Door door.new)) }
+    ensures admits { OnErr result (heart.new ≡ record heart.old { admitted = heart.new.admitted }) }
     ensures net { HasNetCause (D.faults door.old) (D.faults door.new) result }
 {
     let count = plan.wave.min(plan.sessions - heart.admitted());

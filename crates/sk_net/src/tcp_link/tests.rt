@@ -1,4 +1,8 @@
 // Links over a stream that interrupts, moves small pieces and fails where its plan says so.
+ghost use Rattle.std.specs.Prelude.{◌≡◌, ◌<◌, OnOk, length};
+ghost use Rattle.std.specs.Io.KnownBytes.{ReadConsumes};
+ghost use Rattle.sk_net.specs.Links.{stream_of, waiting_of};
+
 use super::TcpLink;
 use crate::replies::Replies;
 use crate::tests::expect;
@@ -81,6 +85,31 @@ impl OpenStream for Wire<'_> {
     fn set_write_timeout(&self, _limit: Option<Duration>) -> io::Result<()> {
         Ok(())
     }
+}
+
+// A read of a link on which nothing waits, which gives the next bytes of its stream.
+fn read_of<S: Read + Write + OpenStream>(
+    link: &mut TcpLink<S>,
+    buf: &mut [u8],
+) -> Result<usize, Failed>
+    requires some { 0 < length buf.old }
+    requires none { length (waiting_of link.old) ≡ 0 }
+    ensures next { ReadConsumes (S.remaining (stream_of link.old)) (S.remaining (stream_of link.new)) result buf.new }
+    ensures none { OnOk result (length (waiting_of link.new) ≡ 0) }
+{
+    link.read(buf)
+}
+
+#[test]
+fn a_read_gives_the_next_bytes(rt: HostRuntime) -> Result<(), Fail> {
+    let alloc = rt.alloc();
+    let mut wire = Wire::new(alloc, b"sync\n");
+    wire.piece = 3;
+    let mut link = TcpLink::new(wire, Replies::new(alloc, 64)?);
+    let mut piece = [0; 8];
+    expect(&rt, read_of(&mut link, &mut piece), Ok(3));
+    expect(&rt, piece, *b"syn\0\0\0\0\0");
+    Ok(())
 }
 
 #[test]

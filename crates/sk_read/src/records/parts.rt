@@ -29,8 +29,11 @@ pub(crate) struct Parts {
     cut: usize,
     // Where they end.
     place: ScanState,
-    piece: [u8; PIECE_LEN],
+    // What a read is given. On the heap, since each function that holds this pays for its size.
+    piece: Vec<u8>,
     taken: u64,
+    // how many bytes the last read gave
+    last: usize,
     most: u64,
     ended: bool,
 }
@@ -40,8 +43,8 @@ impl Parts {
     pub(crate) fn start<S: Source>(alloc: Global, most: u64, source: &mut S) -> Result<Parts, Fault>
         requires { most ≤ source_limit }
         ensures starts { MatchResult result
-            (λ parts. (taken : List ℕ) × Consumes (S.left source.old) (S.left source.new) taken × HasHeld parts (S.left source.new) [] taken × (parts.most ≡ most))
-            (λ fault. (taken : List ℕ) × Consumes (S.left source.old) (S.left source.new) taken × Lacks most [] taken fault) }
+            (λ parts. (taken : List ℕ) × Consumes (S.left source.old) (S.left source.new) taken × HasHeld parts (S.left source.new) [] taken × (parts.most ≡ most) × (parts.last ≤ S.last source.new))
+            (λ fault. (taken : List ℕ) × Consumes (S.left source.old) (S.left source.new) taken × Lacks (S.last source.new) most [] taken fault) }
         ensures cause { HasCauseIn Fault.ReadFault (S.faults source.old) (S.faults source.new) result }
         ensures stays { S.stands_on source.new ≡ S.stands_on source.old }
     {
@@ -51,8 +54,9 @@ impl Parts {
             bytes,
             cut: 1,
             place: ScanState::Between,
-            piece: [0; PIECE_LEN],
+            piece: Vec::new(alloc),
             taken: 0,
+            last: 0,
             most,
             ended: false,
         };
@@ -68,6 +72,7 @@ impl Parts {
         requires { (taken : List ℕ) × HasStarted self.old taken }
         ensures takes { (taken : List ℕ) → HasStarted self.old taken → HasTaken self.new [] taken }
         ensures same { (self.new.most ≡ self.old.most) × (self.new.taken ≡ self.old.taken) × (self.new.ended ≡ self.old.ended) }
+        ensures piece { self.new.last ≡ self.old.last }
     {
         drop_mark(&mut self.bytes);
         let (place, cut) = scan(ScanState::Between, &self.bytes[1..]);
@@ -84,13 +89,16 @@ impl Parts {
         requires open { self.old.ended ≡ false }
         ensures holds { OnOk result ((more : List ℕ) × Consumes (S.left source.old) (S.left source.new) more × Holds self.old self.new more × (length more ≤ room)) }
         ensures end { OnOk result (self.new.ended ≡ true → IsAtEnd (S.left source.new)) }
-        ensures lacks { IfErr result (λ fault. (more : List ℕ) × Consumes (S.left source.old) (S.left source.new) more × (length more ≤ room) × LacksBytes self.old more fault) }
+        ensures lacks { IfErr result (λ fault. (more : List ℕ) × Consumes (S.left source.old) (S.left source.new) more × (length more ≤ room) × (length more ≤ self.new.last) × LacksBytes self.old more fault) }
+        ensures piece { self.old.last ≤ S.last source.old → self.new.last ≤ S.last source.new }
         ensures most { self.new.most ≡ self.old.most }
         ensures cause { HasCauseIn Fault.ReadFault (S.faults source.old) (S.faults source.new) result }
         ensures stays { S.stands_on source.new ≡ S.stands_on source.old }
     {
         let allowed = self.most - self.taken;
-        let n = read_within(source, &mut self.piece[..room], allowed).map_err(LineFault::from)?;
+        self.piece.resize(room, 0)?;
+        let n = read_within(source, self.piece.as_mut_slice(), allowed).map_err(LineFault::from)?;
+        self.last = n;
         self.bytes.extend_from_slice(&self.piece[..n])?;
         self.taken += n as u64;
         self.ended = n == 0;
@@ -103,6 +111,7 @@ impl Parts {
         ensures goes { (rows : List Row) (taken : List ℕ) → HasHeld self.old (S.left source.old) rows taken
             → (more : List ℕ) × Consumes (S.left source.old) (S.left source.new) more × Refills self.new (S.left source.new) rows (taken ++ more) result }
         ensures remaining { OnOk result (remaining_of self.new ≡ remaining_of self.old) }
+        ensures piece { self.old.last ≤ S.last source.old → self.new.last ≤ S.last source.new }
         ensures most { self.new.most ≡ self.old.most }
         ensures cause { HasCauseIn Fault.ReadFault (S.faults source.old) (S.faults source.new) result }
         ensures stays { S.stands_on source.new ≡ S.stands_on source.old }
@@ -136,6 +145,7 @@ impl Parts {
             → HasTaken self.new (rows ++ records default_config (take self.old.cut self.old.bytes.items)) taken }
         ensures less { 1 < self.old.cut → remaining_of self.new < remaining_of self.old }
         ensures same { (self.new.most ≡ self.old.most) × (self.new.taken ≡ self.old.taken) × (self.new.ended ≡ self.old.ended) }
+        ensures piece { self.new.last ≡ self.old.last }
     {
         drop_front(&mut self.bytes, self.cut - 1);
         self.cut = 1;

@@ -10,6 +10,7 @@ use Rattle.sk_label.specs.Goes.{setting, EndsBefore, ReadsLines}
 use Rattle.sk_label.specs.declared.fault.LabelFault.{LabelFault}
 use Rattle.sk_label.specs.declared.fault.LabelFault.TheVariants as fault
 use Rattle.sk_label.proofs.QuietLaws.{reads_so, ends_at_start}
+use Rattle.sk_label.proofs.CarryLaws.{ends_within}
 use Rattle.sk_desks.specs.Desks.{desk_rules}
 use Rattle.sk_desks.proofs.LaneLaws.{desks}
 use Rattle.sk_desks.proofs.WentLaws.{fine_same, went_ready, went_all, went_then_none, stop_is}
@@ -18,12 +19,15 @@ use Rattle.sk_desks.proofs.command.read_all.Goals as goal
 pub returns-in_err-takers-clause-early : goal.returns-in_err-takers-clause-early
 returns-in_err-takers-clause-early g c =
     let rules = desk_rules c.args.plan.now c.args.names.now in let left = g.S.Source.left c.args.source.now in
-    stop_is (λ (f : LabelFault). EndsBefore rules c.args.most (setting left None) (setting left None) f) fault.OutOfMemory c.from_residual.result c.from_residual.ensures.1 (ends_at_start rules c.args.most left None)
+    stop_is (λ (f : LabelFault). EndsBefore rules (g.S.Source.last c.args.source.now) c.args.most (setting left None) (setting left None) f) fault.OutOfMemory c.from_residual.result c.from_residual.ensures.1 (ends_at_start _ rules c.args.most left None)
 
 pub returns-in_err-new-clause-early : goal.returns-in_err-new-clause-early
 returns-in_err-new-clause-early g c =
     let rules = desk_rules c.args.plan.now c.args.names.now in let left = g.S.Source.left c.args.source.now in
-    stop_is (λ (f : LabelFault). EndsBefore rules c.args.most (setting left None) (setting left None) f) fault.OutOfMemory c.from_residual-in_err-new.result c.from_residual-in_err-new.ensures.1 (ends_at_start rules c.args.most left None)
+    stop_is (λ (f : LabelFault). EndsBefore rules (g.S.Source.last c.args.source.now) c.args.most (setting left None) (setting left None) f) fault.OutOfMemory c.from_residual-in_err-new.result c.from_residual-in_err-new.ensures.1 (ends_at_start _ rules c.args.most left None)
+
+pub read_stretches-requires-clause-piece : goal.read_stretches-requires-clause-piece
+read_stretches-requires-clause-piece g c κs within = omega (arith, c.in_ok-new.ensures.piece)
 
 pub read_stretches-requires-clause-none : goal.read_stretches-requires-clause-none
 read_stretches-requires-clause-none g c κs within = c.in_ok-new.ensures.read (g.S.Source.left c.args.source.now)
@@ -48,9 +52,11 @@ pub returns-in_err-desks-clause-early : goal.returns-in_err-desks-clause-early
 returns-in_err-desks-clause-early g c =
     let w = c.read_stretches.new in let rules = desk_rules c.args.plan.now c.args.names.now in
     let old = g.S.Source.left c.args.source.now in let new = g.S.Source.left w.source in
-    stop_is (λ (f : LabelFault). EndsBefore rules c.args.most (setting old None) (setting new None) f) fault.OutOfMemory c.from_residual-in_err-desks.result c.from_residual-in_err-desks.ensures.1
-    (subst (λ (m : ℕ). EndsBefore rules m (setting old None) (setting new None) fault.OutOfMemory) (c.in_ok-read_stretches.ensures.bound ∙ c.in_ok-new.ensures.most)
-    (went_then_none c.args.plan.now c.args.names.now (desks c.in_ok-takers.takers.items) w.takers.items w.last false w.gatherer.reader old new c.in_ok-read_stretches.ensures.went))
+    let last = g.S.Source.last w.source in
+    stop_is (λ (f : LabelFault). EndsBefore rules last c.args.most (setting old None) (setting new None) f) fault.OutOfMemory c.from_residual-in_err-desks.result c.from_residual-in_err-desks.ensures.1
+    (subst (λ (m : ℕ). EndsBefore rules last m (setting old None) (setting new None) fault.OutOfMemory) (c.in_ok-read_stretches.ensures.bound ∙ c.in_ok-new.ensures.most)
+    (ends_within rules w.gatherer.reader.last last w.gatherer.reader.most (setting old None) (setting new None) fault.OutOfMemory c.read_stretches.ensures.piece
+    (went_then_none c.args.plan.now c.args.names.now (desks c.in_ok-takers.takers.items) w.takers.items w.last false w.gatherer.reader old new c.in_ok-read_stretches.ensures.went)))
 
 pub returns-clause-read : goal.returns-clause-read
 returns-clause-read g c =

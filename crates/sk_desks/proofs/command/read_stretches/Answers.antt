@@ -4,6 +4,7 @@ use Rattle.sk_fill.specs.Windows.{all_lines}
 use Rattle.sk_read.specs.declared.kind.Kind.TheVariants.{Hash}
 use Rattle.sk_label.specs.Goes.{setting, EndsBefore}
 use Rattle.sk_label.specs.declared.fault.LabelFault.{LabelFault}
+use Rattle.sk_label.proofs.CarryLaws.{ends_within}
 use Rattle.sk_desks.specs.Desks.{desk_rules}
 use Rattle.sk_desks.specs.Lanes.{FeedsAndGathers}
 use Rattle.sk_desks.specs.Windows.{WentToDesks}
@@ -16,8 +17,10 @@ pub returns-in_err-more-clause-early : goal.returns-in_err-more-clause-early
 returns-in_err-more-clause-early g c =
     let plan = c.args.plan.now in let names = c.args.gatherer.now.names.now in let r = c.args.gatherer.now.reader in let f = c.in_err-more.field-0.0 in
     let old = g.S.Source.left c.args.source.now in let new = g.S.Source.left c.gather_stretch.new.source in
-    stop_is (λ (x : LabelFault). EndsBefore (desk_rules plan names) r.most (setting old None) (setting new None) x) f c.from_residual.result c.from_residual.ensures.1
-    (first_wrong plan names (all_lines c.gather_stretch.new.stretch.windows) r c.gather_stretch.new.gatherer.reader old new c.gather_stretch.result f c.requires.none c.gather_stretch.ensures.gathers c.in_err-more.was)
+    let last = g.S.Source.last c.gather_stretch.new.source in
+    stop_is (λ (x : LabelFault). EndsBefore (desk_rules plan names) last r.most (setting old None) (setting new None) x) f c.from_residual.result c.from_residual.ensures.1
+    (ends_within (desk_rules plan names) c.gather_stretch.new.gatherer.reader.last last r.most (setting old None) (setting new None) f (c.gather_stretch.ensures.piece c.requires.piece)
+    (first_wrong plan names (all_lines c.gather_stretch.new.stretch.windows) r c.gather_stretch.new.gatherer.reader old new c.gather_stretch.result f c.requires.none c.gather_stretch.ensures.gathers c.in_err-more.was))
 
 pub returns-in_err-more-clause-quiet : goal.returns-in_err-more-clause-quiet
 returns-in_err-more-clause-quiet g c =
@@ -33,6 +36,7 @@ stretch-init g c =
       most = c.gather_stretch.ensures.most;
       names = c.gather_stretch.ensures.names;
       bound = gathers.bound;
+      piece = c.gather_stretch.ensures.piece c.requires.piece;
       steady = subst (λ x. OnOk x (g.S.Source.faults c.gather_stretch.new.source ≡ g.S.Source.faults c.args.source.now)) c.in_ok-more.was
           (steady_on_ok _ (g.S.Source.faults c.args.source.now) (g.S.Source.faults c.gather_stretch.new.source) c.gather_stretch.result c.gather_stretch.ensures.cause);
       stays = c.gather_stretch.ensures.stays;
@@ -55,9 +59,11 @@ returns-in_err-more-2-clause-early g c =
     let old = g.S.Source.left c.args.source.now in let mid = g.S.Source.left l.source in let new = g.S.Source.left c.feed_in_lanes.new.source in
     let r' = c.feed_in_lanes.new.gatherer.reader in
     let goes = subst (λ (ns : List (List ℕ)). FeedsAndGathers (Hash c.args.plan.now.seed) ns l.last c.feed_in_lanes.new.stretch l.takers.items c.feed_in_lanes.new.takers.items l.gatherer.reader r' mid new c.feed_in_lanes.result) l.invariant.names c.feed_in_lanes.ensures.goes in
-    stop_is (λ (x : LabelFault). EndsBefore (desk_rules plan names) c.args.gatherer.now.reader.most (setting old None) (setting new None) x) f c.from_residual-in_err-more-2.result c.from_residual-in_err-more-2.ensures.1
-    (subst (λ (m : ℕ). EndsBefore (desk_rules plan names) m (setting old None) (setting new None) f) l.invariant.bound
-    (went_wrong plan names (desks c.args.takers.now.items) l.takers.items l.last l.more l.gatherer.reader old mid l.invariant.went r' new goes.lines c.feed_in_lanes.result f goes.gathers c.in_err-more-2.was))
+    let last = g.S.Source.last c.feed_in_lanes.new.source in
+    stop_is (λ (x : LabelFault). EndsBefore (desk_rules plan names) last c.args.gatherer.now.reader.most (setting old None) (setting new None) x) f c.from_residual-in_err-more-2.result c.from_residual-in_err-more-2.ensures.1
+    (subst (λ (m : ℕ). EndsBefore (desk_rules plan names) last m (setting old None) (setting new None) f) l.invariant.bound
+    (ends_within (desk_rules plan names) r'.last last l.gatherer.reader.most (setting old None) (setting new None) f (c.feed_in_lanes.ensures.piece l.invariant.piece)
+    (went_wrong plan names (desks c.args.takers.now.items) l.takers.items l.last l.more l.gatherer.reader old mid l.invariant.went r' new goes.lines c.feed_in_lanes.result f goes.gathers c.in_err-more-2.was)))
 
 pub returns-in_err-more-2-clause-quiet : goal.returns-in_err-more-2-clause-quiet
 returns-in_err-more-2-clause-quiet g c =
@@ -74,6 +80,7 @@ stretch-preserved g c =
       most = c.feed_in_lanes.ensures.most;
       names = c.feed_in_lanes.ensures.names ∙ l.invariant.names;
       bound = goes.gathers.bound ∙ l.invariant.bound;
+      piece = c.feed_in_lanes.ensures.piece l.invariant.piece;
       steady = subst (λ x. OnOk x (g.S.Source.faults c.feed_in_lanes.new.source ≡ g.S.Source.faults l.source)) c.in_ok-more-2.was
           (steady_on_ok _ (g.S.Source.faults l.source) (g.S.Source.faults c.feed_in_lanes.new.source) c.feed_in_lanes.result c.feed_in_lanes.ensures.cause) ∙ l.invariant.steady;
       stays = c.feed_in_lanes.ensures.stays ∙ l.invariant.stays;

@@ -20,7 +20,7 @@ returns-in_err-hosts-clause-goes g c =
     let left = g.S.Source.left c.args.source.now in
     let w = g.O.Sink.written c.args.out.now in
     let rules = desk_rules c.args.plan.now (bytes_of c.args.names.items) in
-    goes_by rules c.args.most (setting left w) (setting left w) c.from_residual.result fault.OutOfMemory c.from_residual.ensures.1 (inl (ends_at_start rules c.args.most left w))
+    goes_by _ rules c.args.most (setting left w) (setting left w) c.from_residual.result fault.OutOfMemory c.from_residual.ensures.1 (inl (ends_at_start _ rules c.args.most left w))
 
 pub read_all-requires-clause-unused : goal.read_all-requires-clause-unused
 read_all-requires-clause-unused g c κs within =
@@ -37,8 +37,8 @@ returns-in_err-read_all-clause-goes g c =
     let left = g.S.Source.left c.args.source.now in let left' = g.S.Source.left c.read_all.new.source in
     let w = g.O.Sink.written c.args.out.now in
     let f = c.in_err-read_all.field-0.0 in
-    goes_by (desk_rules plan names) c.args.most (setting left w) (setting left' w) c.from_residual-in_err-read_all.result f c.from_residual-in_err-read_all.ensures.1
-    (inl (ends_early plan names c.names.result.now c.args.most left left' w f (c.names.ensures.value ∙ c.in_ok-hosts.ensures.hosts.names_are)
+    goes_by _ (desk_rules plan names) c.args.most (setting left w) (setting left' w) c.from_residual-in_err-read_all.result f c.from_residual-in_err-read_all.ensures.1
+    (inl (ends_early _ plan names c.names.result.now c.args.most left left' w f (c.names.ensures.value ∙ c.in_ok-hosts.ensures.hosts.names_are)
     (λ same. c.in_err-read_all.ensures.quiet (ap (λ (x : LabelFault). Err x) same)) c.in_err-read_all.ensures.early))
 
 pub drain_all-requires-clause-desks : goal.drain_all-requires-clause-desks
@@ -85,7 +85,7 @@ returns-in_err-text-clause-goes g c =
     let w = g.O.Sink.written c.args.out.now in
     let same = c.names.ensures.value ∙ c.in_ok-hosts.ensures.hosts.names_are in
     let Gave : List (List ℕ) → Type 0 = λ lines. AreFine (desk_rules plan own) lines × HaveTaken plan.seed c.in_ok-hosts.field-0.desks.items c.read_all.new.desks.items lines in
-    goes_by (desk_rules plan names) c.args.most (setting left w) (setting left' w) c.from_residual-in_err-text.result fault.OutOfMemory c.from_residual-in_err-text.ensures.1
+    goes_by _ (desk_rules plan names) c.args.most (setting left w) (setting left' w) c.from_residual-in_err-text.result fault.OutOfMemory c.from_residual-in_err-text.ensures.1
     (inr (reads_so Gave (WroteSoFar (desk_rules plan names) w w) c.args.most left left' (λ lines gave. wrote_none (desk_rules plan names) (never plan names) w lines (fine_same plan names own lines same gave.0)) c.in_ok-read_all.ensures.read))
 
 pub returns-in_err-write_text-clause-goes : goal.returns-in_err-write_text-clause-goes
@@ -102,8 +102,8 @@ returns-in_err-write_text-clause-goes g c =
     let Gave : List (List ℕ) → Type 0 = λ lines. AreFine (desk_rules plan own) lines × HaveTaken plan.seed opening.desks.items last lines in
     let due : (lines : List (List ℕ)) → HaveTaken plan.seed opening.desks.items last lines → c.as_slice.result.now ≡ flat_map (tenant_line plan lines) names = λ lines taken.
     c.as_slice.ensures.value ∙ text_due plan names opening.hosts opening.desks.items c.requires.within c.requires.names opened.hosts opened.count opened.desks last lines taken c.drain_all.new.self c.in_ok-text.text.items (same_drained opening.hosts c.drain_all.new.self last c.drain_all.ensures.drains) c.drain_all.ensures.taken_in c.in_ok-text.ensures.text in
-    goes_by (desk_rules plan names) c.args.most (setting left w) (setting left' w') c.from_residual-in_err-write_text.result c.in_err-write_text.field-0.0 c.from_residual-in_err-write_text.ensures.1
-    (subst (EndsAt (desk_rules plan names) c.args.most (setting left w) (setting left' w')) (sym c.in_err-write_text.ensures.fault)
+    goes_by _ (desk_rules plan names) c.args.most (setting left w) (setting left' w') c.from_residual-in_err-write_text.result c.in_err-write_text.field-0.0 c.from_residual-in_err-write_text.ensures.1
+    (subst (EndsAt (desk_rules plan names) (g.S.Source.last c.read_all.new.source) c.args.most (setting left w) (setting left' w')) (sym c.in_err-write_text.ensures.fault)
     (inr (reads_so Gave (WrotePartLast (desk_rules plan names) w w') c.args.most left left'
     (λ lines gave. wrote_part_whole (desk_rules plan names) (never plan names) w w' lines (fine_same plan names own lines same gave.0) (subst (AppendsPart w w') (due lines gave.1) c.in_err-write_text.ensures.part)) c.in_ok-read_all.ensures.read)))
 

@@ -18,6 +18,7 @@ piece-init g c = record {
   small = omega (arith, ap (λ (ls : List (List ℕ)). length (concat ls)) c.requires.empty);
   names = refl;
   bound = refl;
+  piece = λ within. within;
   fewer = omega arith;
   steady = refl;
   stays = refl;
@@ -84,10 +85,10 @@ returns-in_err-take_held-clause-gathers g c =
     let line_is : IsOfTenant names c.line.result.now = subst (λ (ns : List (List ℕ)). IsOfTenant ns c.line.result.now) inv.names c.in_ok-push.ensures.fine in
     let fine = laws.line_fine names c.piece.window.lines lines c.line.result.now inv.fine line_is c.in_ok-push.ensures.lines in
     let takes = subst (λ (ns : List (List ℕ)). TakesHeld ns lines c.take_held.new.window.lines c.next.new.self c.take_held.new.reader c.take_held.result) (c.push.ensures.names ∙ inv.names) c.take_held.ensures.takes in
-    let stopped = subst (λ x. IfErr x (λ why. GoOnFine names lines → StopsHeld names lines c.next.new.self why)) c.in_err-take_held.was takes.stopped in
+    let stopped = subst (λ x. IfErr x (λ why. GoOnFine names lines → StopsHeld names lines c.take_held.new.reader.last c.next.new.self why)) c.in_err-take_held.was takes.stopped in
     laws.gathers_not names c.args.reader.now c.take_held.new.reader old new c.take_held.new.window.lines (takes.bound ∙ bound) c.from_residual-in_err-take_held.result f c.from_residual-in_err-take_held.ensures.1
     (λ same. takes.quiet (c.in_err-take_held.was ∙ ap (λ (x : LabelFault). Err x) same))
-    (laws.held_stops names lines c.args.reader.now c.next.new.self old new gives fine bound f stopped)
+    (laws.held_stops c.take_held.new.reader.last names lines c.args.reader.now c.next.new.self old new gives fine bound f stopped)
 
 pub returns-then-branch-2-clause-gathers : goal.returns-then-branch-2-clause-gathers
 returns-then-branch-2-clause-gathers g c =
@@ -124,6 +125,7 @@ piece-preserved g c =
       small = c.take_held.ensures.few more;
       names = c.take_held.ensures.names ∙ c.push.ensures.names ∙ inv.names;
       bound = takes.bound ∙ bound;
+      piece = λ within. let now = c.next.ensures.piece (inv.piece within) in omega (arith, takes.piece, now);
       fewer = omega (arith, takes.fewer, c.next.ensures.progress yes, inv.fewer);
       steady = subst (λ r. OnOk r (g.S.Source.faults c.next.new.source ≡ g.S.Source.faults c.piece.source)) c.in_ok-next.was
           (steady_on_ok _ (g.S.Source.faults c.piece.source) (g.S.Source.faults c.next.new.source) c.next.result c.next.ensures.cause) ∙ inv.steady;

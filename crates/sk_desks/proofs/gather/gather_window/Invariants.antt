@@ -14,6 +14,7 @@ invariant-piece g l = record {
   small : length (concat l.window.lines) < full_bytes;
   names : l.window.names ≡ l.initial.window.names;
   bound : l.reader.most ≡ l.initial.reader.most;
+  piece : l.initial.reader.last ≤ g.S.Source.last l.initial.source → l.reader.last ≤ g.S.Source.last l.source;
   fewer : remaining_of l.reader ≤ remaining_of l.initial.reader;
   steady : g.S.Source.faults l.source ≡ g.S.Source.faults l.initial.source;
   stays : g.S.Source.stands_on l.source ≡ g.S.Source.stands_on l.initial.source;

@@ -15,7 +15,7 @@ abbrev group : After-pass_run-count → List (List ℕ)
 group c = lines_of (run c)
 
 gave : (c : After-pass_run-count) → GivesGroup c.args.reader.now c.pass_run-count.new.self (group c)
-gave c = record { goes = c.pass_run-count.ensures.goes; most = ap (λ (r : Reading). r.most) c.pass_run-count.ensures.stays; fewer = omega (arith, c.pass_run-count.ensures.progress) }
+gave c = record { goes = c.pass_run-count.ensures.goes; most = ap (λ (r : Reading). r.most) c.pass_run-count.ensures.stays; piece = ap (λ (r : Reading). r.last) c.pass_run-count.ensures.stays; fewer = omega (arith, c.pass_run-count.ensures.progress) }
 
 slice : (c : After-pass_run-count) (a b : List ℕ) → a ≡ c.args.reader.now.cutter.front → b ≡ c.pass_run-count.new.self.cutter.front → take (length b - length a) (drop (length a) b) ≡ run c
 slice c a b p q = slice_is c.args.reader.now.cutter.front c.pass_run-count.new.self.cutter.front a b p q

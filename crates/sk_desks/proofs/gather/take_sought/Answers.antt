@@ -18,7 +18,7 @@ group_size : (c : After-next_run-count) → length (group c) ≡ c.next_run-coun
 group_size c = c.next_run-count.ensures.run.is.count
 
 gave : (c : After-next_run-count) → GivesGroup c.args.reader.now c.next_run-count.new.self (group c)
-gave c = record { goes = c.next_run-count.ensures.goes; most = ap (λ (r : Reading). r.most) c.next_run-count.ensures.stays; fewer = omega (arith, c.next_run-count.ensures.progress) }
+gave c = record { goes = c.next_run-count.ensures.goes; most = ap (λ (r : Reading). r.most) c.next_run-count.ensures.stays; piece = ap (λ (r : Reading). r.last) c.next_run-count.ensures.stays; fewer = omega (arith, c.next_run-count.ensures.progress) }
 
 pub overflow_add-first : goal.overflow_add-first
 overflow_add-first c =

@@ -23,7 +23,7 @@ abbrev group : After-pass_run-count → List (List ℕ)
 group c = lines_of (run c)
 
 gave : (c : After-pass_run-count) → GivesGroup c.args.reader.now c.pass_run-count.new.self (group c)
-gave c = record { goes = c.pass_run-count.ensures.goes; most = ap (λ (r : Reading). r.most) c.pass_run-count.ensures.stays; fewer = omega (arith, c.pass_run-count.ensures.progress) }
+gave c = record { goes = c.pass_run-count.ensures.goes; most = ap (λ (r : Reading). r.most) c.pass_run-count.ensures.stays; piece = ap (λ (r : Reading). r.last) c.pass_run-count.ensures.stays; fewer = omega (arith, c.pass_run-count.ensures.progress) }
 
 module _ (c : After-pass_run-count) (some : 0 < c.pass_run-count.result) where
   abbrev w : LabelledState
@@ -105,6 +105,7 @@ returns-clause-takes c =
     let gave : GivesGroup c.args.reader.now c.take_front.new.reader (group at) = record {
       goes = λ left given taken has. gives.goes left (given ++ group at) taken ((gave at).goes left given taken has);
       most = ap (λ (r : Reading). r.most) gives.stays ∙ (gave at).most;
+      piece = ap (λ (r : Reading). r.last) gives.stays ∙ (gave at).piece;
       fewer = omega (arith, ap remaining_of gives.stays, (gave at).fewer);
     } in
     group_held names lines (group at) c.args.reader.now c.take_front.new.reader gave c.take_front.new.self.lines (c.in_ok-take_front.ensures.lines ∙ lines_are at some) (are at some)

@@ -17,6 +17,7 @@ stretch-init g c = record {
   goes = gather_starts c.args.gatherer.now.names.now c.args.supply.now.outlets c.args.gatherer.now.reader (g.S.Source.left c.args.source.now);
   most = c.requires.most;
   same = c.requires.same;
+  piece = λ within. within;
   names = refl;
   steady = refl;
   stays = refl;
@@ -102,6 +103,7 @@ stretch-preserved g c =
       goes = gather_goes names c.args.supply.now.outlets c.stretch.supply.outlets next c.args.gatherer.now.reader q s old mid new inv.goes c.gather_stretch.result gathers c.give.new.self.outlets went gave;
       most = ap (λ (z : StretchState). z.most) c.replace-full.ensures.after ∙ c.in-Some-wait_for_one.ensures.most ∙ inv.same;
       same = c.give.ensures.most ∙ ap (λ z. z.most) c.wait_for_one.ensures.stays ∙ inv.same;
+      piece = λ within. c.gather_stretch.ensures.piece (inv.piece within);
       names = c.gather_stretch.ensures.names ∙ inv.names;
       steady = subst (λ x. OnOk x (g.S.Source.faults c.gather_stretch.new.source ≡ g.S.Source.faults c.stretch.source)) c.in_ok-gather_stretch.was
           (steady_on_ok _ (g.S.Source.faults c.stretch.source) (g.S.Source.faults c.gather_stretch.new.source) c.gather_stretch.result c.gather_stretch.ensures.cause) ∙ inv.steady;

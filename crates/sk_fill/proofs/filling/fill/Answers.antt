@@ -8,6 +8,7 @@ use Rattle.sk_read.specs.Reads.{Ends}
 use Rattle.sk_read.specs.declared.fault.Fault.TheVariants as fault
 use Rattle.sk_read.specs.declared.units.Units.TheVariants.{Lines}
 use Rattle.sk_read.proofs.LineEnds.{no_line, line_missed}
+use Rattle.sk_read.proofs.Readings.{in_time_within}
 use Rattle.sk_fill.specs.Fills.{RefusesLine, ReadsLine}
 use Rattle.sk_fill.proofs.Readings.{if_err_is, steady_on_ok}
 use Rattle.sk_fill.proofs.Filled.{read_few, line_read, line_number, line_short, line_added, still_unfilled, now_full, now_unfilled, still_good, held_stopped, held_on, held_last, not_yet}
@@ -73,7 +74,7 @@ returns-in_err-push_line-clause-stopped g c =
     let left = g.S.Source.left c.next.new.source in
     let one = next_line g at c.if-branch.true given taken has in
     let place = line_number c.next.new.self (g.S.Source.left c.args.source.now) left lines line taken c.next.new.self.cutter.number one refl in
-    subst (λ l. Ends Lines c.args.reader.now.most (λ x. x ≡ given ++ l) (RefusesLine c.args.kind (given ++ l)) first left fault.OutOfMemory) (sym c.in_err-push_line.ensures.refused)
+    subst (λ l. Ends c.next.new.self.last Lines c.args.reader.now.most (λ x. x ≡ given ++ l) (RefusesLine c.args.kind (given ++ l)) first left fault.OutOfMemory) (sym c.in_err-push_line.ensures.refused)
     (line_missed (λ l. l ≡ lines) (RefusesLine c.args.kind lines) c.args.reader.now.most c.next.new.self first left lines line (taken ++ one.more) c.next.new.self.cutter.number fault.OutOfMemory
     (c.next.ensures.most ∙ c.piece.invariant.bound) (Consumes-trans _ _ _ _ _ consumed one.consumed) place tt refl one.read one.in_time))
 
@@ -127,9 +128,9 @@ returns-in_err-take_held-clause-stopped g c =
     let now = at_line g (goal.at.returns-in_err-take_held-clause-stopped g c).In_ok-next c.if-branch.true c.line-line.result.now c.push_line.new.self.lines c.line-line.ensures c.in_ok-push_line.ensures.lines given taken has in
     let left = g.S.Source.left c.next.new.source in
     let lines = c.take_held.new.window.lines in
-    subst (λ m. Ends Lines m (λ l. l ≡ given ++ lines) (RefusesLine c.args.kind (given ++ lines)) first left why) (c.next.ensures.most ∙ c.piece.invariant.bound)
+    subst (λ m. Ends c.take_held.new.reader.last Lines m (λ l. l ≡ given ++ lines) (RefusesLine c.args.kind (given ++ lines)) first left why) (c.next.ensures.most ∙ c.piece.invariant.bound)
     (held_stopped c.take_held.result why (λ e. (first left : Option (List ℕ)) (given : List (List ℕ)) (taken : List ℕ) → Consumes first left taken → HasRead c.next.new.self left (given ++ c.push_line.new.self.lines) taken
-    → Ends Lines c.next.new.self.most (λ l. l ≡ given ++ lines) (RefusesLine c.args.kind (given ++ lines)) first left e) c.in_err-take_held.was c.take_held.ensures.takes.stopped
+    → Ends c.take_held.new.reader.last Lines c.next.new.self.most (λ l. l ≡ given ++ lines) (RefusesLine c.args.kind (given ++ lines)) first left e) c.in_err-take_held.was c.take_held.ensures.takes.stopped
     first left given (taken ++ now.0) (Consumes-trans _ _ _ _ _ consumed now.1) now.2))
 
 pub returns-then-branch-2-clause-last : goal.returns-then-branch-2-clause-last
@@ -139,7 +140,7 @@ returns-then-branch-2-clause-last g c = λ _. λ given taken has.
     let takes = c.take_held.ensures.takes in
     let left = g.S.Source.left c.next.new.source in
     let now = at_line g at c.if-branch.true c.line-line.result.now c.push_line.new.self.lines c.line-line.ensures c.in_ok-push_line.ensures.lines given taken has in
-    held_last c.take_held.new.reader (g.S.Source.left c.args.source.now) left given c.push_line.new.self.lines c.take_held.new.window.lines taken now.0 now.1 (takes.last yes) now.2.in_time
+    held_last c.take_held.new.reader (g.S.Source.left c.args.source.now) left given c.push_line.new.self.lines c.take_held.new.window.lines taken now.0 now.1 (takes.last yes) (in_time_within Lines (given ++ c.push_line.new.self.lines) (taken ++ now.0) (omega (arith, c.take_held.ensures.piece)) now.2.in_time)
     (held_on c.take_held.result true _ yes takes.read left given (taken ++ now.0) now.2)
 
 pub returns-then-branch-2-clause-few : goal.returns-then-branch-2-clause-few
@@ -161,6 +162,7 @@ piece-preserved g c =
           let now = at_line g at c.if-branch.true c.line-line.result.now c.push_line.new.self.lines c.line-line.ensures c.in_ok-push_line.ensures.lines given taken has in
           (now.0, now.1, held_on c.take_held.result false _ no takes.read (g.S.Source.left c.next.new.source) given (taken ++ now.0) now.2);
       bound = c.take_held.ensures.bound ∙ c.next.ensures.most ∙ inv.bound;
+      piece = λ within. let now = c.next.ensures.piece (inv.piece within) in omega (arith, c.take_held.ensures.piece, now);
       fewer = omega (arith, c.take_held.ensures.remaining, c.next.ensures.progress (c.in_ok-next.was ∙ ap (λ (b : Bool). Ok b) c.if-branch.true), inv.fewer);
       steady = subst (λ r. OnOk r (g.S.Source.faults c.next.new.source ≡ g.S.Source.faults c.piece.source)) c.in_ok-next.was
           (steady_on_ok _ (g.S.Source.faults c.piece.source) (g.S.Source.faults c.next.new.source) c.next.result c.next.ensures.cause) ∙ inv.steady;

@@ -13,6 +13,7 @@ invariant-piece g l = record {
   read : (given : List (List ℕ)) (taken : List ℕ) → HasRead l.initial.reader (g.S.Source.left l.initial.source) given taken
       → (more : List ℕ) × Consumes (g.S.Source.left l.initial.source) (g.S.Source.left l.source) more × HasRead l.reader (g.S.Source.left l.source) (given ++ l.window.lines) (taken ++ more);
   bound : l.reader.most ≡ l.initial.reader.most;
+  piece : l.initial.reader.last ≤ g.S.Source.last l.initial.source → l.reader.last ≤ g.S.Source.last l.source;
   fewer : remaining_of l.reader ≤ remaining_of l.initial.reader;
   steady : g.S.Source.faults l.source ≡ g.S.Source.faults l.initial.source;
   stays : g.S.Source.stands_on l.source ≡ g.S.Source.stands_on l.initial.source;

@@ -13,6 +13,7 @@ line-init c = record {
   most = refl;
   fewer = omega arith;
   bound = refl;
+  piece = refl;
 }
 
 -- the reader after a line
@@ -34,7 +35,7 @@ returns-then-not-is_good-clause-takes c =
     let inv = c.line.invariant in
     let bad = c.if-not-is_good.ensures.bad in
     held.bad_held c.args.kind c.line.window.most c.args.window.now.lines c.line.window.lines c.args.reader.now c.line.reader c.next_held.new.self inv.more c.line-line.result.now c.number.result
-    (c.next_held.ensures.most ∙ inv.bound) c.line-line.ensures c.number.ensures (bad refl).0 (bad refl).1 (gave at c.if-branch.true)
+    (c.next_held.ensures.most ∙ inv.bound) c.next_held.ensures.piece c.line-line.ensures c.number.ensures (bad refl).0 (bad refl).1 (gave at c.if-branch.true)
 
 pub push_line-requires-clause-room : goal.push_line-requires-clause-room
 push_line-requires-clause-room c = still_unfilled c.line.window.most c.line.window.lines c.line.invariant.more.unfilled
@@ -52,7 +53,7 @@ returns-in_err-push_line-clause-takes c =
     let inv = c.line.invariant in
     subst (λ m. TakesHeld c.args.kind m c.args.window.now.lines c.push_line.new.self.lines c.args.reader.now c.next_held.new.self c.from_residual-in_err-push_line.result) (sym c.push_line.ensures.most)
     (held.no_room_held c.args.kind c.line.window.most c.args.window.now.lines c.line.window.lines c.args.reader.now c.line.reader c.next_held.new.self inv.more c.push_line.new.self.lines c.from_residual-in_err-push_line.result
-    c.in_err-push_line.ensures.refused (c.next_held.ensures.most ∙ inv.bound) c.from_residual-in_err-push_line.ensures.1 (gave at c.if-branch.true))
+    c.in_err-push_line.ensures.refused (c.next_held.ensures.most ∙ inv.bound) c.next_held.ensures.piece c.from_residual-in_err-push_line.ensures.1 (gave at c.if-branch.true))
 
 pub returns-then-is_full-clause-takes : goal.returns-then-is_full-clause-takes
 returns-then-is_full-clause-takes c =
@@ -77,6 +78,7 @@ line-preserved c =
       most = c.push_line.ensures.most ∙ inv.most;
       fewer = omega (arith, c.next_held.ensures.remaining, inv.fewer);
       bound = c.next_held.ensures.most ∙ inv.bound;
+      piece = c.next_held.ensures.piece ∙ inv.piece;
     }
 
 pub returns-clause-takes : goal.returns-clause-takes

@@ -55,7 +55,7 @@ returns-in_err-push_run-clause-stopped c =
     let w = c.args.window.now in
     subst (λ m. IfErr c.from_residual.result (λ why. TakesHeld c.args.kind m w.lines c.push_run.new.self.lines c.args.reader.now c.next_run-count.new.self (Err why))) (sym c.push_run.ensures.most)
     (no_room_some c.args.kind w.most w.lines (group at) c.push_run.new.self.lines c.args.reader.now c.next_run-count.new.self c.from_residual.result (omega (arith, group_size at, c.if-count-eq0.false))
-    c.in_err-push_run.ensures.refused c.from_residual.ensures.1 (ap (λ r. r.most) c.next_run-count.ensures.stays) c.requires.unfilled c.requires.good (gave at))
+    c.in_err-push_run.ensures.refused c.from_residual.ensures.1 (ap (λ r. r.most) c.next_run-count.ensures.stays) (ap (λ r. r.last) c.next_run-count.ensures.stays) c.requires.unfilled c.requires.good (gave at))
 
 pub are_items-requires : goal.are_items-requires
 are_items-requires c =
@@ -88,7 +88,7 @@ returns-in_err-keep_good-clause-stopped c =
     (subst (λ ls. RefusesFrom c.args.kind c.number-before.result f c.len-first.result ls c.keep_good.new.window.lines) lines c.in_err-keep_good.ensures.stopped) in
     subst (λ m. IfErr c.from_residual-in_err-keep_good.result (λ why. TakesHeld c.args.kind m w.lines c.keep_good.new.window.lines c.args.reader.now c.next_run-count.new.self (Err why))) (sym (c.keep_good.ensures.most ∙ c.push_run.ensures.most))
     (with_fault (λ why. TakesHeld c.args.kind w.most w.lines c.keep_good.new.window.lines c.args.reader.now c.next_run-count.new.self (Err why)) f c.from_residual-in_err-keep_good.result c.from_residual-in_err-keep_good.ensures.1
-    (refused_held c.args.kind w.most c.number-before.result w.lines (group at) c.keep_good.new.window.lines c.args.reader.now c.next_run-count.new.self f (ap (λ r. r.most) c.next_run-count.ensures.stays) refuses
+    (refused_held c.args.kind w.most c.number-before.result w.lines (group at) c.keep_good.new.window.lines c.args.reader.now c.next_run-count.new.self f (ap (λ r. r.most) c.next_run-count.ensures.stays) (ap (λ r. r.last) c.next_run-count.ensures.stays) refuses
     (few_lines at) (few_bytes at) c.requires.good (before at) (gave at)))
 
 pub returns-in_ok-keep_good-clause-some : goal.returns-in_ok-keep_good-clause-some

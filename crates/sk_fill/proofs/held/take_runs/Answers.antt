@@ -11,6 +11,7 @@ run-init c = record {
   most = refl;
   remaining = omega arith;
   bound = refl;
+  piece = refl;
 }
 
 pub take_run-requires-clause-started : goal.take_run-requires-clause-started
@@ -52,4 +53,5 @@ run-preserved c =
       most = c.take_run.ensures.most ∙ c.run.invariant.most;
       remaining = omega (arith, c.take_run.ensures.remaining, c.run.invariant.remaining);
       bound = c.take_run.ensures.bound ∙ c.run.invariant.bound;
+      piece = c.take_run.ensures.piece ∙ c.run.invariant.piece;
     }

@@ -9,6 +9,7 @@ invariant-run l = record {
   most : l.window.most ≡ l.initial.window.most;
   remaining : remaining_of l.reader ≤ remaining_of l.initial.reader;
   bound : l.reader.most ≡ l.initial.reader.most;
+  piece : l.reader.last ≡ l.initial.reader.last;
 }
 
 abbrev pub decreases-run : goal.decreases-run

@@ -3,7 +3,7 @@ use Rattle.std.proofs.Math.Seq.{take-add}
 use Rattle.std.proofs.lemmas.List.Elements.{filter-append}
 use Rattle.sk_hub.specs.Calls.{Takes}
 use Rattle.sk_hub.proofs.Calls.{none_refl, takes_none, takes_trans, takes_few}
-use Rattle.sk_feed.proofs.HubLaws.{heart_waits, heart_goes}
+use Rattle.sk_feed.proofs.HubLaws.{may_wait, may_go}
 use Rattle.sk_ingest.specs.ItemWindows.{items_held}
 use Rattle.sk_ingest.proofs.ItemWindows.{few_held}
 use Rattle.sk_ingest.proofs.held_blocks.feed_held.Goals as goal
@@ -17,7 +17,7 @@ group-init g c = let k = g.C.Composable in record {
   within = omega arith;
   taken = takes_none k.keeps_of k.hint_of c.args.u.now c.args.u.now (none_refl c.args.u.now);
   room = omega (arith, c.requires.room);
-  heart = heart_waits c.args.heart.now;
+  heart = may_wait c.args.plan.now.propagator c.args.heart.now;
 }
 
 -- what is fed of it
@@ -34,8 +34,8 @@ group-preserved g c =
       taken = subst (λ (l : List ℕ). Takes k.keeps_of k.hint_of c.args.u.now l u') (more_of at n held)
           (takes_trans k.keeps_of k.hint_of c.args.u.now c.group.u u' (items_held (take at held)) (items_held part) c.group.invariant.taken step);
       room = omega (arith, within, c.group.invariant.room, takes_few k.keeps_of k.hint_of c.group.u u' (items_held part) step, few_held part, length-take n (drop at held));
-      heart = heart_goes c.args.heart.now c.group.heart c.feed_group.new.heart c.group.invariant.heart c.feed_group.ensures.heart;
+      heart = may_go c.args.plan.now.propagator c.args.heart.now c.group.heart c.feed_group.new.heart c.group.invariant.heart c.feed_group.ensures.heart;
     }
 
 pub returns-in_err-feed_group-clause-heart : goal.returns-in_err-feed_group-clause-heart
-returns-in_err-feed_group-clause-heart g c = heart_goes c.args.heart.now c.group.heart c.feed_group.new.heart c.group.invariant.heart c.feed_group.ensures.heart
+returns-in_err-feed_group-clause-heart g c = may_go c.args.plan.now.propagator c.args.heart.now c.group.heart c.feed_group.new.heart c.group.invariant.heart c.feed_group.ensures.heart

@@ -2,7 +2,7 @@ use Rattle.std.proofs.Common.{◌≡◌, ◌+◌, ◌<◌, ℕ, List, length, sl
 use Rattle.sk_fill.specs.Blocks.{place_of}
 use Rattle.sk_hub.specs.Calls.{Takes}
 use Rattle.sk_feed.proofs.Done.{done_next, done_all}
-use Rattle.sk_feed.proofs.HubLaws.{heart_goes}
+use Rattle.sk_feed.proofs.HubLaws.{may_go}
 use Rattle.sk_ingest.specs.ItemWindows.{items_held, held_block}
 use Rattle.sk_ingest.proofs.held_blocks.feed_held_blocks.Goals as goal
 
@@ -18,7 +18,7 @@ updater-preserved g c =
     (subst (λ p. Takes k.keeps_of k.hint_of c.index_mut-updater.result.now (items_held (slice_range held c.of-block.result.from p)) u') to c.in_ok-feed_held.ensures.taken) in
     record {
       fed = done_next _ us c.updater.updaters.items i c.index_mut-updater.result.now u' inv.fed within c.index_mut-updater.ensures.value taken;
-      heart = heart_goes c.args.heart.now c.updater.heart c.feed_held.new.heart inv.heart c.feed_held.ensures.heart;
+      heart = may_go c.args.plan.now.propagator c.args.heart.now c.updater.heart c.feed_held.new.heart inv.heart c.feed_held.ensures.heart;
     }
 
 pub returns-clause-taken : goal.returns-clause-taken

@@ -21,7 +21,7 @@ pub returns-then-not-plan-clause-ok : goal.returns-then-not-plan-clause-ok
 returns-then-not-plan-clause-ok g c =
     let k = g.C.Composable in let p = g.P.Report in let plan = c.args.plan.now in let hub = hub_of c.args.opened.now in let r = c.args.report.now in
     let t = terms_of k.keeps_of k.hint_of p.reports p.breaks plan in let last = hub_of c.ingest_one_by_one.new.opened in
-    read_ok (units_by plan.column) plan.most (λ units. UnitsWent (unreported k.keeps_of k.hint_of plan) units hub tt last tt) (λ units. Ingests t units hub r last r) (StopsAtUnit (unreported k.keeps_of k.hint_of plan) hub tt tt)
+    read_ok _ (units_by plan.column) plan.most (λ units. UnitsWent (unreported k.keeps_of k.hint_of plan) units hub tt last tt) (λ units. Ingests t units hub r last r) (StopsAtUnit (unreported k.keeps_of k.hint_of plan) hub tt tt)
     (g.S.Source.left c.args.source.now) (g.S.Source.left c.ingest_one_by_one.new.source) c.ingest_one_by_one.result (λ units went. ingests_quietly t units hub last tt tt r c.if-not-plan.true went.ingests) c.ingest_one_by_one.ensures.read
 
 pub returns-then-not-plan-clause-refused : goal.returns-then-not-plan-clause-refused
@@ -29,8 +29,8 @@ returns-then-not-plan-clause-refused g c =
     let k = g.C.Composable in let p = g.P.Report in let plan = c.args.plan.now in let hub = hub_of c.args.opened.now in let r = c.args.report.now in
     let t = terms_of k.keeps_of k.hint_of p.reports p.breaks plan in let last = hub_of c.ingest_one_by_one.new.opened in
     let left = g.S.Source.left c.args.source.now in let left' = g.S.Source.left c.ingest_one_by_one.new.source in
-    if_err_then c.ingest_one_by_one.result (λ why. Ends (units_by plan.column) plan.most (GoesSoFar t hub r r) (StopsAtUnit t hub r r) left left' why) (λ why. EndsEarly t (units_by plan.column) left left' hub r r why)
-    (read_err (units_by plan.column) plan.most (λ units. UnitsWent (unreported k.keeps_of k.hint_of plan) units hub tt last tt) (GoesSoFar t hub r r) (StopsAtUnit (unreported k.keeps_of k.hint_of plan) hub tt tt) (StopsAtUnit t hub r r) left left' c.ingest_one_by_one.result
+    if_err_then c.ingest_one_by_one.result (λ why. Ends (g.S.Source.last c.ingest_one_by_one.new.source) (units_by plan.column) plan.most (GoesSoFar t hub r r) (StopsAtUnit t hub r r) left left' why) (λ why. EndsEarly t (g.S.Source.last c.ingest_one_by_one.new.source) (units_by plan.column) left left' hub r r why)
+    (read_err _ (units_by plan.column) plan.most (λ units. UnitsWent (unreported k.keeps_of k.hint_of plan) units hub tt last tt) (GoesSoFar t hub r r) (StopsAtUnit (unreported k.keeps_of k.hint_of plan) hub tt tt) (StopsAtUnit t hub r r) left left' c.ingest_one_by_one.result
     (λ units went. went_so_far t units hub last tt tt r c.if-not-plan.true went) (λ why units unit stops. stops_quietly t units unit hub tt tt r why c.if-not-plan.true stops) c.ingest_one_by_one.ensures.read)
     (λ why ends. inl ends)
 
@@ -48,8 +48,8 @@ returns-then-is_read_ahead-clause-refused g c =
     let k = g.C.Composable in let p = g.P.Report in let plan = c.args.plan.now in let hub = hub_of c.args.opened.now in let r = c.args.report.now in
     let t = terms_of k.keeps_of k.hint_of p.reports p.breaks plan in
     let old = g.S.Source.left c.args.source.now in let new = g.S.Source.left c.ingest_stretches.new.source in
-    if_err_then c.ingest_stretches.result (λ why. EndsEarly (unreported k.keeps_of k.hint_of plan) (units_by plan.column) old new hub tt tt why) (λ why. EndsEarly t (units_by plan.column) old new hub r r why) c.ingest_stretches.ensures.refused
-    (λ why ends. early_quietly t (units_by plan.column) old new hub tt tt r why (c.is_read_ahead.ensures.unreported c.if-is_read_ahead.true) ends)
+    if_err_then c.ingest_stretches.result (λ why. EndsEarly (unreported k.keeps_of k.hint_of plan) (g.S.Source.last c.ingest_stretches.new.source) (units_by plan.column) old new hub tt tt why) (λ why. EndsEarly t (g.S.Source.last c.ingest_stretches.new.source) (units_by plan.column) old new hub r r why) c.ingest_stretches.ensures.refused
+    (λ why ends. early_quietly t (g.S.Source.last c.ingest_stretches.new.source) (units_by plan.column) old new hub tt tt r why (c.is_read_ahead.ensures.unreported c.if-is_read_ahead.true) ends)
 
 pub ingest_fields-requires-clause-start : goal.ingest_fields-requires-clause-start
 ingest_fields-requires-clause-start g c =
@@ -72,22 +72,22 @@ returns-then-plan-gt0-clause-refused g c =
     let t = terms_of k.keeps_of k.hint_of p.reports p.breaks plan in
     let old = g.S.Source.left c.args.source.now in let new = g.S.Source.left c.ingest_fields.new.source in
     let off : plan.interim ≡ false = search rules in
-    if_err_then c.ingest_fields.result (λ why. EndsEarly (unreported k.keeps_of k.hint_of plan) (units_by plan.column) old new hub tt tt why) (λ why. EndsEarly t (units_by plan.column) old new hub r r why) c.ingest_fields.ensures.refused
-    (λ why ends. early_quietly t (units_by plan.column) old new hub tt tt r why off ends)
+    if_err_then c.ingest_fields.result (λ why. EndsEarly (unreported k.keeps_of k.hint_of plan) (g.S.Source.last c.ingest_fields.new.source) (units_by plan.column) old new hub tt tt why) (λ why. EndsEarly t (g.S.Source.last c.ingest_fields.new.source) (units_by plan.column) old new hub r r why) c.ingest_fields.ensures.refused
+    (λ why ends. early_quietly t (g.S.Source.last c.ingest_fields.new.source) (units_by plan.column) old new hub tt tt r why off ends)
 
 pub returns-in_err-window-clause-refused : goal.returns-in_err-window-clause-refused
 returns-in_err-window-clause-refused g c =
     let k = g.C.Composable in let p = g.P.Report in let plan = c.args.plan.now in let left = g.S.Source.left c.args.source.now in
     let t = terms_of k.keeps_of k.hint_of p.reports p.breaks plan in let hub = hub_of c.args.opened.now in let r = c.args.report.now in
-    if_err_is c.from_residual.result fault.OutOfMemory (EndsEarly t (units_by plan.column) left left hub r r) c.from_residual.ensures.1
-    (inl (nothing_came (GoesSoFar t hub r r) (StopsAtUnit t hub r r) (units_by plan.column) plan.most left ([], hub, (windows_start t hub r c.requires.window.0 c.requires.hub (few_none c.args.opened.now.heart.view.numbers (hub_of c.args.opened.now).updaters c.requires.fresh)).goes)))
+    if_err_is c.from_residual.result fault.OutOfMemory (EndsEarly t _ (units_by plan.column) left left hub r r) c.from_residual.ensures.1
+    (inl (nothing_came _ (GoesSoFar t hub r r) (StopsAtUnit t hub r r) (units_by plan.column) plan.most left ([], hub, (windows_start t hub r c.requires.window.0 c.requires.hub (few_none c.args.opened.now.heart.view.numbers (hub_of c.args.opened.now).updaters c.requires.fresh)).goes)))
 
 pub returns-in_err-feeders-clause-refused : goal.returns-in_err-feeders-clause-refused
 returns-in_err-feeders-clause-refused g c =
     let k = g.C.Composable in let p = g.P.Report in let plan = c.args.plan.now in let left = g.S.Source.left c.args.source.now in
     let t = terms_of k.keeps_of k.hint_of p.reports p.breaks plan in let hub = hub_of c.args.opened.now in let r = c.args.report.now in
-    if_err_is c.from_residual-in_err-feeders.result fault.OutOfMemory (EndsEarly t (units_by plan.column) left left hub r r) c.from_residual-in_err-feeders.ensures.1
-    (inl (nothing_came (GoesSoFar t hub r r) (StopsAtUnit t hub r r) (units_by plan.column) plan.most left ([], hub, (windows_start t hub r c.requires.window.0 c.requires.hub (few_none c.args.opened.now.heart.view.numbers (hub_of c.args.opened.now).updaters c.requires.fresh)).goes)))
+    if_err_is c.from_residual-in_err-feeders.result fault.OutOfMemory (EndsEarly t _ (units_by plan.column) left left hub r r) c.from_residual-in_err-feeders.ensures.1
+    (inl (nothing_came _ (GoesSoFar t hub r r) (StopsAtUnit t hub r r) (units_by plan.column) plan.most left ([], hub, (windows_start t hub r c.requires.window.0 c.requires.hub (few_none c.args.opened.now.heart.view.numbers (hub_of c.args.opened.now).updaters c.requires.fresh)).goes)))
 
 pub read_windows-requires-clause-start : goal.read_windows-requires-clause-start
 read_windows-requires-clause-start g c κs within =
@@ -114,8 +114,8 @@ returns-in_err-count-clause-refused g c =
     let t = terms_of k.keeps_of k.hint_of p.reports p.breaks plan in
     let between = hub_of c.read_windows.new.opened in let s = c.read_windows.new.report in let rest = c.read_windows.new.round.window.lines in
     let left = g.S.Source.left c.args.source.now in let left' = g.S.Source.left c.read_windows.new.source in let f = c.in_err-count.field-0.0 in
-    if_err_is c.from_residual-in_err-count.result f (EndsEarly t (units_by plan.column) left left' hub r s) c.from_residual-in_err-count.ensures.1
-    (inl (ends_by (units_by plan.column) plan.most (λ units. WindowsWent t units hub r rest between s) (GoesSoFar t hub r s) (StopsAtUnit t hub r s) (StopsAtUnit t hub r s) left left' f
+    if_err_is c.from_residual-in_err-count.result f (EndsEarly t _ (units_by plan.column) left left' hub r s) c.from_residual-in_err-count.ensures.1
+    (inl (ends_by _ (units_by plan.column) plan.most (λ units. WindowsWent t units hub r rest between s) (GoesSoFar t hub r s) (StopsAtUnit t hub r s) (StopsAtUnit t hub r s) left left' f
     (λ units went. (rest, between, went.goes)) (λ why units unit stops. stops) c.in_err-count.ensures.read))
 
 pub returns-in_err-feed_in_threads-clause-refused : goal.returns-in_err-feed_in_threads-clause-refused
@@ -124,7 +124,7 @@ returns-in_err-feed_in_threads-clause-refused g c =
     let t = terms_of k.keeps_of k.hint_of p.reports p.breaks plan in
     let between = hub_of c.read_windows.new.opened in let s = c.read_windows.new.report in let rest = c.read_windows.new.round.window.lines in
     let left = g.S.Source.left c.args.source.now in let left' = g.S.Source.left c.read_windows.new.source in
-    if_err_is c.from_residual-in_err-feed_in_threads.result fault.OutOfMemory (EndsEarly t (units_by plan.column) left left' hub r s) c.from_residual-in_err-feed_in_threads.ensures.1
+    if_err_is c.from_residual-in_err-feed_in_threads.result fault.OutOfMemory (EndsEarly t _ (units_by plan.column) left left' hub r s) c.from_residual-in_err-feed_in_threads.ensures.1
     (inr (
       refl,
       (

@@ -15,8 +15,8 @@ pub returns-in_err-window-clause-refused : goal.returns-in_err-window-clause-ref
 returns-in_err-window-clause-refused g c =
     let k = g.C.Composable in let plan = c.args.plan.now in let hub = hub_of c.args.opened.now in let left = g.S.Source.left c.args.source.now in
     let t = unreported k.keeps_of k.hint_of plan in
-    if_err_is c.from_residual.result fault.OutOfMemory (EndsEarly t (units_by plan.column) left left hub tt tt) c.from_residual.ensures.1
-    (inl (nothing_came (GoesSoFar t hub tt tt) (StopsAtUnit t hub tt tt) (units_by plan.column) plan.most left ([], hub, c.requires.start.goes)))
+    if_err_is c.from_residual.result fault.OutOfMemory (EndsEarly t _ (units_by plan.column) left left hub tt tt) c.from_residual.ensures.1
+    (inl (nothing_came _ (GoesSoFar t hub tt tt) (StopsAtUnit t hub tt tt) (units_by plan.column) plan.most left ([], hub, c.requires.start.goes)))
 
 pub read_fields-requires-clause-plan : goal.read_fields-requires-clause-plan
 read_fields-requires-clause-plan g c = record { least = c.requires.window.0; most = c.in_ok-window.ensures.most; unreported = c.requires.unreported }
@@ -44,8 +44,8 @@ returns-in_err-count-clause-refused g c =
     let k = g.C.Composable in let plan = c.args.plan.now in let hub = hub_of c.args.opened.now in
     let t = unreported k.keeps_of k.hint_of plan in let between = hub_of c.read_fields.new.opened in
     let left = g.S.Source.left c.args.source.now in let left' = g.S.Source.left c.read_fields.new.source in let f = c.in_err-count.field-0.0 in
-    if_err_is c.from_residual-in_err-count.result f (EndsEarly t (units_by plan.column) left left' hub tt tt) c.from_residual-in_err-count.ensures.1
-    (inl (ends_by (units_by plan.column) plan.most (λ units. ItemsWent t units hub c.read_fields.new.window between) (GoesSoFar t hub tt tt) (StopsAtUnit t hub tt tt) (StopsAtUnit t hub tt tt) left left' f
+    if_err_is c.from_residual-in_err-count.result f (EndsEarly t _ (units_by plan.column) left left' hub tt tt) c.from_residual-in_err-count.ensures.1
+    (inl (ends_by _ (units_by plan.column) plan.most (λ units. ItemsWent t units hub c.read_fields.new.window between) (GoesSoFar t hub tt tt) (StopsAtUnit t hub tt tt) (StopsAtUnit t hub tt tt) left left' f
     (λ units went. (went.rest, between, went.went.goes)) (λ why units unit stops. stops) c.in_err-count.ensures.read))
 
 pub returns-in_err-feed_held_window-clause-refused : goal.returns-in_err-feed_held_window-clause-refused
@@ -53,7 +53,7 @@ returns-in_err-feed_held_window-clause-refused g c =
     let k = g.C.Composable in let plan = c.args.plan.now in let hub = hub_of c.args.opened.now in
     let t = unreported k.keeps_of k.hint_of plan in let between = hub_of c.read_fields.new.opened in
     let left = g.S.Source.left c.args.source.now in let left' = g.S.Source.left c.read_fields.new.source in
-    if_err_is c.from_residual-in_err-feed_held_window.result fault.OutOfMemory (EndsEarly t (units_by plan.column) left left' hub tt tt) c.from_residual-in_err-feed_held_window.ensures.1
+    if_err_is c.from_residual-in_err-feed_held_window.result fault.OutOfMemory (EndsEarly t _ (units_by plan.column) left left' hub tt tt) c.from_residual-in_err-feed_held_window.ensures.1
     (inr (
       refl,
       (

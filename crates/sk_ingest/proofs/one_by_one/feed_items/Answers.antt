@@ -3,7 +3,7 @@ use Rattle.std.proofs.Math.Seq.{take-add}
 use Rattle.std.proofs.lemmas.List.{take_rest}
 use Rattle.sk_hub.specs.Calls.{Takes}
 use Rattle.sk_hub.proofs.Calls.{none_refl, takes_none, takes_trans, takes_few}
-use Rattle.sk_feed.proofs.HubLaws.{heart_waits, heart_goes}
+use Rattle.sk_feed.proofs.HubLaws.{may_wait, may_go}
 use Rattle.sk_ingest.proofs.one_by_one.feed_items.Goals as goal
 
 -- the first items, and the first of those after them
@@ -18,11 +18,11 @@ some-init g c = let k = g.C.Composable in record {
   within = omega arith;
   taken = takes_none k.keeps_of k.hint_of c.args.u.now c.args.u.now (none_refl c.args.u.now);
   room = omega (arith, c.requires.room);
-  heart = heart_waits c.args.heart.now;
+  heart = may_wait c.args.plan.now.propagator c.args.heart.now;
 }
 
 pub returns-in_err-count-clause-heart : goal.returns-in_err-count-clause-heart
-returns-in_err-count-clause-heart g c = heart_goes c.args.heart.now c.some.heart c.feed_some.new.heart c.some.invariant.heart c.feed_some.ensures.heart
+returns-in_err-count-clause-heart g c = may_go c.args.plan.now.propagator c.args.heart.now c.some.heart c.feed_some.new.heart c.some.invariant.heart c.feed_some.ensures.heart
 
 pub some-preserved : goal.some-preserved
 some-preserved g c =
@@ -34,5 +34,5 @@ some-preserved g c =
       taken = subst (λ (l : List ℕ). Takes k.keeps_of k.hint_of c.args.u.now l c.feed_some.new.u) (more_of at n items)
           (takes_trans k.keeps_of k.hint_of c.args.u.now c.some.u c.feed_some.new.u (take at items) (take n after) c.some.invariant.taken step);
       room = omega (arith, within, c.some.invariant.room, takes_few k.keeps_of k.hint_of c.some.u c.feed_some.new.u (take n after) step, length-take n after);
-      heart = heart_goes c.args.heart.now c.some.heart c.feed_some.new.heart c.some.invariant.heart c.feed_some.ensures.heart;
+      heart = may_go c.args.plan.now.propagator c.args.heart.now c.some.heart c.feed_some.new.heart c.some.invariant.heart c.feed_some.ensures.heart;
     }

@@ -3,7 +3,7 @@ use Rattle.std.proofs.lemmas.List.{length-set}
 use Rattle.sk_read.specs.Items.{item_of}
 use Rattle.sk_feed.specs.Hubs.{hub_of}
 use Rattle.sk_ingest.specs.Takers.{unreported}
-use Rattle.sk_feed.proofs.HubLaws.{heart_waits}
+use Rattle.sk_feed.proofs.HubLaws.{may_wait}
 use Rattle.sk_ingest.proofs.OneByOneLaws.{unit_by_itself, one_took, none_took}
 use Rattle.sk_fill.proofs.Units.{filled, good_item, good_empty}
 use Rattle.sk_ingest.proofs.one_by_one.take_unit.Goals as goal
@@ -13,7 +13,7 @@ returns-then-is_empty-clause-went g c = λ a units count went.
     let k = g.C.Composable in let kind = c.args.plan.now.kind in let hub = hub_of c.args.opened.now in
     let none : length c.args.unit.now ≡ 0 = search rules in
     unit_by_itself (unreported k.keeps_of k.hint_of c.args.plan.now) units c.args.unit.now a hub hub tt tt went (good_empty kind c.args.unit.now none) c.requires.alone.least c.requires.alone.unreported c.requires.alone.one
-    (heart_waits hub.heart) refl refl (none_took k.keeps_of k.hint_of kind c.args.unit.now hub.updaters none)
+    (may_wait c.args.plan.now.propagator hub.heart) refl refl (none_took k.keeps_of k.hint_of kind c.args.unit.now hub.updaters none)
 
 pub returns-in_ok-feed_one-in-Some-clause-went : goal.returns-in_ok-feed_one-in-Some-clause-went
 returns-in_ok-feed_one-in-Some-clause-went g c = λ a units count went.

@@ -3,12 +3,13 @@ use Rattle.sk_feed.specs.Hubs.{hub_of}
 use Rattle.sk_feed.proofs.HubLaws.{hub_fed}
 use Rattle.sk_ingest.specs.Ingests.{terms_of}
 use Rattle.sk_ingest.proofs.Ingestion.{passing_stops}
+use Rattle.sk_ingest.proofs.Reports.{stopped_so}
 use Rattle.sk_ingest.proofs.passing.pass_on.Goals as goal
 
 pub make_ready-requires : goal.make_ready-requires
 make_ready-requires g c =
     let k = g.C.Composable in
-    record { hub = hub_fed k.keeps_of k.hint_of c.args.plan.now.kind c.args.round.now.window.lines (hub_of c.args.opened.now) (hub_of c.feed_in_threads.new.opened) c.requires.hub c.in_ok-feed_in_threads.ensures.fed }
+    record { hub = hub_fed c.args.plan.now.propagator k.keeps_of k.hint_of c.args.plan.now.kind c.args.round.now.window.lines (hub_of c.args.opened.now) (hub_of c.feed_in_threads.new.opened) c.requires.hub c.in_ok-feed_in_threads.ensures.fed }
 
 pub returns-clause-passes : goal.returns-clause-passes
 returns-clause-passes g c = record {
@@ -30,3 +31,8 @@ returns-in_err-report_at-clause-passes g c =
           c.in_err-report_at.field-0.0 c.from_residual-in_err-report_at.result c.from_residual-in_err-report_at.ensures.1
           (c.in_ok-make_ready.ensures.fed a c.args.round.now.window.lines c.in_ok-feed_in_threads.ensures.fed) (c.in_ok-make_ready.ensures.ready stopped.0) stopped.0 stopped.1;
     }
+
+pub returns-in_err-report_at-clause-report : goal.returns-in_err-report_at-clause-report
+returns-in_err-report_at-clause-report g c =
+    let p = g.P.Report in
+    stopped_so p.faults p.stands_on p.sketch c.in_err-report_at.field-0.0 c.args.report.now c.report_at.new.report c.report_at.result c.from_residual-in_err-report_at.result c.report_at.ensures.report c.in_err-report_at.was c.from_residual-in_err-report_at.ensures.1

@@ -1,6 +1,6 @@
 use Rattle.std.proofs.Common.{refl, arith}
 use Rattle.sk_fill.proofs.Filled.{read_few}
-use Rattle.sk_feed.proofs.HubLaws.{heart_waits}
+use Rattle.sk_feed.proofs.HubLaws.{may_wait}
 use Rattle.sk_feed.proofs.Rooms.{room_for}
 use Rattle.sk_ingest.proofs.SupplyLaws.{nothing_fed, next_read, told_otherwise}
 use Rattle.sk_ingest.proofs.TakerLaws.{few_each, shares_of_all}
@@ -24,7 +24,7 @@ returns-then-is_short-clause-goes g c =
 pub returns-then-take_turns-clause-goes : goal.returns-then-take_turns-clause-goes
 returns-then-take_turns-clause-goes g c =
     told_otherwise _ _ c.args.plan.now.kind c.args.stretch.now.most c.args.stretch.now c.feed_in_one_lane.new.stretch c.args.reader.now c.feed_in_one_lane.new.reader (g.S.Source.left c.args.source.now) (g.S.Source.left c.feed_in_one_lane.new.source) c.feed_in_one_lane.result
-    (λ windows taken. record { heart = heart_waits c.args.opened.now.heart; updaters = taken; token = refl }) c.feed_in_one_lane.ensures.goes
+    (λ windows taken. record { heart = may_wait c.args.plan.now.propagator c.args.opened.now.heart; updaters = taken; token = refl }) c.feed_in_one_lane.ensures.goes
 
 pub feed_in_lanes-requires-clause-few : goal.feed_in_lanes-requires-clause-few
 feed_in_lanes-requires-clause-few g c κs within = few_each c.args.stretch.now.first c.args.opened.now.updaters.items c.requires.few
@@ -33,5 +33,5 @@ pub returns-clause-goes : goal.returns-clause-goes
 returns-clause-goes g c =
     let k = g.C.Composable in
     told_otherwise _ _ c.args.plan.now.kind c.args.stretch.now.most c.args.stretch.now c.feed_in_lanes.new.stretch c.args.reader.now c.feed_in_lanes.new.reader (g.S.Source.left c.args.source.now) (g.S.Source.left c.feed_in_lanes.new.source) c.feed_in_lanes.result
-    (λ windows taken. record { heart = heart_waits c.args.opened.now.heart; updaters = shares_of_all k.keeps_of k.hint_of c.args.plan.now.kind windows c.args.opened.now.updaters.items c.feed_in_lanes.new.takers.items taken; token = refl })
+    (λ windows taken. record { heart = may_wait c.args.plan.now.propagator c.args.opened.now.heart; updaters = shares_of_all k.keeps_of k.hint_of c.args.plan.now.kind windows c.args.opened.now.updaters.items c.feed_in_lanes.new.takers.items taken; token = refl })
     c.feed_in_lanes.ensures.goes

@@ -17,6 +17,7 @@ stretch-init g c = record {
   goes = supply_starts c.args.kind c.args.next.now.most c.args.supply.now.outlets c.args.reader.now (g.S.Source.left c.args.source.now);
   most = refl;
   same = refl;
+  piece = λ within. within;
   steady = refl;
   stays = refl;
 }
@@ -68,6 +69,7 @@ stretch-preserved g c =
     (subst (λ z. GaveEach c.wait_for_one.new.self.outlets c.give.new.self.outlets (z ∷ [])) c.replace-full.ensures.value c.in_ok-give.ensures.gave) in record {
       goes = supply_goes c.args.kind most c.args.supply.now.outlets c.stretch.supply.outlets c.give.new.self.outlets c.args.reader.now c.stretch.reader c.fill_stretch.new.reader old mid new s c.fill_stretch.result inv.goes reads was gave;
       most = ap (λ z. z.most) c.replace-full.ensures.after ∙ c.in-Some-wait_for_one.ensures.most ∙ inv.same ∙ c.requires.same;
+      piece = λ within. c.fill_stretch.ensures.piece (inv.piece within);
       same = c.give.ensures.most ∙ ap (λ z. z.most) c.wait_for_one.ensures.stays ∙ inv.same;
       steady = subst (λ x. OnOk x (g.S.Source.faults c.fill_stretch.new.source ≡ g.S.Source.faults c.stretch.source)) c.in_ok-fill_stretch.was
           (steady_on_ok _ (g.S.Source.faults c.stretch.source) (g.S.Source.faults c.fill_stretch.new.source) c.fill_stretch.result c.fill_stretch.ensures.cause) ∙ inv.steady;

@@ -6,12 +6,12 @@ use Rattle.sk_feed.proofs.Between.{none_fed, fed_next}
 use Rattle.sk_ingest.proofs.ways.feed_windows_in_turn.Goals as goal
 
 pub window-init : goal.window-init
-window-init g c = let k = g.C.Composable in none_fed k.keeps_of k.hint_of c.args.plan.now.kind (hub_of c.args.opened.now)
+window-init g c = let k = g.C.Composable in none_fed c.args.plan.now.propagator k.keeps_of k.hint_of c.args.plan.now.kind (hub_of c.args.opened.now)
 
 pub feed_window-requires-clause-hub : goal.feed_window-requires-clause-hub
 feed_window-requires-clause-hub g c =
     let k = g.C.Composable in
-    hub_took k.keeps_of k.hint_of c.args.plan.now.kind (take c.window.next (map (λ w. w.lines) c.args.windows.now)) (hub_of c.args.opened.now) (hub_of c.window.opened) c.requires.hub c.window.invariant
+    hub_took c.args.plan.now.propagator k.keeps_of k.hint_of c.args.plan.now.kind (take c.window.next (map (λ w. w.lines) c.args.windows.now)) (hub_of c.args.opened.now) (hub_of c.window.opened) c.requires.hub c.window.invariant
 
 pub feed_window-requires-clause-room : goal.feed_window-requires-clause-room
 feed_window-requires-clause-room g c =
@@ -21,5 +21,5 @@ feed_window-requires-clause-room g c =
 pub window-preserved : goal.window-preserved
 window-preserved g c =
     let k = g.C.Composable in
-    fed_next k.keeps_of k.hint_of c.args.plan.now.kind c.args.windows.now c.index-windows-next.result c.window.next (hub_of c.args.opened.now) (hub_of c.window.opened) (hub_of c.feed_window.new.opened) c.window-test.true c.index-windows-next.is
+    fed_next c.args.plan.now.propagator k.keeps_of k.hint_of c.args.plan.now.kind c.args.windows.now c.index-windows-next.result c.window.next (hub_of c.args.opened.now) (hub_of c.window.opened) (hub_of c.feed_window.new.opened) c.window-test.true c.index-windows-next.is
     c.window.invariant c.in_ok-feed_window.ensures.fed

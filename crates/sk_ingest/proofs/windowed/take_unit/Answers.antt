@@ -32,7 +32,7 @@ returns-clause-went g c =
     ok_two c.pass_in_turn.result c.pass_in_turn.ensures.passes.passed c.pass_in_turn.ensures.cleared
     (λ passed cleared. λ a r units count went.
     let small : length units + 1 ≤ most_kept = omega (arith, count, c.requires.room) in
-    let fed = subst (λ l. FeedsWindow k.keeps_of k.hint_of plan.kind l hub passed.0) c.in_ok-push.ensures.lines passed.1 in
+    let fed = subst (λ l. FeedsWindow plan.propagator k.keeps_of k.hint_of plan.kind l hub passed.0) c.in_ok-push.ensures.lines passed.1 in
     let told = subst (λ n. IsReported t n passed.0 s y q) (sym count) passed.2 in
     subst (λ l. WindowsWent t (units ++ unit ∷ []) a r l y q) (sym cleared) (unit_goes t units unit a hub passed.0 y r s q lines went small good c.requires.setup.least full fed told))
 

@@ -31,8 +31,9 @@ returns-in_err-reader-clause-read g c =
     let k = g.C.Composable in let p = g.P.Report in let plan = c.args.plan.now in let hub = hub_of c.args.opened.now in let r = c.args.report.now in let left = g.S.Source.left c.args.source.now in
     let t = terms_of k.keeps_of k.hint_of p.reports p.breaks plan in
     let Gave : List (List ℕ) → Type 0 = λ units. WindowsWent t units hub r c.args.round.now.window.lines hub r in
-    ends_read Gave (StopsAtUnit t hub r r) plan.most (units_by plan.column) left left fault.OutOfMemory c.from_residual.result c.from_residual.ensures.1
-    (nothing_came Gave (StopsAtUnit t hub r r) (units_by plan.column) plan.most left (subst (λ l. WindowsWent t [] hub r l hub r) (sym c.requires.empty) c.requires.start))
+    let last = g.S.Source.last c.args.source.now in
+    ends_read Gave (StopsAtUnit t hub r r) plan.most last last (units_by plan.column) left left fault.OutOfMemory c.from_residual.result c.from_residual.ensures.1 (omega arith)
+    (nothing_came _ Gave (StopsAtUnit t hub r r) (units_by plan.column) plan.most left (subst (λ l. WindowsWent t [] hub r l hub r) (sym c.requires.empty) c.requires.start))
 
 pub window-init : goal.window-init
 window-init g c = record {
@@ -44,6 +45,7 @@ window-init g c = record {
   empty = c.requires.empty;
   setup = c.requires.setup;
   most = c.in_ok-reader.ensures.most;
+  piece = omega (arith, c.in_ok-reader.ensures.piece);
   steady = refl;
   stays = refl;
   feeders = refl;
@@ -60,10 +62,11 @@ returns-in_err-fill-clause-read g c =
     let Gave : List (List ℕ) → Type 0 = λ units. WindowsWent t units hub r lines b s in
     let unfilled = subst (λ m. FillsNone m lines) (c.fill.ensures.most ∙ inv.setup.most) (c.in_err-fill.ensures.unfilled (λ same. cc)) in
     let small = c.fill.ensures.few inv.given inv.taken inv.read in
-    let ends = subst (λ m. Ends Lines m (λ l. l ≡ inv.given ++ lines) (RefusesLine plan.kind (inv.given ++ lines)) old left f) inv.most (c.in_err-fill.ensures.stopped old inv.given inv.taken inv.consumed inv.read) in
-    subst (λ u. Reads u plan.most Gave (StopsAtUnit t hub r s) old left c.from_residual-in_err-fill.result) (sym (ap units_by (lines_are c.args.plan.now.column c.if-plan-gt0.false)))
-    (ends_read Gave (StopsAtUnit t hub r s) plan.most Lines old left f c.from_residual-in_err-fill.result c.from_residual-in_err-fill.ensures.1
-    (ends_by Lines plan.most (λ l. l ≡ inv.given ++ lines) Gave (RefusesLine plan.kind (inv.given ++ lines)) (StopsAtUnit t hub r s) old left f
+    let q = c.fill.new.reader.last in let last = g.S.Source.last c.fill.new.source in
+    let ends = subst (λ m. Ends q Lines m (λ l. l ≡ inv.given ++ lines) (RefusesLine plan.kind (inv.given ++ lines)) old left f) inv.most (c.in_err-fill.ensures.stopped old inv.given inv.taken inv.consumed inv.read) in
+    subst (λ u. Reads last u plan.most Gave (StopsAtUnit t hub r s) old left c.from_residual-in_err-fill.result) (sym (ap units_by (lines_are c.args.plan.now.column c.if-plan-gt0.false)))
+    (ends_read Gave (StopsAtUnit t hub r s) plan.most q last Lines old left f c.from_residual-in_err-fill.result c.from_residual-in_err-fill.ensures.1 (c.fill.ensures.piece inv.piece)
+    (ends_by _ Lines plan.most (λ l. l ≡ inv.given ++ lines) Gave (RefusesLine plan.kind (inv.given ++ lines)) (StopsAtUnit t hub r s) old left f
     (λ given is. subst Gave (sym is) (lines_wait t inv.given lines hub b r s inv.went small c.fill.ensures.good unfilled))
     (filling_stops t inv.given lines hub b r s inv.went c.fill.ensures.good unfilled) ends))
 
@@ -94,11 +97,12 @@ window-preserved g c =
       consumed = Consumes-trans _ _ _ _ _ inv.consumed one.consumed;
       went = unit_goes t units line hub b passed.0 y r s q front (front_waits t inv.given front line hub b r s inv.went small good full) small
           (All-pop (IsGood plan.kind) (front ++ line ∷ []) front (Some line) refl good).1 inv.setup.least full.full
-          (subst (λ l. FeedsWindow k.keeps_of k.hint_of plan.kind l b passed.0) last.2 passed.1)
+          (subst (λ l. FeedsWindow plan.propagator k.keeps_of k.hint_of plan.kind l b passed.0) last.2 passed.1)
           (subst (λ n. IsReported t n passed.0 s y q) place passed.2);
       empty = c.in_ok-pass_on.ensures.cleared;
       setup = c.in_ok-pass_on.ensures.setup;
       most = c.fill.ensures.bound ∙ inv.most;
+      piece = c.fill.ensures.piece inv.piece;
       steady = subst (λ x. OnOk x (g.S.Source.faults c.fill.new.source ≡ g.S.Source.faults c.window.source)) c.in_ok-fill.was
           (steady_on_ok _ (g.S.Source.faults c.window.source) (g.S.Source.faults c.fill.new.source) c.fill.result c.fill.ensures.cause) ∙ inv.steady;
       stays = c.fill.ensures.stays ∙ inv.stays;
@@ -130,8 +134,9 @@ returns-in_err-pass_on-clause-read g c =
     let stopped = pass_stops t units line hub b r s q front f (front_waits t inv.given front line hub b r s inv.went small good full)
     (All-pop (IsGood plan.kind) (front ++ line ∷ []) front (Some line) refl good).1 inv.setup.least full.full
     (subst (λ l. StopsPassing t l (length units + 1) b s q f) last.2 (subst (λ m. StopsPassing t c.fill.new.window.lines m b s q f) place stops)) in
-    subst (λ u. Reads u plan.most Gave (StopsAtUnit t hub r q) old left c.from_residual-in_err-pass_on.result) (sym (ap units_by (lines_are c.args.plan.now.column c.if-plan-gt0.false)))
-    (ends_read Gave (StopsAtUnit t hub r q) plan.most Lines old left f c.from_residual-in_err-pass_on.result c.from_residual-in_err-pass_on.ensures.1
+    let last = g.S.Source.last c.fill.new.source in
+    subst (λ u. Reads last u plan.most Gave (StopsAtUnit t hub r q) old left c.from_residual-in_err-pass_on.result) (sym (ap units_by (lines_are c.args.plan.now.column c.if-plan-gt0.false)))
+    (ends_read Gave (StopsAtUnit t hub r q) plan.most c.fill.new.reader.last last Lines old left f c.from_residual-in_err-pass_on.result c.from_residual-in_err-pass_on.ensures.1 (c.fill.ensures.piece inv.piece)
     (line_missed Gave (StopsAtUnit t hub r q) plan.most c.fill.new.reader old left units line (inv.taken ++ one.more) n f (c.fill.ensures.bound ∙ inv.most)
     (Consumes-trans _ _ _ _ _ inv.consumed one.consumed) place (passing_is_of_a_taker t c.fill.new.window.lines n b s q f stops) stopped one.read one.in_time))
 

@@ -1,4 +1,4 @@
-use Rattle.std.proofs.Common.{◌≡◌, List, [], ℕ}
+use Rattle.std.proofs.Common.{◌≡◌, ◌≤◌, List, [], ℕ}
 use Rattle.std.specs.Io.KnownBytes.{Consumes}
 use Rattle.sk_read.specs.Reading.{HasRead, remaining_of}
 use Rattle.sk_feed.specs.Hubs.{hub_of}
@@ -16,6 +16,7 @@ invariant-window g l = let k = g.C.Composable in let p = g.P.Report in record {
   empty : l.round.window.lines ≡ [];
   setup : IsSetUp l.plan l.round.window (hub_of l.opened) (p.sketch l.report);
   most : l.reader.most ≡ l.plan.most;
+  piece : l.reader.last ≤ g.S.Source.last l.source;
   steady : g.S.Source.faults l.source ≡ g.S.Source.faults l.initial.source;
   stays : g.S.Source.stands_on l.source ≡ g.S.Source.stands_on l.initial.source;
   feeders : l.round.feeders ≡ l.initial.round.feeders;

@@ -1,8 +1,14 @@
 use Rattle.std.proofs.Common.{◌≡◌, [], inl, inr, sym, ap, ◌∙◌, subst}
 use Rattle.sk_hub.specs.Updaters.{UpdaterState}
 use Rattle.sk_hub.specs.Calls.{KeepsNone}
+use Rattle.sk_hub.specs.declared.answers.Flush.TheVariants as flush
 use Rattle.sk_hub.proofs.Calls.{none_refl, none_handed, fill_handed}
 use Rattle.sk_line.proofs.serving.hand_over.Goals as goal
+
+pub returns-in-Busy : goal.returns-in-Busy
+returns-in-Busy g c =
+    let n = c.flush.ensures in
+    record { handed = tt; busy = record { some = λ none. let empty : c.flush.result ≡ flush.Empty = n.empty.1 none in cc; look = n.busy c.in-Busy.is } }
 
 pub returns-in-Empty : goal.returns-in-Empty
 returns-in-Empty g c =

@@ -1,4 +1,4 @@
-use Rattle.std.proofs.Common.{ℕ, List, [], ◌∷◌, ◌++◌, Bool, true, Ok, inr, sym, ap, ◌∙◌, subst, rules}
+use Rattle.std.proofs.Common.{ℕ, ◌+◌, List, [], ◌∷◌, ◌++◌, Bool, true, Ok, inr, sym, ap, ◌∙◌, subst, rules}
 use Rattle.sk_io.specs.Traffic.{left_of}
 use Rattle.sk_read.specs.Reading.{HasRead, Goes}
 use Rattle.sk_read.specs.Reads.{IsInTime}
@@ -31,7 +31,7 @@ returns-in-Err-clause-goes g c = λ a answered taken stands.
 
 -- what came of the line that was read, as its parts are told
 line_read : (g : Over) (c : After-line g) (answered : List Answered) (taken more : List ℕ) → Goes c.next_line.new.reader (left_of (g.L.Link.traffic c.next_line.new.link)) (lines_in answered) (taken ++ more) c.next_line.result →
-    HasRead c.next_line.new.reader (left_of (g.L.Link.traffic c.next_line.new.link)) (lines_in answered ++ c.line.result.now ∷ []) (taken ++ more) × IsInTime Lines (lines_in answered) (taken ++ more)
+    HasRead c.next_line.new.reader (left_of (g.L.Link.traffic c.next_line.new.link)) (lines_in answered ++ c.line.result.now ∷ []) (taken ++ more) × IsInTime c.next_line.new.reader.last Lines (lines_in answered) (taken ++ more)
 line_read g c answered taken more goes =
     let some = c.in-Ok-true.is ∙ ap (λ (b : Bool). Ok b) c.in-Ok-true.field-0-test in
     let left = left_of (g.L.Link.traffic c.next_line.new.link) in
@@ -53,10 +53,10 @@ returns-in-Ok-clause-goes g c = λ a answered taken stands.
     let link = g.L.Link.traffic c.next_line.new.link in
     let next = c.next_line.ensures.comes.goes (lines_in answered) taken stands.read in
     let read = line_read g (goal.at.returns-in-Ok-clause-goes g c).After-line answered taken next.0 next.2 in (
-      answered ++ record { line = c.line.result.now; answer = c.in-Some.answer } ∷ [],
+      answered ++ record { line = c.line.result.now; answer = c.in-Some.answer; pumps = c.in-Some.ensures.helped.0 + 1 } ∷ [],
       taken ++ next.0,
       goes_on c.args.shape.now a b answered taken next.0 c.args.reader.now c.next_line.new.reader link c.pump.new.u (g.P.Pump.pumps c.pump.new.self) stands next.1 c.pump.ensures.updater c.pump.ensures.count
-          c.line.result.now read.0 read.1 c.in-Some.answer c.serve.new.u (g.P.Pump.pumps c.serve.new.pump) (g.L.Link.traffic c.send_reply.new.link) c.in-Some.ensures.done c.serve.ensures.pumps c.in-Ok.ensures.ok,
+          c.line.result.now read.0 read.1 c.in-Some.answer c.serve.new.u c.in-Some.ensures.helped.0 (g.P.Pump.pumps c.serve.new.pump) (g.L.Link.traffic c.send_reply.new.link) c.in-Some.ensures.done c.in-Some.ensures.helped.1 c.in-Some.ensures.helped.2 c.in-Ok.ensures.ok,
     )
 
 pub returns-in-Err-send_reply-clause-goes : goal.returns-in-Err-send_reply-clause-goes
@@ -66,4 +66,4 @@ returns-in-Err-send_reply-clause-goes g c = λ a answered taken stands.
     let next = c.next_line.ensures.comes.goes (lines_in answered) taken stands.read in
     let read = line_read g (goal.at.returns-in-Err-send_reply-clause-goes g c).After-line answered taken next.0 next.2 in
     inr (cut_off c.args.shape.now a b answered taken next.0 c.args.reader.now c.next_line.new.reader link c.pump.new.u (g.P.Pump.pumps c.pump.new.self) stands next.1 c.pump.ensures.updater c.pump.ensures.count
-    c.line.result.now read.0 read.1 c.in-Some.answer c.serve.new.u (g.P.Pump.pumps c.serve.new.pump) (g.L.Link.traffic c.send_reply.new.link) c.in-Some.ensures.done c.serve.ensures.pumps c.in-Err-send_reply.ensures.err)
+    c.line.result.now read.0 read.1 c.in-Some.answer c.serve.new.u c.in-Some.ensures.helped.0 (g.P.Pump.pumps c.serve.new.pump) (g.L.Link.traffic c.send_reply.new.link) c.in-Some.ensures.done c.in-Some.ensures.helped.1 c.in-Some.ensures.helped.2 c.in-Err-send_reply.ensures.err)

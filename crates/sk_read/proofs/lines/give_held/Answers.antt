@@ -15,6 +15,9 @@ read_at r left given taken text spans is read = subst (λ (l : List ℕ). HasRea
 most_stays : (old new : Reading) → new ≡ record old { cutter = new.cutter } → new.most ≡ old.most
 most_stays old new stays = ap (λ (r : Reading). r.most) stays
 
+last_stays : (old new : Reading) → new ≡ record old { cutter = new.cutter } → new.last ≡ old.last
+last_stays old new stays = ap (λ (r : Reading). r.last) stays
+
 pub returns-then-count-eq0-clause-gave : goal.returns-then-count-eq0-clause-gave
 returns-then-count-eq0-clause-gave g c = λ start left given taken read went.
     let gave = c.group.invariant.gave start left given taken read went in
@@ -68,6 +71,7 @@ group-preserved g c =
             subst (g.T.UnitTaker.went start c.take_all.new.self) same (c.in_ok-take_all.ensures.went start whole number gave.2),
           );
       most = most_stays c.group.reader next.new.self next.ensures.stays ∙ inv.most;
+      piece = last_stays c.group.reader next.new.self next.ensures.stays ∙ inv.piece;
       remaining = omega (arith, next.ensures.progress, inv.remaining);
       standing = c.in_ok-take_all.ensures.stays ∙ inv.standing;
     }

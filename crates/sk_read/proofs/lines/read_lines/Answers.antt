@@ -10,6 +10,7 @@ use Rattle.sk_read.specs.declared.units.Units.TheVariants.{Lines}
 use Rattle.sk_read.proofs.CauseLaws.{steady_ok}
 use Rattle.sk_read.proofs.FaultLaws.{given_fault, no_read_fault}
 use Rattle.sk_read.proofs.ItemLaws.{has_few, last_within}
+use Rattle.sk_read.proofs.Readings.{in_time_within}
 use Rattle.sk_read.proofs.LineEnds.{ends_read, nothing_came, no_line, line_missed, line_missed_among, all_lines}
 use Rattle.sk_read.proofs.lines.read_lines.Given.{Over}
 use Rattle.sk_read.proofs.lines.read_lines.Goals.{In_ok-next}
@@ -17,7 +18,7 @@ use Rattle.sk_read.proofs.lines.read_lines.Goals as goal
 
 -- the reader after a line
 next_line : (g : Over) (c : In_ok-next g) → c.in_ok-next.field-0 ≡ true → (more : List ℕ) × Consumes (g.S.Source.left c.line.source) (g.S.Source.left c.next.new.source) more
-    × (HasRead c.next.new.self (g.S.Source.left c.next.new.source) (c.line.invariant.given ++ c.next.new.self.cutter.line ∷ []) (c.line.invariant.taken ++ more) × IsInTime Lines c.line.invariant.given (c.line.invariant.taken ++ more))
+    × (HasRead c.next.new.self (g.S.Source.left c.next.new.source) (c.line.invariant.given ++ c.next.new.self.cutter.line ∷ []) (c.line.invariant.taken ++ more) × IsInTime c.next.new.self.last Lines c.line.invariant.given (c.line.invariant.taken ++ more))
 next_line g c is =
     let inv = c.line.invariant in
     let gave : c.next.result ≡ Ok true = c.in_ok-next.was ∙ ap (λ (b : Bool). Ok b) is in
@@ -55,8 +56,8 @@ returns-in_err-reader-clause-read g c =
     let left = g.S.Source.left c.args.source.now in
     let Gave = g.T.UnitTaker.went c.args.taker.now c.args.taker.now in
     let Stopped = g.T.UnitTaker.stopped c.args.taker.now c.args.taker.now in
-    ends_read Gave Stopped c.args.most Lines left left fault.OutOfMemory c.from_residual.result c.from_residual.ensures.1
-    (nothing_came Gave Stopped c.args.most left c.requires.start)
+    ends_read Gave Stopped c.args.most 0 (g.S.Source.last c.args.source.now) Lines left left fault.OutOfMemory c.from_residual.result c.from_residual.ensures.1 (omega arith)
+    (nothing_came Gave Stopped c.args.most 0 left c.requires.start)
 
 pub line-init : goal.line-init
 line-init g c = record {
@@ -66,6 +67,7 @@ line-init g c = record {
   consumed = Consumes-nil (g.S.Source.left c.args.source.now);
   gave = c.requires.start;
   most = c.in_ok-reader.ensures.most;
+  piece = omega (arith, c.in_ok-reader.ensures.piece);
   steady = refl;
   stays = refl;
   standing = refl;
@@ -81,7 +83,7 @@ returns-in_err-next-clause-read g c =
     let s = c.in_err-next.field-0.0 in
     let next = c.next.ensures.goes inv.given inv.taken inv.read in
     let goes : Goes c.next.new.self left inv.given (inv.taken ++ next.0) (Err s) = subst (Goes c.next.new.self left inv.given (inv.taken ++ next.0)) c.in_err-next.was next.2 in
-    ends_read Gave Stopped c.args.most Lines old left (fault_by s) c.from_residual-in_err-next.result c.from_residual-in_err-next.ensures.1
+    ends_read Gave Stopped c.args.most _ _ Lines old left (fault_by s) c.from_residual-in_err-next.result c.from_residual-in_err-next.ensures.1 (c.next.ensures.piece inv.piece)
     (no_line Gave Stopped c.args.most c.next.new.self old left inv.given (inv.taken ++ next.0) s (c.next.ensures.most ∙ inv.most)
     (Consumes-trans _ _ _ _ _ inv.consumed next.1) inv.gave goes)
 
@@ -122,6 +124,7 @@ line-preserved g c =
       consumed = Consumes-trans _ _ _ _ _ inv.consumed next.1;
       gave = held.2;
       most = c.give_held.ensures.most ∙ c.next.ensures.most ∙ inv.most;
+      piece = omega (arith, c.give_held.ensures.piece, c.next.ensures.piece inv.piece);
       steady = steady_ok _ _ _ _ _ c.next.ensures.cause c.in_ok-next.was ∙ inv.steady;
       stays = c.next.ensures.stays ∙ inv.stays;
       standing = c.give_held.ensures.stays ∙ c.take.ensures.stays ∙ inv.standing;
@@ -141,9 +144,9 @@ returns-in_err-give_held-clause-read g c =
     let f = c.in_err-give_held.field-0.0 in
     let went = taken_next g at c.if-branch.true c.number.result c.line-in-line.result.now c.take.new.self c.number.ensures c.line-in-line.ensures c.in_ok-take.ensures.went in
     let held = c.in_err-give_held.ensures.stopped c.args.taker.now left given taken next.2.0 went in
-    ends_read Gave Stopped c.args.most Lines old left f c.from_residual-in_err-give_held.result c.from_residual-in_err-give_held.ensures.1
+    ends_read Gave Stopped c.args.most _ _ Lines old left f c.from_residual-in_err-give_held.result c.from_residual-in_err-give_held.ensures.1 (omega (arith, c.give_held.ensures.piece, c.next.ensures.piece inv.piece))
     (line_missed_among Gave Stopped c.args.most c.give_held.new.reader old left given held.0 taken f (c.give_held.ensures.most ∙ c.next.ensures.most ∙ inv.most)
-    (Consumes-trans _ _ _ _ _ inv.consumed next.1) held.2 held.1 next.2.0.in_time)
+    (Consumes-trans _ _ _ _ _ inv.consumed next.1) held.2 held.1 (in_time_within Lines given taken (omega (arith, c.give_held.ensures.piece)) next.2.0.in_time))
 
 pub returns-in_err-give_held-clause-cause : goal.returns-in_err-give_held-clause-cause
 returns-in_err-give_held-clause-cause g c =
@@ -172,7 +175,7 @@ returns-in_err-take-clause-read g c =
     let f = c.in_err-take.field-0.0 in
     let place = numbered g at c.if-branch.true n c.number.ensures in
     let stopped : Stopped f inv.given own = subst (Stopped f inv.given) c.line-in-line.ensures (c.in_err-take.ensures.stopped c.args.taker.now inv.given (sym place) inv.gave) in
-    ends_read Gave Stopped c.args.most Lines old left f c.from_residual-in_err-take.result c.from_residual-in_err-take.ensures.1
+    ends_read Gave Stopped c.args.most _ _ Lines old left f c.from_residual-in_err-take.result c.from_residual-in_err-take.ensures.1 (c.next.ensures.piece inv.piece)
     (line_missed Gave Stopped c.args.most c.next.new.self old left inv.given own (inv.taken ++ next.0) n f (c.next.ensures.most ∙ inv.most)
     (Consumes-trans _ _ _ _ _ inv.consumed next.1) place c.in_err-take.ensures.fault stopped next.2.0 next.2.1)
 

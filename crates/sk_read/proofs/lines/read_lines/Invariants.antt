@@ -1,4 +1,4 @@
-use Rattle.std.proofs.Common.{◌≡◌, List, ℕ}
+use Rattle.std.proofs.Common.{◌≡◌, ◌≤◌, List, ℕ}
 use Rattle.std.specs.Io.KnownBytes.{Consumes}
 use Rattle.sk_read.specs.Reading.{HasRead, remaining_of}
 use Rattle.sk_read.proofs.lines.read_lines.Given as goal
@@ -11,6 +11,7 @@ invariant-line g l = record {
   consumed : Consumes (g.S.Source.left l.initial.source) (g.S.Source.left l.source) taken;
   gave : g.T.UnitTaker.went l.initial.taker l.taker given;
   most : l.reader.most ≡ l.most;
+  piece : l.reader.last ≤ g.S.Source.last l.source;
   steady : g.S.Source.faults l.source ≡ g.S.Source.faults l.initial.source;
   stays : g.S.Source.stands_on l.source ≡ g.S.Source.stands_on l.initial.source;
   standing : g.T.UnitTaker.stands_on l.taker ≡ g.T.UnitTaker.stands_on l.initial.taker;

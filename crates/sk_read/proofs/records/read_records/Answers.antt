@@ -22,8 +22,9 @@ returns-in_err-parts-clause-read g c =
     let Gave = g.T.UnitTaker.went c.args.taker.now c.args.taker.now in
     let Stopped = g.T.UnitTaker.stopped c.args.taker.now c.args.taker.now in
     let starts = c.in_err-parts.ensures.starts in
-    ends_read Gave Stopped c.args.most (Column c.args.column) _ _ c.in_err-parts.field-0.0 c.from_residual.result c.from_residual.ensures.1
-    (no_row Gave Stopped c.args.column c.args.most _ _ starts.0 starts.1 [] c.in_err-parts.field-0.0 (none_sound c.args.column) c.requires.start starts.2)
+    let last = g.S.Source.last c.start.new.source in
+    ends_read Gave Stopped c.args.most last last (Column c.args.column) _ _ c.in_err-parts.field-0.0 c.from_residual.result c.from_residual.ensures.1 (omega arith)
+    (no_row Gave Stopped last c.args.column c.args.most _ _ starts.0 starts.1 [] c.in_err-parts.field-0.0 (none_sound c.args.column) c.requires.start starts.2)
 
 pub part-init : goal.part-init
 part-init g c =
@@ -41,6 +42,7 @@ part-init g c =
       };
       column = c.new-table.ensures.column;
       most = start.3;
+      piece = start.4;
       steady = steady_ok _ _ _ _ _ c.start.ensures.cause c.in_ok-parts.was;
       stays = c.start.ensures.stays;
       standing = refl;
@@ -64,12 +66,13 @@ returns-in_err-refill-clause-read g c =
     let Stopped = g.T.UnitTaker.stopped c.args.taker.now c.part.taker in
     let at = c.refill.ensures.goes inv.rows inv.taken inv.held in
     let f = c.in_err-refill.field-0.0 in
-    let lacks : Lacks c.refill.new.self.most inv.rows (inv.taken ++ at.0) f = subst (Refills c.refill.new.self (g.S.Source.left c.refill.new.source) inv.rows (inv.taken ++ at.0)) c.in_err-refill.was at.2 in
-    ends_read Gave Stopped c.args.most (Column c.args.column) _ _ f c.from_residual-in_err-refill.result c.from_residual-in_err-refill.ensures.1
-    (no_row Gave Stopped c.args.column c.args.most _ _ (inv.taken ++ at.0) (Consumes-trans _ _ _ _ _ inv.consumed at.1) inv.rows f
+    let last = c.refill.new.self.last in
+    let lacks : Lacks last c.refill.new.self.most inv.rows (inv.taken ++ at.0) f = subst (Refills c.refill.new.self (g.S.Source.left c.refill.new.source) inv.rows (inv.taken ++ at.0)) c.in_err-refill.was at.2 in
+    ends_read Gave Stopped c.args.most last _ (Column c.args.column) _ _ f c.from_residual-in_err-refill.result c.from_residual-in_err-refill.ensures.1 (c.refill.ensures.piece inv.piece)
+    (no_row Gave Stopped last c.args.column c.args.most _ _ (inv.taken ++ at.0) (Consumes-trans _ _ _ _ _ inv.consumed at.1) inv.rows f
     (subst (λ (n : ℕ). AreSoundRows n inv.rows) inv.column inv.table.sound)
     (subst (λ (n : ℕ). Gave (fields_in n inv.rows)) inv.column inv.table.gave)
-    (subst (λ (m : ℕ). Lacks m inv.rows (inv.taken ++ at.0) f) (c.refill.ensures.most ∙ inv.most) lacks))
+    (subst (λ (m : ℕ). Lacks last m inv.rows (inv.taken ++ at.0) f) (c.refill.ensures.most ∙ inv.most) lacks))
 
 pub whole-requires : goal.whole-requires
 whole-requires g c =
@@ -116,8 +119,8 @@ returns-in_err-give-clause-read g c =
     let breaks : Breaks column Gave Stopped inv.rows (records default_config (take parts.cut parts.bytes.items)) f =
     subst (λ (l : List ℕ). Breaks column Gave Stopped inv.rows (records default_config l) f) c.whole.ensures.bytes
     (subst (λ (n : ℕ). Breaks n Gave Stopped inv.rows (records default_config c.whole.result.now) f) inv.column (c.in_err-give.ensures.goes c.args.taker.now inv.rows room inv.table)) in
-    ends_read Gave Stopped c.args.most (Column column) _ _ f c.from_residual-in_err-give.result c.from_residual-in_err-give.ensures.1
-    (broke Gave Stopped column c.args.most _ _ now (Consumes-trans _ _ _ _ _ inv.consumed at.1) inv.rows _ f (omega (arith, held.has.count, held.has.bound, c.refill.ensures.most, inv.most)) held.in_time
+    ends_read Gave Stopped c.args.most parts.last _ (Column column) _ _ f c.from_residual-in_err-give.result c.from_residual-in_err-give.ensures.1 (c.refill.ensures.piece inv.piece)
+    (broke Gave Stopped parts.last column c.args.most _ _ now (Consumes-trans _ _ _ _ _ inv.consumed at.1) inv.rows _ f (omega (arith, held.has.count, held.has.bound, c.refill.ensures.most, inv.most)) held.in_time
     (subst (λ (n : ℕ). AreSoundRows n inv.rows) inv.column inv.table.sound) (whole_settled parts _ inv.rows now held) breaks)
 
 pub returns-in_err-give-2-clause-read : goal.returns-in_err-give-2-clause-read
@@ -137,8 +140,8 @@ returns-in_err-give-2-clause-read g c =
     let breaks : Breaks column Gave Stopped inv.rows (records default_config (parts.bytes.items)) f =
     subst (λ (l : List ℕ). Breaks column Gave Stopped inv.rows (records default_config l) f) c.rest.ensures.bytes
     (subst (λ (n : ℕ). Breaks n Gave Stopped inv.rows (records default_config c.rest.result.now) f) inv.column (c.in_err-give-2.ensures.goes c.args.taker.now inv.rows room inv.table)) in
-    ends_read Gave Stopped c.args.most (Column column) _ _ f c.from_residual-in_err-give-2.result c.from_residual-in_err-give-2.ensures.1
-    (broke Gave Stopped column c.args.most _ _ now (Consumes-trans _ _ _ _ _ inv.consumed at.1) inv.rows _ f (omega (arith, held.has.count, held.has.bound, c.refill.ensures.most, inv.most)) held.in_time
+    ends_read Gave Stopped c.args.most parts.last _ (Column column) _ _ f c.from_residual-in_err-give-2.result c.from_residual-in_err-give-2.ensures.1 (c.refill.ensures.piece inv.piece)
+    (broke Gave Stopped parts.last column c.args.most _ _ now (Consumes-trans _ _ _ _ _ inv.consumed at.1) inv.rows _ f (omega (arith, held.has.count, held.has.bound, c.refill.ensures.most, inv.most)) held.in_time
     (subst (λ (n : ℕ). AreSoundRows n inv.rows) inv.column inv.table.sound) (rest_settled parts _ inv.rows now held over.1) breaks)
 
 pub returns-in_err-give-clause-cause : goal.returns-in_err-give-clause-cause
@@ -190,11 +193,12 @@ part-preserved g c =
       rows = rows;
       taken = now;
       held = held_on parts c.drop_whole.new.self left inv.rows (records default_config part) now held (c.drop_whole.ensures.given inv.rows now held.has)
-          c.drop_whole.ensures.same.0 c.drop_whole.ensures.same.1 c.drop_whole.ensures.same.2;
+          c.drop_whole.ensures.same.0 c.drop_whole.ensures.same.1 c.drop_whole.ensures.same.2 c.drop_whole.ensures.piece;
       consumed = Consumes-trans _ _ _ _ _ inv.consumed at.1;
       table = subst (λ (l : List ℕ). HasRows c.give.new.self (g.T.UnitTaker.went c.args.taker.now c.give.new.taker) (inv.rows ++ records default_config l)) c.whole.ensures.bytes (c.in_ok-give.ensures.goes c.args.taker.now inv.rows room inv.table);
       column = c.give.ensures.column ∙ inv.column;
       most = c.drop_whole.ensures.same.0 ∙ c.refill.ensures.most ∙ inv.most;
+      piece = omega (arith, c.drop_whole.ensures.piece, c.refill.ensures.piece inv.piece);
       steady = steady_ok _ _ _ _ _ c.refill.ensures.cause c.in_ok-refill.was ∙ inv.steady;
       stays = c.in_ok-refill.ensures.stays ∙ inv.stays;
       standing = c.give.ensures.taker ∙ inv.standing;

@@ -1,4 +1,4 @@
-use Rattle.std.proofs.Common.{◌≡◌, List, ℕ}
+use Rattle.std.proofs.Common.{◌≡◌, ◌≤◌, List, ℕ}
 use Rattle.std.specs.Io.KnownBytes.{Consumes}
 use Rattle.sk_read.specs.Records.{Row}
 use Rattle.sk_read.specs.Parts.{HasHeld, remaining_of}
@@ -14,6 +14,7 @@ invariant-part g l = record {
   table : HasRows l.table (g.T.UnitTaker.went l.fn.taker l.taker) rows;
   column : l.table.column ≡ l.column;
   most : l.parts.most ≡ l.most;
+  piece : l.parts.last ≤ g.S.Source.last l.source;
   steady : g.S.Source.faults l.source ≡ g.S.Source.faults l.fn.source;
   stays : g.S.Source.stands_on l.source ≡ g.S.Source.stands_on l.fn.source;
   standing : g.T.UnitTaker.stands_on l.taker ≡ g.T.UnitTaker.stands_on l.fn.taker;

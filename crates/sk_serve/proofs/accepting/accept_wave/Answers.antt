@@ -4,7 +4,7 @@ use Rattle.sk_io.specs.Traffic.{text_of}
 use Rattle.sk_serve.specs.Doors.{door_of, LetsIn}
 use Rattle.sk_serve.specs.Waves.{visit_of, texts_by}
 use Rattle.sk_serve.specs.declared.fault.ServeFault.TheVariants as fault
-use Rattle.sk_serve.proofs.Admitting.{admitted_more, ready_more, still_can, cause_of_err}
+use Rattle.sk_serve.proofs.Admitting.{admits_then, admitted_more, ready_more, still_can, cause_of_err}
 use Rattle.sk_serve.proofs.Waving.{stops_short}
 use Rattle.sk_serve.proofs.Closed.{accepts_more}
 use Rattle.sk_serve.proofs.accepting.accept_wave.Goals as goal
@@ -38,3 +38,6 @@ returns-in-Err-clause-net g c = record {
   cause = cause_of_err fault.NetFault c.in-Err.fault _ _ _ _ c.link.invariant.faults c.close_unread.ensures.closes.closes.faults c.in-Err.ensures.net.cause;
   no_write = c.in-Err.ensures.net.no_write;
 }
+
+pub returns-in-Err-clause-admits : goal.returns-in-Err-clause-admits
+returns-in-Err-clause-admits g c = admits_then c.args.heart.now c.link.heart c.accept_one.new.heart _ c.link.invariant.heart c.in-Err.ensures.admits

@@ -1,17 +1,15 @@
 use Rattle.std.proofs.Common.{◌≡◌, ◌<◌, ◌≤◌, ◌++◌, suc, [], length, refl, sym, ap, subst, ◌∙◌, arith, length-append}
-use Rattle.sk_report.proofs.Results.{if_err_is}
-use Rattle.sk_serve.specs.declared.fault.ServeFault.TheVariants as fault
 use Rattle.sk_serve.specs.Doors.{door_of}
-use Rattle.sk_serve.specs.Served.{StopsServing, links_of}
+use Rattle.sk_serve.specs.Served.{links_of}
 use Rattle.sk_serve.proofs.Admitting.{is_new, can_go_on}
 use Rattle.sk_serve.proofs.Closed.{closed_none, through_more, through_closed, where_err}
-use Rattle.sk_serve.proofs.Waving.{none_served, none_accepted, wave_more, wave_ends, stops, next_wave}
+use Rattle.sk_serve.proofs.Waving.{none_served, stops_first, wave_more, wave_ends, next_wave}
 use Rattle.sk_serve.proofs.waves.serve_waves.Goals as goal
 
 pub returns-in_err-ends-clause-stops : goal.returns-in_err-ends-clause-stops
 returns-in_err-ends-clause-stops g c =
-    let doorway = g.D.Door.doorway c.args.door.now in
-    if_err_is c.from_residual.result fault.OutOfMemory (StopsServing c.args.plan.now c.args.most doorway doorway) c.from_residual.ensures.1 (none_accepted c.args.plan.now c.args.most fault.OutOfMemory doorway doorway c.requires.can.within refl refl)
+    let door = door_of g.D.Door c.args.door.now in let h = c.args.heart.now in
+    where_err c.from_residual.result _ (stops_first c.args.plan.now c.args.most h door c.requires.can.within (is_new c.args.plan.now h door c.requires.can c.requires.drained))
 
 pub returns-in_err-ends-clause-closed : goal.returns-in_err-ends-clause-closed
 returns-in_err-ends-clause-closed g c = where_err c.from_residual.result _ (closed_none _ _ _ _ refl refl)
@@ -60,10 +58,19 @@ wave-preserved g c =
 
 pub returns-in_err-serve_wave-clause-stops : goal.returns-in_err-serve_wave-clause-stops
 returns-in_err-serve_wave-clause-stops g c =
-    let i = c.wave.invariant in let plan = c.args.plan.now in let door = door_of g.D.Door in let e = c.in_err-serve_wave.field-0.0 in
-    let few : length i.sessions < plan.sessions = omega (arith, i.as_many, c.wave-test.true) in
-    if_err_is c.from_residual-in_err-serve_wave.result e (StopsServing plan c.args.most (g.D.Door.doorway c.args.door.now) (g.D.Door.doorway c.serve_wave.new.door)) c.from_residual-in_err-serve_wave.ensures.1
-    (stops plan c.args.most e c.args.heart.now c.wave.heart (door c.args.door.now) (door c.wave.door) (door c.serve_wave.new.door) c.wave.ends.items i.sessions c.requires.can.listens i.some few c.in_err-serve_wave.ensures.short i.waves i.in_waves)
+    let i = c.wave.invariant in
+    where_err c.from_residual-in_err-serve_wave.result _ (record {
+      sessions = i.sessions;
+      ends = c.wave.ends.items;
+      last = c.wave.heart;
+      between = door_of g.D.Door c.wave.door;
+      some = i.some;
+      left = omega (arith, i.as_many, c.wave-test.true);
+      waves = i.waves;
+      whole = i.in_waves;
+      short = c.in_err-serve_wave.ensures.short;
+      heart = c.in_err-serve_wave.ensures.admits;
+    })
 
 pub returns-in_err-serve_wave-clause-closed : goal.returns-in_err-serve_wave-clause-closed
 returns-in_err-serve_wave-clause-closed g c =

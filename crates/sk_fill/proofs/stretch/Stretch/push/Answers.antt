@@ -1,8 +1,8 @@
-use Rattle.std.proofs.Common.{◌≡◌, ◌+◌, ◌∷◌, All, List, length, take, drop, map, sym, ap, ◌∙◌, subst, arith}
+use Rattle.std.proofs.Common.{◌≡◌, ◌+◌, ◌∷◌, All, List, length, take, drop, map, refl, sym, ap, ◌∙◌, subst, arith}
 use Rattle.std.proofs.lemmas.List.Edits.{length-insert}
 use Rattle.std.proofs.lemmas.List.Elements.{All-append, All-cons, All-drop, All-take}
 use Rattle.sk_fill.specs.declared.window.Window.{Window}
-use Rattle.sk_fill.proofs.StretchLaws.{window_pushed}
+use Rattle.sk_fill.proofs.StretchLaws.{window_pushed, counted_more}
 use Rattle.sk_fill.proofs.stretch.Stretch.push.Goals as goal
 
 pub invariant_of-self-2 : goal.invariant_of-self-2
@@ -16,6 +16,8 @@ invariant_of-self-2 c =
       kept.1,
       kept.2,
       subst (All same) (sym c.in_ok-insert.ensures.items) (All-append same (take a.used old) (c.args.window ∷ drop a.used old) (All-take same a.used old kept.3) (All-cons same c.args.window (drop a.used old) its (All-drop same a.used old kept.3))),
+      counted_more a.lines a.size c.len.result c.size.result c.saturating_add-lines.result c.saturating_add-size.result (map (λ w. w.lines) (take a.used old)) (map (λ w. w.lines) (take (a.used + 1) c.insert.new.self.items)) c.args.window.lines kept.4
+          (ap (λ ws. map (λ w. w.lines) (take (a.used + 1) ws)) c.in_ok-insert.ensures.items ∙ window_pushed old a.used c.args.window (map (λ w. w.lines) (take a.used old)) kept.0 refl) c.len.ensures.value c.size.ensures.least c.saturating_add-lines.ensures c.saturating_add-size.ensures,
     )
 
 pub returns-clause-windows : goal.returns-clause-windows

@@ -17,5 +17,5 @@ fill-preserved c =
     let few = length-take (length c.fill.buf - c.fill.at) (drop c.fill.at c.fill.buf) in
     record {
       within = omega (arith, same, auto, few, c.give-n.ensures.fits, c.fill.invariant.within);
-      bytes = given_more c.fill.buf c.give-n.new.buf c.args.self.now c.fill.self c.give-n.new.self c.fill.at c.give-n.result c.fill.invariant.within c.give-n.ensures.fits c.fill.invariant.bytes c.give-n.ensures.bytes;
+      bytes = given_more c.fill.buf c.give-n.new.buf c.args.self.now.left c.fill.self.left c.give-n.new.self.left c.fill.at c.give-n.result c.fill.invariant.within c.give-n.ensures.fits c.fill.invariant.bytes c.give-n.ensures.bytes;
     }

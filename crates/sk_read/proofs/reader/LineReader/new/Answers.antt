@@ -19,5 +19,5 @@ returns-clause-read c = λ left. record {
   limit = c.in_ok-new.ensures.limit;
   bound = omega arith;
   few = c.requires;
-  in_time = nothing_read;
+  in_time = nothing_read 0;
 }

@@ -17,7 +17,7 @@ returns-clause-goes c = λ left given taken read.
     let has = given_more old new spans given taken gives refl
     (λ over. ap (λ (n : ℕ). take n c.next_lines.new.spans) (c.next_lines.ensures.after_end (c.self.invariant.ended ∙ over))) before.has in
     read_on old new left left given (given ++ lines_at spans new.cutter.front) taken taken before has before.end (ap (λ (r : Cutter). r.limit) gives.stays) refl before.bound
-    (in_time_more _ given (lines_at spans new.cutter.front) taken before.in_time)
+    (in_time_more _ given (lines_at spans new.cutter.front) taken (omega arith) before.in_time)
 
 pub returns-clause-progress : goal.returns-clause-progress
 returns-clause-progress c =

@@ -9,6 +9,7 @@ invariant-piece g l = record {
       (more : List ℕ) × Consumes (g.S.Source.left l.initial.source) (g.S.Source.left l.source) more × HasRead l.self (g.S.Source.left l.source) given (taken ++ more);
   remaining : remaining_of l.self ≤ remaining_of l.initial.self;
   most : l.self.most ≡ l.initial.self.most;
+  piece : l.initial.self.last ≤ g.S.Source.last l.initial.source → l.self.last ≤ g.S.Source.last l.source;
   steady : g.S.Source.faults l.source ≡ g.S.Source.faults l.initial.source;
   stays : g.S.Source.stands_on l.source ≡ g.S.Source.stands_on l.initial.source;
 }

@@ -17,7 +17,7 @@ returns-clause-goes c = λ left given taken read.
     let has = given_run old new c.pass_run.result given taken gives refl (λ over. c.pass_run.ensures.after_end (c.self.invariant.ended ∙ over)) before.has in
     subst (λ (r : Reading). HasRead new left (given ++ lines_of (run_between r.cutter new.cutter)) taken) c.self.view_is
     (read_on old new left left given (given ++ lines) taken taken before has before.end (ap (λ (r : Cutter). r.limit) gives.stays) refl before.bound
-    (in_time_more _ given lines taken before.in_time))
+    (in_time_more _ given lines taken (omega arith) before.in_time))
 
 pub returns-clause-progress : goal.returns-clause-progress
 returns-clause-progress c = omega (arith, fewer_by_run c.self.inside.lines c.pass_run.new.self c.pass_run.result c.pass_run.ensures.run, ap remaining_of c.self.view_is)

@@ -12,6 +12,7 @@ pub piece-init : goal.piece-init
 piece-init g c = record {
   goes = λ rows taken held. ([], Consumes-nil (g.S.Source.left c.args.source.now), held_still c.args.self.now (g.S.Source.left c.args.source.now) rows taken held);
   most = refl;
+  piece = λ within. within;
   remaining = refl;
   steady = refl;
   stays = refl;
@@ -30,8 +31,8 @@ returns-in_err-read_more-clause-goes g c = λ rows taken held.
       before.0 ++ lacks.0,
       Consumes-trans _ _ _ _ _ before.1 lacks.1,
       refilled_err c.read_more.new.self _ rows (taken ++ (before.0 ++ lacks.0)) c.in_err-read_more.field-0.0 c.from_residual.result c.from_residual.ensures.1
-          (subst (λ (l : List ℕ). Lacks c.read_more.new.self.most rows l c.in_err-read_more.field-0.0) (append_assoc taken before.0 lacks.0)
-          (lacks_row c.piece.self _ rows (taken ++ before.0) lacks.0 c.read_more.new.self.most c.in_err-read_more.field-0.0 before.2 c.piece-test.true c.if-self.false c.in_err-read_more.ensures.most lacks.2 lacks.3)),
+          (subst (λ (l : List ℕ). Lacks c.read_more.new.self.last c.read_more.new.self.most rows l c.in_err-read_more.field-0.0) (append_assoc taken before.0 lacks.0)
+          (lacks_row c.read_more.new.self.last c.piece.self _ rows (taken ++ before.0) lacks.0 c.read_more.new.self.most c.in_err-read_more.field-0.0 before.2 c.piece-test.true c.if-self.false c.in_err-read_more.ensures.most lacks.2 lacks.3 lacks.4)),
     )
 
 pub returns-then-self-clause-goes : goal.returns-then-self-clause-goes
@@ -61,6 +62,7 @@ piece-preserved g c =
       place = c.scan-place.result.0;
       piece = c.read_more.new.self.piece;
       taken = c.read_more.new.self.taken;
+      last = c.read_more.new.self.last;
       most = c.read_more.new.self.most;
       ended = c.read_more.new.self.ended;
     } in
@@ -70,10 +72,11 @@ piece-preserved g c =
             before.0 ++ more,
             Consumes-trans _ _ _ _ _ before.1 fed.1,
             subst (HasHeld new (g.S.Source.left c.read_more.new.source) rows) (append_assoc taken before.0 more)
-                (held_more c.piece.self c.read_more.new.self new _ _ rows (taken ++ before.0) more c.scan-place.result.1 before.2 c.piece-test.true c.if-self.false holds fed.3 c.in_ok-read_more.ensures.end cut refl refl refl refl
+                (held_more c.piece.self c.read_more.new.self new _ _ rows (taken ++ before.0) more c.scan-place.result.1 before.2 c.piece-test.true c.if-self.false holds fed.3 refl c.in_ok-read_more.ensures.end cut refl refl refl refl
                 (λ none. c.cut_behind-self.ensures.stays none ∙ holds.cut) (λ some. c.cut_behind-self.ensures.later some ∙ ap (λ (n : ℕ). n + c.scan-place.result.1) place)),
           );
       most = holds.most ∙ inv.most;
+      piece = λ within. c.read_more.ensures.piece (inv.piece within);
       remaining = omega (arith, ap length holds.bytes, length-append c.piece.self.bytes.items more, holds.taken, holds.bound, holds.most, inv.remaining);
       steady = steady_ok _ _ _ _ _ c.read_more.ensures.cause c.in_ok-read_more.was ∙ inv.steady;
       stays = c.in_ok-read_more.ensures.stays ∙ inv.stays;

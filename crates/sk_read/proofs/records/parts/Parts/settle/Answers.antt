@@ -15,6 +15,7 @@ returns-clause-takes c = λ taken has.
       place = c.scan-place.result.0;
       piece = c.args.self.now.piece;
       taken = c.args.self.now.taken;
+      last = c.args.self.now.last;
       most = c.args.self.now.most;
       ended = c.args.self.now.ended;
     } in

@@ -1,5 +1,6 @@
-use Rattle.std.proofs.Common.{◌≡◌, ◌≤◌, ◌<◌, ◌-◌, ◌+◌, ℕ, List, ◌∷◌, length, true}
+use Rattle.std.proofs.Common.{◌≡◌, ◌≤◌, ◌<◌, ◌-◌, ◌+◌, ℕ, List, [], ◌∷◌, length, true}
 use Rattle.std.specs.Io.KnownBytes.{Consumes, IsAtEnd}
+use Rattle.sk_read.specs.Parts.{AreInTime}
 use Rattle.sk_read.proofs.PartLaws.{may_end}
 use Rattle.sk_read.proofs.records.parts.Parts.start.Given as goal
 
@@ -9,6 +10,8 @@ invariant-mark g l = record {
   consumed : Consumes (g.S.Source.left l.initial.source) (g.S.Source.left l.source) taken;
   bytes : l.parts.bytes.items ≡ 10 ∷ taken;
   small : length taken ≤ 3;
+  in_time : AreInTime l.parts.last [] taken;
+  piece : l.parts.last ≤ g.S.Source.last l.source;
   count : length taken ≡ l.parts.taken;
   bound : l.parts.taken ≤ l.parts.most;
   cut : l.parts.cut ≡ 1;
