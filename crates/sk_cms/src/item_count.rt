@@ -52,11 +52,12 @@ impl Composable for ItemCount {
 
     type Told = ();
 
-    // A merge takes none. But it is most of the work, and who feeds updaters goes by this: they are fed in one thread, and
-    // the cells stay in one cache.
-    const TAKES_MEMORY: bool = true;
+    const TAKES_MEMORY: bool = false;
 
-    ghost TAKES_MEMORY = { true };
+    ghost TAKES_MEMORY = { false };
+
+    // So that the cells stay in one cache.
+    const MERGES_ALONE: bool = true;
 
     ghost is_of = { λ s list. IsCountOf s.counts (items_of_entries list) };
 

@@ -79,6 +79,8 @@ impl CountMin {
     pub fn update_all(&mut self, items: &[u64])
         requires { self.old.count + length items.now ≤ most_counted }
         ensures left { self.new ≡ put_all self.old items.now }
+        ensures list { (before : List ℕ) → IsCountOf self.old before
+            → IsCountOf self.new (before ++ items.now) }
     {
         raise_all(
             &mut self.low,

@@ -34,7 +34,7 @@ use Rattle.sk_report.specs.Sizes.{size_at}
 use Rattle.sk_count.specs.Moments.{Moment, kept_by, AreKeptOver, buffers_of, IsMoment, Follows}
 use Rattle.sk_report.specs.Texts.{interim_line, alarm_lines, reply_of}
 use Rattle.sk_count.specs.Texts.{moment_text, places_behind, interim_text, places_after}
-use Rattle.sk_count.specs.Hubs.{MeetsAndAsks, AsksAtEach, AsksHub, HasSizes}
+use Rattle.sk_count.specs.Hubs.{MeetsAndAsks, AsksAtEach, AsksHub, HasSizes, HaveSeen}
 use Rattle.sk_count.specs.Reports.{Showing, Reports, Breaks, BreaksBy, reply_in, reply_text}
 use Rattle.sk_report.specs.Parts.{AppendsPartAfter}
 use Rattle.sk_report.proofs.Fronts.{part_alone, part_after_behind}
@@ -119,15 +119,22 @@ stays_refl h = record { table = refl; drained = refl; numbers = refl; eager = re
 pub stays_trans : (h h1 h2 : HeartState) → HeartStays h h1 → HeartStays h1 h2 → HeartStays h h2
 stays_trans h h1 h2 a b = record { table = b.table ∙ a.table; drained = b.drained ∙ a.drained; numbers = b.numbers ∙ a.numbers; eager = b.eager ∙ a.eager }
 
+-- what each updater has seen goes on with it
+pub heard_fed : (propagates : Bool) (kind : Kind) (lines : List (List ℕ)) (a x : Hub) → HaveSeen a.updaters a.token.view.seen → FeedsWindow propagates keeps hint_of kind lines a x → HaveSeen x.updaters x.token.view.seen
+heard_fed propagates kind lines a x heard fed i d within =
+    let within' : i < length a.updaters = omega (arith, fed.updaters.count) in
+    subst (λ t. Begins t.view.seen (get_or x.updaters i d).view.seen) (sym fed.token) (begins_trans _ _ _ (heard i d within') (fed.updaters.each i d within').goes.seen)
+
 -- ---- a window that was fed
 
-pub stands_fed : (plan : Plan) (before : List (List (List ℕ))) (last : Moment) (lines : List (List ℕ)) (a x : Hub) (r : Showing) → Stands plan before last a r → FeedsWindow keeps hint_of plan.kind lines a x → Stands plan (before ++ lines ∷ []) last x r
+pub stands_fed : (plan : Plan) (before : List (List (List ℕ))) (last : Moment) (lines : List (List ℕ)) (a x : Hub) (r : Showing) → Stands plan before last a r → FeedsWindow plan.propagator keeps hint_of plan.kind lines a x → Stands plan (before ++ lines ∷ []) last x r
 stands_fed plan before last lines a x r stands fed = record {
   took = took_fed plan before lines a.updaters x.updaters stands.took fed.updaters;
   token = ap (λ t. k_of t.view.numbers) fed.token ∙ stands.token;
   k = stands.k;
   seen = subst (λ t. Begins last.seen t.view.seen) (sym fed.token) stands.seen;
   kept = keeps_more a.updaters x.updaters last fed.updaters.count stands.kept (kept_fed plan.kind lines a.updaters x.updaters fed.updaters);
+  heard = heard_fed plan.propagator plan.kind lines a x stands.heard fed;
 }
 
 -- ---- the reply of an ask
@@ -186,6 +193,8 @@ is_moment plan windows lines x y word count took handed asks = record {
       at_some x.updaters i within' (λ d. subst (AreKeptOver plan.k y.token.view.seen (share plan.kind windows plan.updaters i)) (sym (kept_at lines x y i d within'))
       (kept_longer keeps (λ front. theta_of plan.k (items_of_entries front)) (base_of (get_or x.updaters i d)) y.token.view.seen (share plan.kind windows plan.updaters i) (kept_of (get_or x.updaters i d))
       (asks.bases i d within') (took.each i d within').kept));
+  own = λ i within. let within' : i < length x.updaters = omega (arith, took.count) in
+      at_some x.updaters i within' (λ d. subst (Begins (entries_by i y.token.view.seen)) (sym (kept_at lines x y i d within')) (asks.own i d within'));
   lacks = λ i within. let within' : i < length x.updaters = omega (arith, took.count) in
       at_some x.updaters i within' (λ d. subst (λ l. LacksAtMost l (entries_by i y.token.view.seen) (buffers_of plan * size_at plan.sizes i)) (sym (kept_at lines x y i d within'))
       (subst (λ size. LacksAtMost (kept_of (get_or x.updaters i d)) (entries_by i y.token.view.seen) (buffers_of plan * size)) (took.each i d within').size (lacks_so plan x y word handed asks i d within')));
@@ -204,13 +213,14 @@ keeps_asked lines x y leaves i d within =
     let within' : i < length x.updaters = omega (arith, leaves.count) in
     subst (λ l. Begins l (kept_of (get_or y.updaters i d))) (sym (kept_at lines x y i d within')) (kept_reported x y leaves i d within')
 
-pub stands_reported : (plan : Plan) (windows : List (List (List ℕ))) (last : Moment) (lines : ℕ) (x y : Hub) (r s : Showing) → Stands plan windows last x r → LeavesHub x y → s.k ≡ r.k → Stands plan windows (moment_at lines x y) y s
-stands_reported plan windows last lines x y r s stands leaves same = record {
+pub stands_reported : (plan : Plan) (windows : List (List (List ℕ))) (last : Moment) (lines : ℕ) (x y : Hub) (r s : Showing) → Stands plan windows last x r → LeavesHub x y → HaveSeen y.updaters y.token.view.seen → s.k ≡ r.k → Stands plan windows (moment_at lines x y) y s
+stands_reported plan windows last lines x y r s stands leaves heard same = record {
   took = took_reported plan windows x y stands.took leaves;
   token = ap k_of leaves.token.numbers ∙ stands.token;
   k = same ∙ stands.k;
   seen = begins_refl y.token.view.seen;
   kept = keeps_asked lines x y leaves;
+  heard = heard;
 }
 
 -- ---- windows, one after another
@@ -235,7 +245,7 @@ passes_none plan all before last a r b s is same_hub same_report stands = record
 
 -- one window was fed and reported, and then others
 module _ (plan : Plan) (before : List (List (List ℕ))) (count : ℕ) (last : Moment) (lines : List (List ℕ)) (a x y : Hub) (r p : Showing) (is : count ≡ length (all_lines before))
-    (stands : Stands plan before last a r) (fed : FeedsWindow keeps hint_of plan.kind lines a x) where
+    (stands : Stands plan before last a r) (fed : FeedsWindow plan.propagator keeps hint_of plan.kind lines a x) where
   at_x : Stands plan (before ++ lines ∷ []) last x r
   at_x = stands_fed plan before last lines a x r stands fed
 
@@ -273,7 +283,7 @@ module _ (plan : Plan) (before : List (List (List ℕ))) (count : ℕ) (last : M
       more = kept_trans a.updaters y.updaters b.updaters (leaves.count ∙ fed.updaters.count)
           (kept_trans a.updaters x.updaters y.updaters fed.updaters.count (kept_fed plan.kind lines a.updaters x.updaters fed.updaters) (kept_reported x y leaves)) rest.more;
       kept = All-cons (KeepsAll b.updaters) m rest.moments (keeps_more y.updaters b.updaters m same_count (keeps_asked (count + length lines) x y leaves) rest.more) rest.kept;
-      heart = stays_trans a.heart x.heart b.heart (heart_same a.heart x.heart fed.heart) (stays_trans x.heart y.heart b.heart (heart_same x.heart y.heart leaves.heart) rest.heart);
+      heart = stays_trans a.heart x.heart b.heart (heart_same a.heart x.heart fed.heart.goes) (stays_trans x.heart y.heart b.heart (heart_same x.heart y.heart leaves.heart) rest.heart);
       table = rest.table ∙ leaves.token.table ∙ ap (λ t. t.table) fed.token;
       sizes = inr (has_sizes rest.sizes);
       last = rest.last;
@@ -321,7 +331,7 @@ module _ {R : Type 0} (shown : R → Showing) (plan : Plan) (most : ℕ) where
       (passes_none plan all before last a (shown r) b (shown s) (sym (append-nil before) ∙ joined) done.0 (ap shown done.1) stands, tt)
   reported (lines ∷ windows) before all count last a r b s joined is stands (x, y, p, fed, (ready, leaves, still, report), later) =
       let at = stands_fed plan before last lines a x (shown r) stands fed in
-      let at_y = stands_reported plan (before ++ lines ∷ []) last (count + length lines) x y (shown r) (shown p) at leaves report.k in
+      let at_y = stands_reported plan (before ++ lines ∷ []) last (count + length lines) x y (shown r) (shown p) at leaves report.asks.heard report.k in
       let rest = reported windows (before ++ lines ∷ []) all (count + length lines) (moment_at (count + length lines) x y) y p b s (append_assoc before (lines ∷ []) windows ∙ joined)
       (counted plan before count last lines a x y (shown r) (shown p) is stands fed) at_y later in
       let next = is_next plan before count last lines a x y (shown r) (shown p) is stands fed report.word (has_handed plan (intake_with plan most true) x refl ready) report.asks in
@@ -350,7 +360,7 @@ module _ {R : Type 0} (shown : R → Showing) (plan : Plan) (most : ℕ) where
           seen = All-nil (λ (m : Moment). Begins m.seen b.token.view.seen);
           more = kept_trans a.updaters y.updaters b.updaters same_count (subst (λ z. KeptAll a.updaters z.updaters) (sym same_hub) (kept_fed plan.kind lines a.updaters x.updaters fed.updaters)) rest.0.more;
           kept = All-nil (KeepsAll b.updaters);
-          heart = stays_trans a.heart y.heart b.heart (subst (λ z. HeartStays a.heart z.heart) (sym same_hub) (heart_same a.heart x.heart fed.heart)) rest.0.heart;
+          heart = stays_trans a.heart y.heart b.heart (subst (λ z. HeartStays a.heart z.heart) (sym same_hub) (heart_same a.heart x.heart fed.heart.goes)) rest.0.heart;
           table = rest.0.table ∙ ap (λ t. t.table) token;
           sizes = still_waits (length rest.0.moments) a.token y.token b.token token rest.0.sizes;
           last = rest.0.last;
@@ -368,13 +378,13 @@ module _ {R : Type 0} (shown : R → Showing) (plan : Plan) (most : ℕ) where
 
   -- the last of these windows was fed, and its report stopped by a failed write
   pub broke : (windows before : List (List (List ℕ))) (count : ℕ) (last : Moment) (lines : List (List ℕ)) (a : Hub) (r : R) (b : Hub) (p : R) (x y : Hub) (s : R) → count ≡ length (all_lines before) → Stands plan before last a (shown r)
-      → Reported (terms_with true) count windows a r b p → FeedsWindow keeps hint_of plan.kind lines b x → HasHanded plan x → Breaks (shown p) (length (all_lines (before ++ (windows ++ lines ∷ [])))) x y (shown s)
+      → Reported (terms_with true) count windows a r b p → FeedsWindow plan.propagator keeps hint_of plan.kind lines b x → HasHanded plan x → Breaks (shown p) (length (all_lines (before ++ (windows ++ lines ∷ [])))) x y (shown s)
       → (earlier : List Moment) × (m : Moment) × MomentsFrom plan before last (windows ++ lines ∷ []) (earlier ++ m ∷ [])
       × AppendsPartAfter (interim_text plan.k (shown r).places earlier) (shown r).written (shown s).written (interim_text plan.k (shown r).places (earlier ++ m ∷ []))
       × ((shown s).places ≡ places_after plan.k (shown r).places (earlier ++ m ∷ []))
   unfolding Reported MomentsFrom interim_text places_after
   broke [] before count last lines a r b p x y s is stands done fed handed breaks =
-      let feeds : FeedsWindow keeps hint_of plan.kind lines a x = subst (λ z. FeedsWindow keeps hint_of plan.kind lines z x) done.0 fed in
+      let feeds : FeedsWindow plan.propagator keeps hint_of plan.kind lines a x = subst (λ z. FeedsWindow plan.propagator keeps hint_of plan.kind lines z x) done.0 fed in
       let at = stands_fed plan before last lines a x (shown r) stands feeds in
       let counted_as : length (all_lines (before ++ lines ∷ [])) ≡ count + length lines = omega (arith, is, length-append (all_lines before) lines, ap length (all_lines_more before lines)) in
       let next = is_next plan before count last lines a x y (shown r) (shown r) is stands feeds breaks.word handed breaks.asks in
@@ -391,7 +401,7 @@ module _ {R : Type 0} (shown : R → Showing) (plan : Plan) (most : ℕ) where
       )
   broke (w ∷ windows) before count last lines a r b p x y s is stands (x1, y1, p1, fed1, (ready, leaves, still, report), later) fed handed breaks =
       let at = stands_fed plan before last w a x1 (shown r) stands fed1 in
-      let at_y = stands_reported plan (before ++ w ∷ []) last (count + length w) x1 y1 (shown r) (shown p1) at leaves report.k in
+      let at_y = stands_reported plan (before ++ w ∷ []) last (count + length w) x1 y1 (shown r) (shown p1) at leaves report.asks.heard report.k in
       let m = moment_at (count + length w) x1 y1 in
       let next = is_next plan before count last w a x1 y1 (shown r) (shown p1) is stands fed1 report.word (has_handed plan (intake_with plan most true) x1 refl ready) report.asks in
       let rest = broke windows (before ++ w ∷ []) (count + length w) m lines y1 p1 b p x y s (counted plan before count last w a x1 y1 (shown r) (shown p1) is stands fed1) at_y later fed handed

@@ -7,6 +7,7 @@ use Rattle.sk_model.specs.Entries.{Entry, items_of_entries}
 use Rattle.sk_model.specs.Missing.{Begins}
 use Rattle.sk_model.specs.Sketch.{theta_of, packed_of, unpacked, count_of, estimate_of, fraction_of}
 use Rattle.sk_model.specs.Width.{IsItem, AreItems}
+use Rattle.sk_model.proofs.Missing.{begins_trans}
 use Rattle.sk_model.proofs.Sketch.{packed_reads_back, k_smallest_of_members}
 use Rattle.sk_compose.specs.Numbers.{k_of}
 use Rattle.sk_compose.proofs.Kept.{kept_longer}
@@ -35,13 +36,13 @@ use Rattle.sk_count.specs.Moments.{kept_by, AreKeptOver}
 use Rattle.sk_report.specs.Parts.{AppendsPartAfter}
 use Rattle.sk_report.specs.Texts.{armed_with}
 use Rattle.sk_count.specs.Texts.{interim_text, places_after}
-use Rattle.sk_count.specs.Hubs.{ShowsAll, ShowsMoments, HasSizes}
+use Rattle.sk_count.specs.Hubs.{ShowsAll, ShowsMoments, HasSizes, HaveSeen}
 use Rattle.sk_count.specs.Reports.{Showing, showing}
 use Rattle.sk_count.specs.Steps.{keeps, TookAll, PassesUnits}
 use Rattle.sk_count.specs.Opened.{IsOpened, FeedsAll, FeedsSome, FeedsPart, FeedStops, FeedsEarly, DrainsAndAsks}
 use Rattle.sk_count.specs.Counts.{Setting, setting, Course, TellsSoFar, TellsPart, StopsFor, EndsBefore, EndsBehind}
 use Rattle.sk_fill.proofs.Cutting.{all_lines_more}
-use Rattle.sk_count.proofs.Course.{took_fed, keeps_more, kept_fed}
+use Rattle.sk_count.proofs.Course.{took_fed, keeps_more, kept_fed, heard_fed}
 
 -- ---- the course of a count
 
@@ -88,9 +89,9 @@ module _ (plan : Plan) (a : Hub) (left left' w w' : Option (List ℕ)) (places a
   stops (fault.LongLine n) units unit t = absurd t
   stops (fault.BadCsv n) units unit t = absurd t
 
-  pub early : (most : ℕ) (f : Fault) → FeedsEarly plan most a (showing plan.k w armed) (showing plan.k w' places') left left' f → EndsBefore plan most (setting left w places) (setting left' w' places') f ⊎ EndsBehind plan most (setting left w places) (setting left' w' places') f
-  early most f (inl ends) = inl (ends_so (units_by plan.column) most _ _ _ _ so_far stops left left' f ends)
-  early most f (inr (is, (n, reads))) = inr (subst (EndsBehind plan most (setting left w places) (setting left' w' places')) (sym is) (n, all_so (units_by plan.column) most _ _ _ _ so_far stops n left left' reads))
+  pub early : (last : ℕ) (most : ℕ) (f : Fault) → FeedsEarly plan last most a (showing plan.k w armed) (showing plan.k w' places') left left' f → EndsBefore plan last most (setting left w places) (setting left' w' places') f ⊎ EndsBehind plan most (setting left w places) (setting left' w' places') f
+  early last most f (inl ends) = inl (ends_so (units_by plan.column) most _ _ _ _ so_far stops _ left left' f ends)
+  early last most f (inr (is, (n, reads))) = inr (subst (EndsBehind plan most (setting left w places) (setting left' w' places')) (sym is) (n, all_so (units_by plan.column) most _ _ _ _ so_far stops n left left' reads))
 
 -- ---- all items
 
@@ -131,7 +132,7 @@ module _ (plan : Plan) (a : Hub) (opened : IsOpened plan a) (some : 0 < plan.upd
   items_are = ap (items_in plan.kind) lines_are ∙ good_items plan.kind units fed.passes.good
 
   numbers : k_of b.heart.view.numbers ≡ plan.k
-  numbers = ap k_of (ap (λ v. v.numbers) fed.last.heart.knows.view ∙ fed.passes.passes.heart.numbers ∙ opened.numbers)
+  numbers = ap k_of (ap (λ v. v.numbers) fed.last.heart.goes.knows.view ∙ fed.passes.passes.heart.numbers ∙ opened.numbers)
 
   pub the_word : word ≡ packed_of plan.k (items_by plan.kind units)
   the_word = d.word_is ∙ ap (λ k. packed_of k (items_of_entries h.view.seen)) numbers ∙ word_of_all plan (fed.passes.windows ++ fed.rest ∷ []) b.updaters h.view.seen some took d.has ∙ ap (packed_of plan.k) items_are
@@ -144,7 +145,7 @@ module _ (plan : Plan) (a : Hub) (opened : IsOpened plan a) (some : 0 < plan.upd
 
   pub shows_all : ShowsAll plan (items_by plan.kind units) (fed.passes.windows ++ fed.rest ∷ []) fed.passes.passes.moments h
   shows_all = record {
-    drained = d.drains.drained ∙ ap (λ l. l ++ range_with_len 0 (length b.updaters)) (ap (λ v. v.drained) fed.last.heart.knows.view ∙ fed.passes.passes.heart.drained ∙ opened.drained) ∙ ap (range_with_len 0) took.count;
+    drained = d.drains.drained ∙ ap (λ l. l ++ range_with_len 0 (length b.updaters)) (ap (λ v. v.drained) fed.last.heart.goes.knows.view ∙ fed.passes.passes.heart.drained ∙ opened.drained) ∙ ap (range_with_len 0) took.count;
     kept = λ i within. let within' : i < length b.updaters = omega (arith, took.count) in at_some b.updaters i within' (λ e.
         subst (AreKeptOver plan.k h.view.seen (share plan.kind (fed.passes.windows ++ fed.rest ∷ []) plan.updaters i)) (sym (known_at d.drains i e within'))
         (kept_longer keeps (λ front. theta_of plan.k (items_of_entries front)) (base_of (get_or b.updaters i e)) h.view.seen (share plan.kind (fed.passes.windows ++ fed.rest ∷ []) plan.updaters i) (kept_of (get_or b.updaters i e)) (d.has.bases i e within') (took.each i e within').kept));
@@ -155,7 +156,7 @@ module _ (plan : Plan) (a : Hub) (opened : IsOpened plan a) (some : 0 < plan.upd
     steps = (d.steps.0, d.steps.1 ∙ ap (λ n. d.steps.0 ++ Ask n ∷ []) the_word);
     k = ap k_of d.drains.numbers ∙ numbers;
     updaters = d.drains.updaters ∙ sym fed.hub.count ∙ took.count;
-    eager = d.drains.eager ∙ ap (λ z. z.eager) fed.last.heart.stays ∙ fed.passes.passes.heart.eager ∙ opened.eager;
+    eager = d.drains.eager ∙ ap (λ z. z.eager) fed.last.heart.goes.stays ∙ fed.passes.passes.heart.eager ∙ opened.eager;
   }
 
   pub shows_moments : ShowsMoments plan fed.passes.passes.moments b.token
@@ -168,6 +169,13 @@ module _ (plan : Plan) (a : Hub) (opened : IsOpened plan a) (some : 0 < plan.upd
       met : 0 < length fed.passes.passes.moments → ((length fed.passes.passes.moments ≡ 0) × (fed.between.token ≡ a.token)) ⊎ HasSizes plan fed.between.token → HasSizes plan fed.between.token
       met some (inl waits) = absurd (omega (arith, some, waits.0))
       met some (inr has) = has
+
+  -- through the updaters, which had seen all that the token had, and which the heart took in
+  pub one_list : Begins b.token.view.seen h.view.seen
+  one_list =
+      let heard : HaveSeen b.updaters b.token.view.seen = heard_fed plan.propagator plan.kind fed.rest fed.between b fed.passes.passes.stands.heard fed.last in
+      let within : 0 < length b.updaters = omega (arith, took.count, some) in
+      at_some b.updaters 0 within (λ e. begins_trans _ _ _ (heard 0 e within) (d.drains.taken_in 0 e within).hears)
 
   pub same_hub : b.token.table ≡ h.table
   same_hub = fed.hub.table ∙ sym d.drains.table

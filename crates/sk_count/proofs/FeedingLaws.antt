@@ -1,5 +1,6 @@
 -- What a count concludes of the units that were fed.
 use Rattle.std.proofs.Common.{◌≡◌, inl, inr, ℕ, Bool, true, false, List, [], ◌∷◌, ◌++◌, length, get_or, Option, is_some, refl, sym, ap, subst, ◌∙◌, append-nil}
+use Rattle.sk_model.specs.Missing.{Begins}
 use Rattle.sk_model.proofs.Missing.{begins_nil}
 use Rattle.sk_compose.specs.Numbers.{k_of}
 use Rattle.sk_hub.specs.Updaters.{kept_of}
@@ -31,6 +32,7 @@ stands_start plan a r opened k = record {
   k = k;
   seen = begins_nil a.token.view.seen;
   kept = λ i d within. begins_nil (kept_of (get_or a.updaters i d));
+  heard = λ i d within. subst (λ l. Begins l (get_or a.updaters i d).view.seen) (sym opened.seen) (begins_nil (get_or a.updaters i d).view.seen);
 }
 
 module _ {R : Type 0} (shown : R → Showing) (plan : Plan) (most : ℕ) (a : Hub) (r : R) (opened : IsOpened plan a) (k : (shown r).k ≡ plan.k) where
@@ -101,11 +103,11 @@ module _ {R : Type 0} (r s : R) (shown : R → Showing) (plan : Plan) (most : �
   stopped (fault.LongLine n) units unit t = absurd t
   stopped (fault.BadCsv n) units unit t = absurd t
 
-  pub fed_early : (f : Fault) → EndsEarly (terms_at shown intake) (units_by intake.column) left left' a r s f → FeedsEarly plan most a (showing plan.k (shown r).written (shown r).places) (showing plan.k (shown s).written (shown s).places) left left' f
-  fed_early f early = by_cases (subst (λ i. EndsEarly (terms_at shown i) (units_by i.column) left left' a r s f) is early)
+  pub fed_early : (last : ℕ) (f : Fault) → EndsEarly (terms_at shown intake) last (units_by intake.column) left left' a r s f → FeedsEarly plan last most a (showing plan.k (shown r).written (shown r).places) (showing plan.k (shown s).written (shown s).places) left left' f
+  fed_early last f early = by_cases (subst (λ i. EndsEarly (terms_at shown i) last (units_by i.column) left left' a r s f) is early)
     where
-      by_cases : EndsEarly (terms_at shown (intake_by plan most)) (units_by plan.column) left left' a r s f → FeedsEarly plan most a (showing plan.k (shown r).written (shown r).places) (showing plan.k (shown s).written (shown s).places) left left' f
-      by_cases (inl ends) = inl (ends_so (units_by plan.column) most _ _ _ _ some_fed stopped left left' f ends)
+      by_cases : EndsEarly (terms_at shown (intake_by plan most)) last (units_by plan.column) left left' a r s f → FeedsEarly plan last most a (showing plan.k (shown r).written (shown r).places) (showing plan.k (shown s).written (shown s).places) left left' f
+      by_cases (inl ends) = inl (ends_so (units_by plan.column) most _ _ _ _ some_fed stopped _ left left' f ends)
       by_cases (inr (none, (n, reads))) = inr (none, (n, all_so (units_by plan.column) most _ _ _ _ some_fed stopped n left left' reads))
 
   pub fed_whole : (n : ℕ) (b : Hub) → ReadsAll (units_by intake.column) intake.most n (λ units. Ingests (terms_at shown intake) units a r b s) left left'

@@ -25,13 +25,13 @@ use Rattle.sk_count.specs.Reports.{showing}
 use Rattle.sk_count.specs.Opened.{IsOpened, FeedsAll, DrainsAndAsks}
 use Rattle.sk_count.specs.Counts.{Setting, setting, TellsSoFar, TellsAll, TellsPartOfAll, StopsFor, EndsBefore, EndsBehind, Counts}
 use Rattle.sk_report.proofs.Fronts.{part_of_next}
-use Rattle.sk_count.proofs.Endings.{the_estimate, shows_all, shows_moments, same_hub}
+use Rattle.sk_count.proofs.Endings.{the_estimate, shows_all, shows_moments, one_list, same_hub}
 
 -- ---- before the end
 
-pub ended_by : (plan : Plan) (most : ℕ) (old new : Setting) (r : Result Remains Fault) (f : Fault) → IsErrAnd r (λ e. e ≡ f) → EndsBefore plan most old new f ⊎ EndsBehind plan most old new f → Counts plan most old new r
-ended_by plan most old new (Ok x) f is ends = absurd is
-ended_by plan most old new (Err e) f is ends = subst (λ z. EndsBefore plan most old new z ⊎ EndsBehind plan most old new z) (sym is) ends
+pub ended_by : (last : ℕ) (plan : Plan) (most : ℕ) (old new : Setting) (r : Result Remains Fault) (f : Fault) → IsErrAnd r (λ e. e ≡ f) → EndsBefore plan last most old new f ⊎ EndsBehind plan most old new f → Counts plan last most old new r
+ended_by last plan most old new (Ok x) f is ends = absurd is
+ended_by last plan most old new (Err e) f is ends = subst (λ z. EndsBefore plan last most old new z ⊎ EndsBehind plan most old new z) (sym is) ends
 
 none : List Moment
 none = []
@@ -57,9 +57,9 @@ nothing_told plan left w places armed within is_armed = record {
   places = is_armed;
 }
 
-pub nothing_read : (plan : Plan) (most : ℕ) (left w : Option (List ℕ)) (places armed : List Place) → IsWithin plan → armed ≡ armed_with plan.k plan.alarms places → EndsBefore plan most (setting left w places) (setting left w armed) fault.OutOfMemory
-nothing_read plan most left w places armed within is_armed =
-    nothing_came (TellsSoFar plan (setting left w places) (setting left w armed)) (StopsFor plan (setting left w places) (setting left w armed)) (units_by plan.column) most left (nothing_told plan left w places armed within is_armed)
+pub nothing_read : (last : ℕ) (plan : Plan) (most : ℕ) (left w : Option (List ℕ)) (places armed : List Place) → IsWithin plan → armed ≡ armed_with plan.k plan.alarms places → EndsBefore plan last most (setting left w places) (setting left w armed) fault.OutOfMemory
+nothing_read last plan most left w places armed within is_armed =
+    nothing_came _ (TellsSoFar plan (setting left w places) (setting left w armed)) (StopsFor plan (setting left w places) (setting left w armed)) (units_by plan.column) most left (nothing_told plan left w places armed within is_armed)
 
 -- ---- behind it
 
@@ -94,6 +94,7 @@ module _ (plan : Plan) (a : Hub) (opened : IsOpened plan a) (within : IsWithin p
         hub = same_hub plan a opened within.updaters.0 units (showing plan.k w armed) (showing plan.k w' places') b fed word h d;
         shows = shows_all plan a opened within.updaters.0 units (showing plan.k w armed) (showing plan.k w' places') b fed word h d;
         asked = shows_moments plan a opened within.updaters.0 units (showing plan.k w armed) (showing plan.k w' places') b fed word h d;
+        one = one_list plan a opened within.updaters.0 units (showing plan.k w armed) (showing plan.k w' places') b fed word h d;
       };
     };
   }

@@ -7,3 +7,4 @@ pub mod Endings
 pub mod OpeningLaws
 pub mod ReportLaws
 pub mod Finishing
+pub mod BoundLaws

@@ -38,6 +38,7 @@ module _ (hint_of : List ℕ → List Entry → ℕ) (plan : Plan) (sizes number
     size = λ i d within. (new_at i d within).size_is ∙ are.each i (omega (arith, as_many));
     numbers = heart.numbers_are ∙ numbers_are;
     drained = heart.drained;
+    seen = token.seen;
     eager = heart.eager_is ∙ eager_is;
     whole = record {
       count = as_many ∙ are.count ∙ sym count ∙ sym heart.updaters;

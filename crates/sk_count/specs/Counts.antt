@@ -74,9 +74,9 @@ StopsFor plan old new WriteFault units unit = TellsPart plan old new (units ++ u
 StopsFor plan old new OutOfMemory units unit = TellsSoFar plan old new units
 StopsFor plan old new other units unit = ⊥
 
--- if a count ends before its source
-abbrev pub EndsBefore : Plan → ℕ → Setting → Setting → Fault → Type 0
-EndsBefore plan most old new fault = Ends (units_by plan.column) most (TellsSoFar plan old new) (StopsFor plan old new) old.left new.left fault
+-- if a count ends before its source, whose last read gave this many bytes
+abbrev pub EndsBefore : Plan → ℕ → ℕ → Setting → Setting → Fault → Type 0
+EndsBefore plan last most old new fault = Ends last (units_by plan.column) most (TellsSoFar plan old new) (StopsFor plan old new) old.left new.left fault
 
 -- if it read all, and then ran out of memory, or failed to write
 abbrev pub EndsBehind : Plan → ℕ → Setting → Setting → Fault → Type 0
@@ -84,8 +84,8 @@ EndsBehind plan most old new WriteFault = (n : ℕ) × ReadsAll (units_by plan.c
 EndsBehind plan most old new OutOfMemory = (n : ℕ) × ReadsAll (units_by plan.column) most n (TellsSoFar plan old new) old.left new.left
 EndsBehind plan most old new other = ⊥
 
--- how a count went
-abbrev pub Counts : Plan → ℕ → Setting → Setting → Result Remains Fault → Type 0
-Counts plan most old new result = MatchResult result
+-- how a count went over a source whose last read gave this many bytes
+abbrev pub Counts : Plan → ℕ → ℕ → Setting → Setting → Result Remains Fault → Type 0
+Counts plan last most old new result = MatchResult result
     (λ left. (n : ℕ) × ReadsAll (units_by plan.column) most n (TellsAll plan old new left) old.left new.left)
-    (λ fault. EndsBefore plan most old new fault ⊎ EndsBehind plan most old new fault)
+    (λ fault. EndsBefore plan last most old new fault ⊎ EndsBehind plan most old new fault)

@@ -1,13 +1,13 @@
 -- What a token learns of a hub by asking it, and what the heart and the token show when all is counted.
-use Rattle.std.specs.Prelude.{◌≡◌, ℕ, zero, suc, ◌*◌, ◌<◌, ◌≤◌, List, [], ◌∷◌, ◌++◌, length, All, slice_index_or}
+use Rattle.std.specs.Prelude.{◌≡◌, ℕ, zero, suc, ◌*◌, ◌<◌, ◌≤◌, List, [], ◌∷◌, ◌++◌, length, All, replicate, slice_index_or}
 use Rattle.std.specs.List.{range_with_len}
-use Rattle.sk_model.specs.Entries.{items_of_entries, entries_by}
+use Rattle.sk_model.specs.Entries.{Entry, items_of_entries, entries_by}
 use Rattle.sk_model.specs.Missing.{Begins, LacksAtMost}
 use Rattle.sk_model.specs.Sketch.{packed_of}
 use Rattle.sk_compose.specs.Numbers.{k_of}
 use Rattle.sk_machine.specs.Coarse.{IsEntry}
 use Rattle.sk_machine.specs.declared.views.Move.{Move}
-use Rattle.sk_machine.specs.declared.views.Move.TheVariants.{Join, Ask}
+use Rattle.sk_machine.specs.declared.views.Move.TheVariants.{Join, Ask, Split}
 use Rattle.sk_gate.specs.Views.{known_of, size_of}
 use Rattle.sk_gate.specs.Hands.{TokenState}
 use Rattle.sk_hub.specs.Hearts.{HeartState}
@@ -25,9 +25,9 @@ unfoldable pub MeetsNotes : ℕ → List Move → Type 0
 MeetsNotes zero steps = steps ≡ []
 MeetsNotes (suc n) steps = (earlier : List Move) × (word : ℕ) × (steps ≡ earlier ++ Join ∷ Ask word ∷ []) × MeetsNotes n earlier
 
--- n notes were met, and one ask more loaded this word
+-- n notes were met, one ask more loaded this word, and then n notes were given
 abbrev pub MeetsAndAsks : ℕ → ℕ → List Move → Type 0
-MeetsAndAsks n word steps = (earlier : List Move) × MeetsNotes n earlier × (steps ≡ earlier ++ Ask word ∷ [])
+MeetsAndAsks n word steps = (earlier : List Move) × MeetsNotes n earlier × (steps ≡ earlier ++ Ask word ∷ replicate n Split)
 
 -- so it was at each of these moments, in order
 unfoldable pub AsksAtEach : ℕ → ℕ → List Moment → List Move → Type 0
@@ -37,17 +37,23 @@ AsksAtEach k n (m ∷ moments) steps =
 
 -- ---- an ask of a hub
 
+-- each updater has seen all of a list
+abbrev pub HaveSeen : List UpdaterState → List Entry → Type 0
+HaveSeen us list = (i : ℕ) (d : UpdaterState) → i < length us → Begins list (slice_index_or us i d).view.seen
+
 -- the token met a note of every updater, and asked: the list that it saw goes on from what it had seen and from each
--- updater's base, lacks of what each kept at most its last two buffers, and has only entries of these updaters; the
--- token knows the size of each, and no more lies in its fill buffer
+-- updater's base, has of each only what that kept, lacks of it at most the last two buffers, and has only entries of
+-- these updaters, who have seen it now; the token knows the size of each, and no more lies in its fill buffer
 pub record AsksHub (a : Hub) (word : ℕ) (b : Hub) : Type 0 where
   pub grows : Begins a.token.view.seen b.token.view.seen
   pub bases : (i : ℕ) (d : UpdaterState) → i < length a.updaters → Begins (base_of (slice_index_or a.updaters i d)) b.token.view.seen
+  pub own : (i : ℕ) (d : UpdaterState) → i < length a.updaters → Begins (entries_by i b.token.view.seen) (kept_of (slice_index_or a.updaters i d))
   pub lacks : (i : ℕ) (d : UpdaterState) → i < length a.updaters
       → LacksAtMost (kept_of (slice_index_or a.updaters i d)) (entries_by i b.token.view.seen) (2 * (slice_index_or a.updaters i d).size)
   pub fills : (i : ℕ) (d : UpdaterState) → i < length a.updaters → length (slice_index_or a.updaters i d).fill ≤ (slice_index_or a.updaters i d).size
   pub sizes : (i : ℕ) (d : UpdaterState) → i < length a.updaters → size_of b.token.view i ≡ (slice_index_or a.updaters i d).size
   pub entries : All (IsEntry (length a.updaters)) b.token.view.seen
+  pub heard : HaveSeen b.updaters b.token.view.seen
   pub word_is : word ≡ packed_of (k_of a.token.view.numbers) (items_of_entries b.token.view.seen)
   pub steps : (steps : List Move) × MeetsAndAsks (length a.updaters) word steps × (b.token.view.steps ≡ a.token.view.steps ++ steps)
 

@@ -1,12 +1,13 @@
--- What it means that a token met notes of updaters, one after another.
-use Rattle.std.specs.Prelude.{◌≡◌, ◌≢◌, ◌⊎◌, ℕ, ◌<◌, ◌≤◌, List, [], ◌∷◌, ◌++◌, length, slice_index_or}
+-- What it means that a token met notes of updaters, one after another, and that these met notes of the token.
+use Rattle.std.specs.Prelude.{◌≡◌, ◌≢◌, ◌⊎◌, ℕ, ◌<◌, ◌≤◌, List, [], ◌∷◌, ◌++◌, length, replicate, slice_index_or}
+use Rattle.sk_model.specs.Entries.{Entry, entries_by}
 use Rattle.sk_model.specs.Missing.{Begins}
 use Rattle.sk_machine.specs.declared.views.Move.{Move}
-use Rattle.sk_machine.specs.declared.views.Move.TheVariants.{Join, Ask}
+use Rattle.sk_machine.specs.declared.views.Move.TheVariants.{Join, Ask, Split}
 use Rattle.sk_gate.specs.Views.{known_of, size_of, after_split}
 use Rattle.sk_gate.specs.Hands.{TokenState}
 use Rattle.sk_hub.specs.Updaters.{UpdaterState, base_of, handed_of}
-use Rattle.sk_feed.specs.Hubs.{TokenGoesOn}
+use Rattle.sk_feed.specs.Hubs.{TokenGoesOn, IsLeft}
 use Rattle.sk_count.specs.Hubs.{MeetsNotes}
 
 -- the updater, of which a note was split off
@@ -50,4 +51,21 @@ pub record MeetsFirst (t : TokenState) (us : List UpdaterState) (n : ℕ) (t' : 
 pub record AreNoted (us : List UpdaterState) (n : ℕ) (us' : List UpdaterState) : Type 0 where
   pub count : length us' ≡ length us
   pub first : (i : ℕ) (d : UpdaterState) → i < n → slice_index_or us' i d ≡ noted (slice_index_or us i d)
+  pub others : (i : ℕ) (d : UpdaterState) → n ≤ i → slice_index_or us' i d ≡ slice_index_or us i d
+
+-- the token, of which n notes were split off
+abbrev pub split_off : ℕ → TokenState → TokenState
+split_off n t = record t { view = record t.view { steps = t.view.steps ++ replicate n Split } }
+
+-- an updater met a note of a token that had seen this list: it is left as it was, and has seen the list, which has of its
+-- own items only what it had handed over
+pub record Hears (list : List Entry) (u u' : UpdaterState) : Type 0 where
+  pub left : IsLeft u u'
+  pub seen : Begins list u'.view.seen
+  pub own : Begins (entries_by u.number list) (handed_of u)
+
+-- so did each of the first so many
+pub record FirstHear (list : List Entry) (us : List UpdaterState) (n : ℕ) (us' : List UpdaterState) : Type 0 where
+  pub count : length us' ≡ length us
+  pub first : (i : ℕ) (d : UpdaterState) → i < n → Hears list (slice_index_or us i d) (slice_index_or us' i d)
   pub others : (i : ℕ) (d : UpdaterState) → n ≤ i → slice_index_or us' i d ≡ slice_index_or us i d

@@ -1,6 +1,6 @@
 -- The moments at which a count asks, one after each full window, and what each estimate is worth: it is the
--- sequential sketch's over one growing list of updates, which lacks of what each updater had kept at most the last
--- buffers (the r-relaxation of Rinberg and others, PPoPP 2020, for each updater).
+-- sequential sketch's over one growing list of updates, which has nothing but what the updaters had kept, and lacks of
+-- that at most the last buffers (the r-relaxation of Rinberg and others, PPoPP 2020, for each updater).
 use Rattle.std.specs.Prelude.{◌≡◌, ℕ, ◌+◌, ◌*◌, ◌<◌, nat_lt, if◌then◌else◌, List, [], length, take, All, AllPairs, slice_index_or, is_some}
 use Rattle.sk_model.specs.Entries.{Entry, items_of_entries, entries_by}
 use Rattle.sk_model.specs.Missing.{Begins, LacksAtMost}
@@ -34,11 +34,13 @@ AreKeptOver k list items kept = AreKept (λ theta item. nat_lt item theta) (λ f
 abbrev pub buffers_of : Plan → ℕ
 buffers_of plan = if plan.propagator then 1 else 2
 
--- after these windows each updater had kept its share of them, and the list lacks of that at most its last buffers
+-- after these windows each updater had kept its share of them; the list has of it nothing else, and lacks of that at most
+-- its last buffers
 pub record IsMoment (plan : Plan) (windows : List (List (List ℕ))) (m : Moment) : Type 0 where
   pub lines : m.lines ≡ length (all_lines windows)
   pub entries : All (IsEntry plan.updaters) m.seen
   pub kept : (i : ℕ) → i < plan.updaters → AreKeptOver plan.k m.seen (share plan.kind windows plan.updaters i) (kept_by m i)
+  pub own : (i : ℕ) → i < plan.updaters → Begins (entries_by i m.seen) (kept_by m i)
   pub lacks : (i : ℕ) → i < plan.updaters → LacksAtMost (kept_by m i) (entries_by i m.seen) (buffers_of plan * size_at plan.sizes i)
 
 -- a later moment: the list has gone on, and so has what each of n updaters kept

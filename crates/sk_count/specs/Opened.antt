@@ -30,13 +30,14 @@ pub record AreSizes (plan : Plan) (sizes : List ℕ) : Type 0 where
   pub count : length sizes ≡ plan.updaters
   pub each : (i : ℕ) → i < length sizes → slice_index sizes i ≡ size_at plan.sizes i
 
--- its updaters have kept nothing, and have the sizes of the plan; nobody is drained
+-- its updaters have kept nothing, and have the sizes of the plan; nobody is drained, and the token has seen nothing
 pub record IsOpened (plan : Plan) (hub : Hub) : Type 0 where
   pub count : length hub.updaters ≡ plan.updaters
   pub kept : (i : ℕ) (d : UpdaterState) → i < length hub.updaters → kept_of (slice_index_or hub.updaters i d) ≡ []
   pub size : (i : ℕ) (d : UpdaterState) → i < length hub.updaters → (slice_index_or hub.updaters i d).size ≡ size_at plan.sizes i
   pub numbers : hub.heart.view.numbers ≡ plan.k ∷ []
   pub drained : hub.heart.view.drained ≡ []
+  pub seen : hub.token.view.seen ≡ []
   pub eager : hub.heart.eager ≡ plan.eager
   pub whole : IsHub hub
 
@@ -45,7 +46,7 @@ pub record FeedsAll (plan : Plan) (units : List (List ℕ)) (a : Hub) (r : Showi
   pub rest : List (List ℕ)
   pub between : Hub
   pub passes : PassesUnits plan units a r rest between s
-  pub last : FeedsWindow keeps hint_of plan.kind rest between b
+  pub last : FeedsWindow plan.propagator keeps hint_of plan.kind rest between b
   pub hub : IsHub b
 
 -- units were fed that fill windows
@@ -71,8 +72,8 @@ FeedStops plan a r s OutOfMemory units unit = FeedsSome plan a r s units
 FeedStops plan a r s other units unit = ⊥
 
 -- it ended before the source did, or no memory was found for the rest of a source read to its end
-abbrev pub FeedsEarly : Plan → ℕ → Hub → Showing → Showing → Option (List ℕ) → Option (List ℕ) → Fault → Type 0
-FeedsEarly plan most a r s left left' fault = Ends (units_by plan.column) most (FeedsSome plan a r s) (FeedStops plan a r s) left left' fault
+abbrev pub FeedsEarly : Plan → ℕ → ℕ → Hub → Showing → Showing → Option (List ℕ) → Option (List ℕ) → Fault → Type 0
+FeedsEarly plan last most a r s left left' fault = Ends last (units_by plan.column) most (FeedsSome plan a r s) (FeedStops plan a r s) left left' fault
     ⊎ ((fault ≡ OutOfMemory) × ((n : ℕ) × ReadsAll (units_by plan.column) most n (FeedsSome plan a r s) left left'))
 
 -- the heart took in these updaters, in number order, and then loaded the word of exactly what they kept

@@ -18,7 +18,7 @@ use Rattle.sk_report.specs.Sizes.{size_at}
 use Rattle.sk_count.specs.Plans.{lines_of_window}
 use Rattle.sk_count.specs.Moments.{Moment, kept_by, AreKeptOver, AreMoments}
 use Rattle.sk_count.specs.Texts.{interim_text, places_after}
-use Rattle.sk_count.specs.Hubs.{AsksAtEach, HasSizes}
+use Rattle.sk_count.specs.Hubs.{AsksAtEach, HasSizes, HaveSeen}
 use Rattle.sk_count.specs.Reports.{Showing}
 
 -- ---- what is read
@@ -68,13 +68,14 @@ KeepsAll us m = (i : ℕ) (d : UpdaterState) → i < length us → Begins (kept_
 
 -- ---- between two windows
 
--- after these windows, the last moment being this one
+-- after these windows, the last moment being this one; each updater has seen what the token has
 pub record Stands (plan : Plan) (windows : List (List (List ℕ))) (last : Moment) (a : Hub) (r : Showing) : Type 0 where
   pub took : TookAll plan windows a.updaters
   pub token : k_of a.token.view.numbers ≡ plan.k
   pub k : r.k ≡ plan.k
   pub seen : Begins last.seen a.token.view.seen
   pub kept : KeepsAll a.updaters last
+  pub heard : HaveSeen a.updaters a.token.view.seen
 
 -- how windows were fed and reported, from one hub and report to others; these are all windows so far
 pub record Passes (plan : Plan) (windows : List (List (List ℕ))) (a : Hub) (r : Showing) (b : Hub) (s : Showing) : Type 0 where

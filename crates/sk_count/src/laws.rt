@@ -1,5 +1,5 @@
 //! What follows from the definitions alone, and texts, boards and moments of counts, worked by hand.
-ghost use Rattle.std.specs.Prelude.{◌≡◌, ◌*◌, ℕ, List, [], ◌∷◌, ◌++◌, Some, None, replicate};
+ghost use Rattle.std.specs.Prelude.{◌≡◌, ◌*◌, ℕ, List, [], ◌∷◌, ◌++◌, Some, None, replicate, All};
 ghost use Rattle.sk_lines.specs.Fractions.{estimate_line};
 ghost use Rattle.sk_model.specs.Entries.{entries_by};
 ghost use Rattle.sk_model.specs.Lines.{sequential_estimate};
@@ -7,16 +7,27 @@ ghost use Rattle.sk_model.specs.Missing.{LacksAtMost};
 ghost use Rattle.sk_model.specs.Murmur.{hash_of};
 ghost use Rattle.sk_read.specs.declared.kind.Kind.TheVariants.{Hash};
 ghost use Rattle.sk_watch.specs.Alarms.{alarm};
+ghost use Rattle.sk_watch.specs.Places.{Place};
 ghost use Rattle.sk_count.specs.declared.plan.Plan.{Plan};
 ghost use Rattle.sk_count.specs.Moments.{Moment};
+ghost use Rattle.sk_report.specs.declared.remains.Remains.{Remains};
 ghost use Rattle.sk_report.specs.Sizes.{size_at};
 ghost use Rattle.sk_report.specs.Texts.{alarm_line, armed_with, interim_line};
+ghost use Rattle.sk_count.specs.Headline.{CountsExactly, IsBounded};
 ghost use Rattle.sk_count.specs.Texts.{interim_text, places_after, last_lines};
 
 /// Over lines that are hashed the last line is the sequential sketch's estimate.
 pub fn last_line_is_sequential()
     ensures { (plan : Plan) (seed : ℕ) (lines : List (List ℕ)) → plan.kind ≡ Hash seed → plan.made ≡ None
         → last_lines plan lines ≡ estimate_line (sequential_estimate plan.k (hash_of seed) lines) }
+{}
+
+/// An interim estimate is of a list that has only items of the units read by then, and the list begins that of the last
+/// line.
+pub fn interim_lists_are_bounded()
+    ensures { (plan : Plan) (units : List (List ℕ)) (board board' : List Place) (remains : Remains) (text : List ℕ)
+        → (exactly : CountsExactly plan units board board' remains text)
+        → All (IsBounded plan units exactly.shown.heart.view.seen) exactly.moments }
 {}
 
 /// A window of five of which two are seen, and all five; two windows of two; no window.

@@ -452,7 +452,7 @@ module _ {C T : Type 0} (hint packed : List ℕ → List Entry → ℕ) (g : Ske
         drained_is = drained;
       }) others)
 
-  -- a token takes in a note
+  -- a token or an updater takes in a note
   pub joins_note : (id : ℕ) (v : View) (other : ℕ) (w : View) → v.live ≡ true → w.live ≡ true → w.post ≡ Guest → w.duty ≡ Free → Joins Rule id v other w (after_join v w) spent
   joins_note id v other w live live' guest free s r at apart there =
       let v' : View = after_join v w in let m = r.machine in let here : get_elem? s.views other ≡ some w = sym (set_else s.views id other v' apart) ∙ there in

@@ -1,4 +1,4 @@
--- The heart takes in an updater's seat.
+-- A seat takes in another: an updater's, or a note's.
 use Rattle.std.proofs.Common.{◌≡◌, ◌≢◌, ℕ, ◌+◌, Bool, true, false, true≢false, List, [], ◌∷◌, ◌++◌, length, Some, is_some, sym, refl, ap, ◌∙◌, subst}
 use Rattle.atomic_table.specs.Table.{Allows, step}
 use mathlib.Core.Option.{none}
@@ -6,19 +6,18 @@ use Rattle.atomic_table.specs.Seated.{TableId}
 use Rattle.sk_model.specs.Entries.{Entry}
 use Rattle.sk_compose.specs.declared.buffer.Parcel.{Parcel}
 use Rattle.sk_machine.specs.declared.views.Move.TheVariants.{Look}
-use Rattle.sk_machine.specs.declared.views.Post.{Post}
 use Rattle.sk_machine.specs.declared.views.Post.TheVariants.{Updater}
 use Rattle.sk_machine.specs.declared.views.Duty.{Duty}
 use Rattle.sk_machine.specs.declared.views.Duty.TheVariants.{Free, Leads}
 use Rattle.sk_machine.specs.declared.views.View.{View}
 use Rattle.sk_gate.specs.Slots.{Slot, full, contents, Sketching, Telling, TellsList}
-use Rattle.sk_gate.specs.Views.{size_of, mine_in, mine_of, leads, seen_with, after_join}
+use Rattle.sk_gate.specs.Views.{size_of, mine_of, leads, seen_with, after_join}
 use Rattle.sk_gate.specs.Rule.{KeepsRule}
 use Rattle.sk_gate.specs.Plays.{Sat, is_picked, rested_mine, rested}
 use Rattle.sk_gate.specs.Hands.{SeatState, seat_state, own_in, rested_of, DutyHand, OwnHand, Holds}
 use Rattle.sk_gate.proofs.Merged.{sizes_length, sizes_either}
 use Rattle.sk_gate.proofs.SeatState.{own_shown}
-use Rattle.sk_gate.proofs.Own.{own_at, empty_at, leads_sizes}
+use Rattle.sk_gate.proofs.Own.{post_keeps, own_keeps, own_at, empty_at, leads_sizes}
 use Rattle.sk_gate.proofs.Updaters.{rests}
 
 module _ {C T : Type 0} (g : Sketching C) (k : Telling T) where
@@ -87,12 +86,17 @@ module _ {C T : Type 0} (hint packed : List ℕ → List Entry → ℕ) (g : Ske
       (rests hint packed g k slots id n m.0 number x.parcel [] size live is ready x.there x.empty x.told)
 
 module _ {C T : Type 0} (g : Sketching C) (k : Telling T) where
-  -- what stays true of the heart's slots
-  pub taken_holds : (n number front : ℕ) (own : Bool) (m : Sat C T) (w : View) → Holds g k true n number front own m → length w.sizes ≡ n → Holds g k true n number front own (after_join m.0 w, m.1)
-  taken_holds n number front own m w h long = let v : View = m.0 in let off : own ≡ false = h.own_is ∙ ap (λ (p : Post). (mine_in p).ready) h.post.0 in record {
+  -- a seat that knows the size of its own slot keeps it
+  own_joined : (v w : View) (i : ℕ) (own : Bool) (hand : List (ℕ × Slot C T)) → OwnHand v k i own hand → OwnHand (after_join v w) k i own hand
+  own_joined v w i false hand t = t
+  own_joined v w i true hand t = own_keeps g k v (after_join v w) i true hand refl (sizes_either (λ x. x ≡ size_of v i) v.sizes w.sizes i (λ _. refl) (λ z. absurd (t.3 z))) refl t
+
+  -- what stays true of the slots of a seat that took in another
+  pub taken_holds : (heart : Bool) (n number front : ℕ) (own : Bool) (m : Sat C T) (w : View) → Holds g k heart n number front own m → length w.sizes ≡ n → Holds g k heart n number front own (after_join m.0 w, m.1)
+  taken_holds heart n number front own m w h long = let v : View = m.0 in record {
     live = h.live;
     sized = sizes_length n v.sizes w.sizes h.sized long;
-    post = h.post;
+    post = post_keeps v (after_join v w) heart n number refl h.post;
     first = h.first;
     second = h.second;
     third = h.third;
@@ -100,7 +104,7 @@ module _ {C T : Type 0} (g : Sketching C) (k : Telling T) where
     counted = h.counted;
     leading = lead v.duty refl h.leading;
     own_is = h.own_is;
-    owned = subst (λ b. OwnHand (after_join v w) k number b h.third) (sym off) (subst (λ b. OwnHand v k number b h.third) off h.owned);
+    owned = own_joined v w number own h.third h.owned;
   }
     where
       lead : (d : Duty) → m.0.duty ≡ d → DutyHand m.0 g k n d h.first h.second → DutyHand (after_join m.0 w) g k n d h.first h.second

@@ -36,7 +36,7 @@ impl<C: Composable> Model for TokenSeat<C> {
         × Reads s.seat.me };
 }
 
-/// A seat that a token takes in. It does not share the table.
+/// A seat that a token or an updater takes in. It does not share the table.
 #[derive(Drop)]
 pub struct NoteSeat<C: Composable> {
     pub(crate) seat: Seat<Slot<C>, View>,
@@ -75,6 +75,16 @@ impl<C: Composable> TokenSeat<C> {
         let table = &self.hub;
         let seat = table.shared.split_seat::<Copying>(&mut self.seat);
         Ok(TokenSeat { hub, seat })
+    }
+
+    /// A note: what the token has seen, and what it knows.
+    pub fn note(&mut self) -> NoteSeat<C>
+        ensures seat { self.new ≡ record self.old { view = after_split self.old.view } }
+        ensures note { result ≡ record { view = copy_of self.old.view; table = self.old.table } }
+    {
+        let hub = &self.hub;
+        let seat = hub.shared.split_seat::<Copying>(&mut self.seat);
+        NoteSeat { seat }
     }
 
     /// Knows from now on what the note knows too.

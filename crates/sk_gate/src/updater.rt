@@ -6,13 +6,13 @@ ghost use mathlib.Core.Option.{none};
 ghost use Rattle.sk_gate.specs.Slots.{contents, sketching, telling};
 ghost use Rattle.sk_gate.specs.Rule.{KeepsRule};
 ghost use Rattle.sk_gate.specs.Plays.{admitted};
-ghost use Rattle.sk_gate.specs.Views.{size_of, mine_of, leads, after_split, copy_of};
+ghost use Rattle.sk_gate.specs.Views.{size_of, mine_of, leads, after_split, copy_of, after_join};
 ghost use Rattle.sk_gate.specs.Hands.{no_own, own_with, own_empty, own_looked, TellsBase, MayLie};
 ghost use Rattle.sk_gate.specs.Moves.{LooksAt, AdmitsAt, HandsAt};
 ghost use Rattle.sk_model.specs.Limits.{most_size, most_kept};
 
 use crate::load::{Load, parcel_in};
-use crate::plays::{Admit, Copying, Hand, Look, Size};
+use crate::plays::{Admit, Copying, Hand, Look, Size, TakingIn};
 use crate::rule::{Hub, Slot};
 use crate::seat::{OfUpdater, Propagator, exchange, rotate};
 use crate::token::NoteSeat;
@@ -153,5 +153,16 @@ impl<C: Composable> Propagator<C, OfUpdater> {
         let hub = &self.hub;
         let seat = hub.shared.split_seat::<Copying>(&mut self.seat);
         NoteSeat { seat }
+    }
+
+    /// Knows from now on what the note knows too.
+    pub fn join(&mut self, other: NoteSeat<C>)
+        requires table { other.table ≡ self.old.table }
+        requires sized { length other.view.sizes ≡ length self.old.view.sizes }
+        ensures seat { self.new ≡ record self.old { view = after_join self.old.view other.view } }
+    {
+        let NoteSeat { seat } = other;
+        let hub = &self.hub;
+        hub.shared.join_seat::<TakingIn>(&mut self.seat, seat);
     }
 }

@@ -1,7 +1,7 @@
 -- Items that come together to an updater whose buffer has room for them.
-use Rattle.std.proofs.Common.{◌≡◌, ℕ, zero, suc, ◌+◌, ◌-◌, ◌≤◌, Bool, true, false, cond, List, [], ◌∷◌, ◌++◌, length, take, drop, inl, inr, refl, sym, ap, subst, ◌∙◌, append_assoc, length-append, length-drop, arith}
+use Rattle.std.proofs.Common.{◌≡◌, ◌≢◌, ◌↔◌, ℕ, ◌+◌, ◌-◌, ◌≤◌, Bool, true, false, cond, List, [], ◌∷◌, ◌++◌, length, get_or, take, drop, inl, inr, refl, sym, ap, subst, ◌∙◌, append_assoc, add-zero, length-append, length-drop, arith}
 use Rattle.std.specs.List.{filter}
-use Rattle.std.proofs.lemmas.List.{take_all}
+use Rattle.std.proofs.lemmas.List.{take_all, get_or-drop}
 use Rattle.std.proofs.Math.Seq.{take-add}
 use Rattle.std.proofs.lemmas.List.Elements.{All-append, All-filter}
 use Rattle.sk_model.specs.Entries.{Entry}
@@ -10,10 +10,11 @@ use Rattle.sk_model.proofs.Missing.{begins_refl}
 use Rattle.sk_compose.specs.Buffers.{IsBuffer}
 use Rattle.sk_compose.specs.Kept.{AreKept}
 use Rattle.sk_gate.specs.Slots.{contents}
-use Rattle.sk_gate.specs.Views.{mine_of}
-use Rattle.sk_hub.specs.Updaters.{UpdaterState, base_of, handed_of, kept_of, with_items, LooksInVain}
-use Rattle.sk_hub.specs.Calls.{GoesOn, Takes}
-use Rattle.sk_hub.proofs.Calls.{goes_same, takes_none, none_in_vain}
+use Rattle.sk_hub.specs.Updaters.{UpdaterState, base_of, handed_of, with_items, LooksInVain}
+use Rattle.sk_hub.specs.declared.answers.Update.{Update}
+use Rattle.sk_hub.specs.declared.answers.Update.TheVariants as update
+use Rattle.sk_hub.specs.Calls.{GoesOn, Takes, IsBusyWith, StopsAt}
+use Rattle.sk_hub.proofs.Calls.{takes_none, none_in_vain}
 
 few_passed : (p : ℕ → Bool) (x : ℕ) (b : Bool) (kept xs : List ℕ) → length kept ≤ length xs → length (cond b (x ∷ kept) kept) ≤ length (x ∷ xs)
 few_passed p x true kept xs few = omega (arith, few)
@@ -53,12 +54,14 @@ takes_filtered keeps hint_of u u' items hint is = subst (Takes keeps hint_of u i
   of_items = filter_kept keeps (hint_of u.view.numbers) (base_of u) u.hint items hint;
 })
 
--- busy, with a full buffer
-pub busy_full : (u u' : UpdaterState) → length u.fill ≡ u.size → LooksInVain u u' → length u'.fill ≡ u'.size
-busy_full u u' full l = ap (λ z. length z.fill) l.state ∙ full ∙ sym (ap (λ z. z.size) l.state)
+-- ---- busy with an item
 
-pub busy_unready : (u u' : UpdaterState) → LooksInVain u u' → (mine_of u'.view).ready ≡ false
-busy_unready u u' l = ap (λ z. (mine_of z.view).ready) l.state ∙ l.unready
+is_kept : (keeps : Bool) → keeps ≢ false → keeps ≡ true
+is_kept true other = refl
+is_kept false other = absurd (other refl)
+
+pub busy_with : (keeps : ℕ → ℕ → Bool) (u u' : UpdaterState) (item : ℕ) (r : Update) → ((r ≡ update.Filtered) ↔ (keeps u.hint item ≡ false)) → r ≡ update.Busy → length u.fill ≡ u.size → LooksInVain u u' → IsBusyWith keeps u item u'
+busy_with keeps u u' item r filtered busy full look = record { kept = is_kept (keeps u.hint item) (λ dropped. let e = filtered.1 dropped in cc); full = full; look = look }
 
 pub busy_takes : (keeps : ℕ → ℕ → Bool) (hint_of : List ℕ → List Entry → ℕ) (u u' : UpdaterState) → LooksInVain u u' → Takes keeps hint_of u [] u'
 busy_takes keeps hint_of u u' l = takes_none keeps hint_of u u' (none_in_vain u u' l)
@@ -70,3 +73,10 @@ rest_of at xs = take_all (length xs - at) (drop at xs) (omega (arith, length-dro
 
 pub part_more : (at n : ℕ) (xs : List ℕ) → take at xs ++ take n (take (length xs - at) (drop at xs)) ≡ take (at + n) xs
 part_more at n xs = ap (λ (l : List ℕ). take at xs ++ take n l) (rest_of at xs) ∙ sym (take-add at n xs)
+
+first_of_rest : (at : ℕ) (xs : List ℕ) → get_or (take (length xs - at) (drop at xs)) 0 0 ≡ get_or xs at 0
+first_of_rest at xs = ap (λ (l : List ℕ). get_or l 0 0) (rest_of at xs) ∙ get_or-drop at xs 0 0 ∙ ap (λ (i : ℕ). get_or xs i 0) (add-zero at)
+
+-- it took those before a place, and was busy with the first that follows
+pub stops_at : (keeps : ℕ → ℕ → Bool) (hint_of : List ℕ → List Entry → ℕ) (u v u' : UpdaterState) (at : ℕ) (xs : List ℕ) → Takes keeps hint_of u (take at xs) v → IsBusyWith keeps v (get_or (take (length xs - at) (drop at xs)) 0 0) u' → StopsAt keeps hint_of u (take at xs) (get_or xs at 0) u'
+stops_at keeps hint_of u v u' at xs taken busy = record { before = v; taken = taken; busy = subst (λ (item : ℕ). IsBusyWith keeps v item u') (first_of_rest at xs) busy }

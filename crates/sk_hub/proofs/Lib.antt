@@ -12,3 +12,4 @@ pub mod Leaves
 pub mod TakenIn
 pub mod Taking
 pub mod Each
+pub mod Meeting

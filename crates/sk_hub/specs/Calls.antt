@@ -1,9 +1,9 @@
--- An updater that continues: through calls that keep nothing more, or that take items.
-use Rattle.std.specs.Prelude.{◌≡◌, ℕ, List, ◌++◌, length, Bool}
+-- An updater that continues: through calls that keep nothing more, that take items, or that stop at one.
+use Rattle.std.specs.Prelude.{◌≡◌, ℕ, List, ◌++◌, length, Bool, true}
 use Rattle.sk_model.specs.Entries.{Entry}
 use Rattle.sk_model.specs.Missing.{Begins}
 use Rattle.sk_compose.specs.Kept.{AreKept}
-use Rattle.sk_hub.specs.Updaters.{UpdaterState, base_of, handed_of, kept_of, HoldsTold}
+use Rattle.sk_hub.specs.Updaters.{UpdaterState, base_of, handed_of, kept_of, HoldsTold, LooksInVain}
 
 -- the same updater, with longer lists: each begins with what it was
 pub record GoesOn (u u' : UpdaterState) : Type 0 where
@@ -31,3 +31,15 @@ pub record Takes (keeps : ℕ → ℕ → Bool) (hint_of : List ℕ → List Ent
   pub more : List ℕ
   pub kept : kept_of u' ≡ kept_of u ++ more
   pub of_items : AreKept keeps (hint_of u.view.numbers) (base_of u') items more
+
+-- the item is kept by the hint, the buffer is full, and the one look loaded 0
+pub record IsBusyWith (keeps : ℕ → ℕ → Bool) (u : UpdaterState) (item : ℕ) (u' : UpdaterState) : Type 0 where
+  pub kept : keeps u.hint item ≡ true
+  pub full : length u.fill ≡ u.size
+  pub look : LooksInVain u u'
+
+-- it took these items, and was busy with the one that follows
+pub record StopsAt (keeps : ℕ → ℕ → Bool) (hint_of : List ℕ → List Entry → ℕ) (u : UpdaterState) (items : List ℕ) (item : ℕ) (u' : UpdaterState) : Type 0 where
+  pub before : UpdaterState
+  pub taken : Takes keeps hint_of u items before
+  pub busy : IsBusyWith keeps before item u'

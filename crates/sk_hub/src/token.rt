@@ -1,7 +1,7 @@
 //! Tokens, which ask, and the notes that they meet.
 ghost use Rattle.std.specs.Prelude.{◌≡◌, ℕ, length, IfOk, IfErr};
 ghost use Rattle.sk_model.specs.Missing.{Begins, longer};
-ghost use Rattle.sk_gate.specs.Views.{known_of, size_of, after_split, after_join};
+ghost use Rattle.sk_gate.specs.Views.{known_of, size_of, after_split, copy_of, after_join};
 ghost use Rattle.sk_hub.specs.Replies.{IsRelaxedReply, known_size};
 
 use sk_compose::Composable;
@@ -26,7 +26,7 @@ impl<C: Composable> Model for Token<C> {
     ghost invariant = { λ t. IsReading t.seat };
 }
 
-/// What an updater had seen and had handed over.
+/// What an updater had seen and had handed over, or what a token had seen and known.
 #[derive(Drop)]
 pub struct Note<C: Composable> {
     pub(crate) seat: NoteSeat<C>,
@@ -66,6 +66,17 @@ impl<C: Composable> Token<C> {
         let Note { seat } = note;
         self.seat.join(seat);
         self.seat.ask();
+    }
+
+    /// What this token has seen and knows.
+    pub fn note(&mut self) -> Note<C>
+        ensures stays { self.new ≡ record self.old { view = after_split self.old.view } }
+        ensures note { result ≡ record { view = copy_of self.old.view; table = self.old.table } }
+        ensures seen { result.view.seen ≡ self.old.view.seen }
+    {
+        Note {
+            seat: self.seat.note(),
+        }
     }
 
     /// A token that has seen and knows the same.

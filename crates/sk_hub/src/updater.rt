@@ -1,15 +1,16 @@
 //! An updater: it keeps items, hands them over a buffer at a time, asks, and may propagate itself.
 ghost use Rattle.sk_gate.specs.Slots.{telling};
-ghost use Rattle.sk_gate.specs.Views.{known_of, size_of, mine_of, after_split, copy_of, is_open};
-ghost use Rattle.sk_hub.specs.Calls.{Takes};
+ghost use Rattle.sk_gate.specs.Views.{known_of, size_of, after_split, copy_of, after_join, is_open};
+ghost use Rattle.sk_hub.specs.Calls.{Takes, IsBusyWith, StopsAt};
 ghost use Rattle.sk_hub.specs.Replies.{IsOwnReply};
 ghost use Rattle.sk_hub.specs.Rounds.{Sweeps, Refuses, IsElsewhere, KnowsAsMuch, TriesTheTurn};
 ghost use Rattle.sk_hub.specs.Updaters.{handed_of, base_of, kept_of, with_item, with_items, LooksInVain, Renews, HandsOver, Keeps, HandsWith, earlier_of, TellsItems, IsWholeUpdater};
 ghost use Rattle.sk_model.specs.Limits.{most_kept, most_size};
+ghost use Rattle.sk_model.specs.Missing.{Begins};
 ghost use Rattle.sk_model.specs.Width.{IsItem, AreItems};
 ghost use Rattle.std.specs.Bool.{OnTrue, OnFalse};
 ghost use Rattle.std.specs.List.{filter};
-ghost use Rattle.std.specs.Prelude.{◌≡◌, ◌≢◌, ◌↔◌, ◌⊎◌, ◌+◌, ◌<◌, ◌++◌, ◌∷◌, [], length, take, true, false, ◌≤◌, ◌&&◌, is_some, Some, ℕ, IsTrue};
+ghost use Rattle.std.specs.Prelude.{◌≡◌, ◌≢◌, ◌↔◌, ◌⊎◌, ◌+◌, ◌<◌, ◌++◌, ◌∷◌, [], length, take, slice_index, true, false, ◌≤◌, ◌&&◌, is_some, Some, ℕ, IsTrue};
 
 use crate::answers::{Flush, Help, Settle, Update};
 use crate::round::{Done, Stopped, propagate};
@@ -123,8 +124,7 @@ impl<C: Composable> Updater<C> {
         requires room { length (kept_of self.old) + length items.now ≤ most_kept }
         ensures within { result ≤ length items.now }
         ensures taken { Takes C.keeps_of C.hint_of self.old (take result items.now) self.new }
-        ensures full { result < length items.now → length self.new.fill ≡ self.new.size }
-        ensures busy { result < length items.now → (mine_of self.new.view).ready ≡ false }
+        ensures stops { result < length items.now → StopsAt C.keeps_of C.hint_of self.old (take result items.now) (slice_index items.now result) self.new }
     {
         let mut at = 0;
         'items: while at < items.len() {
@@ -144,8 +144,7 @@ impl<C: Composable> Updater<C> {
         requires room { length (kept_of self.old) + length items.now ≤ most_kept }
         ensures within { result ≤ length items.now }
         ensures taken { Takes C.keeps_of C.hint_of self.old (take result items.now) self.new }
-        ensures full { result ≡ 0 → length self.new.fill ≡ self.new.size }
-        ensures busy { result ≡ 0 → (mine_of self.new.view).ready ≡ false }
+        ensures busy { result ≡ 0 → IsBusyWith C.keeps_of self.old (slice_index items.now 0) self.new }
     {
         let count = self.count_before_due(items.len());
         if count == 0 {
@@ -181,8 +180,7 @@ impl<C: Composable> Updater<C> {
         ensures within { result ≤ 1 }
         ensures taken { result ≡ 1 → Takes C.keeps_of C.hint_of self.old (item ∷ []) self.new }
         ensures none { result ≡ 0 → Takes C.keeps_of C.hint_of self.old [] self.new }
-        ensures full { result ≡ 0 → length self.new.fill ≡ self.new.size }
-        ensures busy { result ≡ 0 → (mine_of self.new.view).ready ≡ false }
+        ensures busy { result ≡ 0 → IsBusyWith C.keeps_of self.old item self.new }
     {
         // It shows the proof which list the hint is of.
         let _hint = self.hint();
@@ -359,6 +357,20 @@ impl<C: Composable> Updater<C> {
         Note {
             seat: self.seat.split(),
         }
+    }
+
+    /// Knows from now on what the note knows too, and sees the published list once more.
+    pub fn meet(&mut self, note: Note<C>)
+        requires table { note.table ≡ self.old.table }
+        ensures reply { (word : ℕ) × IsOwnReply C.packed_of (record self.old { view = after_join self.old.view note.view }) word self.new }
+        ensures seen { Begins self.old.view.seen self.new.view.seen }
+        ensures heard { Begins note.view.seen self.new.view.seen }
+        ensures sized { length self.new.view.sizes ≡ length self.old.view.sizes }
+    {
+        let Note { seat: other } = note;
+        let seat = &mut self.seat;
+        seat.join(other);
+        seat.ask();
     }
 
     /// Serves each updater once, unless another seat propagates. It waits in a merge only. A batch that is

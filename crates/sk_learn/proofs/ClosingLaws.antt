@@ -166,6 +166,9 @@ stopped_early o h h1 h2 all us us' taken r r1 r2 before now is t count gives sam
   comes = gives.gives.back;
   takes = subst (TakesInAll h taken r h2) (sym same) (still_in h h1 h2 taken gives.first gives.back r r1 t gives.gives);
   count = count;
+  between = h1;
+  took = subst (TakesInAll h taken r h1) (sym same) t;
+  vain = gives.gives.vain;
 })
 
 -- ---- the end

@@ -3,7 +3,7 @@ use Rattle.std.specs.Prelude.{◌≡◌, ◌≢◌, ℕ, ◌+◌, ◌-◌, ◌^�
 use Rattle.std.specs.List.{AllPairs, sum_by}
 use Rattle.sk_model.specs.Entries.{Entry, entries_by}
 use Rattle.sk_model.specs.Missing.{Begins}
-use Rattle.sk_hub.specs.Drains.{IsDrained, HasTakenIn, ComesBack}
+use Rattle.sk_hub.specs.Drains.{IsDrained, HasTakenIn, ComesBack, TriesInVain}
 use Rattle.sk_hub.specs.Hearts.{HeartState}
 use Rattle.sk_hub.specs.Rounds.{KnowsAsMuch}
 use Rattle.sk_hub.specs.Updaters.{UpdaterState, kept_of}
@@ -36,9 +36,10 @@ pub record TakesIn (h : HeartState) (u : UpdaterState) (r : Learnt) (h' : HeartS
   pub goes : ReaderGoesOn r s
   pub learnt : Begins (kept_of u) (entries_by u.number (entries_in s.known))
 
--- it ran out of memory, and gave the updater back
+-- it ran out of memory at a batch, which is held, and gave the updater back
 pub record GivesBack (h : HeartState) (u : UpdaterState) (h' : HeartState) (u' : UpdaterState) : Type 0 where
   pub back : ComesBack u u'
+  pub vain : TriesInVain u.number h.view h'.view
   pub knows : KnowsAsMuch h.view h'.view
   pub stays : h' ≡ record h { view = h'.view }
 
@@ -69,7 +70,8 @@ pub record TakesInAll (h : HeartState) (us : List UpdaterState) (r : Learnt) (h'
   pub goes : ReaderGoesOn r s
   pub learnt : All (λ u. Begins (kept_of u) (entries_by u.number (entries_in s.known))) us
 
--- it ran out of memory: the first of them were taken in, and counted; the next one came back, and is left with the rest
+-- it ran out of memory: the first of them were taken in, and counted; then a batch was refused, which is held, and the
+-- next one came back, and is left with the rest
 pub record StopsEarly (h : HeartState) (us : List UpdaterState) (r : Learnt) (before : ℕ) (h' : HeartState) (us' : List UpdaterState) (s : Learnt) (now : ℕ) : Type 0 where
   pub taken : List UpdaterState
   pub next : UpdaterState
@@ -80,6 +82,10 @@ pub record StopsEarly (h : HeartState) (us : List UpdaterState) (r : Learnt) (be
   pub comes : ComesBack next back
   pub takes : TakesInAll h taken r h' s
   pub count : now ≡ counted before taken
+  -- before that batch
+  pub between : HeartState
+  pub took : TakesInAll h taken r between s
+  pub vain : TriesInVain next.number between.view h'.view
 
 -- ---- the end
 

@@ -30,13 +30,13 @@ plan_same p q same =
 
 -- ---- before the first line
 
-nothing_read : (rules : Rules) (most : ℕ) (left w : Option (List ℕ)) → EndsBefore rules most (setting left w) (setting left w) fault.OutOfMemory
-nothing_read rules most left w = ⊎_elim (λ off. off) (λ stops. absurd stops.1.known)
-    (nothing_came (WroteSoFar rules w w) (λ why given unit. ⊥) most left (wrote_nothing rules w))
+nothing_read : (last : ℕ) (rules : Rules) (most : ℕ) (left w : Option (List ℕ)) → EndsBefore rules last most (setting left w) (setting left w) fault.OutOfMemory
+nothing_read last rules most left w = ⊎_elim (λ off. off) (λ stops. absurd stops.1.known)
+    (nothing_came (WroteSoFar rules w w) (λ why given unit. ⊥) most last left (wrote_nothing rules w))
 
-pub ends_at_start : {T : Type 0} (rules : Rules) (most : ℕ) (left w : Option (List ℕ)) (r : Result T LabelFault) → IsErrAnd r (λ e. e ≡ fault.OutOfMemory) → Goes rules most (setting left w) (setting left w) r
-ends_at_start rules most left w (Ok x) is = absurd is
-ends_at_start rules most left w (Err e) is = subst (EndsAt rules most (setting left w) (setting left w)) (sym is) (inl (nothing_read rules most left w))
+pub ends_at_start : {T : Type 0} (last : ℕ) (rules : Rules) (most : ℕ) (left w : Option (List ℕ)) (r : Result T LabelFault) → IsErrAnd r (λ e. e ≡ fault.OutOfMemory) → Goes rules last most (setting left w) (setting left w) r
+ends_at_start {T} last rules most left w (Ok x) is = absurd is
+ends_at_start {T} last rules most left w (Err e) is = subst (EndsAt rules last most (setting left w) (setting left w)) (sym is) (inl (nothing_read last rules most left w))
 
 -- ---- after the last line
 
@@ -48,10 +48,10 @@ module _ (plan : Plan) (most : ℕ) (left left' w w' w'' : Option (List ℕ)) (W
   text_is : (lines : List (List ℕ)) → Went lines → reply_text plan.k pane ≡ (pane_rules plan).due_last lines
   text_is lines went = reply_is_line plan lines pane (last lines went)
 
-  pub goes_at_end : {T : Type 0} (r : Result T LabelFault) → OnOk r (Appends w' w'' (reply_text plan.k pane)) → OnErr r (AppendsPart w' w'' (reply_text plan.k pane)) → IfErr r (λ f. f ≡ fault.WriteFault)
-      → Goes (pane_rules plan) most (setting left w) (setting left' w'') r
-  goes_at_end (Ok x) wrote part only = reads_so most (λ lines. WroteSoFar (pane_rules plan) w w' lines × Went lines) (WroteAll (pane_rules plan) w w'') left left'
+  pub goes_at_end : {T : Type 0} (at : ℕ) (r : Result T LabelFault) → OnOk r (Appends w' w'' (reply_text plan.k pane)) → OnErr r (AppendsPart w' w'' (reply_text plan.k pane)) → IfErr r (λ f. f ≡ fault.WriteFault)
+      → Goes (pane_rules plan) at most (setting left w) (setting left' w'') r
+  goes_at_end {T} at (Ok x) wrote part only = reads_so most (λ lines. WroteSoFar (pane_rules plan) w w' lines × Went lines) (WroteAll (pane_rules plan) w w'') left left'
       (λ lines so. wrote_last (pane_rules plan) w w' w'' lines so.0 (subst (Appends w' w'') (text_is lines so.1) wrote)) read
-  goes_at_end (Err e) wrote part only = subst (EndsAt (pane_rules plan) most (setting left w) (setting left' w'')) (sym only)
+  goes_at_end {T} at (Err e) wrote part only = subst (EndsAt (pane_rules plan) at most (setting left w) (setting left' w'')) (sym only)
       (inr (reads_so most (λ lines. WroteSoFar (pane_rules plan) w w' lines × Went lines) (WrotePartLast (pane_rules plan) w w'') left left'
       (λ lines so. wrote_part_last (pane_rules plan) w w' w'' lines so.0 (subst (AppendsPart w' w'') (text_is lines so.1) part)) read))

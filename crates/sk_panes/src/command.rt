@@ -1,5 +1,5 @@
 // The command over intervals.
-ghost use Rattle.std.specs.Prelude.{◌≡◌, ◌≢◌, ◌≤◌, [], ℕ, List, true, OnOk, OnErr, IfErr};
+ghost use Rattle.std.specs.Prelude.{◌≡◌, ◌≤◌, [], ℕ, List, OnOk, OnErr, IfErr};
 ghost use Rattle.std.specs.Io.KnownBytes.{Appends};
 ghost use Rattle.sk_model.specs.Causes.{AppendsPart, HasCauseIn};
 ghost use Rattle.sk_model.specs.Limits.{source_limit, least_k, most_k, IsFrom};
@@ -30,8 +30,7 @@ pub fn window<S: Source, O: Sink, R: Wait>(
 ) -> Result<(), LabelFault>
     requires within { IsWithin plan.now }
     requires bound { most ≤ source_limit }
-    ensures goes { Goes (pane_rules plan.now) most (setting (S.left source.old) (O.written out.old)) (setting (S.left source.new) (O.written out.new)) result }
-    ensures quiet { (pane_rules plan.now).writes_last ≡ true → IfErr result (λ fault. fault ≢ LabelFault.WriteFault → out.new ≡ out.old) }
+    ensures goes { Goes (pane_rules plan.now) (S.last source.new) most (setting (S.left source.old) (O.written out.old)) (setting (S.left source.new) (O.written out.new)) result }
     ensures reads { HasCauseIn LabelFault.ReadFault (S.faults source.old) (S.faults source.new) result }
     ensures writes { HasCauseIn LabelFault.WriteFault (O.faults out.old) (O.faults out.new) result }
     ensures stays { S.stands_on source.new ≡ S.stands_on source.old }
@@ -52,7 +51,7 @@ fn read_lines<S: Source, O: Sink, R: Wait>(
 ) -> Result<u64, LabelFault>
     requires bound { most ≤ source_limit }
     requires start { StandsAfter running.old.plan [] running.old.panes running.old.updaters.items running.old.candidates running.old.label }
-    ensures read { ReadsTaken (pane_rules running.old.plan) most (λ lines. StandsAfter running.old.plan lines running.new.panes running.new.updaters.items running.new.candidates running.new.label)
+    ensures read { ReadsTaken (pane_rules running.old.plan) (S.last source.new) most (λ lines. StandsAfter running.old.plan lines running.new.panes running.new.updaters.items running.new.candidates running.new.label)
         (setting (S.left source.old) (O.written out.old)) (setting (S.left source.new) (O.written out.new)) result }
     ensures plan { running.new.plan ≡ running.old.plan }
     ensures reads { HasCauseIn LabelFault.ReadFault (S.faults source.old) (S.faults source.new) result }
@@ -72,7 +71,7 @@ fn take_lines<S: Source, O: Sink, R: Wait>(
 ) -> Result<u64, LabelFault>
     requires bound { most ≤ source_limit }
     requires start { StandsAfter taker.old.running.now.plan [] taker.old.running.now.panes taker.old.running.now.updaters.items taker.old.running.now.candidates taker.old.running.now.label }
-    ensures read { ReadsTaken (pane_rules taker.old.running.now.plan) most (λ lines. StandsAfter taker.old.running.now.plan lines taker.new.running.now.panes taker.new.running.now.updaters.items taker.new.running.now.candidates taker.new.running.now.label)
+    ensures read { ReadsTaken (pane_rules taker.old.running.now.plan) (S.last source.new) most (λ lines. StandsAfter taker.old.running.now.plan lines taker.new.running.now.panes taker.new.running.now.updaters.items taker.new.running.now.candidates taker.new.running.now.label)
         (setting (S.left source.old) (O.written taker.old.out.now)) (setting (S.left source.new) (O.written taker.new.out.now)) result }
     ensures plan { taker.new.running.now.plan ≡ taker.old.running.now.plan }
     ensures reads { HasCauseIn LabelFault.ReadFault (S.faults source.old) (S.faults source.new) result }

@@ -103,10 +103,10 @@ module _ {R : Type 0} (plan : Plan) (none : plan.window ≡ None) (most : ℕ) (
   stopped left left' w (fault.LongLine n) units unit t = absurd t
   stopped left left' w (fault.BadCsv n) units unit t = absurd t
 
-  pub ended_early : (left left' w : Option (List ℕ)) (f : Fault) → EndsEarly terms (units_by plan.column) left left' a r s f → EndsAt (tally_manner plan) most (setting left w) (setting left' w) f
-  ended_early left left' w f (inl ends) =
-      inl (ends_so (units_by plan.column) most (GoesSoFar terms a r s) (TellsSoFar (tally_manner plan) (setting left w) (setting left' w)) (StopsAtUnit terms a r s) (StopsFor (tally_manner plan) (setting left w) (setting left' w)) (so_far left left' w) (stopped left left' w) left left' f ends)
-  ended_early left left' w f (inr (is, (n, reads))) =
+  pub ended_early : (last : ℕ) (left left' w : Option (List ℕ)) (f : Fault) → EndsEarly terms last (units_by plan.column) left left' a r s f → EndsAt (tally_manner plan) last most (setting left w) (setting left' w) f
+  ended_early last left left' w f (inl ends) =
+      inl (ends_so (units_by plan.column) most (GoesSoFar terms a r s) (TellsSoFar (tally_manner plan) (setting left w) (setting left' w)) (StopsAtUnit terms a r s) (StopsFor (tally_manner plan) (setting left w) (setting left' w)) (so_far left left' w) (stopped left left' w) last left left' f ends)
+  ended_early last left left' w f (inr (is, (n, reads))) =
       inr (subst (EndsAfter (tally_manner plan) most (setting left w) (setting left' w)) (sym is)
       (n, all_so (units_by plan.column) most (GoesSoFar terms a r s) (TellsSoFar (tally_manner plan) (setting left w) (setting left' w)) (StopsAtUnit terms a r s) (StopsFor (tally_manner plan) (setting left w) (setting left' w)) (so_far left left' w) (stopped left left' w) n left left' reads))
 
@@ -134,8 +134,8 @@ module _ {R : Type 0} (plan : Plan) (none : plan.window ≡ None) (most : ℕ) (
       (n, all_so (units_by plan.column) most (λ units. Ingests terms units a r b s) (FedWhole plan a b) (λ f units unit. ⊥) (λ f units unit. ⊥) (all_fed size opened b) (λ f units unit no. no) n left left' reads)
 
   module _ (intake : Intake) (is : intake ≡ tally_intake plan most) where
-    pub ended_by_intake : (left left' w : Option (List ℕ)) (f : Fault) → EndsEarly (terms_of keeps hint_of reports breaks intake) (units_by intake.column) left left' a r s f → EndsAt (tally_manner plan) most (setting left w) (setting left' w) f
-    ended_by_intake left left' w f early = ended_early left left' w f (subst (λ (i : Intake). EndsEarly (terms_of keeps hint_of reports breaks i) (units_by i.column) left left' a r s f) is early)
+    pub ended_by_intake : (last : ℕ) (left left' w : Option (List ℕ)) (f : Fault) → EndsEarly (terms_of keeps hint_of reports breaks intake) last (units_by intake.column) left left' a r s f → EndsAt (tally_manner plan) last most (setting left w) (setting left' w) f
+    ended_by_intake last left left' w f early = ended_early _ left left' w f (subst (λ (i : Intake). EndsEarly (terms_of keeps hint_of reports breaks i) last (units_by i.column) left left' a r s f) is early)
 
     pub fed_by_intake : (size : ℕ) → IsOpened plan.updaters size a → (left left' : Option (List ℕ)) (n : ℕ) (b : Hub) → ReadsAll (units_by intake.column) intake.most n (λ units. Ingests (terms_of keeps hint_of reports breaks intake) units a r b s) left left' → ReadsUnits plan.column most (FedWhole plan a b) left left'
     fed_by_intake size opened left left' n b reads = fed_whole size opened left left' n b (subst (λ (i : Intake). ReadsAll (units_by i.column) i.most n (λ units. Ingests (terms_of keeps hint_of reports breaks i) units a r b s) left left') is reads)
@@ -196,19 +196,19 @@ module _ (plan : Plan) (some : 0 < plan.updaters) (a b : Hub) (numbers : a.heart
 
 -- ---- how it ends
 
-pub ended_with : (plan : Plan) (most : ℕ) (old new : Setting) (r : Result (Unit {0}) Fault) (f : Fault) → IsErrAnd r (λ e. e ≡ f) → EndsAt (tally_manner plan) most old new f → Tallies plan most old new r
-ended_with plan most old new (Ok x) f is ends = absurd is
-ended_with plan most old new (Err e) f is ends = subst (EndsAt (tally_manner plan) most old new) (sym is) ends
+pub ended_with : (last : ℕ) (plan : Plan) (most : ℕ) (old new : Setting) (r : Result (Unit {0}) Fault) (f : Fault) → IsErrAnd r (λ e. e ≡ f) → EndsAt (tally_manner plan) last most old new f → Tallies plan last most old new r
+ended_with last plan most old new (Ok x) f is ends = absurd is
+ended_with last plan most old new (Err e) f is ends = subst (EndsAt (tally_manner plan) last most old new) (sym is) ends
 
 -- memory ran out once all was read
-pub out_of_memory : (plan : Plan) (most : ℕ) (a b : Hub) (left left' w : Option (List ℕ)) → ReadsUnits plan.column most (FedWhole plan a b) left left' → EndsAt (tally_manner plan) most (setting left w) (setting left' w) fault.OutOfMemory
-out_of_memory plan most a b left left' w reads = inr (reads_so plan.column most (FedWhole plan a b) (TellsSoFar (tally_manner plan) (setting left w) (setting left' w)) left left' (λ units fed. ran_out plan a b units fed left left' w) reads)
+pub out_of_memory : (last : ℕ) (plan : Plan) (most : ℕ) (a b : Hub) (left left' w : Option (List ℕ)) → ReadsUnits plan.column most (FedWhole plan a b) left left' → EndsAt (tally_manner plan) last most (setting left w) (setting left' w) fault.OutOfMemory
+out_of_memory last plan most a b left left' w reads = inr (reads_so plan.column most (FedWhole plan a b) (TellsSoFar (tally_manner plan) (setting left w) (setting left' w)) left left' (λ units fed. ran_out plan a b units fed left left' w) reads)
 
 -- the line was written, or a part of it
-pub went : (plan : Plan) (some : 0 < plan.updaters) (most : ℕ) (a b : Hub) (numbers : a.heart.view.numbers ≡ item_numbers plan.rows plan.width plan.item) (n least : ℕ) (is : TalliesHub b n least) (left left' w w' : Option (List ℕ)) → ReadsUnits plan.column most (FedWhole plan a b) left left'
-    → (r : Result (Unit {0}) Fault) → OnOk r (Appends w w' (count_line n least)) → OnErr r (AppendsPart w w' (count_line n least)) → IfErr r (λ f. f ≡ fault.WriteFault) → Tallies plan most (setting left w) (setting left' w') r
-went plan some most a b numbers n least is left left' w w' reads (Ok x) ok part only =
+pub went : (last : ℕ) (plan : Plan) (some : 0 < plan.updaters) (most : ℕ) (a b : Hub) (numbers : a.heart.view.numbers ≡ item_numbers plan.rows plan.width plan.item) (n least : ℕ) (is : TalliesHub b n least) (left left' w w' : Option (List ℕ)) → ReadsUnits plan.column most (FedWhole plan a b) left left'
+    → (r : Result (Unit {0}) Fault) → OnOk r (Appends w w' (count_line n least)) → OnErr r (AppendsPart w w' (count_line n least)) → IfErr r (λ f. f ≡ fault.WriteFault) → Tallies plan last most (setting left w) (setting left' w') r
+went last plan some most a b numbers n least is left left' w w' reads (Ok x) ok part only =
     reads_so plan.column most (FedWhole plan a b) (WritesTally plan (setting left w) (setting left' w')) left left' (λ units fed. wrote plan some a b numbers n least is units fed left left' w w' ok) reads
-went plan some most a b numbers n least is left left' w w' reads (Err f) ok part only =
-    subst (EndsAt (tally_manner plan) most (setting left w) (setting left' w')) (sym only)
+went last plan some most a b numbers n least is left left' w w' reads (Err f) ok part only =
+    subst (EndsAt (tally_manner plan) last most (setting left w) (setting left' w')) (sym only)
     (inr (reads_so plan.column most (FedWhole plan a b) (TellsPartOfAll (tally_manner plan) (setting left w) (setting left' w')) left left' (λ units fed. broke_off plan some a b numbers n least is units fed left left' w w' part) reads))

@@ -29,8 +29,8 @@ pub record WritesTally (plan : Plan) (old new : Setting) (lines : List (List ℕ
   pub written : Appends old.written new.written text
   pub tallies : TalliesAll plan lines text
 
--- how a tally went
-abbrev pub Tallies : Plan → ℕ → Setting → Setting → Result (Unit {0}) Fault → Type 0
-Tallies plan most old new result = MatchResult result
+-- how a tally went over a source whose last read gave this many bytes
+abbrev pub Tallies : Plan → ℕ → ℕ → Setting → Setting → Result (Unit {0}) Fault → Type 0
+Tallies plan last most old new result = MatchResult result
     (λ _. ReadsUnits plan.column most (WritesTally plan old new) old.left new.left)
-    (λ fault. EndsAt (tally_manner plan) most old new fault)
+    (λ fault. EndsAt (tally_manner plan) last most old new fault)

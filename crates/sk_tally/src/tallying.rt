@@ -30,7 +30,7 @@ pub fn tally<S: Source, O: Sink, R: Threads + Wait + Sync>(
 ) -> Result<(), Fault>
     requires within { IsWithin plan.now }
     requires bound { most ≤ source_limit }
-    ensures tallies { Tallies plan.now most (setting (S.left source.old) (O.written out.old)) (setting (S.left source.new) (O.written out.new)) result }
+    ensures tallies { Tallies plan.now (S.last source.new) most (setting (S.left source.old) (O.written out.old)) (setting (S.left source.new) (O.written out.new)) result }
     ensures quiet { plan.now.window ≡ None → IfErr result (λ fault. fault ≢ Fault.WriteFault → out.new ≡ out.old) }
     ensures reads { HasCauseIn Fault.ReadFault (S.faults source.old) (S.faults source.new) result }
     ensures writes { HasCauseIn Fault.WriteFault (O.faults out.old) (O.faults out.new) result }

@@ -66,7 +66,7 @@ pub(crate) fn tally_whole<S: Source, O: Sink, R: Threads + Wait + Sync>(
     requires within { IsWithin plan.now }
     requires bound { most ≤ source_limit }
     requires unasked { plan.now.window ≡ None }
-    ensures tallies { Tallies plan.now most (setting (S.left source.old) (O.written out.old)) (setting (S.left source.new) (O.written out.new)) result }
+    ensures tallies { Tallies plan.now (S.last source.new) most (setting (S.left source.old) (O.written out.old)) (setting (S.left source.new) (O.written out.new)) result }
     ensures quiet { IfErr result (λ fault. fault ≢ Fault.WriteFault → out.new ≡ out.old) }
     ensures reads { HasCauseIn Fault.ReadFault (S.faults source.old) (S.faults source.new) result }
     ensures writes { HasCauseIn Fault.WriteFault (O.faults out.old) (O.faults out.new) result }
@@ -113,7 +113,7 @@ fn feed<S: Source, R: Threads + Wait + Sync>(
     requires opened { IsOpened plan.now.updaters (buffer_size_by None plan.now.size) (hub_of opened.old) }
     ensures fed { IfOk result (λ _. ReadsUnits plan.now.column most (FedWhole plan.now (hub_of opened.old) (hub_of opened.new)) (S.left source.old) (S.left source.new)) }
     ensures early { IfErr result (λ fault. (written : Option (List ℕ))
-        → EndsAt (tally_manner plan.now) most (setting (S.left source.old) written) (setting (S.left source.new) written) fault) }
+        → EndsAt (tally_manner plan.now) (S.last source.new) most (setting (S.left source.old) written) (setting (S.left source.new) written) fault) }
     ensures reads { HasCauseIn Fault.ReadFault (S.faults source.old) (S.faults source.new) result }
     ensures silent { IfErr result (λ fault. fault ≢ Fault.WriteFault) }
     ensures stays { S.stands_on source.new ≡ S.stands_on source.old }

@@ -139,7 +139,7 @@ lacks_two handed fill ys last size begins few filled =
 
 -- ---- a window that was fed
 
-pub stands_fed : {A Q : Type 0} (k : Basis A Q) (before : List (List (List ℕ))) (last : List Entry) (lines : List (List ℕ)) (a x : Hub) (r : Showing Q) → StandsBy k before last a r → FeedsWindow k.keeps k.hint_of k.telling.kind lines a x → StandsBy k (before ++ lines ∷ []) last x r
+pub stands_fed : {A Q : Type 0} (k : Basis A Q) (before : List (List (List ℕ))) (last : List Entry) (lines : List (List ℕ)) (a x : Hub) (r : Showing Q) → StandsBy k before last a r → FeedsWindow k.telling.propagator k.keeps k.hint_of k.telling.kind lines a x → StandsBy k (before ++ lines ∷ []) last x r
 stands_fed k before last lines a x r stands fed = record {
   count = fed.updaters.count ∙ stands.count;
   took = λ i d within. let within' : i < length a.updaters = omega (arith, fed.updaters.count) in
@@ -208,7 +208,7 @@ passes_none k all before last a r b s is same_hub same_report stands = record {
 
 -- one window was fed and reported, and then others
 module _ {A Q : Type 0} (k : Basis A Q) (before : List (List (List ℕ))) (count : ℕ) (last : List Entry) (lines : List (List ℕ)) (a x y : Hub) (r p : Showing Q) (is : count ≡ length (all_lines before))
-    (stands : StandsBy k before last a r) (fed : FeedsWindow k.keeps k.hint_of k.telling.kind lines a x) where
+    (stands : StandsBy k before last a r) (fed : FeedsWindow k.telling.propagator k.keeps k.hint_of k.telling.kind lines a x) where
   at_x : StandsBy k (before ++ lines ∷ []) last x r
   at_x = stands_fed k before last lines a x r stands fed
 
@@ -289,12 +289,12 @@ module _ {A Q R : Type 0} (k : Basis A Q) (shown : R → Showing Q) (most : ℕ)
 
   -- the last of these windows was fed, and its report stopped by a failed write
   pub broke : (windows before : List (List (List ℕ))) (count : ℕ) (last : List Entry) (lines : List (List ℕ)) (a : Hub) (r : R) (b : Hub) (p : R) (x y : Hub) (s : R) → count ≡ length (all_lines before) → StandsBy k before last a (shown r)
-      → Reported (terms_with true) count windows a r b p → FeedsWindow k.keeps k.hint_of k.telling.kind lines b x → Breaks k.line k.lower k.upper (shown p) (length (all_lines (before ++ (windows ++ lines ∷ [])))) x y (shown s)
+      → Reported (terms_with true) count windows a r b p → FeedsWindow k.telling.propagator k.keeps k.hint_of k.telling.kind lines b x → Breaks k.line k.lower k.upper (shown p) (length (all_lines (before ++ (windows ++ lines ∷ [])))) x y (shown s)
       → (earlier : List Moment) × (m : Moment) × MomentsFrom (manner_of k) before last (windows ++ lines ∷ []) (earlier ++ m ∷ [])
       × AppendsPartAfter (interim_text (manner_of k) earlier) (shown r).written (shown s).written (interim_text (manner_of k) (earlier ++ m ∷ []))
   unfolding Reported MomentsFrom interim_text
   broke [] before count last lines a r b p x y s is stands done fed breaks =
-      let feeds : FeedsWindow k.keeps k.hint_of k.telling.kind lines a x = subst (λ z. FeedsWindow k.keeps k.hint_of k.telling.kind lines z x) done.0 fed in
+      let feeds : FeedsWindow k.telling.propagator k.keeps k.hint_of k.telling.kind lines a x = subst (λ z. FeedsWindow k.telling.propagator k.keeps k.hint_of k.telling.kind lines z x) done.0 fed in
       let at = stands_fed k before last lines a x (shown r) stands feeds in
       let counted_as : length (all_lines (before ++ lines ∷ [])) ≡ count + length lines = omega (arith, is, length-append (all_lines before) lines, ap length (all_lines_more before lines)) in
       let breaks_r : Breaks k.line k.lower k.upper (shown r) (count + length lines) x y (shown s) = subst (λ z. Breaks k.line k.lower k.upper (shown z) (count + length lines) x y (shown s)) done.1 (subst (λ n. Breaks k.line k.lower k.upper (shown p) n x y (shown s)) counted_as breaks) in

@@ -115,11 +115,11 @@ module _ {A Q R : Type 0} (k : Basis A Q) (r s : R) (shown : R → Showing Q) (m
   stopped (fault.BadCsv n) units unit t = absurd t
 
   module _ (plan : Intake) (is : plan ≡ intake_by k.telling most) where
-    pub ended_early : (f : Fault) → EndsEarly (terms_at k shown plan) (units_by plan.column) left left' a r s f → EndsAt manner most old new_one f
-    ended_early f early = by_cases (subst (λ i. EndsEarly (terms_at k shown i) (units_by i.column) left left' a r s f) is early)
+    pub ended_early : (last : ℕ) (f : Fault) → EndsEarly (terms_at k shown plan) last (units_by plan.column) left left' a r s f → EndsAt manner last most old new_one f
+    ended_early last f early = by_cases (subst (λ i. EndsEarly (terms_at k shown i) last (units_by i.column) left left' a r s f) is early)
       where
-        by_cases : EndsEarly (terms_at k shown intake) (units_by k.telling.column) left left' a r s f → EndsAt manner most old new_one f
-        by_cases (inl ends) = inl (ends_so (units_by k.telling.column) most _ _ _ _ so_far stopped left left' f ends)
+        by_cases : EndsEarly (terms_at k shown intake) last (units_by k.telling.column) left left' a r s f → EndsAt manner last most old new_one f
+        by_cases (inl ends) = inl (ends_so (units_by k.telling.column) most _ _ _ _ so_far stopped _ left left' f ends)
         by_cases (inr (none, (n, reads))) = inr (subst (EndsAfter manner most old new_one) (sym none) (n, all_so (units_by k.telling.column) most _ _ _ _ so_far stopped n left left' reads))
 
     all_fed : (b : Hub) (units : List (List ℕ)) → Ingests (terms_at k shown intake) units a r b s → Fed manner (shown r).written (shown s).written b (shown s).reader units
@@ -151,7 +151,7 @@ module _ {A Q R : Type 0} (k : Basis A Q) (r s : R) (shown : R → Showing Q) (m
 pub quiet_whole : {A Q R : Type 0} (k : Basis A Q) (r s : R) (shown : R → Showing Q) (a : Hub) (left left' : Option (List ℕ)) (intake : Intake) → intake.interim ≡ false → (n : ℕ) (b : Hub)
     → ReadsAll (units_by intake.column) intake.most n (λ units. Ingests (terms_at k shown intake) units a r b s) left left' → s ≡ r
 quiet_whole k r s shown a left left' intake silent n b reads =
-    quiet_early (terms_at k shown intake) silent r s (units_by intake.column) left left' a fault.OutOfMemory
+    quiet_early (terms_at k shown intake) silent r s 0 (units_by intake.column) left left' a fault.OutOfMemory
     (inr (refl, (n, all_so (units_by intake.column) intake.most (λ units. Ingests (terms_at k shown intake) units a r b s) (GoesSoFar (terms_at k shown intake) a r s) (λ f units unit. ⊥) (λ f units unit. ⊥) (λ units i. (i.rest, i.between, i.goes)) (λ f units unit no. no) n left left' reads)))
 
 -- ---- before the first line
@@ -179,6 +179,6 @@ nothing_told manner left w within = record {
   written = Appends-nil w;
 }
 
-pub nothing_read : (manner : Manner) (most : ℕ) (left w : Option (List ℕ)) → IsFrom 1 most_lines (lines_of_window manner) → EndsBefore manner most (setting left w) (setting left w) fault.OutOfMemory
-nothing_read manner most left w within =
-    nothing_came (TellsSoFar manner (setting left w) (setting left w)) (StopsFor manner (setting left w) (setting left w)) (units_by manner.column) most left (nothing_told manner left w within)
+pub nothing_read : (last : ℕ) (manner : Manner) (most : ℕ) (left w : Option (List ℕ)) → IsFrom 1 most_lines (lines_of_window manner) → EndsBefore manner last most (setting left w) (setting left w) fault.OutOfMemory
+nothing_read last manner most left w within =
+    nothing_came _ (TellsSoFar manner (setting left w) (setting left w)) (StopsFor manner (setting left w) (setting left w)) (units_by manner.column) most left (nothing_told manner left w within)

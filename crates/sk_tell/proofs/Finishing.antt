@@ -29,9 +29,9 @@ use Rattle.sk_tell.specs.Endings.{Setting, setting, ReadsUnits, TellsSoFar, Tell
 use Rattle.sk_tell.specs.Texts.{interim_text}
 use Rattle.sk_tell.proofs.Orders.{all_items}
 
-pub ended_by : (manner : Manner) (most : ℕ) (old new : Setting) (r : Result (HeartState × Learnt) Fault) (f : Fault) → IsErrAnd r (λ e. e ≡ f) → EndsAt manner most old new f → TellsOrEnds manner most old new r
-ended_by manner most old new (Ok x) f is ends = absurd is
-ended_by manner most old new (Err e) f is ends = subst (EndsAt manner most old new) (sym is) ends
+pub ended_by : (last : ℕ) (manner : Manner) (most : ℕ) (old new : Setting) (r : Result (HeartState × Learnt) Fault) (f : Fault) → IsErrAnd r (λ e. e ≡ f) → EndsAt manner last most old new f → TellsOrEnds manner last most old new r
+ended_by last manner most old new (Ok x) f is ends = absurd is
+ended_by last manner most old new (Err e) f is ends = subst (EndsAt manner last most old new) (sym is) ends
 
 pub reads_so : (column most : ℕ) (G G' : List (List ℕ) → Type 0) (old new : Option (List ℕ)) → ((units : List (List ℕ)) → G units → G' units) → ReadsUnits column most G old new → ReadsUnits column most G' old new
 reads_so column most G G' old new so (n, reads) = (n, all_so (units_by column) most G G' (λ f units unit. ⊥) (λ f units unit. ⊥) so (λ f units unit no. no) n old new reads)
@@ -125,13 +125,13 @@ module _ {A Q : Type 0} (numbers : List ℕ) (line : Q → List ℕ → List ℕ
   part h s f units fed =
       part_told manner left left' w w' w'' b reader s h units fed f.closes (line telling.query reader.numbers (items_in s.known)) (ap (λ n. line telling.query n (items_in s.known)) fed.numbers) (by_numbers s reader.numbers fed.numbers f.holds) f.written
 
-  stopped : (f : Fault) → StopsShort line lower upper telling.query b reader w' w'' f → ReadsUnits telling.column most (Fed manner w w' b reader) left left' → EndsAt manner most old new f
-  stopped fault.WriteFault (h, s, short) reads = inr (reads_so telling.column most (Fed manner w w' b reader) (TellsPartOfAll manner old new) left left' (part h s short) reads)
-  stopped fault.OutOfMemory same reads = inr (reads_so telling.column most (Fed manner w w' b reader) (TellsSoFar manner old new) left left'
+  stopped : (last : ℕ) (f : Fault) → StopsShort line lower upper telling.query b reader w' w'' f → ReadsUnits telling.column most (Fed manner w w' b reader) left left' → EndsAt manner last most old new f
+  stopped last fault.WriteFault (h, s, short) reads = inr (reads_so telling.column most (Fed manner w w' b reader) (TellsPartOfAll manner old new) left left' (part h s short) reads)
+  stopped last fault.OutOfMemory same reads = inr (reads_so telling.column most (Fed manner w w' b reader) (TellsSoFar manner old new) left left'
       (λ units fed. record { course = fed.course; written = subst (λ z. Appends w z (interim_text manner fed.course.moments)) (sym same) fed.written }) reads)
-  stopped f none reads = absurd none
+  stopped last f none reads = absurd none
 
-  pub went : (r : Result (HeartState × Learnt) Fault) → ReadsUnits telling.column most (Fed manner w w' b reader) left left'
-      → IfOk r (λ made. Finishes line lower upper telling.query b reader (Appends w' w'') made.0 made.1) → IfErr r (StopsShort line lower upper telling.query b reader w' w'') → TellsOrEnds manner most old new r
-  went (Ok made) reads finishes short = reads_so telling.column most (Fed manner w w' b reader) (TellsAll manner old new made.0 made.1) left left' (whole made.0 made.1 finishes) reads
-  went (Err f) reads finishes short = stopped f short reads
+  pub went : (last : ℕ) (r : Result (HeartState × Learnt) Fault) → ReadsUnits telling.column most (Fed manner w w' b reader) left left'
+      → IfOk r (λ made. Finishes line lower upper telling.query b reader (Appends w' w'') made.0 made.1) → IfErr r (StopsShort line lower upper telling.query b reader w' w'') → TellsOrEnds manner last most old new r
+  went last (Ok made) reads finishes short = reads_so telling.column most (Fed manner w w' b reader) (TellsAll manner old new made.0 made.1) left left' (whole made.0 made.1 finishes) reads
+  went last (Err f) reads finishes short = stopped _ f short reads

@@ -66,9 +66,9 @@ StopsFor manner old new WriteFault units unit = TellsPart manner old new (units 
 StopsFor manner old new OutOfMemory units unit = TellsSoFar manner old new units
 StopsFor manner old new other units unit = ⊥
 
--- if it ends before its source
-abbrev pub EndsBefore : Manner → ℕ → Setting → Setting → Fault → Type 0
-EndsBefore manner most old new fault = Ends (units_by manner.column) most (TellsSoFar manner old new) (StopsFor manner old new) old.left new.left fault
+-- if it ends before its source, whose last read gave this many bytes
+abbrev pub EndsBefore : Manner → ℕ → ℕ → Setting → Setting → Fault → Type 0
+EndsBefore manner last most old new fault = Ends last (units_by manner.column) most (TellsSoFar manner old new) (StopsFor manner old new) old.left new.left fault
 
 -- if it read all, and then ran out of memory, or failed to write
 abbrev pub EndsAfter : Manner → ℕ → Setting → Setting → Fault → Type 0
@@ -76,11 +76,11 @@ EndsAfter manner most old new WriteFault = ReadsUnits manner.column most (TellsP
 EndsAfter manner most old new OutOfMemory = ReadsUnits manner.column most (TellsSoFar manner old new) old.left new.left
 EndsAfter manner most old new other = ⊥
 
-abbrev pub EndsAt : Manner → ℕ → Setting → Setting → Fault → Type 0
-EndsAt manner most old new fault = EndsBefore manner most old new fault ⊎ EndsAfter manner most old new fault
+abbrev pub EndsAt : Manner → ℕ → ℕ → Setting → Setting → Fault → Type 0
+EndsAt manner last most old new fault = EndsBefore manner last most old new fault ⊎ EndsAfter manner most old new fault
 
--- how a telling went
-abbrev pub TellsOrEnds : Manner → ℕ → Setting → Setting → Result (HeartState × Learnt) Fault → Type 0
-TellsOrEnds manner most old new result = MatchResult result
+-- how a telling went over a source whose last read gave this many bytes
+abbrev pub TellsOrEnds : Manner → ℕ → ℕ → Setting → Setting → Result (HeartState × Learnt) Fault → Type 0
+TellsOrEnds manner last most old new result = MatchResult result
     (λ made. ReadsUnits manner.column most (TellsAll manner old new made.0 made.1) old.left new.left)
-    (λ fault. EndsAt manner most old new fault)
+    (λ fault. EndsAt manner last most old new fault)

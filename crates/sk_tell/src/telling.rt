@@ -69,7 +69,7 @@ where
     S::Prepared: Send + Sync,
     requires can { CanTell S.fits S.keeps_of telling.now }
     requires bound { most ≤ source_limit }
-    ensures tells { TellsOrEnds (manner_by (S.numbers (S.opened telling.now.setup)) Q.line Q.lower Q.upper telling.now) most
+    ensures tells { TellsOrEnds (manner_by (S.numbers (S.opened telling.now.setup)) Q.line Q.lower Q.upper telling.now) (I.last source.new) most
         (setting (I.left source.old) (O.written out.old)) (setting (I.left source.new) (O.written out.new)) result }
     ensures quiet { telling.now.window ≡ None → IfErr result (λ fault. fault ≢ Fault.WriteFault → out.new ≡ out.old) }
     ensures reads { HasCauseIn Fault.ReadFault (I.faults source.old) (I.faults source.new) result }
@@ -101,7 +101,7 @@ where
     S::Prepared: Send + Sync,
     requires can { CanTell S.fits S.keeps_of telling.now }
     requires bound { most ≤ source_limit }
-    ensures tells { TellsOrEnds (manner_by (S.numbers (S.opened telling.now.setup)) Q.line Q.lower Q.upper telling.now) most
+    ensures tells { TellsOrEnds (manner_by (S.numbers (S.opened telling.now.setup)) Q.line Q.lower Q.upper telling.now) (I.last source.new) most
         (setting (I.left source.old) (O.written out.old)) (setting (I.left source.new) (O.written out.new)) result }
     ensures quiet { telling.now.window ≡ None → IfErr result (λ fault. fault ≢ Fault.WriteFault → out.new ≡ out.old) }
     ensures reads { HasCauseIn Fault.ReadFault (I.faults source.old) (I.faults source.new) result }
@@ -154,7 +154,7 @@ where
     requires reader { IsNewReader (S.numbers (S.opened telling.now.setup)) opened.old.heart.view.name reader.old }
     ensures fed { IfOk result (λ _. ReadsUnits telling.now.column most (Fed (manner_by (S.numbers (S.opened telling.now.setup)) Q.line Q.lower Q.upper telling.now)
         (O.written out.old) (O.written out.new) (hub_of opened.new) reader.new) (I.left source.old) (I.left source.new)) }
-    ensures early { IfErr result (EndsAt (manner_by (S.numbers (S.opened telling.now.setup)) Q.line Q.lower Q.upper telling.now) most
+    ensures early { IfErr result (EndsAt (manner_by (S.numbers (S.opened telling.now.setup)) Q.line Q.lower Q.upper telling.now) (I.last source.new) most
         (setting (I.left source.old) (O.written out.old)) (setting (I.left source.new) (O.written out.new))) }
     ensures quiet { telling.now.window ≡ None → out.new ≡ out.old }
     ensures reads { HasCauseIn Fault.ReadFault (I.faults source.old) (I.faults source.new) result }
@@ -197,7 +197,7 @@ where
     requires query { report.old.query.now ≡ telling.now.query }
     ensures fed { IfOk result (λ _. ReadsUnits telling.now.column most (Fed (manner_by (S.numbers (S.opened telling.now.setup)) Q.line Q.lower Q.upper telling.now)
         (O.written report.old.out.now) (O.written report.new.out.now) (hub_of opened.new) report.new.reader.now) (I.left source.old) (I.left source.new)) }
-    ensures early { IfErr result (EndsAt (manner_by (S.numbers (S.opened telling.now.setup)) Q.line Q.lower Q.upper telling.now) most
+    ensures early { IfErr result (EndsAt (manner_by (S.numbers (S.opened telling.now.setup)) Q.line Q.lower Q.upper telling.now) (I.last source.new) most
         (setting (I.left source.old) (O.written report.old.out.now)) (setting (I.left source.new) (O.written report.new.out.now))) }
     ensures quiet { telling.now.window ≡ None → report.new ≡ report.old }
     ensures reads { HasCauseIn Fault.ReadFault (I.faults source.old) (I.faults source.new) result }

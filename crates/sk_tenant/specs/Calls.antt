@@ -8,10 +8,10 @@ use Rattle.sk_gate.specs.Views.{is_open}
 use Rattle.sk_hub.specs.declared.answers.Help.{Help}
 use Rattle.sk_hub.specs.declared.answers.Help.TheVariants.{Served, Elsewhere, OutOfMemory}
 use Rattle.sk_hub.specs.Updaters.{UpdaterState, kept_of}
-use Rattle.sk_hub.specs.Calls.{KeepsNone, Takes}
+use Rattle.sk_hub.specs.Calls.{KeepsNone, Takes, IsBusyWith}
 use Rattle.sk_hub.specs.Replies.{IsOwnReply}
 use Rattle.sk_hub.specs.Rounds.{Sweeps, IsElsewhere}
-use Rattle.sk_feed.specs.Calls.{Filter, filter_of, Accepts, Filters, IsBusyWith, InsistsAfter}
+use Rattle.sk_feed.specs.Calls.{Filter, filter_of, Accepts, Filters, InsistsAfter}
 use Rattle.sk_tenant.specs.declared.answers.Add.{Add}
 use Rattle.sk_tenant.specs.declared.answers.Add.TheVariants.{Kept, Filtered, Busy, Over}
 
@@ -87,7 +87,7 @@ pub record DropsItem (u : UpdaterState) (item : ℕ) (u' : UpdaterState) : Type 
 
 -- the fill buffer is full, and the last one is not published: it is not kept
 pub record RefusesItem (u : UpdaterState) (item : ℕ) (u' : UpdaterState) : Type 0 where
-  pub busy : IsBusyWith by_theta u item u'
+  pub busy : IsBusyWith theta_keeps u item u'
   pub none : KeepsNone u u'
 
 -- it was offered, with help at each refusal, until it was taken

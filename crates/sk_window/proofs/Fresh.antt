@@ -23,6 +23,7 @@ module _ (hint_of : List ℕ → List Entry → ℕ) (shape : Sizes) (numbers na
   fresh_hub heart ks count new same its none = record {
     count = count;
     apart = numbered_apart us (λ i d within. (new_at i d within).number_is);
+    eager = heart.eager_is;
     each = λ i d within. fresh i d within;
     name = heart.name_is ∙ same;
     numbers = its;
@@ -39,6 +40,7 @@ module _ (hint_of : List ℕ → List Entry → ℕ) (shape : Sizes) (numbers na
             table = it.table;
             kept = it.kept;
             size = it.size_is ∙ at_replicate shape.n i shape.b (omega (arith, within, count));
+            eager = it.eager ∙ heart.eager_is;
             sized = it.sized ∙ heart.updaters;
             name = it.name ∙ heart.name_is ∙ same;
             numbers = it.numbers ∙ heart.numbers_are ∙ ks;

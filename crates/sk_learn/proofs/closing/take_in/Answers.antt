@@ -9,7 +9,7 @@ use Rattle.sk_learn.proofs.closing.take_in.Goals.{in-Some, in_default}
 
 pub returns-in-OutOfMemory-clause-back : goal.returns-in-OutOfMemory-clause-back
 returns-in-OutOfMemory-clause-back g c =
-    let back = c.in-OutOfMemory.back in let is = c.in-OutOfMemory.is in record { back = c.drain.ensures.back back is; knows = c.drain.ensures.known back is; stays = c.drain.ensures.stays back is }
+    let back = c.in-OutOfMemory.back in let is = c.in-OutOfMemory.is in record { back = c.drain.ensures.back back is; vain = c.drain.ensures.refused back is; knows = c.drain.ensures.known back is; stays = c.drain.ensures.stays back is }
 
 pub told-requires-clause-drained : goal.told-requires-clause-drained
 told-requires-clause-drained g c = was_drained c.args.heart.now c.drain.new.self c.args.u c.number-number.result c.number-number.ensures.value (c.drain.ensures.drained c.in-Drained.is)

@@ -8,7 +8,7 @@ use Rattle.sk_panes.proofs.command.window.Goals as goal
 
 pub returns-in_err-running-clause-goes : goal.returns-in_err-running-clause-goes
 returns-in_err-running-clause-goes g c =
-    ends_at_start (pane_rules c.args.plan.now) c.args.most (g.S.Source.left c.args.source.now) (g.O.Sink.written c.args.out.now) c.from_residual.result c.from_residual.ensures.1
+    ends_at_start _ (pane_rules c.args.plan.now) c.args.most (g.S.Source.left c.args.source.now) (g.O.Sink.written c.args.out.now) c.from_residual.result c.from_residual.ensures.1
 
 pub returns-clause-goes : goal.returns-clause-goes
 returns-clause-goes g c =
@@ -27,5 +27,5 @@ returns-clause-goes g c =
     let last : (lines : List (List ℕ)) → StandsAfter plan lines t.panes t.updaters.items t.candidates t.label → IsLast plan lines c.in_ok-pane.pane =
     λ lines after. subst (λ (p : Plan). IsLast p lines c.in_ok-pane.pane) second
     (c.in_ok-pane.ensures.last lines (subst (λ (p : Plan). StandsAfter p lines t.panes t.updaters.items t.candidates t.label) (sym second) after)) in
-    goes_at_end plan c.args.most left left' w w' w'' (λ lines. StandsAfter plan lines t.panes t.updaters.items t.candidates t.label) c.in_ok-pane.pane last read c.write_last.result
+    goes_at_end plan c.args.most left left' w w' w'' (λ lines. StandsAfter plan lines t.panes t.updaters.items t.candidates t.label) c.in_ok-pane.pane last read _ c.write_last.result
     c.write_last.ensures.ok c.write_last.ensures.part c.write_last.ensures.fault

@@ -14,7 +14,7 @@ pub returns-in_err-ingest-clause-early : goal.returns-in_err-ingest-clause-early
 returns-in_err-ingest-clause-early g c =
     if_err_is c.from_residual.result c.in_err-ingest.field-0.0 _ c.from_residual.ensures.1
     (λ written. ended_by_intake c.args.plan.now c.requires.unasked c.args.most (λ hint item. true) (λ hint item. refl) (λ numbers list. 1) _ _ (hub_of c.args.opened.now) _ _ c.intake_of-intake.result c.intake_of-intake.ensures
-    (g.S.Source.left c.args.source.now) (g.S.Source.left c.ingest.new.source) written c.in_err-ingest.field-0.0 c.in_err-ingest.ensures.refused)
+    _ (g.S.Source.left c.args.source.now) (g.S.Source.left c.ingest.new.source) written c.in_err-ingest.field-0.0 c.in_err-ingest.ensures.refused)
 
 pub returns-in_err-ingest-clause-silent : goal.returns-in_err-ingest-clause-silent
 returns-in_err-ingest-clause-silent g c =

@@ -19,7 +19,7 @@ returns-in_err-ingest-clause-early g c =
     let k = basis_of s.keeps_of s.hint_of c.requires.can.keeps_all (s.numbers (s.opened telling.setup)) g.Q.Line.line g.Q.Line.lower g.Q.Line.upper telling in
     if_err_is c.from_residual.result c.in_err-ingest.field-0.0 _ c.from_residual.ensures.1
     (ended_early k c.args.report.now c.ingest.new.report (λ r. showing r.query.now r.reader.now (g.O.Sink.written r.out.now)) c.args.most (hub_of c.args.opened.now) c.requires.opened c.requires.reader c.requires.query
-    (g.I.Source.left c.args.source.now) (g.I.Source.left c.ingest.new.source) c.intake_of-intake.result c.intake_of-intake.ensures c.in_err-ingest.field-0.0 c.in_err-ingest.ensures.refused)
+    (g.I.Source.left c.args.source.now) (g.I.Source.left c.ingest.new.source) c.intake_of-intake.result c.intake_of-intake.ensures _ c.in_err-ingest.field-0.0 c.in_err-ingest.ensures.refused)
 
 pub returns-clause-fed : goal.returns-clause-fed
 returns-clause-fed g c =
@@ -31,7 +31,7 @@ returns-clause-fed g c =
 pub returns-in_err-ingest-clause-quiet : goal.returns-in_err-ingest-clause-quiet
 returns-in_err-ingest-clause-quiet g c = λ none.
     let silent : c.intake_of-intake.result.interim ≡ false = ap (λ (i : Intake). i.interim) c.intake_of-intake.ensures ∙ ap (λ (w : Option ℕ). is_some w) none in
-    quiet_early _ silent c.args.report.now c.ingest.new.report _ _ _ (hub_of c.args.opened.now) c.in_err-ingest.field-0.0 c.in_err-ingest.ensures.refused
+    quiet_early _ silent c.args.report.now c.ingest.new.report _ _ _ _ (hub_of c.args.opened.now) c.in_err-ingest.field-0.0 c.in_err-ingest.ensures.refused
 
 pub returns-clause-quiet : goal.returns-clause-quiet
 returns-clause-quiet g c = λ none.

@@ -1,11 +1,10 @@
-use Rattle.std.proofs.Common.{◌≡◌, ◌+◌, ◌≤◌, [], ◌∷◌, ◌++◌, ℕ, List, length, sym, ap, subst, ◌∙◌, arith}
+use Rattle.std.proofs.Common.{◌≡◌, [], ◌∷◌, ◌++◌, ℕ, List, length, sym, ap, subst, ◌∙◌, arith}
 use Rattle.sk_model.specs.Entries.{Entry, items_of_entries}
 use Rattle.sk_compose.proofs.Batches.{items_more}
 use Rattle.sk_snap.proofs.Versions.{as_many}
 use Rattle.sk_cms.specs.Counts.{Counts, IsCountOf}
 use Rattle.sk_cms.specs.ItemCounts.{ItemCounts, item_numbers}
-use Rattle.sk_cms.specs.Limits.{most_counted}
-use Rattle.sk_cms.specs.Tallies.{cms_numbers, put_all, put_all_is_of, same_numbers}
+use Rattle.sk_cms.specs.Tallies.{cms_numbers, same_numbers}
 use Rattle.sk_cms.proofs.item_count.ItemCountComposable.merge.Goals as goal
 
 pub update_all-requires : goal.update_all-requires
@@ -21,13 +20,9 @@ update_all-requires g c =
 
 pub returns-clause-lists : goal.returns-clause-lists
 returns-clause-lists g c = λ list is.
-    let inside = c.self.inside.sketch in let batch = c.items.result.now in
-    let there : IsCountOf inside (items_of_entries list) = subst (λ (s : ItemCounts). IsCountOf s.counts (items_of_entries list)) (sym c.self.view_is) is in
-    let few : length (items_of_entries list) + length batch ≤ most_counted =
-    omega (arith, is.count, c.requires.few.1.count, as_many c.requires.few.0, c.requires.few.2, ap length c.items.ensures.value) in
-    let all : IsCountOf c.update_all.new.self (items_of_entries list ++ batch) =
-    subst (λ (s : Counts). IsCountOf s (items_of_entries list ++ batch)) (sym c.update_all.ensures.left) (put_all_is_of inside (items_of_entries list) batch few there) in
-    subst (IsCountOf c.update_all.new.self) (ap (λ (l : List ℕ). items_of_entries list ++ l) c.items.ensures.value ∙ sym (items_more c.args._from list c.args.batch.now.items)) all
+    let there : IsCountOf c.self.inside.sketch (items_of_entries list) = subst (λ (s : ItemCounts). IsCountOf s.counts (items_of_entries list)) (sym c.self.view_is) is in
+    subst (IsCountOf c.update_all.new.self) (ap (λ (l : List ℕ). items_of_entries list ++ l) c.items.ensures.value ∙ sym (items_more c.args._from list c.args.batch.now.items))
+    (c.update_all.ensures.list (items_of_entries list) there)
 
 pub returns-clause-numbers : goal.returns-clause-numbers
 returns-clause-numbers g c =

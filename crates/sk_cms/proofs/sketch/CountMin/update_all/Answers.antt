@@ -1,9 +1,9 @@
-use Rattle.std.proofs.Common.{◌≡◌, ◌+◌, ◌*◌, ◌<◌, ◌≤◌, ℕ, List, length, flat_map, All, refl, sym, ap, subst, ◌∙◌, arith}
+use Rattle.std.proofs.Common.{◌≡◌, ◌+◌, ◌*◌, ◌<◌, ◌≤◌, ℕ, List, ◌++◌, length, flat_map, All, refl, sym, ap, subst, ◌∙◌, arith}
 use Rattle.std.specs.Vec.{with_items}
-use Rattle.sk_cms.specs.Counts.{Counts, joined, shown_by, IsWholeCounts}
+use Rattle.sk_cms.specs.Counts.{Counts, joined, shown_by, IsCountOf, IsWholeCounts}
 use Rattle.sk_cms.specs.Limits.{most_counted}
 use Rattle.sk_cms.specs.Places.{places_of, raised_once}
-use Rattle.sk_cms.specs.Tallies.{put_all}
+use Rattle.sk_cms.specs.Tallies.{put_all, put_all_is_of}
 use Rattle.sk_cms.proofs.Joined.{length-joined}
 use Rattle.sk_cms.proofs.Placing.{shown_all, whole_all}
 use Rattle.sk_cms.proofs.Updates.{came_back}
@@ -65,5 +65,15 @@ invariant_of-self c =
       sizes = omega (arith, ap length low, ap length high, c.raise_all.auto.low, c.raise_all.auto.high, ap length c.deref_mut.ensures.value, ap length c.deref_mut-2.ensures.value, c.self.invariant.sizes);
     }
 
-pub returns : goal.returns
-returns c = record { left = after_is c ∙ ap (λ (s : Counts). put_all s c.args.items.now) c.self.view_is }
+-- and so of the sketch
+left_is : (c : goal.After-self-3-1)
+    → shown_by c.self.inside.rows c.self.inside.width (c.self.inside.count + length c.args.items.now) (with_items c.self.inside.low c.raise_all.new.low).items (with_items c.self.inside.high c.raise_all.new.high).items
+    ≡ put_all c.args.self.now c.args.items.now
+left_is c = after_is c ∙ ap (λ (s : Counts). put_all s c.args.items.now) c.self.view_is
+
+pub returns-clause-left : goal.returns-clause-left
+returns-clause-left c = left_is c
+
+pub returns-clause-list : goal.returns-clause-list
+returns-clause-list c = λ before is.
+    subst (λ (s : Counts). IsCountOf s (before ++ c.args.items.now)) (sym (left_is c)) (put_all_is_of c.args.self.now before c.args.items.now (omega (arith, is.count, c.requires)) is)

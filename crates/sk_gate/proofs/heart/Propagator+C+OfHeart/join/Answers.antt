@@ -32,7 +32,7 @@ invariant_of-self g c = let k = g.C.Composable in let gs = sketching k.is_of k.n
       search rules,
       search rules,
       search rules,
-      subst (Holds gs ts true s.updaters s.number s.front s.own) (sym c.join_seat.ensures.2) (taken_holds gs ts s.updaters s.number s.front s.own s.seat.me c.load.new.seat.me.0 c.self.invariant.4 long),
+      subst (Holds gs ts true s.updaters s.number s.front s.own) (sym c.join_seat.ensures.2) (taken_holds gs ts true s.updaters s.number s.front s.own s.seat.me c.load.new.seat.me.0 c.self.invariant.4 long),
     )
 
 pub returns : goal.returns

@@ -1,7 +1,7 @@
-use Rattle.std.proofs.Common.{◌≡◌, ℕ, List, ◌+◌, ◌-◌, ◌≤◌, ◌++◌, length, take, drop, ap, subst, ◌∙◌, arith, length-drop, length-take}
+use Rattle.std.proofs.Common.{◌≡◌, ℕ, List, ◌+◌, ◌-◌, ◌≤◌, length, take, drop, ap, subst, ◌∙◌, arith, length-drop, length-take}
 use Rattle.sk_hub.specs.Calls.{Takes}
 use Rattle.sk_hub.proofs.Calls.{none_refl, takes_none, takes_trans, takes_few}
-use Rattle.sk_hub.proofs.Each.{rest_of, part_more}
+use Rattle.sk_hub.proofs.Each.{rest_of, part_more, stops_at}
 use Rattle.sk_hub.proofs.updater.Updater.update_each.Goals as goal
 
 pub items-init : goal.items-init
@@ -18,6 +18,11 @@ returns-then-taken-eq0-clause-taken g c =
     let after : List ℕ = take (length items - at) (drop at items) in
     subst (λ (l : List ℕ). Takes k.keeps_of k.hint_of c.args.self.now l c.take_some-taken.new.self) (part_more at n items ∙ ap (λ (m : ℕ). take m items) none)
     (takes_trans k.keeps_of k.hint_of c.args.self.now c.items.self c.take_some-taken.new.self (take at items) (take n after) c.items.invariant.taken c.take_some-taken.ensures.taken)
+
+pub returns-then-taken-eq0-clause-stops : goal.returns-then-taken-eq0-clause-stops
+returns-then-taken-eq0-clause-stops g c = λ _.
+    let k = g.C.Composable in
+    stops_at k.keeps_of k.hint_of c.args.self.now c.items.self c.take_some-taken.new.self c.items.at c.args.items.now c.items.invariant.taken (c.take_some-taken.ensures.busy c.if-taken-eq0.true)
 
 pub items-preserved : goal.items-preserved
 items-preserved g c =
