@@ -191,12 +191,12 @@ module _ (most : ℕ) (old new : Outside) where
       (λ misses. refl) (λ misses. absurd misses) files opened (no_links _ _ net) (unarmed command old.board new.board board) remains (leaves_nothing _ _ _ remains) stays
 
   -- a file that was opened and read, by what the source of it shows
-  pub opened_performs : (command : Command) (file : Option Word) (name : Word) (a b : Streams) (r : Result (Unit {0}) Fault) → file ≡ Some name → a.left ≡ told_file old.files name → a.read_faults ≡ old.file_faults → a.written ≡ old.written →
-      a.write_faults ≡ old.write_faults → b.left ≡ new.file_left → b.read_faults ≡ new.file_faults → b.written ≡ new.written → b.write_faults ≡ new.write_faults → ExecutesSo (behaviour_of command) most (beside_in old) (beside_in new) a b r →
+  pub opened_performs : (command : Command) (file : Option Word) (name : Word) (a b : Streams) (r : Result (Unit {0}) Fault) → file ≡ Some name → a.left ≡ told_file old.files name → a.last ≡ old.file_last → a.read_faults ≡ old.file_faults → a.written ≡ old.written →
+      a.write_faults ≡ old.write_faults → b.left ≡ new.file_left → b.last ≡ new.file_last → b.read_faults ≡ new.file_faults → b.written ≡ new.written → b.write_faults ≡ new.write_faults → ExecutesSo (behaviour_of command) most (beside_in old) (beside_in new) a b r →
       (IsMissing old.files name → ⊥) → new.files ≡ old.files → Opens old.opened new.opened (name ∷ []) → new.open_faults ≡ old.open_faults → new.net ≡ old.net → new.input_on ≡ old.input_on → Performs (OfText (record { command = command; file = file })) most old new r
-  opened_performs command file name a b r is left reads written writes left' reads' written' writes' went there files opened opens net stays =
-      let before : a ≡ over_file (told_file old.files name) old = streams_are a (over_file (told_file old.files name) old) left reads written writes in
-      let after : b ≡ over_file new.file_left new = streams_are b (over_file new.file_left new) left' reads' written' writes' in
+  opened_performs command file name a b r is left last reads written writes left' last' reads' written' writes' went there files opened opens net stays =
+      let before : a ≡ over_file (told_file old.files name) old = streams_are a (over_file (told_file old.files name) old) left last reads written writes in
+      let after : b ≡ over_file new.file_left new = streams_are b (over_file new.file_left new) left' last' reads' written' writes' in
       subst (λ (f : Option Word). Performs (OfText (record { command = command; file = f })) most old new r) (sym is) (file_performs command name a b r before after went there files opened opens net stays)
 
   pub not_opened_performs : (command : Command) (file : Option Word) (name : Word) → file ≡ Some name → new.written ≡ old.written → new.file_faults ≡ old.file_faults → new.write_faults ≡ old.write_faults → Rose old.open_faults new.open_faults →

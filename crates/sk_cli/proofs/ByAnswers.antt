@@ -1,5 +1,5 @@
 -- How a command goes that answers to lines.
-use Rattle.std.proofs.Common.{◌≡◌, ◌≢◌, inl, inr, ℕ, ◌+◌, Bool, true, false, List, [], ◌∷◌, ◌++◌, length, Option, Result, Ok, Err, IsErrAnd, refl, sym, ap, ◌∙◌, subst, arith, append-nil, append_assoc, length-append}
+use Rattle.std.proofs.Common.{◌≡◌, ◌≢◌, inl, inr, ℕ, ◌+◌, ◌≤◌, Bool, true, false, List, [], ◌∷◌, ◌++◌, length, Option, Result, Ok, Err, IsErrAnd, refl, sym, ap, ◌∙◌, subst, arith, append-nil, append_assoc, length-append}
 use Rattle.std.specs.Io.KnownBytes.{Appends, Consumes}
 use Rattle.std.proofs.KnownBytes.{Appends-nil, Appends-trans}
 use Rattle.sk_model.specs.Causes.{AppendsFront, AppendsPart}
@@ -15,6 +15,7 @@ use Rattle.sk_read.specs.declared.reader.LineFault.TheVariants as stop
 use Rattle.sk_read.specs.declared.units.Units.TheVariants.{Lines}
 use Rattle.sk_read.proofs.ItemLaws.{has_few}
 use Rattle.sk_read.proofs.LineEnds.{settled_so}
+use Rattle.sk_read.proofs.Readings.{in_time_within}
 use Rattle.sk_cli.specs.Answering.{Answers, AnswersHeld, EndsHeld, GoesByAnswers}
 use Rattle.sk_cli.specs.Behaviour.{Behaviour}
 use Rattle.sk_cli.specs.Beside.{Beside}
@@ -159,12 +160,13 @@ came_on Was Due Is Refused old at r start before now most mid written given text
     }
 
 -- lines behind them do not hinder that they were examined in time
-time_longer : (given more : List (List ℕ)) (taken : List ℕ) → IsReadInTime Lines given taken → IsReadInTime Lines (given ++ more) taken
+time_longer : {last : ℕ} (given more : List (List ℕ)) (taken : List ℕ) → IsReadInTime last Lines given taken → IsReadInTime last Lines (given ++ more) taken
 time_longer given more taken is = record {
   front = is.front;
   piece = is.piece;
   joined = is.joined;
   size = is.size;
+  few = is.few;
   sound = is.sound;
   earlier = begins_more (complete_units_of Lines is.front) given more is.earlier;
 }
@@ -189,14 +191,14 @@ held_given Refused r left most lines taken (Err f) is ends = absurd ends
 
 module _ (how : Behaviour) (from to : Beside) (Due : List (List ℕ) → List ℕ → Type 0) (Refused : List (List ℕ) → List ℕ → Type 0) (given : List (List ℕ)) (by : GoesByAnswers how from to Due Refused given) (most : ℕ) (a b : Streams) where
   -- a fault behind the answers, which were written
-  pub ends_behind : (f : Fault) (r : Reading) (lines : List (List ℕ)) (due taken : List ℕ) → r.most ≡ most → Consumes a.left b.left taken → IsReadInTime Lines lines taken → EndsHeld Refused r b.left lines taken (Err f) → Due lines due →
+  pub ends_behind : (f : Fault) (r : Reading) (lines : List (List ℕ)) (due taken : List ℕ) → r.most ≡ most → r.last ≤ b.last → Consumes a.left b.left taken → IsReadInTime b.last Lines lines taken → EndsHeld Refused r b.left lines taken (Err f) → Due lines due →
       Appends a.written b.written due → Ends how most from to a b f
-  ends_behind fault.OutOfMemory r lines due taken is consumed time ends is_due written =
+  ends_behind fault.OutOfMemory r lines due taken is within consumed time ends is_due written =
       gives_up how from to Due by.by_lines most a b lines due taken (held_given Refused r b.left most lines taken (Err fault.OutOfMemory) is ends) consumed is_due (front_of_all a.written b.written due written)
-  ends_behind (fault.LongLine n) r lines due taken is consumed time ends is_due written =
+  ends_behind (fault.LongLine n) r lines due taken is within consumed time ends is_due written =
       let on : Went r a.left b.left most lines (Err (stop.LongLine n)) = record { taken = taken; consumed = consumed; goes = ends; most_is = is } in
-      failed how from to Due by.by_lines most a b r lines due (stop.LongLine n) on is_due written
-  ends_behind (fault.BadEvent n) r lines due taken is consumed time ends is_due written =
+      failed how from to Due by.by_lines most a b r lines due (stop.LongLine n) within on is_due written
+  ends_behind (fault.BadEvent n) r lines due taken is within consumed time ends is_due written =
       let were = were_given r b.left most (lines ++ ends.0 ∷ []) taken is ends.1 in
       let refused : Refuses how most (fault.BadEvent (length lines + 1)) from to a b = record {
         taken = taken;
@@ -209,7 +211,7 @@ module _ (how : Behaviour) (from to : Beside) (Due : List (List ℕ) → List �
         written = written;
       } in
       subst (λ (m : ℕ). Refuses how most (fault.BadEvent m) from to a b) (sym ends.2) refused
-  ends_behind f r lines due taken is consumed time ends is_due written = absurd ends
+  ends_behind f r lines due taken is within consumed time ends is_due written = absurd ends
 
   module _ (Led : List (List ℕ) → List ℕ → Type 0) (is_due : (lines : List (List ℕ)) (text : List ℕ) → Led lines text → Due lines text) where
     -- no memory for the first of them
@@ -219,9 +221,9 @@ module _ (how : Behaviour) (from to : Beside) (Due : List (List ℕ) → List �
 
     module _ (old : Reading) (before mid : Option (List ℕ)) (came : CameTo Led old a before most mid given) where
       -- no further line came
-      pub no_line : (r : Reading) (s : LineFault) → Went r a.left b.left most (given ++ came.more) (Err s) → b.written ≡ mid → Ends how most from to a b (fault_by_line s)
-      no_line r s on same =
-          failed how from to Due by.by_lines most a b r (given ++ came.more) came.text s on (is_due (given ++ came.more) came.text came.led) (subst (λ (w : Option (List ℕ)). Appends a.written w came.text) (sym same) came.whole)
+      pub no_line : (r : Reading) (s : LineFault) → r.last ≤ b.last → Went r a.left b.left most (given ++ came.more) (Err s) → b.written ≡ mid → Ends how most from to a b (fault_by_line s)
+      no_line r s within on same =
+          failed how from to Due by.by_lines most a b r (given ++ came.more) came.text s within on (is_due (given ++ came.more) came.text came.led) (subst (λ (w : Option (List ℕ)). Appends a.written w came.text) (sym same) came.whole)
 
       -- the source has ended
       pub ended : (r : Reading) → Went r a.left b.left most (given ++ came.more) (Ok false) → b.written ≡ mid → Finishes how most from to a b
@@ -230,17 +232,17 @@ module _ (how : Behaviour) (from to : Beside) (Due : List (List ℕ) → List �
           (λ text is. by.whole came.more came.text (is_due (given ++ came.more) came.text came.led) text is (within_given old a.left before most (given ++ came.more) came.taken came.reads))
           (subst (λ (w : Option (List ℕ)). Appends a.written w came.text) (sym same) came.whole)
 
-      module _ (Is : List (List ℕ) → List ℕ → Type 0) (at r : Reading) (text : List ℕ) (result : Result (Unit {0}) Fault) (got : GotLine at a.left b.left most (given ++ came.more)) (same : r.most ≡ at.most)
+      module _ (Is : List (List ℕ) → List ℕ → Type 0) (at r : Reading) (text : List ℕ) (result : Result (Unit {0}) Fault) (got : GotLine at a.left b.left most (given ++ came.more)) (same : r.most ≡ at.most) (within : at.last ≤ b.last) (piece : r.last ≡ at.last)
           (held : AnswersHeld Due Is Refused r b.left (given ++ came.more) got.taken came.text text result) where
         -- the answers to the lines of a read were written in part or not at all
         pub answers_cut_short : AppendsPart mid b.written text → Ends how most from to a b fault.WriteFault
         answers_cut_short part =
             let were = held_given Refused r b.left most ((given ++ came.more) ++ held.more) got.taken result (same ∙ got.reads.most_is) held.ends in
-            cut_short how from to Due by.by_lines most a b (given ++ came.more) held.more came.text text got.taken mid were got.reads.consumed got.time (is_due (given ++ came.more) came.text came.led) held.is_due came.whole part
+            cut_short how from to Due by.by_lines most a b (given ++ came.more) held.more came.text text got.taken mid were got.reads.consumed (in_time_within Lines (given ++ came.more) got.taken within got.time) (is_due (given ++ came.more) came.text came.led) held.is_due came.whole part
 
         -- they were written, and a fault stands behind them
         pub fault_behind_answers : (f : Fault) → result ≡ Err f → Appends mid b.written text → Ends how most from to a b f
         fault_behind_answers f was wrote =
             let lines = (given ++ came.more) ++ held.more in
-            ends_behind f r lines (came.text ++ text) got.taken (same ∙ got.reads.most_is) got.reads.consumed (time_longer (given ++ came.more) held.more got.taken got.time)
+            ends_behind f r lines (came.text ++ text) got.taken (same ∙ got.reads.most_is) (omega (arith, piece, within)) got.reads.consumed (time_longer (given ++ came.more) held.more got.taken (in_time_within Lines (given ++ came.more) got.taken within got.time))
             (subst (EndsHeld Refused r b.left lines got.taken) was held.ends) held.is_due (Appends-trans a.written mid b.written came.text text came.whole wrote)

@@ -65,10 +65,10 @@ module _ (manner : Manner) (makes : MadeHub) (Left : Beside → List (List ℕ) 
   ended_after reading.OutOfMemory (n, all) = gave_up_behind manner.kind manner.column (is_none manner.window) [] makes (IsInterimText manner) (IsWholeText manner) Left most from to a b n (all_told _ _ so_far n all)
   ended_after f ends = absurd ends
 
-  pub ended_by_manner : (f : ReadingFault) → EndsAt manner most old new f → Ends (telling_by manner makes Left) most from to a b (fault_by manner.column f)
+  pub ended_by_manner : (f : ReadingFault) → EndsAt manner b.last most old new f → Ends (telling_by manner makes Left) most from to a b (fault_by manner.column f)
   ended_by_manner f (inl ends) =
       ended_before manner.kind manner.column (is_none manner.window) [] makes (IsInterimText manner) (IsWholeText manner) Left most from to a b f
-      (ends_so (units_by manner.column) most _ _ _ _ so_far stopped a.left b.left f ends)
+      (ends_so (units_by manner.column) most _ _ _ _ so_far stopped _ a.left b.left f ends)
   ended_by_manner f (inr ends) = ended_after f ends
 
   -- it ended well, and left what it has to

@@ -63,10 +63,10 @@ module _ (plan : Plan) (most : ℕ) (from to : Beside) (a b : Streams) where
   ended_behind reading.OutOfMemory (n, all) = gave_up_behind plan.kind plan.column (is_none plan.window) plan.alarms CountingHub (IsInterim plan) (IsWhole plan) (LeavesHub plan) most from to a b n (all_told _ _ so_far n all)
   ended_behind f ends = absurd ends
 
-  pub count_ended : (f : ReadingFault) → EndsBefore plan most old new f ⊎ EndsBehind plan most old new f → Ends (counting plan) most from to a b (fault_by plan.column f)
+  pub count_ended : (f : ReadingFault) → EndsBefore plan b.last most old new f ⊎ EndsBehind plan most old new f → Ends (counting plan) most from to a b (fault_by plan.column f)
   count_ended f (inl ends) =
       ended_before plan.kind plan.column (is_none plan.window) plan.alarms CountingHub (IsInterim plan) (IsWhole plan) (LeavesHub plan) most from to a b f
-      (ends_so (counted plan) most _ _ _ _ so_far stopped a.left b.left f ends)
+      (ends_so (counted plan) most _ _ _ _ so_far stopped _ a.left b.left f ends)
   count_ended f (inr ends) = ended_behind f ends
 
   -- a count that ended well

@@ -152,17 +152,18 @@ module _ (rules : Rules) (why : Refusal) (most : ℕ) (from to : Beside) (a b : 
   abbrev SoFar : List (List ℕ) → Type 0
   SoFar lines = WroteSoFar rules a.written b.written lines
 
-  in_time : (given : List (List ℕ)) (taken : List ℕ) → IsReadInTime Lines given taken → AreFine rules given → IsInTime how.IsFineSoFar taken
+  in_time : (given : List (List ℕ)) (taken : List ℕ) → IsReadInTime b.last Lines given taken → AreFine rules given → IsInTime b.last how.IsFineSoFar taken
   in_time given taken is fine = record {
     front = is.front;
     piece = is.piece;
     joined = is.joined;
     size = is.size;
+    few = is.few;
     so_far = (is.sound, first_fine rules (complete_lines_of is.front) given is.earlier fine);
   }
 
   -- a text that is refused after the lines given
-  refused : (f : Fault) (Known : List (List ℕ) → Type 0) (Comes : List (List ℕ) → List ℕ → Type 0) → (off : ReadingBreaksOff Lines most Known Comes a.left b.left) → SoFar off.given
+  refused : (f : Fault) (Known : List (List ℕ) → Type 0) (Comes : List (List ℕ) → List ℕ → Type 0) → (off : ReadingBreaksOff b.last Lines most Known Comes a.left b.left) → SoFar off.given
       → ((text : List ℕ) → Begins off.given (lines_of text) → Comes off.given text → IsRefusedLine rules why f (lines_of text) × (lines_before f (lines_of text) ≡ off.given)) → Refuses how most f from to a b
   refused f Known Comes off wrote is = record {
     taken = off.taken;
@@ -214,7 +215,7 @@ module _ (rules : Rules) (why : Refusal) (most : ℕ) (from to : Beside) (a b : 
   due_begins front given begins = subst (λ (l : List (List ℕ)). Begins (due_so_far rules front) (due_so_far rules l)) (sym begins.1) (due_so_far_begins rules front begins.0)
 
   -- what was due before the last read was written whole
-  writes_on : (given : List (List ℕ)) (taken due : List ℕ) → AppendsPartAfter (due_so_far rules given) a.written b.written due → IsReadInTime Lines given taken → AreFine rules given → WritesOn how from taken due a.written b.written
+  writes_on : (given : List (List ℕ)) (taken due : List ℕ) → AppendsPartAfter (due_so_far rules given) a.written b.written due → IsReadInTime b.last Lines given taken → AreFine rules given → WritesOn how from b.last taken due a.written b.written
   writes_on given taken due part is fine =
       let front : List (List ℕ) = complete_lines_of is.front in
       record {
@@ -225,13 +226,14 @@ module _ (rules : Rules) (why : Refusal) (most : ℕ) (from to : Beside) (a b : 
           piece = is.piece;
           joined = is.joined;
           size = is.size;
+          few = is.few;
           so_far = ((is.sound, first_fine rules front given is.earlier fine), refl);
         };
         written = part_after_less (due_so_far rules front) (due_so_far rules given) a.written b.written due (due_begins front given is.earlier) part;
       }
 
   -- a write failed at a line
-  breaks_off : (line : List ℕ) → (off : ReadingBreaksOff Lines most (λ given. WrotePartAt rules a.written b.written given line)
+  breaks_off : (line : List ℕ) → (off : ReadingBreaksOff b.last Lines most (λ given. WrotePartAt rules a.written b.written given line)
       (λ given text. Begins (given ++ line ∷ []) (lines_of text) × IsSoundUpTo Lines (length given + 1) text) a.left b.left) → BreaksOff how most from to a b
   breaks_off line off =
       let more : List (List ℕ) = off.given ++ line ∷ [] in
@@ -251,7 +253,7 @@ module _ (rules : Rules) (why : Refusal) (most : ℕ) (from to : Beside) (a b : 
               (λ text found. (found.1.0, subst (λ (m : ℕ). IsSoundUpTo Lines m text) (sym count) found.1.1)) off.comes),
         );
         written = part_at_all (due_so_far rules off.given) a.written b.written (due_so_far rules more) part.written;
-        by_lines = on_true how.writes_by_lines (WritesOn how from off.taken (due_so_far rules more) a.written b.written) (writes_on off.given off.taken (due_so_far rules more) part.written off.in_time fine);
+        by_lines = on_true how.writes_by_lines (WritesOn how from b.last off.taken (due_so_far rules more) a.written b.written) (writes_on off.given off.taken (due_so_far rules more) part.written off.in_time fine);
       }
 
   -- a line that is the first refused, as it is of the lines given
@@ -271,13 +273,13 @@ module _ (rules : Rules) (why : Refusal) (most : ℕ) (from to : Beside) (a b : 
         is = subst (λ (l : List (List ℕ)). Is l (line_at n lines)) (sym before) (subst (λ (l : List ℕ). Is given l) (sym here) refused);
       }
 
-  refused_label : (n : ℕ) → EndsBefore rules most (setting a.left a.written) (setting b.left b.written) (label.Refused n) → Ends how most from to a b (refused_at why n)
+  refused_label : (n : ℕ) → EndsBefore rules b.last most (setting a.left a.written) (setting b.left b.written) (label.Refused n) → Ends how most from to a b (refused_at why n)
   refused_label n stop = by why refl
     where
       line : List ℕ
       line = stop.0
 
-      off : ReadingBreaksOff Lines most (λ lines. (n ≡ length lines + 1) × SoFar lines × IsRefused rules lines line) (λ lines text. Begins (lines ++ line ∷ []) (lines_of text) × IsSoundUpTo Lines (length lines + 1) text) a.left b.left
+      off : ReadingBreaksOff b.last Lines most (λ lines. (n ≡ length lines + 1) × SoFar lines × IsRefused rules lines line) (λ lines text. Begins (lines ++ line ∷ []) (lines_of text) × IsSoundUpTo Lines (length lines + 1) text) a.left b.left
       off = stop.1
 
       first : (text : List ℕ) → Begins (off.given ++ line ∷ []) (lines_of text) × IsSoundUpTo Lines (length off.given + 1) text → IsFirstRefused rules (IsRefused rules) n (lines_of text)
@@ -291,7 +293,7 @@ module _ (rules : Rules) (why : Refusal) (most : ℕ) (from to : Beside) (a b : 
           refused (fault.UnknownTenant n) _ _ off off.known.1
           (λ text begins comes. (subst (λ (w : Refusal). IsRefusedLine rules w (fault.UnknownTenant n) (lines_of text)) (sym is) (first text comes), front_at n off.given (lines_of text) off.known.0 begins))
 
-  ended_before : (f : LabelFault) → EndsBefore rules most (setting a.left a.written) (setting b.left b.written) f → Ends how most from to a b (fault_by_label why f)
+  ended_before : (f : LabelFault) → EndsBefore rules b.last most (setting a.left a.written) (setting b.left b.written) f → Ends how most from to a b (fault_by_label why f)
   ended_before label.OutOfMemory off = gives_up off.given off.taken off.known off.consumed off.size off.comes
   ended_before label.ReadFault some = stops (λ size. size < most) some
   ended_before label.TooMuch some = stops (λ size. size ≡ most) some
@@ -324,11 +326,12 @@ module _ (rules : Rules) (why : Refusal) (most : ℕ) (from to : Beside) (a b : 
       let given : List (List ℕ) = lines_of all.taken in
       let part = all.gave in
       let due : List ℕ = whole_text rules given in
-      let all_in_time : IsReadInTime Lines given all.taken = record {
+      let all_in_time : IsReadInTime b.last Lines given all.taken = record {
         front = all.taken;
         piece = [];
         joined = sym (append-nil all.taken);
         size = omega arith;
+        few = omega arith;
         sound = sound_so_far Lines all.taken all.sound;
         earlier = units_begin Lines all.taken;
       } in
@@ -339,7 +342,7 @@ module _ (rules : Rules) (why : Refusal) (most : ℕ) (from to : Beside) (a b : 
         size = omega (arith, all.size);
         is_due = inl (record { end = all.end; fine = (all.sound, part.fine); is_due = refl });
         written = part_at_all (due_so_far rules given) a.written b.written due part.written;
-        by_lines = on_true how.writes_by_lines (WritesOn how from all.taken due a.written b.written) (writes_on given all.taken due part.written all_in_time part.fine);
+        by_lines = on_true how.writes_by_lines (WritesOn how from b.last all.taken due a.written b.written) (writes_on given all.taken due part.written all_in_time part.fine);
       }
 
   ended_after : (f : LabelFault) → EndsAfter rules most (setting a.left a.written) (setting b.left b.written) f → Ends how most from to a b (fault_by_label why f)
@@ -348,7 +351,7 @@ module _ (rules : Rules) (why : Refusal) (most : ℕ) (from to : Beside) (a b : 
   ended_after f ends = absurd ends
 
   -- it ended by a fault
-  pub labelled_ended : (f : LabelFault) → EndsAt rules most (setting a.left a.written) (setting b.left b.written) f → Ends how most from to a b (fault_by_label why f)
+  pub labelled_ended : (f : LabelFault) → EndsAt rules b.last most (setting a.left a.written) (setting b.left b.written) f → Ends how most from to a b (fault_by_label why f)
   labelled_ended f (inl ends) = ended_before f ends
   labelled_ended f (inr ends) = ended_after f ends
 

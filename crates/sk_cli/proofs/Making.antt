@@ -67,22 +67,22 @@ no_part_of_nothing : (old new : Option (List ℕ)) (text : List ℕ) → text �
 no_part_of_nothing old new text none part = absurd (omega (arith, ap length none, part.1))
 
 -- a source that never failed, and a sink
-abbrev pub made_streams : List ℕ → Option (List ℕ) → ℕ → Streams
-made_streams left written faults = record { left = Some left; read_faults = 0; written = written; write_faults = faults }
+abbrev pub made_streams : List ℕ → ℕ → Option (List ℕ) → ℕ → Streams
+made_streams left last written faults = record { left = Some left; last = last; read_faults = 0; written = written; write_faults = faults }
 
 -- the text was handed in as a source, and this is left of it; the source of the run stays
-module _ (plan : MakePlan) (within : IsWithin plan) (from to : Beside) (text rest : List ℕ) (is : text ≡ text_by plan) (left w w' : Option (List ℕ)) (faults v v' most : ℕ) where
+module _ (plan : MakePlan) (within : IsWithin plan) (from to : Beside) (text rest : List ℕ) (is : text ≡ text_by plan) (left w w' : Option (List ℕ)) (faults v v' most first last own : ℕ) where
   abbrev pub x : Streams
-  x = made_streams text w v
+  x = made_streams text first w v
 
   abbrev pub y : Streams
-  y = made_streams rest w' v'
+  y = made_streams rest last w' v'
 
   abbrev pub a : Streams
-  a = record { left = left; read_faults = faults; written = w; write_faults = v }
+  a = record { left = left; last = own; read_faults = faults; written = w; write_faults = v }
 
   abbrev pub b : Streams
-  b = record { left = left; read_faults = faults; written = w'; write_faults = v' }
+  b = record { left = left; last = own; read_faults = faults; written = w'; write_faults = v' }
 
   due_is : (taken due : List ℕ) → taken ≡ text_by plan → IsWhole (counted_by plan) from to (lines_of taken) due → due ≡ made_report plan
   due_is taken due same whole =

@@ -74,7 +74,7 @@ module _ (kind : Kind) (column : ℕ) (last : Bool) (arms : List ℕ) (makes : M
   SoFar given = ToldSoFar kind (Interim from to) a b given
 
   -- a text that is refused, behind the units given
-  refused : (f : Fault) (Known : List (List ℕ) → Type 0) (Comes : List (List ℕ) → List ℕ → Type 0) → (off : ReadingBreaksOff units most Known Comes a.left b.left) → SoFar off.given
+  refused : (f : Fault) (Known : List (List ℕ) → Type 0) (Comes : List (List ℕ) → List ℕ → Type 0) → (off : ReadingBreaksOff b.last units most Known Comes a.left b.left) → SoFar off.given
       → ((text : List ℕ) → Begins off.given (units_of units text) → Comes off.given text → IsRefusedBy kind column f text × (lines_before f (units_of units text) ≡ off.given)) → Refuses how most f from to a b
   refused f Known Comes off told is = record {
     taken = off.taken;
@@ -119,7 +119,7 @@ module _ (kind : Kind) (column : ℕ) (last : Bool) (arms : List ℕ) (makes : M
     written = front_of_all a.written b.written told.due told.written;
   }
 
-  stopped_for_memory : (unit : List ℕ) → (off : ReadingBreaksOff units most (λ given. SoFar given) (λ given text. Begins (given ++ unit ∷ []) (units_of units text) × IsSoundUpTo units (length given + 1) text) a.left b.left) → GivesUp how most from to a b
+  stopped_for_memory : (unit : List ℕ) → (off : ReadingBreaksOff b.last units most (λ given. SoFar given) (λ given text. Begins (given ++ unit ∷ []) (units_of units text) × IsSoundUpTo units (length given + 1) text) a.left b.left) → GivesUp how most from to a b
   stopped_for_memory unit off =
       gives_up off.given off.taken off.known off.consumed off.size
       (settled_so (λ (text : List ℕ). Begins off.given (units_of units text) × (Begins (off.given ++ unit ∷ []) (units_of units text) × IsSoundUpTo units (length off.given + 1) text))
@@ -128,7 +128,7 @@ module _ (kind : Kind) (column : ℕ) (last : Bool) (arms : List ℕ) (makes : M
 
   -- what was due before the last read was written whole
   writes_on : (given : List (List ℕ)) (taken due : List ℕ) → (earlier : (front : List (List ℕ)) → Begins front given → (text : List ℕ) × (beside : Beside) × Interim from beside front text × AppendsPartAfter text a.written b.written due)
-      → IsReadInTime units given taken → All (IsGood kind) given → WritesOn how from taken due a.written b.written
+      → IsReadInTime b.last units given taken → All (IsGood kind) given → WritesOn how from b.last taken due a.written b.written
   writes_on given taken due earlier in_time good =
       let before = earlier (complete_units_of units in_time.front) in_time.earlier in
       record {
@@ -139,13 +139,14 @@ module _ (kind : Kind) (column : ℕ) (last : Bool) (arms : List ℕ) (makes : M
           piece = in_time.piece;
           joined = in_time.joined;
           size = in_time.size;
+          few = in_time.few;
           so_far = ((in_time.sound, all_front (IsGood kind) (complete_units_of units in_time.front) given in_time.earlier good), before.2);
         };
         written = before.3;
       }
 
   -- a write failed behind a unit
-  breaks_off : (unit : List ℕ) → (off : ReadingBreaksOff units most (λ given. ToldPart kind (Interim from) (Interim from to) a b given (given ++ unit ∷ [])) (λ given text. Begins (given ++ unit ∷ []) (units_of units text) × IsSoundUpTo units (length given + 1) text) a.left b.left) →
+  breaks_off : (unit : List ℕ) → (off : ReadingBreaksOff b.last units most (λ given. ToldPart kind (Interim from) (Interim from to) a b given (given ++ unit ∷ [])) (λ given text. Begins (given ++ unit ∷ []) (units_of units text) × IsSoundUpTo units (length given + 1) text) a.left b.left) →
       BreaksOff how most from to a b
   breaks_off unit off =
       let behind : List (List ℕ) = off.given ++ unit ∷ [] in
@@ -166,11 +167,11 @@ module _ (kind : Kind) (column : ℕ) (last : Bool) (arms : List ℕ) (makes : M
               (λ text found. (found.1.0, subst (λ (m : ℕ). IsSoundUpTo units m text) (sym count) found.1.1)) off.comes),
         );
         written = part_at_all whole.0 a.written b.written part.due whole.3;
-        by_lines = on_true how.writes_by_lines (WritesOn how from off.taken part.due a.written b.written) (writes_on off.given off.taken part.due part.earlier off.in_time good);
+        by_lines = on_true how.writes_by_lines (WritesOn how from b.last off.taken part.due a.written b.written) (writes_on off.given off.taken part.due part.earlier off.in_time good);
       }
 
   -- it ended while it read
-  pub ended_before : (f : ReadingFault) → ReadingEnds units most SoFar (Stopped kind (Interim from) to a b) a.left b.left f → Ends how most from to a b (fault_by column f)
+  pub ended_before : (f : ReadingFault) → ReadingEnds b.last units most SoFar (Stopped kind (Interim from) to a b) a.left b.left f → Ends how most from to a b (fault_by column f)
   ended_before reading.OutOfMemory (inl off) = gives_up off.given off.taken off.known off.consumed off.size off.comes
   ended_before reading.OutOfMemory (inr stop) = stopped_for_memory stop.0 stop.1
   ended_before reading.ReadFault some = stops (λ size. size < most) some
@@ -193,7 +194,7 @@ module _ (kind : Kind) (column : ℕ) (last : Bool) (arms : List ℕ) (makes : M
       unit : List ℕ
       unit = stop.0
 
-      off : ReadingBreaksOff units most (λ given. (n ≡ length given + 1) × Stopped kind (Interim from) to a b (reading.BadItem n) given unit) (λ given text. Begins (given ++ unit ∷ []) (units_of units text) × IsSoundUpTo units (length given + 1) text) a.left b.left
+      off : ReadingBreaksOff b.last units most (λ given. (n ≡ length given + 1) × Stopped kind (Interim from) to a b (reading.BadItem n) given unit) (λ given text. Begins (given ++ unit ∷ []) (units_of units text) × IsSoundUpTo units (length given + 1) text) a.left b.left
       off = stop.1
 
       is_bad : (text : List ℕ) → Begins (off.given ++ unit ∷ []) (units_of units text) × IsSoundUpTo units (length off.given + 1) text → IsBadUnit kind column n text
@@ -215,11 +216,12 @@ module _ (kind : Kind) (column : ℕ) (last : Bool) (arms : List ℕ) (makes : M
       let given : List (List ℕ) = units_of units all.taken in
       let part = all.gave in
       let whole = part.earlier given (begins_refl given) in
-      let all_in_time : IsReadInTime units given all.taken = record {
+      let all_in_time : IsReadInTime b.last units given all.taken = record {
         front = all.taken;
         piece = [];
         joined = sym (append-nil all.taken);
         size = omega arith;
+        few = omega arith;
         sound = sound_so_far units all.taken all.sound;
         earlier = units_begin units all.taken;
       } in
@@ -230,5 +232,5 @@ module _ (kind : Kind) (column : ℕ) (last : Bool) (arms : List ℕ) (makes : M
         size = omega (arith, all.size);
         is_due = inl (record { end = all.end; fine = (all.sound, part.good); is_due = part.is });
         written = part_at_all whole.0 a.written b.written part.due whole.3;
-        by_lines = on_true how.writes_by_lines (WritesOn how from all.taken part.due a.written b.written) (writes_on given all.taken part.due part.earlier all_in_time part.good);
+        by_lines = on_true how.writes_by_lines (WritesOn how from b.last all.taken part.due a.written b.written) (writes_on given all.taken part.due part.earlier all_in_time part.good);
       }

@@ -12,9 +12,10 @@ use Rattle.sk_cli.specs.declared.fault.Fault.{Fault}
 use Rattle.sk_cli.specs.declared.fault.Fault.TheVariants as fault
 
 -- streams that agree in what they have left, in what was written and in their counts
-pub streams_are : (x y : Streams) → x.left ≡ y.left → x.read_faults ≡ y.read_faults → x.written ≡ y.written → x.write_faults ≡ y.write_faults → x ≡ y
-streams_are x y left reads written writes =
-    ap (λ (l : Option (List ℕ)). record x { left = l }) left ∙ ap (λ (n : ℕ). record x { left = y.left; read_faults = n }) reads
+pub streams_are : (x y : Streams) → x.left ≡ y.left → x.last ≡ y.last → x.read_faults ≡ y.read_faults → x.written ≡ y.written → x.write_faults ≡ y.write_faults → x ≡ y
+streams_are x y left last reads written writes =
+    ap (λ (l : Option (List ℕ)). record x { left = l }) left ∙ ap (λ (n : ℕ). record x { left = y.left; last = n }) last
+    ∙ ap (λ (n : ℕ). record x { left = y.left; last = y.last; read_faults = n }) reads
     ∙ ap (λ (w : Option (List ℕ)). record y { written = w; write_faults = x.write_faults }) written ∙ ap (λ (n : ℕ). record y { write_faults = n }) writes
 
 -- a command over at most one text was done, or ended by a fault in its place

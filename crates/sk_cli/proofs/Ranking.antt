@@ -14,7 +14,7 @@ use Rattle.sk_cli.specs.Run.{Finishes, Ends}
 use Rattle.sk_cli.proofs.ByManner.{ended_by_manner, finished_by_manner}
 
 module _ (plan : Plan) (most : ℕ) (from to : Beside) (a b : Streams) where
-  pub rank_ended : (f : ReadingFault) → EndsAt (rank_manner plan) most (setting a.left a.written) (setting b.left b.written) f → Ends (ranking plan) most from to a b (fault_by 0 f)
+  pub rank_ended : (f : ReadingFault) → EndsAt (rank_manner plan) b.last most (setting a.left a.written) (setting b.left b.written) f → Ends (ranking plan) most from to a b (fault_by 0 f)
   rank_ended f ends = ended_by_manner (rank_manner plan) RankingHub (LeavesRanks plan) most from to a b f ends
 
   pub rank_finished : (heart : HeartState) (reader : Learnt) → to.remains.ranks ≡ Some heart → to.remains.reader ≡ Some reader

@@ -17,7 +17,7 @@ use Rattle.sk_read.specs.declared.reader.LineFault.TheVariants as stop
 use Rattle.sk_read.specs.declared.units.Units.TheVariants.{Lines}
 use Rattle.sk_read.proofs.ItemLaws.{front_is}
 use Rattle.sk_read.proofs.LineEnds.{settled_so}
-use Rattle.sk_read.proofs.Readings.{given_settled}
+use Rattle.sk_read.proofs.Readings.{given_settled, in_time_within}
 use Rattle.sk_cli.specs.Answering.{ByLines}
 use Rattle.sk_cli.specs.Behaviour.{Behaviour}
 use Rattle.sk_cli.specs.Beside.{Beside}
@@ -69,7 +69,7 @@ reads_line r left rest most given on = record { read = on.goes.0; consumed = on.
 -- a call of `next` that gave the line behind these
 pub record GotLine (r : Reading) (left rest : Option (List ℕ)) (most : ℕ) (given : List (List ℕ)) : Type 0 where
   pub taken : List ℕ
-  pub time : IsReadInTime Lines given taken
+  pub time : IsReadInTime r.last Lines given taken
   pub reads : Reads r left rest most (given ++ r.cutter.line ∷ []) taken
 
 pub got_line : (old r : Reading) (left now rest : Option (List ℕ)) (most : ℕ) (given : List (List ℕ)) (taken : List ℕ) (result : Result Bool LineFault) (b : Bool) → Reads old left now most given taken →
@@ -113,14 +113,14 @@ on_true true P holds = holds
 on_true false P holds = tt
 
 -- what was due before the last read
-record Earlier (how : Behaviour) (from to : Beside) (taken due : List ℕ) : Type 0 where
+record Earlier (how : Behaviour) (from to : Beside) (last : ℕ) (taken due : List ℕ) : Type 0 where
   pub text : List ℕ
   pub begins : Begins text due
-  pub was_due : IsInTime (λ front. how.IsFineSoFar front × how.IsDueSoFar from to front text) taken
+  pub was_due : IsInTime last (λ front. how.IsFineSoFar front × how.IsDueSoFar from to front text) taken
 
 module _ (how : Behaviour) (from to : Beside) (Due : List (List ℕ) → List ℕ → Type 0) (by : ByLines how from to Due) (most : ℕ) (a b : Streams) where
   -- nothing before the last read is refused, since it was given
-  earlier : (given : List (List ℕ)) (due taken : List ℕ) → IsReadInTime Lines given taken → Due given due → Earlier how from to taken due
+  earlier : (given : List (List ℕ)) (due taken : List ℕ) → IsReadInTime b.last Lines given taken → Due given due → Earlier how from to b.last taken due
   earlier given due taken is is_due =
       let part = by.front (complete_lines_of is.front) is.earlier.0 due (subst (λ (l : List (List ℕ)). Due l due) is.earlier.1 is_due) in
       record {
@@ -131,14 +131,15 @@ module _ (how : Behaviour) (from to : Beside) (Due : List (List ℕ) → List �
           piece = is.piece;
           joined = is.joined;
           size = is.size;
+          few = is.few;
           so_far = (by.fine is.front part.0 is.sound part.1, by.so_far is.front part.0 part.1);
         };
       }
 
-  pub in_time : (given : List (List ℕ)) (due taken : List ℕ) → IsReadInTime Lines given taken → Due given due → IsInTime how.IsFineSoFar taken
+  pub in_time : (given : List (List ℕ)) (due taken : List ℕ) → IsReadInTime b.last Lines given taken → Due given due → IsInTime b.last how.IsFineSoFar taken
   in_time given due taken is is_due =
       let was = (earlier given due taken is is_due).was_due in
-      record { front = was.front; piece = was.piece; joined = was.joined; size = was.size; so_far = was.so_far.0 }
+      record { front = was.front; piece = was.piece; joined = was.joined; size = was.size; few = was.few; so_far = was.so_far.0 }
 
   -- no line came
   stopped : (IsSize : ℕ → Type 0) (r : Reading) (given : List (List ℕ)) (due taken : List ℕ) → Consumes a.left b.left taken → IsSize (length taken) → complete_lines_of taken ≡ given → AreWithin line_limit (open_lines_of taken) →
@@ -156,16 +157,16 @@ module _ (how : Behaviour) (from to : Beside) (Due : List (List ℕ) → List �
         written = written;
       }
 
-  pub failed : (r : Reading) (given : List (List ℕ)) (due : List ℕ) (f : LineFault) → Went r a.left b.left most given (Err f) → Due given due → Appends a.written b.written due → Ends how most from to a b (fault_by_line f)
-  failed r given due stop.ReadFault on is_due written =
+  pub failed : (r : Reading) (given : List (List ℕ)) (due : List ℕ) (f : LineFault) → r.last ≤ b.last → Went r a.left b.left most given (Err f) → Due given due → Appends a.written b.written due → Ends how most from to a b (fault_by_line f)
+  failed r given due stop.ReadFault within on is_due written =
       stopped (λ size. size < most) r given due on.taken on.consumed (omega (arith, on.goes.1, on.most_is)) on.goes.0.0 on.goes.0.1 is_due written
-  failed r given due stop.TooMuch on is_due written = stopped (λ size. size ≡ most) r given due on.taken on.consumed (on.goes.1 ∙ on.most_is) on.goes.0.0 on.goes.0.1 is_due written
-  failed r given due (stop.LongLine n) on is_due written = record {
+  failed r given due stop.TooMuch within on is_due written = stopped (λ size. size ≡ most) r given due on.taken on.consumed (on.goes.1 ∙ on.most_is) on.goes.0.0 on.goes.0.1 is_due written
+  failed r given due (stop.LongLine n) within on is_due written = record {
     taken = on.taken;
     due = due;
     consumed = on.consumed;
     size = omega (arith, on.goes.1, on.most_is);
-    in_time = in_time given due on.taken on.goes.2 is_due;
+    in_time = in_time given due on.taken (in_time_within Lines given on.taken within on.goes.2) is_due;
     refused = settled_so (λ (text : List ℕ). Begins given (lines_of text) × IsFirstLong line_limit (length given) (lines_of text)) (λ (text : List ℕ). how.Refuses (fault.LongLine n) text × how.IsDueAt from to (fault.LongLine n) text due) b.left on.taken
         (λ text found.
         let place : length given ≡ n - 1 = omega (arith, on.goes.0) in
@@ -184,20 +185,20 @@ module _ (how : Behaviour) (from to : Beside) (Due : List (List ℕ) → List �
       were.settled
 
   -- a write that ends early, of what is due for some lines more
-  pub cut_short : (given more : List (List ℕ)) (due text taken : List ℕ) (mid : Option (List ℕ)) → WereGiven b.left most (given ++ more) taken → Consumes a.left b.left taken → IsReadInTime Lines given taken → Due given due →
+  pub cut_short : (given more : List (List ℕ)) (due text taken : List ℕ) (mid : Option (List ℕ)) → WereGiven b.left most (given ++ more) taken → Consumes a.left b.left taken → IsReadInTime b.last Lines given taken → Due given due →
       Due (given ++ more) (due ++ text) → Appends a.written mid due → AppendsPart mid b.written text → BreaksOff how most from to a b
   cut_short given more due text taken mid were consumed time was_due is_due whole part =
       let before = earlier given due taken time was_due in
       let on = part_on a.written mid b.written before.text due text before.begins whole part in
-      let by_lines : WritesOn how from taken (due ++ text) a.written b.written = record { earlier = before.text; beside = to; was_due = before.was_due; written = on } in
+      let by_lines : WritesOn how from b.last taken (due ++ text) a.written b.written = record { earlier = before.text; beside = to; was_due = before.was_due; written = on } in
       record {
         taken = taken;
         due = due ++ text;
         consumed = consumed;
         size = were.size;
-        is_due = inr (on_true how.reads (IsInTime how.IsFineSoFar taken) (in_time given due taken time was_due), due_before (given ++ more) (due ++ text) taken were is_due);
+        is_due = inr (on_true how.reads (IsInTime b.last how.IsFineSoFar taken) (in_time given due taken time was_due), due_before (given ++ more) (due ++ text) taken were is_due);
         written = (on.size, on.most, on.written);
-        by_lines = on_true how.writes_by_lines (WritesOn how from taken (due ++ text) a.written b.written) by_lines;
+        by_lines = on_true how.writes_by_lines (WritesOn how from b.last taken (due ++ text) a.written b.written) by_lines;
       }
 
   -- no memory for what is due next

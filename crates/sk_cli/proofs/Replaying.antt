@@ -1,5 +1,5 @@
 -- How `replay` goes.
-use Rattle.std.proofs.Common.{◌≡◌, inr, ℕ, ◌+◌, ◌-◌, ◌<◌, List, [], ◌∷◌, ◌++◌, length, take, map, flat_map, get_or, Option, Some, None, Ok, false, refl, sym, ap, ◌∙◌, subst, arith, append-nil, append_assoc, length-append}
+use Rattle.std.proofs.Common.{◌≡◌, ◌≤◌, inr, ℕ, ◌+◌, ◌-◌, ◌<◌, List, [], ◌∷◌, ◌++◌, length, take, map, flat_map, get_or, Option, Some, None, Ok, false, refl, sym, ap, ◌∙◌, subst, arith, append-nil, append_assoc, length-append}
 use Rattle.std.proofs.lemmas.Grind.{flat_map-append}
 use Rattle.std.proofs.lemmas.List.{map-append}
 use Rattle.std.specs.Io.KnownBytes.{Appends}
@@ -18,7 +18,7 @@ use Rattle.sk_read.specs.Reading.{Reading}
 use Rattle.sk_read.specs.Reads.{IsInTime as IsReadInTime}
 use Rattle.sk_read.specs.declared.units.Units.TheVariants.{Lines}
 use Rattle.sk_read.proofs.LineEnds.{settled_so}
-use Rattle.sk_read.proofs.Readings.{given_settled}
+use Rattle.sk_read.proofs.Readings.{given_settled, in_time_within}
 use Rattle.sk_cli.specs.Answering.{ByLines, GoesByAnswers, Answers}
 use Rattle.sk_cli.specs.Beside.{Beside}
 use Rattle.sk_cli.specs.commands.Replay.{start_of, started, MeetsThere, IsPlay, Played, answer_line, answers_text, IsAnswered, LedTo, IsNoMore, IsBadLine, replaying}
@@ -107,7 +107,7 @@ bad_line n given line lines is within bad begins =
     )
 
 -- a line that is refused, behind those that were played
-pub refuses : (from to : Beside) (a b : Streams) (most n : ℕ) (r : Reading) (given : List (List ℕ)) (line due taken : List ℕ) → Reads r a.left b.left most (given ++ line ∷ []) taken → IsReadInTime Lines given taken → n ≡ length given + 1 →
+pub refuses : (from to : Beside) (a b : Streams) (most n : ℕ) (r : Reading) (given : List (List ℕ)) (line due taken : List ℕ) → Reads r a.left b.left most (given ++ line ∷ []) taken → IsReadInTime b.last Lines given taken → n ≡ length given + 1 →
     IsAnswered given due → Appends a.written b.written due → IsNoMore given line → Refuses replaying most (fault.BadEvent n) from to a b
 refuses from to a b most n r given line due taken reads time is so_far written bad = record {
   taken = taken;
@@ -128,8 +128,8 @@ unfolding fields_of
 no_first_line = refl
 
 -- a text of no line
-pub refuses_nothing : (from to : Beside) (a b : Streams) (most : ℕ) (r : Reading) → (on : Went r a.left b.left most [] (Ok false)) → b.written ≡ a.written → Refuses replaying most (fault.BadEvent 1) from to a b
-refuses_nothing from to a b most r on same =
+pub refuses_nothing : (from to : Beside) (a b : Streams) (most : ℕ) (r : Reading) → r.last ≤ b.last → (on : Went r a.left b.left most [] (Ok false)) → b.written ≡ a.written → Refuses replaying most (fault.BadEvent 1) from to a b
+refuses_nothing from to a b most r within on same =
     let read = on.goes.0 in
     let bad : IsBadLine 1 [] = record { from = omega arith; to = omega arith; within = none_within; bad = no_first_line } in
     record {
@@ -137,7 +137,7 @@ refuses_nothing from to a b most r on same =
       due = [];
       consumed = on.consumed;
       size = omega (arith, read.has.count, read.bound, on.most_is);
-      in_time = in_time replaying from to IsAnswered (replay_by_lines from to) most a b [] [] on.taken read.in_time refl;
+      in_time = in_time replaying from to IsAnswered (replay_by_lines from to) most a b [] [] on.taken (in_time_within Lines [] on.taken within read.in_time) refl;
       refused = inr (read.end on.goes.1, subst (λ (lines : List (List ℕ)). IsBadLine 1 lines × IsAnswered (take 0 lines) []) (sym (read.has.whole on.goes.1)) (bad, refl));
       written = subst (λ (w : Option (List ℕ)). Appends a.written w []) (sym same) (Appends-nil a.written);
     }

@@ -1,9 +1,9 @@
 -- What a run with one of the commands shows that have a headline.
-use Rattle.std.proofs.Common.{◌≡◌, ◌≢◌, ℕ, true, List, Option, Some, None, Result, Ok, refl, sym, ap, subst}
+use Rattle.std.proofs.Common.{◌≡◌, ◌≢◌, ℕ, true, List, ◌++◌, flat_map, Option, Some, None, Result, Ok, refl, sym, ap, ◌∙◌, subst}
 use Rattle.sk_model.specs.Limits.{source_limit}
 use Rattle.sk_cli.specs.Command.{Asked, OfLinks, behaviour_of, over_text, frame_of}
 use Rattle.sk_cli.specs.Outside.{Outside, beside_in}
-use Rattle.sk_cli.specs.Run.{SucceedsText, Succeeds, Performs, RunsMake, exit_of, TakesWhole, CountsText, RanksText, TalliesText, WritesLines, ServesLinks}
+use Rattle.sk_cli.specs.Run.{SucceedsText, Succeeds, Performs, RunsMake, exit_of, TakesWhole, CountsText, RanksText, TalliesText, EstimatesTenants, WritesPanes, ServesLinks}
 use Rattle.sk_cli.specs.Values.{Word}
 use Rattle.sk_cli.specs.declared.command.Command.{Command}
 use Rattle.sk_cli.specs.declared.command.Command.TheVariants.{Count, Make, Quantile, Tally, Tenants, Window}
@@ -12,8 +12,10 @@ use Rattle.sk_cli.specs.declared.commands.tenants.TenantsPlan.{TenantsPlan}
 use Rattle.sk_cli.specs.declared.fault.Fault.{Fault}
 use Rattle.sk_count.specs.declared.plan.Plan.{Plan as CountPlan}
 use Rattle.sk_rank.specs.declared.plan.Plan.{Plan as RankPlan}
-use Rattle.sk_desks.specs.Desks.{desk_rules}
-use Rattle.sk_panes.specs.Panes.{pane_rules}
+use Rattle.sk_desks.specs.Desks.{desk_rules, tenant_line}
+use Rattle.sk_label.proofs.QuietLaws.{nothing_due}
+use Rattle.sk_model.specs.Lines.{lines_of}
+use Rattle.sk_panes.proofs.Wholes.{text_of_lines}
 use Rattle.sk_panes.specs.declared.plan.Plan.{Plan as PanePlan}
 use Rattle.sk_serve.specs.declared.plan.ServePlan.{ServePlan}
 use Rattle.sk_tally.specs.declared.plan.Plan.{Plan as TallyPlan}
@@ -37,16 +39,20 @@ left_whole : (command : Command) (file : Option Word) (most : ℕ) (old new : Ou
     TakesWhole file old new (λ text due. (behaviour_of command).Leaves (beside_in old) text due (beside_in new))
 left_whole command file most old new reads done = whole_so file old new _ _ (λ text due is. is.2) (took_whole command file most old new reads done)
 
--- ---- commands whose runs show what they wrote
+-- ---- what commands wrote that were done whole
 
-pub tally_shown : (plan : TallyPlan) (file : Option Word) (most : ℕ) (old new : Outside) → Performs (over_text (Tally plan) file) most old new (Ok tt) → TalliesText plan file old new
-tally_shown plan file most old new went = left_whole (Tally plan) file most old new refl went.done
+pub tally_wrote : (plan : TallyPlan) (file : Option Word) (most : ℕ) (old new : Outside) → Succeeds (over_text (Tally plan) file) most old new → TalliesText plan file old new
+tally_wrote plan file most old new done = left_whole (Tally plan) file most old new refl done
 
-pub window_shown : (plan : PanePlan) (file : Option Word) (most : ℕ) (old new : Outside) → Performs (over_text (Window plan) file) most old new (Ok tt) → WritesLines (pane_rules plan) file old new
-window_shown plan file most old new went = whole_so file old new _ _ (λ text due is. (is.0.1, is.1)) (took_whole (Window plan) file most old new refl went.done)
+pub tenants_wrote : (plan : TenantsPlan) (file : Option Word) (most : ℕ) (old new : Outside) → Succeeds (over_text (Tenants plan) file) most old new → EstimatesTenants plan file old new
+tenants_wrote plan file most old new done =
+    let Lines : List ℕ → List ℕ = λ (text : List ℕ). flat_map (tenant_line plan.desks (lines_of text)) plan.names in
+    whole_so file old new _ _
+    (λ text due is. (is.0.1, is.1 ∙ ap (λ (l : List ℕ). l ++ Lines text) (nothing_due (desk_rules plan.desks plan.names) (λ before line. refl) (lines_of text))))
+    (took_whole (Tenants plan) file most old new refl done)
 
-pub tenants_shown : (plan : TenantsPlan) (file : Option Word) (most : ℕ) (old new : Outside) → Performs (over_text (Tenants plan) file) most old new (Ok tt) → WritesLines (desk_rules plan.desks plan.names) file old new
-tenants_shown plan file most old new went = whole_so file old new _ _ (λ text due is. (is.0.1, is.1)) (took_whole (Tenants plan) file most old new refl went.done)
+pub window_wrote : (plan : PanePlan) (file : Option Word) (most : ℕ) (old new : Outside) → Succeeds (over_text (Window plan) file) most old new → WritesPanes plan file old new
+window_wrote plan file most old new done = whole_so file old new _ _ (λ text due is. (is.0.1, is.1 ∙ text_of_lines plan (lines_of text) is.0.1)) (took_whole (Window plan) file most old new refl done)
 
 -- ---- a run that was asked for
 
@@ -68,6 +74,15 @@ module _ (request : Option Asked) (old new : Outside) where
 
     pub ranks_shown : (plan : RankPlan) (file : Option Word) → request ≡ Some (over_text (Quantile plan) file) → RanksText plan file old new
     ranks_shown plan file asks = left_whole (Quantile plan) file source_limit old new refl (asked_for (over_text (Quantile plan) file) asks)
+
+    pub tally_shown : (plan : TallyPlan) (file : Option Word) → request ≡ Some (over_text (Tally plan) file) → TalliesText plan file old new
+    tally_shown plan file asks = tally_wrote plan file source_limit old new (asked_for (over_text (Tally plan) file) asks)
+
+    pub tenants_shown : (plan : TenantsPlan) (file : Option Word) → request ≡ Some (over_text (Tenants plan) file) → EstimatesTenants plan file old new
+    tenants_shown plan file asks = tenants_wrote plan file source_limit old new (asked_for (over_text (Tenants plan) file) asks)
+
+    pub window_shown : (plan : PanePlan) (file : Option Word) → request ≡ Some (over_text (Window plan) file) → WritesPanes plan file old new
+    window_shown plan file asks = window_wrote plan file source_limit old new (asked_for (over_text (Window plan) file) asks)
 
     pub serve_shown : (plan : ServePlan) → request ≡ Some (OfLinks plan) → ServesLinks plan old new
     serve_shown plan asks = asked_for (OfLinks plan) asks

@@ -22,7 +22,7 @@ use Rattle.sk_cli.proofs.ByManner.{ended_by_manner}
 use Rattle.sk_cli.proofs.MannerDeciding.{manner_decides, last_alone, one_text_by}
 
 module _ (plan : Plan) (most : ℕ) (from to : Beside) (a b : Streams) where
-  pub tally_ended : (f : ReadingFault) → EndsAt (tally_manner plan) most (setting a.left a.written) (setting b.left b.written) f → Ends (tallying plan) most from to a b (fault_by plan.column f)
+  pub tally_ended : (f : ReadingFault) → EndsAt (tally_manner plan) b.last most (setting a.left a.written) (setting b.left b.written) f → Ends (tallying plan) most from to a b (fault_by plan.column f)
   tally_ended f ends = ended_by_manner (tally_manner plan) NoHub (λ from units due to. TalliesAll plan units due) most from to a b f ends
 
   pub tally_finished : 0 < plan.updaters → ReadsUnits plan.column most (WritesTally plan (setting a.left a.written) (setting b.left b.written)) a.left b.left → Finishes (tallying plan) most from to a b

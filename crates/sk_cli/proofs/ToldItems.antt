@@ -57,7 +57,7 @@ module _ (kind : Kind) (column : ℕ) (tell : List ℕ → List ℕ) (most : ℕ
   }
 
   -- a text that is refused, behind the units given
-  refused : (f : Fault) (Known : List (List ℕ) → Type 0) (Comes : List (List ℕ) → List ℕ → Type 0) → (off : ReadingBreaksOff (units_by column) most Known Comes a.left b.left) → All (IsGood kind) off.given → b.written ≡ a.written →
+  refused : (f : Fault) (Known : List (List ℕ) → Type 0) (Comes : List (List ℕ) → List ℕ → Type 0) → (off : ReadingBreaksOff b.last (units_by column) most Known Comes a.left b.left) → All (IsGood kind) off.given → b.written ≡ a.written →
       ((text : List ℕ) → Begins off.given (units_of (units_by column) text) → Comes off.given text → IsRefusedBy kind column f text) → Refuses (telling kind column tell) most f from to a b
   refused f Known Comes off good same is = record {
     taken = off.taken;
@@ -70,7 +70,7 @@ module _ (kind : Kind) (column : ℕ) (tell : List ℕ → List ℕ) (most : ℕ
     written = wrote_nothing a.written b.written same;
   }
 
-  ended : (f : ReadingFault) → ReadingEnds (units_by column) most (Gave kind Stands) (Missed kind Stands) a.left b.left f → b.written ≡ a.written → Ends (telling kind column tell) most from to a b (fault_by column f)
+  ended : (f : ReadingFault) → ReadingEnds b.last (units_by column) most (Gave kind Stands) (Missed kind Stands) a.left b.left f → b.written ≡ a.written → Ends (telling kind column tell) most from to a b (fault_by column f)
   ended reading.OutOfMemory (inl off) same = nothing_more (telling kind column tell) most from to a b off.taken [] off.consumed off.size same (λ text. refl)
   ended reading.OutOfMemory (inr stop) same = nothing_more (telling kind column tell) most from to a b stop.1.taken [] stop.1.consumed stop.1.size same (λ text. refl)
   ended reading.ReadFault some same = stops (λ size. size < most) some same
@@ -87,7 +87,7 @@ module _ (kind : Kind) (column : ℕ) (tell : List ℕ → List ℕ) (most : ℕ
       unit : List ℕ
       unit = stop.0
 
-      off : ReadingBreaksOff (units_by column) most (λ given. (n ≡ length given + 1) × Missed kind Stands (reading.BadItem n) given unit)
+      off : ReadingBreaksOff b.last (units_by column) most (λ given. (n ≡ length given + 1) × Missed kind Stands (reading.BadItem n) given unit)
           (λ given text. Begins (given ++ unit ∷ []) (units_of (units_by column) text) × IsSoundUpTo (units_by column) (length given + 1) text) a.left b.left
       off = stop.1
 
@@ -100,7 +100,7 @@ module _ (kind : Kind) (column : ℕ) (tell : List ℕ → List ℕ) (most : ℕ
       bad (suc c) is = refused (fault.BadField n) _ _ off off.known.1.1.0 same (λ text begins comes. (omega (arith, is), is_bad text comes))
 
   -- a reading that failed, whose fault became one of the program
-  pub telling_failed : (f : ReadingFault) (r : Fault) → r ≡ fault_by column f → ReadingEnds (units_by column) most (Gave kind Stands) (Missed kind Stands) a.left b.left f → b.written ≡ a.written → Executes (telling kind column tell) most from to a b (Err r)
+  pub telling_failed : (f : ReadingFault) (r : Fault) → r ≡ fault_by column f → ReadingEnds b.last (units_by column) most (Gave kind Stands) (Missed kind Stands) a.left b.left f → b.written ≡ a.written → Executes (telling kind column tell) most from to a b (Err r)
   telling_failed f r is ends same = subst (λ (g : Fault). Ends (telling kind column tell) most from to a b g) (sym is) (ended f ends same)
 
   -- a reading that came to the end, and a write

@@ -50,12 +50,13 @@ pub front_at : (n : ℕ) (given units : List (List ℕ)) → n ≡ length given 
 front_at n given units is begins = ap (λ (m : ℕ). take m units) (omega (arith, is)) ∙ front_is given units begins
 
 module _ (kind : Kind) (column : ℕ) where
-  pub in_time : (given : List (List ℕ)) (taken : List ℕ) → IsReadInTime (units_by column) given taken → All (IsGood kind) given → IsInTime (IsReadableSoFar kind column) taken
+  pub in_time : {last : ℕ} (given : List (List ℕ)) (taken : List ℕ) → IsReadInTime last (units_by column) given taken → All (IsGood kind) given → IsInTime last (IsReadableSoFar kind column) taken
   in_time given taken is good = record {
     front = is.front;
     piece = is.piece;
     joined = is.joined;
     size = is.size;
+    few = is.few;
     so_far = (is.sound, all_front (IsGood kind) (complete_units_of (units_by column) is.front) given is.earlier good);
   }
 

@@ -1,5 +1,5 @@
 -- How a run goes: what it reads and writes, and why it ends.
-use Rattle.std.specs.Prelude.{◌≡◌, ◌⊎◌, ℕ, ◌<◌, ◌≤◌, List, [], ◌∷◌, ◌++◌, length, take, true, Option, None, Some, IsSomeAnd, Result, Ok, Err, IfErr, IsErrAnd, MatchResult}
+use Rattle.std.specs.Prelude.{◌≡◌, ◌⊎◌, ℕ, ◌<◌, ◌≤◌, List, [], ◌∷◌, ◌++◌, length, take, flat_map, true, Option, None, Some, IsSomeAnd, Result, Ok, Err, IfErr, IsErrAnd, MatchResult}
 use Rattle.std.specs.Bool.{OnTrue}
 use Rattle.std.specs.Io.KnownBytes.{Appends, Consumes, IsAtEnd}
 use Rattle.sk_model.specs.Causes.{Rose, HasCauseIn, AppendsFront, AppendsPart}
@@ -23,13 +23,17 @@ use Rattle.sk_cli.specs.commands.Quantile.{LeavesRanks}
 use Rattle.sk_count.specs.declared.plan.Plan.{Plan as CountPlan}
 use Rattle.sk_model.specs.Limits.{source_limit}
 use Rattle.sk_rank.specs.declared.plan.Plan.{Plan as RankPlan}
-use Rattle.sk_label.specs.Rules.{Rules, AreFine, whole_text}
+use Rattle.sk_label.specs.Rules.{AreFine}
+use Rattle.sk_desks.specs.Desks.{desk_rules, tenant_line}
+use Rattle.sk_panes.specs.Panes.{pane_rules, panes_text}
+use Rattle.sk_panes.specs.declared.plan.Plan.{Plan as PanePlan}
 use Rattle.sk_read.specs.Units.{units_by, units_of}
 use Rattle.sk_serve.specs.declared.plan.ServePlan.{ServePlan}
 use Rattle.sk_tally.specs.declared.plan.Plan.{Plan as TallyPlan}
 use Rattle.sk_tally.specs.Headline.{TalliesAll}
 use Rattle.sk_cli.specs.declared.command.Command.{Command}
 use Rattle.sk_cli.specs.declared.commands.make.MakePlan.{MakePlan}
+use Rattle.sk_cli.specs.declared.commands.tenants.TenantsPlan.{TenantsPlan}
 use Rattle.sk_cli.specs.declared.fault.Fault.{Fault}
 use Rattle.sk_cli.specs.declared.fault.Fault.TheVariants.{OutOfMemory, Usage, ReadFault, WriteFault, OpenFault, NetFault, TooMuch}
 
@@ -59,22 +63,23 @@ pub record Stops (b : Behaviour) (IsSize : ℕ → Type 0) (from to : Beside) (o
   pub is_due : b.IsDueSoFar from to taken due
   pub written : Appends old.written new.written due
 
--- of the bytes taken, this is so of those before the last read
-pub record IsInTime (P : List ℕ → Type 0) (taken : List ℕ) : Type 0 where
+-- of the bytes taken, this is so of those before the last read, which gave this many
+pub record IsInTime (last : ℕ) (P : List ℕ → Type 0) (taken : List ℕ) : Type 0 where
   pub front : List ℕ
   pub piece : List ℕ
   pub joined : taken ≡ front ++ piece
-  pub size : length piece ≤ piece_limit
+  pub size : length piece ≤ last
+  pub few : length piece ≤ piece_limit
   pub so_far : P front
 
--- each text that begins with the bytes taken is refused by this fault, at most one read after the place, and what is
+-- each text that begins with the bytes taken is refused by this fault, at most the last read after the place, and what is
 -- due for what stands before that place was written
 pub record Refuses (b : Behaviour) (most : ℕ) (fault : Fault) (from to : Beside) (old new : Streams) : Type 0 where
   pub taken : List ℕ
   pub due : List ℕ
   pub consumed : Consumes old.left new.left taken
   pub size : length taken ≤ most
-  pub in_time : IsInTime b.IsFineSoFar taken
+  pub in_time : IsInTime new.last b.IsFineSoFar taken
   pub refused : IsSettled (λ text. b.Refuses fault text × b.IsDueAt from to fault text due) new.left taken
   pub written : Appends old.written new.written due
 
@@ -88,12 +93,12 @@ pub record IsDueWhole (b : Behaviour) (from to : Beside) (left : Option (List �
 abbrev pub IsDueOnTheWay : Behaviour → Beside → Beside → Option (List ℕ) → List ℕ → List ℕ → Type 0
 IsDueOnTheWay b from to left taken due = IsSettled (λ text. b.IsDueBefore from to text due) left taken
 
--- of what is due a part was written, and not all; what was due before the last read was written whole, with this beside
--- it then
-pub record WritesOn (b : Behaviour) (from : Beside) (taken due : List ℕ) (old new : Option (List ℕ)) : Type 0 where
+-- of what is due a part was written, and not all; what was due before the last read, which gave this many bytes, was written
+-- whole, with this beside it then
+pub record WritesOn (b : Behaviour) (from : Beside) (last : ℕ) (taken due : List ℕ) (old new : Option (List ℕ)) : Type 0 where
   pub earlier : List ℕ
   pub beside : Beside
-  pub was_due : IsInTime (λ front. b.IsFineSoFar front × b.IsDueSoFar from beside front earlier) taken
+  pub was_due : IsInTime last (λ front. b.IsFineSoFar front × b.IsDueSoFar from beside front earlier) taken
   pub written : AppendsPartAfter earlier old new due
 
 -- of what is due behind the bytes taken a part was written, and not all, with what is beside it as if all were; a command
@@ -103,9 +108,9 @@ pub record BreaksOff (b : Behaviour) (most : ℕ) (from to : Beside) (old new : 
   pub due : List ℕ
   pub consumed : Consumes old.left new.left taken
   pub size : length taken ≤ most
-  pub is_due : IsDueWhole b from to new.left taken due ⊎ (OnTrue b.reads (IsInTime b.IsFineSoFar taken) × IsDueOnTheWay b from to new.left taken due)
+  pub is_due : IsDueWhole b from to new.left taken due ⊎ (OnTrue b.reads (IsInTime new.last b.IsFineSoFar taken) × IsDueOnTheWay b from to new.left taken due)
   pub written : AppendsPart old.written new.written due
-  pub by_lines : OnTrue b.writes_by_lines (WritesOn b from taken due old.written new.written)
+  pub by_lines : OnTrue b.writes_by_lines (WritesOn b from new.last taken due old.written new.written)
 
 -- of what is due for the bytes taken, or for a first part of each text that begins with them, a front was written
 pub record GivesUp (b : Behaviour) (most : ℕ) (from to : Beside) (old new : Streams) : Type 0 where
@@ -260,9 +265,14 @@ RanksText plan file old new = TakesWhole file old new (λ text due. LeavesRanks 
 abbrev pub TalliesText : TallyPlan → Option Word → Outside → Outside → Type 0
 TalliesText plan file old new = TakesWhole file old new (λ text due. TalliesAll plan (units_of (units_by plan.column) text) due)
 
--- a command over labelled lines that ended well: no line is refused, and their whole text was written
-abbrev pub WritesLines : Rules → Option Word → Outside → Outside → Type 0
-WritesLines rules file old new = TakesWhole file old new (λ text due. AreFine rules (lines_of text) × (due ≡ whole_text rules (lines_of text)))
+-- `tenants` that ended well: it wrote the estimate of each tenant's items, in the order of the names
+abbrev pub EstimatesTenants : TenantsPlan → Option Word → Outside → Outside → Type 0
+EstimatesTenants plan file old new = TakesWhole file old new (λ text due.
+    AreFine (desk_rules plan.desks plan.names) (lines_of text) × (due ≡ flat_map (tenant_line plan.desks (lines_of text)) plan.names))
+
+-- `window` that ended well: it wrote the pane of interval 0 and of each further one that has a line
+abbrev pub WritesPanes : PanePlan → Option Word → Outside → Outside → Type 0
+WritesPanes plan file old new = TakesWhole file old new (λ text due. AreFine (pane_rules plan) (lines_of text) × (due ≡ panes_text plan (lines_of text)))
 
 -- `serve` that ended well
 abbrev pub ServesLinks : ServePlan → Outside → Outside → Type 0

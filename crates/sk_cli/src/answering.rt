@@ -62,6 +62,7 @@ fn answer_held<A: Answerer>(
     ensures due { (lines : List (List ℕ)) (text : List ℕ) → A.due answerer.new lines text → A.due answerer.old lines text }
     ensures cause { (result ≢ Err Fault.ReadFault) × (result ≢ Err Fault.WriteFault) }
     ensures most { reader.new.most ≡ reader.old.most }
+    ensures piece { reader.new.last ≡ reader.old.last }
     ensures remaining { remaining_of reader.new ≤ remaining_of reader.old }
 {
     text.clear();
@@ -87,6 +88,7 @@ pub(crate) fn answer_lines<A: Answerer, S: Source, O: Sink>(
     source: &mut S,
     out: &mut O,
 ) -> Result<(), Fault>
+    requires piece { reader.old.last ≤ S.last source.old }
     ensures done { (from to : Beside) (start : Streams) (given : List (List ℕ)) (taken : List ℕ) → HasRead reader.old (S.left source.old) given taken
         → Consumes start.left (S.left source.old) taken → start.written ≡ O.written out.old → A.led answerer.old given []
         → GoesByAnswers (A.how answerer.old) from to (A.due answerer.old) A.refuses given

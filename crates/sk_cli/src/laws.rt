@@ -15,8 +15,6 @@ ghost use Rattle.sk_cli.specs.declared.commands.hash.HashPlan.{HashPlan};
 ghost use Rattle.sk_cli.specs.declared.commands.image.ImagePlan.{ImagePlan};
 ghost use Rattle.sk_cli.specs.declared.commands.make.MakePlan.{MakePlan};
 ghost use Rattle.sk_cli.specs.declared.commands.tenants.TenantsPlan.{TenantsPlan};
-ghost use Rattle.sk_desks.specs.Desks.{desk_rules};
-ghost use Rattle.sk_panes.specs.Panes.{pane_rules};
 ghost use Rattle.sk_panes.specs.declared.plan.Plan.{Plan as PanePlan};
 ghost use Rattle.sk_tally.specs.declared.plan.Plan.{Plan as TallyPlan};
 ghost use Rattle.sk_rank.specs.declared.plan.Plan.{Plan as RankPlan};
@@ -29,7 +27,7 @@ ghost use Rattle.sk_cli.specs.Beside.{Beside};
 ghost use Rattle.sk_cli.specs.Command.{Asked, over_text};
 ghost use Rattle.sk_cli.specs.declared.command.Command.TheVariants as command;
 ghost use Rattle.sk_cli.specs.Outside.{Outside};
-ghost use Rattle.sk_cli.specs.Run.{Performs, TalliesText, WritesLines, exit_of};
+ghost use Rattle.sk_cli.specs.Run.{Performs, TalliesText, EstimatesTenants, WritesPanes, exit_of};
 ghost use Rattle.sk_cli.specs.Values.{Word};
 ghost use Rattle.sk_cli.specs.Statuses.{ShowsAt};
 ghost use Rattle.sk_cli.specs.declared.fault.Fault.{Fault};
@@ -115,9 +113,9 @@ pub fn texts_are_shown()
     ensures tally { (plan : TallyPlan) (file : Option Word) (most : ℕ) (old new : Outside)
         → Performs (over_text (command.Tally plan) file) most old new (Ok tt) → TalliesText plan file old new }
     ensures tenants { (plan : TenantsPlan) (file : Option Word) (most : ℕ) (old new : Outside)
-        → Performs (over_text (command.Tenants plan) file) most old new (Ok tt) → WritesLines (desk_rules plan.desks plan.names) file old new }
+        → Performs (over_text (command.Tenants plan) file) most old new (Ok tt) → EstimatesTenants plan file old new }
     ensures window { (plan : PanePlan) (file : Option Word) (most : ℕ) (old new : Outside)
-        → Performs (over_text (command.Window plan) file) most old new (Ok tt) → WritesLines (pane_rules plan) file old new }
+        → Performs (over_text (command.Window plan) file) most old new (Ok tt) → WritesPanes plan file old new }
 {}
 
 /// How a run ended shows in its status: at 0 all was done, at each other a fault has its place, and a count of faults

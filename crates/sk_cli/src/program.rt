@@ -6,14 +6,17 @@ ghost use Rattle.sk_cli.specs.Options.{texts_of};
 ghost use Rattle.sk_cli.specs.Command.{request_of, over_text, OfLinks};
 ghost use Rattle.sk_cli.specs.Fault.{message_of, status_of};
 ghost use Rattle.sk_cli.specs.Outside.{outside_of};
-ghost use Rattle.sk_cli.specs.Run.{Reports, Tells, RunsSo, CountsText, RanksText, ServesLinks, RunsMake};
+ghost use Rattle.sk_cli.specs.Run.{Reports, Tells, RunsSo, CountsText, RanksText, TalliesText, EstimatesTenants, WritesPanes, ServesLinks, RunsMake};
 ghost use Rattle.sk_cli.specs.Touches.{handed, Touches};
 ghost use Rattle.sk_cli.specs.Values.{Word};
 ghost use Rattle.sk_cli.specs.declared.command.Command.TheVariants as command;
 ghost use Rattle.sk_cli.specs.declared.commands.make.MakePlan.{MakePlan};
+ghost use Rattle.sk_cli.specs.declared.commands.tenants.TenantsPlan.{TenantsPlan};
 ghost use Rattle.sk_count.specs.declared.plan.Plan.{Plan as CountPlan};
+ghost use Rattle.sk_panes.specs.declared.plan.Plan.{Plan as PanePlan};
 ghost use Rattle.sk_rank.specs.declared.plan.Plan.{Plan as RankPlan};
 ghost use Rattle.sk_serve.specs.declared.plan.ServePlan.{ServePlan};
+ghost use Rattle.sk_tally.specs.declared.plan.Plan.{Plan as TallyPlan};
 
 use crate::command::Request;
 use crate::execute::perform;
@@ -65,6 +68,18 @@ where
     ensures quantile { (plan : RankPlan) (file : Option Word) → request_of (texts_of words.now) ≡ Some (over_text (command.Quantile plan) file)
         → result ≡ 0 → let outside = outside_of S.Source O.Sink F.Shelf D.Door B.Seen in
         RanksText plan file (outside input.old out.old shelf.old door.old board.old (left_of remains.old))
+        (outside input.new out.new shelf.new door.new board.new (left_of remains.new)) }
+    ensures tally { (plan : TallyPlan) (file : Option Word) → request_of (texts_of words.now) ≡ Some (over_text (command.Tally plan) file)
+        → result ≡ 0 → let outside = outside_of S.Source O.Sink F.Shelf D.Door B.Seen in
+        TalliesText plan file (outside input.old out.old shelf.old door.old board.old (left_of remains.old))
+        (outside input.new out.new shelf.new door.new board.new (left_of remains.new)) }
+    ensures tenants { (plan : TenantsPlan) (file : Option Word) → request_of (texts_of words.now) ≡ Some (over_text (command.Tenants plan) file)
+        → result ≡ 0 → let outside = outside_of S.Source O.Sink F.Shelf D.Door B.Seen in
+        EstimatesTenants plan file (outside input.old out.old shelf.old door.old board.old (left_of remains.old))
+        (outside input.new out.new shelf.new door.new board.new (left_of remains.new)) }
+    ensures window { (plan : PanePlan) (file : Option Word) → request_of (texts_of words.now) ≡ Some (over_text (command.Window plan) file)
+        → result ≡ 0 → let outside = outside_of S.Source O.Sink F.Shelf D.Door B.Seen in
+        WritesPanes plan file (outside input.old out.old shelf.old door.old board.old (left_of remains.old))
         (outside input.new out.new shelf.new door.new board.new (left_of remains.new)) }
     ensures serve { (plan : ServePlan) → request_of (texts_of words.now) ≡ Some (OfLinks plan)
         → result ≡ 0 → let outside = outside_of S.Source O.Sink F.Shelf D.Door B.Seen in

@@ -94,11 +94,11 @@ pub fn make<R: Threads + Wait + Sync, O: Sink, B: Seen, W: Wait + Drop>(
 ) -> Result<(), Fault>
     requires within { IsWithin plan.now }
     requires board { IsFullBoard (B.places board.old) }
-    ensures done { (most : ℕ) (left : Option (List ℕ)) (faults : ℕ) → let old = over_output O.Sink left faults out.old in
-        let new = over_output O.Sink left faults out.new in
+    ensures done { (most : ℕ) (left : Option (List ℕ)) (faults last : ℕ) → let old = over_output O.Sink left faults last out.old in
+        let new = over_output O.Sink left faults last out.new in
         Executes (making plan.now) most (beside_of (B.places board.old) remains.old) (beside_of (B.places board.new) remains.new) old new result }
-    ensures causes { (left : Option (List ℕ)) (faults : ℕ) → let old = over_output O.Sink left faults out.old in
-        let new = over_output O.Sink left faults out.new in HasCauses old new result }
+    ensures causes { (left : Option (List ℕ)) (faults last : ℕ) → let old = over_output O.Sink left faults last out.old in
+        let new = over_output O.Sink left faults last out.new in HasCauses old new result }
     ensures last { IfErr result (λ fault. fault ≢ Fault.WriteFault → out.new ≡ out.old) }
     ensures beside { LeavesBeside [] CountingHub (beside_of (B.places board.old) remains.old) (beside_of (B.places board.new) remains.new) result }
 {

@@ -11,6 +11,7 @@ line-init g c =
       line = c.requires.line;
       due = λ lines text is. is;
       most = refl;
+      piece = refl;
       remaining = omega arith;
     }
 
@@ -27,6 +28,7 @@ line-preserved g c =
       line = c.next_held.ensures.holds some;
       due = λ lines text is. inv.due lines text (c.answer.ensures.due lines text is);
       most = c.next_held.ensures.most ∙ inv.most;
+      piece = c.next_held.ensures.piece ∙ inv.piece;
       remaining = omega (arith, c.next_held.ensures.remaining, inv.remaining);
     }
 

@@ -10,6 +10,7 @@ invariant-line g l = let A = g.A.Answerer in record {
   line : l.reader.cutter.last ≡ next.Line;
   due : (lines : List (List ℕ)) (text : List ℕ) → A.due l.answerer lines text → A.due l.fn.answerer lines text;
   most : l.reader.most ≡ l.fn.reader.most;
+  piece : l.reader.last ≡ l.fn.reader.last;
   remaining : remaining_of l.reader ≤ remaining_of l.fn.reader;
 }
 

@@ -1,4 +1,4 @@
-use Rattle.std.proofs.Common.{◌++◌, ℕ, List, Err, false, refl, sym, ap, ◌∙◌, subst}
+use Rattle.std.proofs.Common.{◌++◌, ℕ, List, Err, false, refl, sym, ap, ◌∙◌, subst, arith}
 use Rattle.std.specs.Io.KnownBytes.{Appends}
 use Rattle.sk_model.specs.Causes.{AppendsPart}
 use Rattle.sk_read.specs.declared.reader.LineFault.TheVariants as stop
@@ -29,6 +29,7 @@ read-init g c =
       came = λ start given taken read consumed same led. came_to_start (A.led c.args.answerer.now) c.args.reader.now start (g.S.Source.left c.args.source.now) (g.O.Sink.written c.args.out.now) given taken read consumed same led;
       due = λ lines text is. is;
       most = refl;
+      piece = c.requires.piece;
       read_count = refl;
       write_count = refl;
       stays = refl;
@@ -46,7 +47,7 @@ returns-in_err-next-clause-done g c = λ from to start given taken read consumed
     let on = went c.read.reader c.next.new.self start.left (g.S.Source.left c.read.source) b.left most (given ++ came.more) came.taken c.next.result (Err s) came.reads c.next.ensures.goes c.next.ensures.most c.in_err-next.was in
     ends_by how most from to start b _ (fault_by_line s) c.from_residual-in_err-next.ensures.1
     (no_line how from to (A.due c.args.answerer.now) A.refuses given by most start b (A.led c.read.answerer) (λ lines text is. inv.due lines text (g.met.A.Answerer.is_due c.read.answerer lines text is)) c.read.reader (g.S.Source.left c.read.source) b.written came
-    c.next.new.self s on refl)
+    c.next.new.self s (c.next.ensures.piece inv.piece) on refl)
 
 pub returns-in_err-write_text-clause-done : goal.returns-in_err-write_text-clause-done
 returns-in_err-write_text-clause-done g c = λ from to start given taken read consumed same led by.
@@ -64,7 +65,7 @@ returns-in_err-write_text-clause-done g c = λ from to start given taken read co
     let part = subst (λ (t : List ℕ). AppendsPart (g.O.Sink.written c.read.out) b.written t) c.deref.ensures.value c.in_err-write_text.ensures.part in
     let ends : Ends how most from to start b fault.WriteFault =
     answers_cut_short how from to (A.due c.args.answerer.now) A.refuses given by most start b (A.led c.read.answerer) (λ lines text is. inv.due lines text (g.met.A.Answerer.is_due c.read.answerer lines text is)) c.read.reader (g.S.Source.left c.read.source) (g.O.Sink.written c.read.out) came
-    (A.led c.answer_held-answered.new.answerer) c.next.new.self r text c.answer_held-answered.result got c.answer_held-answered.ensures.most held part in
+    (A.led c.answer_held-answered.new.answerer) c.next.new.self r text c.answer_held-answered.result got c.answer_held-answered.ensures.most (c.next.ensures.piece inv.piece) c.answer_held-answered.ensures.piece held part in
     ends_by how most from to start b _ _ c.from_residual-in_err-write_text.ensures.1 (subst (λ (f : Fault). Ends how most from to start b f) (sym c.in_err-write_text.ensures.err) ends)
 
 pub read-preserved : goal.read-preserved
@@ -86,6 +87,7 @@ read-preserved g c =
           (subst (λ (t : List ℕ). Appends (g.O.Sink.written c.read.out) written t) c.deref.ensures.value c.in_ok-write_text.ensures.ok);
       due = λ lines text is. inv.due lines text (c.answer_held-answered.ensures.due lines text is);
       most = c.answer_held-answered.ensures.most ∙ c.next.ensures.most ∙ inv.most;
+      piece = omega (arith, c.answer_held-answered.ensures.piece, c.next.ensures.piece inv.piece);
       read_count = steady_ok stop.ReadFault _ _ c.next.result _ c.next.ensures.cause c.in_ok-next.was ∙ inv.read_count;
       write_count = c.in_ok-write_text.ensures.cause.steady ∙ inv.write_count;
       stays = c.next.ensures.stays ∙ inv.stays;
@@ -107,7 +109,7 @@ returns-in_err-answered-clause-done g c = λ from to start given taken read cons
     let wrote = subst (λ (t : List ℕ). Appends (g.O.Sink.written c.read.out) b.written t) c.deref.ensures.value c.in_ok-write_text.ensures.ok in
     ends_by how most from to start b _ c.in_err-answered.field-0.0 c.from_residual-in_err-answered.ensures.1
     (fault_behind_answers how from to (A.due c.args.answerer.now) A.refuses given by most start b (A.led c.read.answerer) (λ lines text is. inv.due lines text (g.met.A.Answerer.is_due c.read.answerer lines text is)) c.read.reader (g.S.Source.left c.read.source) (g.O.Sink.written c.read.out) came
-    (A.led c.answer_held-answered.new.answerer) c.next.new.self r text c.answer_held-answered.result got c.answer_held-answered.ensures.most held c.in_err-answered.field-0.0 c.in_err-answered.was wrote)
+    (A.led c.answer_held-answered.new.answerer) c.next.new.self r text c.answer_held-answered.result got c.answer_held-answered.ensures.most (c.next.ensures.piece inv.piece) c.answer_held-answered.ensures.piece held c.in_err-answered.field-0.0 c.in_err-answered.was wrote)
 
 pub returns-in_err-answered-clause-causes : goal.returns-in_err-answered-clause-causes
 returns-in_err-answered-clause-causes g c =

@@ -76,9 +76,10 @@ returns-in-Make-clause-done g c =
     let b : Streams = streams_of g.S.Source g.O.Sink c.args.source.now c.make.new.out in
     let left = g.S.Source.left c.args.source.now in
     let faults = g.S.Source.faults c.args.source.now in
+    let last = g.S.Source.last c.args.source.now in
     let went = c.make.ensures in
     subst (λ (command : Command). ExecutesSo (behaviour_of command) c.args.most from to a b c.make.result) (sym c.in-Make.is)
-    (record { done = went.done c.args.most left faults; causes = went.causes left faults; beside = went.beside })
+    (record { done = went.done c.args.most left faults last; causes = went.causes left faults last; beside = went.beside })
 
 pub returns-in-Quantile-clause-done : goal.returns-in-Quantile-clause-done
 returns-in-Quantile-clause-done g c =

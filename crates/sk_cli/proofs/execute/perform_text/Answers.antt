@@ -33,10 +33,10 @@ returns-in-Ok-clause-done g c = λ net.
     let read = c.execute-in-Ok.new.source in
     let out = c.execute-in-Ok.new.out in
     let name : Word = c.in-Some.name.now in
-    let a : Streams = record { left = g.F.Shelf.left file.shelf.now file.file; read_faults = g.F.Shelf.read_faults file.shelf.now; written = g.O.Sink.written c.args.out.now; write_faults = g.O.Sink.faults c.args.out.now } in
-    let b : Streams = record { left = g.F.Shelf.left read.shelf.now read.file; read_faults = g.F.Shelf.read_faults read.shelf.now; written = g.O.Sink.written out; write_faults = g.O.Sink.faults out } in
-    opened_performs c.args.most _ _ c.args.command.now (option_copied c.args.file) name a b c.execute-in-Ok.result (ap (λ o. option_copied o) c.in-Some.is) c.in-Ok.ensures.content c.in-Ok.ensures.reads refl refl
-    (search rules) (search rules) refl refl c.execute-in-Ok.ensures.done (search rules) (search rules) (search rules) (search rules) refl refl
+    let a : Streams = record { left = g.F.Shelf.left file.shelf.now file.file; last = g.F.Shelf.last_read file.shelf.now; read_faults = g.F.Shelf.read_faults file.shelf.now; written = g.O.Sink.written c.args.out.now; write_faults = g.O.Sink.faults c.args.out.now } in
+    let b : Streams = record { left = g.F.Shelf.left read.shelf.now read.file; last = g.F.Shelf.last_read read.shelf.now; read_faults = g.F.Shelf.read_faults read.shelf.now; written = g.O.Sink.written out; write_faults = g.O.Sink.faults out } in
+    opened_performs c.args.most _ _ c.args.command.now (option_copied c.args.file) name a b c.execute-in-Ok.result (ap (λ o. option_copied o) c.in-Some.is) c.in-Ok.ensures.content c.in-Ok.ensures.given c.in-Ok.ensures.reads refl refl
+    (search rules) (search rules) (search rules) refl refl c.execute-in-Ok.ensures.done (search rules) (search rules) (search rules) (search rules) refl refl
 
 pub returns-in-Ok-clause-touches : goal.returns-in-Ok-clause-touches
 returns-in-Ok-clause-touches g c =

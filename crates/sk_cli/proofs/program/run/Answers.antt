@@ -4,7 +4,7 @@ use Rattle.sk_cli.specs.Run.{Tells, exit_of}
 use Rattle.sk_cli.specs.declared.fault.Fault.{Fault}
 use Rattle.sk_cli.proofs.Asking.{not_usage}
 use Rattle.sk_cli.proofs.Reporting.{runs_nothing, runs_so, some_request, nothing_asked}
-use Rattle.sk_cli.proofs.Showing.{make_shown, count_shown, ranks_shown, serve_shown}
+use Rattle.sk_cli.proofs.Showing.{make_shown, count_shown, ranks_shown, tally_shown, tenants_shown, window_shown, serve_shown}
 use Rattle.sk_cli.proofs.StatusLaws.{some_status}
 use Rattle.sk_cli.proofs.Touching.{touches_nothing, touches_asked}
 use Rattle.sk_cli.proofs.program.run.Goals as goal
@@ -68,6 +68,33 @@ returns-in-Ok-clause-quantile g c = λ plan file asks well. ranks_shown _ _ _ _ 
 
 pub returns-in-Err-clause-quantile : goal.returns-in-Err-clause-quantile
 returns-in-Err-clause-quantile g c = λ plan file asks well. absurd (some_status c.in-Err.fault (sym c.report-in-Err.ensures.status ∙ well))
+
+pub returns-in_default-clause-tally : goal.returns-in_default-clause-tally
+returns-in_default-clause-tally g c = λ plan file asks. nothing_asked _ _ c.in_default.ensures.value asks
+
+pub returns-in-Ok-clause-tally : goal.returns-in-Ok-clause-tally
+returns-in-Ok-clause-tally g c = λ plan file asks well. tally_shown _ _ _ _ c.in-Some.ensures.value c.in-Ok.ensures.done.done plan file asks
+
+pub returns-in-Err-clause-tally : goal.returns-in-Err-clause-tally
+returns-in-Err-clause-tally g c = λ plan file asks well. absurd (some_status c.in-Err.fault (sym c.report-in-Err.ensures.status ∙ well))
+
+pub returns-in_default-clause-tenants : goal.returns-in_default-clause-tenants
+returns-in_default-clause-tenants g c = λ plan file asks. nothing_asked _ _ c.in_default.ensures.value asks
+
+pub returns-in-Ok-clause-tenants : goal.returns-in-Ok-clause-tenants
+returns-in-Ok-clause-tenants g c = λ plan file asks well. tenants_shown _ _ _ _ c.in-Some.ensures.value c.in-Ok.ensures.done.done plan file asks
+
+pub returns-in-Err-clause-tenants : goal.returns-in-Err-clause-tenants
+returns-in-Err-clause-tenants g c = λ plan file asks well. absurd (some_status c.in-Err.fault (sym c.report-in-Err.ensures.status ∙ well))
+
+pub returns-in_default-clause-window : goal.returns-in_default-clause-window
+returns-in_default-clause-window g c = λ plan file asks. nothing_asked _ _ c.in_default.ensures.value asks
+
+pub returns-in-Ok-clause-window : goal.returns-in-Ok-clause-window
+returns-in-Ok-clause-window g c = λ plan file asks well. window_shown _ _ _ _ c.in-Some.ensures.value c.in-Ok.ensures.done.done plan file asks
+
+pub returns-in-Err-clause-window : goal.returns-in-Err-clause-window
+returns-in-Err-clause-window g c = λ plan file asks well. absurd (some_status c.in-Err.fault (sym c.report-in-Err.ensures.status ∙ well))
 
 pub returns-in_default-clause-serve : goal.returns-in_default-clause-serve
 returns-in_default-clause-serve g c = λ plan asks. nothing_asked _ _ c.in_default.ensures.value asks

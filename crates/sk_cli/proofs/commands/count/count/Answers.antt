@@ -41,7 +41,7 @@ returns-in-Ok-clause-beside g c =
     let plan = c.args.plan.now in
     let old : Setting = setting (g.S.Source.left c.args.source.now) (g.O.Sink.written c.args.out.now) (g.B.Seen.places c.args.board.now) in
     let new : Setting = setting (g.S.Source.left c.count.new.source) (g.O.Sink.written c.count.new.out) (g.B.Seen.places c.count.new.board) in
-    let left = places_left plan c.args.most old new c.count.result c.count.ensures.counts in
+    let left = places_left plan c.args.most old new _ c.count.result c.count.ensures.counts in
     let ranks : SameRanks c.args.remains.now c.put_counted.new.self = search rules in
     record { board = none_left plan.k plan.alarms old.places new.places left.0 left.1; remains = tt; leaves = ranks }
 
@@ -50,5 +50,5 @@ returns-in-Err-clause-beside g c =
     let plan = c.args.plan.now in
     let old : Setting = setting (g.S.Source.left c.args.source.now) (g.O.Sink.written c.args.out.now) (g.B.Seen.places c.args.board.now) in
     let new : Setting = setting (g.S.Source.left c.count.new.source) (g.O.Sink.written c.count.new.out) (g.B.Seen.places c.count.new.board) in
-    let left = places_left plan c.args.most old new c.count.result c.count.ensures.counts in
+    let left = places_left plan c.args.most old new _ c.count.result c.count.ensures.counts in
     record { board = none_left plan.k plan.alarms old.places new.places left.0 left.1; remains = refl; leaves = (refl, refl) }

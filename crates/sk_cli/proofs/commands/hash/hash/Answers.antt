@@ -1,4 +1,4 @@
-use Rattle.std.proofs.Common.{[], ℕ, refl, sym, subst}
+use Rattle.std.proofs.Common.{[], ℕ, refl, sym, subst, arith}
 use Rattle.std.proofs.KnownBytes.{Consumes-nil}
 use Rattle.sk_cli.specs.commands.Hash.{hash_text, hashing}
 use Rattle.sk_cli.specs.Outside.{Streams, streams_of}
@@ -7,6 +7,9 @@ use Rattle.sk_cli.specs.declared.fault.Fault.TheVariants as fault
 use Rattle.sk_cli.proofs.Endings.{ends_by, nothing_yet}
 use Rattle.sk_cli.proofs.Hashing.{no_hash_text, hashes_go, no_hash_yet}
 use Rattle.sk_cli.proofs.commands.hash.hash.Goals as goal
+
+pub answer_lines-requires : goal.answer_lines-requires
+answer_lines-requires g c = omega (arith, c.in_ok-reader.ensures.piece)
 
 pub returns-in_err-reader-clause-done : goal.returns-in_err-reader-clause-done
 returns-in_err-reader-clause-done g c = λ from to.

@@ -43,5 +43,5 @@ returns-clause-done g c = λ from to.
     let a : Streams = streams_of g.S.Source g.O.Sink c.args.source.now c.args.out.now in
     let b : Streams = streams_of g.S.Source g.O.Sink c.read_items.new.source c.args.out.now in
     let sketch = c.read_items.new.taker in
-    let ends = subst (λ (i : Intake). ReadingEnds (units_by i.column) i.most (Gave i.kind (StandsFor sketch)) (Missed i.kind (StandsFor sketch)) a.left b.left c.in-Err.fault) c.of_items-intake.ensures c.in-Err.ensures.read in
+    let ends = subst (λ (i : Intake). ReadingEnds b.last (units_by i.column) i.most (Gave i.kind (StandsFor sketch)) (Missed i.kind (StandsFor sketch)) a.left b.left c.in-Err.fault) c.of_items-intake.ensures c.in-Err.ensures.read in
     telling_failed plan.what.kind plan.what.column (image_of plan) c.args.most from to a b (StandsFor sketch) c.in-Err.fault c.of_reading.result c.of_reading.ensures ends refl

@@ -9,7 +9,12 @@ use Rattle.sk_cli.specs.declared.fault.Fault.TheVariants as fault
 use Rattle.sk_cli.proofs.Endings.{ends_by, nothing_more, nothing_yet}
 use Rattle.sk_cli.proofs.Reading.{Went, went, went_so, got_line, reads_none, failed}
 use Rattle.sk_cli.proofs.Replaying.{replay_by_lines, no_answer_yet, refuses, refuses_nothing, replay_goes, led_to_start}
+use Rattle.sk_read.proofs.Readings.{in_time_within}
+use Rattle.sk_read.specs.declared.units.Units.TheVariants.{Lines}
 use Rattle.sk_cli.proofs.commands.replay.replay.Goals as goal
+
+pub answer_lines-requires : goal.answer_lines-requires
+answer_lines-requires g c = record { piece = c.next.ensures.piece (omega (arith, c.in_ok-reader.ensures.piece)) }
 
 pub returns-in_err-reader-clause-done : goal.returns-in_err-reader-clause-done
 returns-in_err-reader-clause-done g c = λ from to.
@@ -24,8 +29,9 @@ returns-in_err-next-clause-done g c = λ from to.
     let none = reads_none c.in_ok-reader.reader a.left c.args.most c.in_ok-reader.ensures.read c.in_ok-reader.ensures.most in
     let on : Went c.next.new.self a.left (g.S.Source.left c.next.new.source) c.args.most [] (Err s) =
     went c.in_ok-reader.reader c.next.new.self a.left a.left (g.S.Source.left c.next.new.source) c.args.most [] [] c.next.result (Err s) none c.next.ensures.goes c.next.ensures.most c.in_err-next.was in
+    let within = c.next.ensures.piece (omega (arith, c.in_ok-reader.ensures.piece)) in
     ends_by replaying c.args.most from to a b _ (fault_by_line s) c.from_residual-in_err-next.ensures.1
-    (failed replaying from to IsAnswered (replay_by_lines from to) c.args.most a b c.next.new.self [] [] s on refl (Appends-nil a.written))
+    (failed replaying from to IsAnswered (replay_by_lines from to) c.args.most a b c.next.new.self [] [] s within on refl (Appends-nil a.written))
 
 pub returns-then-not-branch-clause-done : goal.returns-then-not-branch-clause-done
 returns-then-not-branch-clause-done g c = λ from to.
@@ -33,7 +39,7 @@ returns-then-not-branch-clause-done g c = λ from to.
     let b : Streams = streams_of g.S.Source g.O.Sink c.next.new.source c.args.out.now in
     let none = reads_none c.in_ok-reader.reader a.left c.args.most c.in_ok-reader.ensures.read c.in_ok-reader.ensures.most in
     let on = went_so c.in_ok-reader.reader c.next.new.self a.left _ _ c.args.most [] [] c.next.result _ false none c.next.ensures.goes c.next.ensures.most c.in_ok-next.was c.if-not-branch.true in
-    refuses_nothing from to a b c.args.most c.next.new.self on refl
+    refuses_nothing from to a b c.args.most c.next.new.self (c.next.ensures.piece (omega (arith, c.in_ok-reader.ensures.piece))) on refl
 
 pub returns-in_err-state-clause-done : goal.returns-in_err-state-clause-done
 returns-in_err-state-clause-done g c = λ from to.
@@ -52,7 +58,8 @@ returns-in_default-clause-done g c = λ from to.
     let none = reads_none c.in_ok-reader.reader a.left c.args.most c.in_ok-reader.ensures.read c.in_ok-reader.ensures.most in
     let got = got_line c.in_ok-reader.reader c.next.new.self a.left _ _ c.args.most [] [] c.next.result _ none c.next.ensures.goes c.next.ensures.most c.in_ok-next.was c.if-not-branch.false in
     let unnamed : start_of own ≡ None = ap start_of (sym c.line.ensures) ∙ sym c.in_ok-state.ensures.value ∙ ap (option_map started) c.in_default.is in
-    refuses from to a b c.args.most 1 c.next.new.self [] own [] got.taken got.reads got.time (omega arith) refl (Appends-nil a.written) unnamed
+    let within = c.next.ensures.piece (omega (arith, c.in_ok-reader.ensures.piece)) in
+    refuses from to a b c.args.most 1 c.next.new.self [] own [] got.taken got.reads (in_time_within Lines [] got.taken within got.time) (omega arith) refl (Appends-nil a.written) unnamed
 
 pub returns-clause-done : goal.returns-clause-done
 returns-clause-done g c = λ from to.

@@ -32,7 +32,7 @@ returns-in-Err-clause-done g c = λ from to.
     let same : bytes_of c.in_ok-names.names.items ≡ names = c.in_ok-names.ensures in
     subst (λ (fault : Fault). Ends (hosting c.args.plan.now) c.args.most from to a b fault) (sym c.of_labels.ensures)
     (labelled_ended (desk_rules desks names) Unknown c.args.most from to a b c.in-Err.fault
-    (subst (λ (l : List (List ℕ)). EndsAt (desk_rules desks l) c.args.most (setting a.left a.written) (setting b.left b.written) c.in-Err.fault) same c.in-Err.ensures.goes))
+    (subst (λ (l : List (List ℕ)). EndsAt (desk_rules desks l) b.last c.args.most (setting a.left a.written) (setting b.left b.written) c.in-Err.fault) same c.in-Err.ensures.goes))
 
 pub returns-in-Err-clause-causes : goal.returns-in-Err-clause-causes
 returns-in-Err-clause-causes g c = label_causes _ _ Unknown c.tenants.result c.in-Err.fault c.of_labels.result c.in-Err.is c.of_labels.ensures c.tenants.ensures.reads c.tenants.ensures.writes
