@@ -26,6 +26,7 @@ use sk_theta::{Reply, Theta};
 use std::alloc::Global;
 use std::env;
 use std::process::ExitCode;
+use std::sync::Wait;
 
 // A table with one updater, whose buffers have room for one item.
 #[tactic(auto, unfolding(sk_model::specs::Entries::items_of_entries))]
@@ -69,10 +70,10 @@ fn exchange(heart: &mut HeartSeat<Theta>, count: u64)
     }
 }
 
-fn outcome(done: Result<(), OutOfMemory>) -> ExitCode {
+fn outcome(done: Option<Result<(), OutOfMemory>>) -> ExitCode {
     match done {
-        Ok(()) => ExitCode::SUCCESS,
-        Err(OutOfMemory) => ExitCode::FAILURE,
+        Some(Ok(())) => ExitCode::SUCCESS,
+        Some(Err(OutOfMemory)) | None => ExitCode::FAILURE,
     }
 }
 
@@ -134,8 +135,38 @@ fn number_of(word: Option<String>) -> Option<u64> {
     word?.parse().ok()
 }
 
+// Takes `count` steps of this kind of a table.
+fn take_steps(alloc: Global, kind: &str, count: u64) -> Result<(), OutOfMemory> {
+    let mut made = table(alloc)?;
+    match kind {
+        "asks" => ask(&mut made.token, count),
+        "turns" => turn(&mut made.heart, count),
+        _ => exchange(&mut made.heart, count),
+    }
+    Ok(())
+}
+
+// Takes `count` steps of a table, or updates of a sketch or a hub, if there is such a kind.
+fn take<R: Wait>(
+    rt: &R,
+    alloc: Global,
+    kind: &str,
+    distinct: u64,
+    count: u64,
+) -> Option<Result<(), OutOfMemory>> {
+    match kind {
+        "asks" | "turns" | "exchanges" => Some(take_steps(alloc, kind, count)),
+        "sketch" => Some(updates::sketch(alloc, distinct, count)),
+        "hub" => Some(updates::hub(rt, alloc, distinct, count)),
+        "tallies" => Some(tallies::sketch(alloc, distinct, count)),
+        "tallyhub" => Some(tallies::hub(rt, alloc, distinct, count)),
+        "quantiles" => Some(quantiles::sketch(alloc, distinct, count)),
+        "quantilehub" => Some(quantiles::hub(rt, alloc, distinct, count)),
+        _ => None,
+    }
+}
+
 fn main(rt: HostRuntime) -> ExitCode {
-    let alloc = rt.alloc();
     let Ok(mut words) = env::args(&rt) else {
         return ExitCode::FAILURE;
     };
@@ -146,29 +177,16 @@ fn main(rt: HostRuntime) -> ExitCode {
     if let Some(kind) = kind_of(kind.as_str()) {
         return count_lines(&rt, kind);
     }
-    let (Some(count), Ok(mut made)) = (number_of(words.next()), table(alloc)) else {
+    let Some(count) = number_of(words.next()) else {
         return ExitCode::FAILURE;
     };
-    let distinct = number_of(words.next());
-    if kind.as_str() == "scale" {
-        let Some(load) = load_of(count, distinct, number_of(words.next())) else {
-            return ExitCode::FAILURE;
-        };
-        return print_reply(&rt, scale::updates(&rt, alloc, load));
-    }
-    let distinct = distinct.unwrap_or(count);
+    let (second, third) = (number_of(words.next()), number_of(words.next()));
     match kind.as_str() {
-        "asks" => ask(&mut made.token, count),
-        "turns" => turn(&mut made.heart, count),
-        "exchanges" => exchange(&mut made.heart, count),
-        "sketch" => return outcome(updates::sketch(alloc, distinct, count)),
-        "hub" => return outcome(updates::hub(&rt, alloc, distinct, count)),
-        "tallies" => return outcome(tallies::sketch(alloc, distinct, count)),
-        "tallyhub" => return outcome(tallies::hub(&rt, alloc, distinct, count)),
-        "quantiles" => return outcome(quantiles::sketch(alloc, distinct, count)),
-        "quantilehub" => return outcome(quantiles::hub(&rt, alloc, distinct, count)),
-        "reads" => return print_taken(&rt, ranks::reads(&rt, alloc, count)),
-        _ => return ExitCode::FAILURE,
+        "reads" => print_taken(&rt, ranks::reads(&rt, rt.alloc(), count)),
+        "scale" => match load_of(count, second, third) {
+            Some(load) => print_reply(&rt, scale::updates(&rt, rt.alloc(), load)),
+            None => ExitCode::FAILURE,
+        },
+        kind => outcome(take(&rt, rt.alloc(), kind, second.unwrap_or(count), count)),
     }
-    ExitCode::SUCCESS
 }

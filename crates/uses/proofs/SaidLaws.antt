@@ -34,8 +34,8 @@ long_stands given lines begins few =
 
 module _ (rules : Rules) (most : ℕ) (old new : Setting) where
   -- it stopped at a line
-  at_line : (n : ℕ) (Is : List (List ℕ) → List ℕ → Type 0)
-      → StopsAt Lines most (λ lines line. (n ≡ length lines + 1) × WroteSoFar rules old.written new.written lines × Is lines line) old.left new.left
+  at_line : {last : ℕ} (n : ℕ) (Is : List (List ℕ) → List ℕ → Type 0)
+      → StopsAt last Lines most (λ lines line. (n ≡ length lines + 1) × WroteSoFar rules old.written new.written lines × Is lines line) old.left new.left
       → IfSome old.left (λ text. IsFirst rules text n Is)
   at_line n Is stops =
       let off = stops.1 in
@@ -50,15 +50,15 @@ module _ (rules : Rules) (most : ℕ) (old new : Setting) where
         is = off.known.2;
       }) off.comes)
 
-  blames : (f : LabelFault) → EndsBefore rules most old new f → IfSome old.left (λ text. Blames rules most text f)
-  blames OutOfMemory off = silent old.left
-  blames ReadFault some = silent old.left
-  blames WriteFault stops = silent old.left
-  blames TooMuch some = settled_told (λ text. most ≤ length text) old.left new.left some.taken some.consumed
+  blames : (last : ℕ) (f : LabelFault) → EndsBefore rules last most old new f → IfSome old.left (λ text. Blames rules most text f)
+  blames last OutOfMemory off = silent old.left
+  blames last ReadFault some = silent old.left
+  blames last WriteFault stops = silent old.left
+  blames last TooMuch some = settled_told (λ text. most ≤ length text) old.left new.left some.taken some.consumed
       (inl (λ later. omega (arith, some.size, length-append some.taken later)))
-  blames (BadLine n) stops = at_line n (λ before line. IsBad rules line) stops
-  blames (Refused n) stops = at_line n (IsRefused rules) stops
-  blames (LongLine n) off =
+  blames last (BadLine n) stops = at_line n (λ before line. IsBad rules line) stops
+  blames last (Refused n) stops = at_line n (IsRefused rules) stops
+  blames last (LongLine n) off =
       let Found : List ℕ → Type 0 = λ text. Begins off.given (lines_of text) × ((n ≡ length off.given + 1) × IsLongBehind Lines (length off.given) text) in
       let Wanted : List ℕ → Type 0 = λ text. IsFirst rules text n (λ before line. line_limit < length line) in
       settled_told Wanted old.left new.left off.taken off.consumed (settled_so Found Wanted new.left off.taken (λ text found. record {
@@ -71,10 +71,10 @@ module _ (rules : Rules) (most : ℕ) (old new : Setting) where
       }) off.comes)
 
   -- whatever it returns
-  pub says : (Went : List (List ℕ) → Type 0) (result : Result ℕ LabelFault) → ReadsTaken rules most Went old new result → IfOk result (CountsLines most old.left new.left) → IfSome old.left (λ text. Says rules most text result)
-  says Went (Ok n) reads counts =
+  pub says : (last : ℕ) (Went : List (List ℕ) → Type 0) (result : Result ℕ LabelFault) → ReadsTaken rules last most Went old new result → IfOk result (CountsLines most old.left new.left) → IfSome old.left (λ text. Says rules most text result)
+  says last Went (Ok n) reads counts =
       let all = reads.1 in
       both (λ text. n ≡ length (lines_of text)) (λ text. AreFine rules (lines_of text)) old.left
       (settled_told (λ text. n ≡ length (lines_of text)) old.left new.left counts.taken counts.consumed (inr (counts.end, counts.number)))
       (settled_told (λ text. AreFine rules (lines_of text)) old.left new.left all.taken all.consumed (inr (all.end, all.gave.0.fine)))
-  says Went (Err f) ends counts = blames f ends
+  says last Went (Err f) ends counts = blames _ f ends

@@ -3,6 +3,7 @@ ghost use Rattle.std.specs.Prelude.{◌≡◌, ◌<◌, ℕ, List, [], ◌++◌,
 ghost use Rattle.std.specs.Io.KnownBytes.{Consumes, IsAtEnd};
 ghost use Rattle.sk_model.specs.Causes.{HasCauseIn};
 ghost use Rattle.sk_model.specs.Lines.{lines_of};
+ghost use Rattle.sk_io.specs.Memory.{unread_text};
 ghost use Rattle.sk_lines.specs.Runs.{AreEven, IsRun};
 ghost use Rattle.uses.specs.Lengths.{longest_of};
 
@@ -17,19 +18,22 @@ use std::marker::Model;
 /// The most bytes that `Threes` gives a read.
 const MOST_GIVEN: usize = 3;
 
-/// A text that gives at most three bytes a read. Contracts see the bytes that are left.
+/// A text that gives at most three bytes a read. Contracts see the bytes that are left and how many the last read gave.
 #[derive(Drop)]
 pub struct Threes {
     bytes: Vec<u8>,
     at: usize,
+    // how many bytes the last read gave
+    last: usize,
 }
 
 impl Model for Threes {
-    ghost use Rattle.std.specs.Prelude.{ℕ, List, ◌≤◌, drop, vec_len};
+    ghost use Rattle.std.specs.Prelude.{◌≤◌, drop, vec_len};
+    ghost use Rattle.sk_io.specs.Memory.{TextState};
 
-    ghost Value = { List ℕ };
+    ghost Value = { TextState };
 
-    ghost view = { λ t. drop t.at t.bytes.items };
+    ghost view = { λ t. record { left = drop t.at t.bytes.items; last = t.last } };
 
     ghost invariant = { λ t. t.at ≤ vec_len t.bytes };
 }
@@ -37,20 +41,26 @@ impl Model for Threes {
 impl Threes {
     /// All of a text is left.
     pub fn new(bytes: Vec<u8>) -> Threes
-        ensures { result ≡ bytes.items }
+        ensures { result ≡ unread_text bytes.items }
     {
-        Threes { bytes, at: 0 }
+        Threes {
+            bytes,
+            at: 0,
+            last: 0,
+        }
     }
 
     // Moves bytes to the start of `buf`, none only at the end.
     fn give(&mut self, buf: &mut [u8]) -> usize
-        ensures count { result ≡ min (min (length buf.old) 3) (length self.old) }
-        ensures bytes { self.old ≡ take result buf.new ++ self.new }
-        ensures end { result ≡ 0 → 0 < length buf.old → self.new ≡ [] }
+        ensures count { result ≡ min (min (length buf.old) 3) (length self.old.left) }
+        ensures bytes { self.old.left ≡ take result buf.new ++ self.new.left }
+        ensures last { self.new.last ≡ result }
+        ensures end { result ≡ 0 → 0 < length buf.old → self.new.left ≡ [] }
     {
         let (_, left) = self.bytes.split_at(self.at);
         let n = copy_front(left, buf);
         self.at += n;
+        self.last = n;
         n
     }
 }
@@ -59,9 +69,11 @@ impl Source for Threes {
     ghost use Rattle.std.specs.Prelude.{Some};
     ghost use Rattle.sk_io.specs.Base.{nothing};
 
-    ghost left = { λ t. Some t };
+    ghost left = { λ t. Some t.left };
 
     ghost faults = { λ _. 0 };
+
+    ghost last = { λ t. t.last };
 
     ghost stands_on = { λ _. nothing };
 

@@ -1,12 +1,12 @@
 //! Distinct items of the last intervals, asked for while one of them runs.
-ghost use Rattle.std.specs.Prelude.{◌≡◌, ◌≤◌, [], ℕ, List, length, map, All, IfOk};
+ghost use Rattle.std.specs.Prelude.{◌≡◌, ◌≤◌, ◌==◌, ◌&&◌, [], ℕ, List, length, map, All, IfOk};
 ghost use Rattle.sk_hub.specs.Updaters.{UpdaterState};
 ghost use Rattle.sk_model.specs.Limits.{most_kept};
-ghost use Rattle.sk_model.specs.Width.{AreItems};
+ghost use Rattle.sk_model.specs.Width.{AreItems, item_end};
 ghost use Rattle.sk_learn.specs.Closing.{AreApart};
 ghost use Rattle.sk_learn.specs.Learning.{AreAsked};
 ghost use Rattle.sk_snap.specs.History.{name_of};
-ghost use Rattle.sk_window.specs.Hubs.{IsFresh};
+ghost use Rattle.sk_window.specs.Hubs.{IsFresh, IsFreshUpdater};
 ghost use Rattle.sk_window.specs.Intervals.{StandForEach};
 ghost use Rattle.sk_window.specs.Panes.{HasTaken};
 ghost use Rattle.uses.specs.Replies.{EndsWith, RepliesNow, RepliesOf};
@@ -38,6 +38,18 @@ pub fn reply_now<'r, R: Wait>(
     // It shows the proof what the reader lacks at most.
     replies_lack_two_buffers();
     panes.reply()
+}
+
+/// Whether a new updater of the running interval hands over each item that it keeps: if the panes are eager, as long as
+/// its hint is that of a short stream.
+pub fn hands_over_each<'r, R: Wait>(
+    panes: &Panes<'r, R>,
+    updater: &Updater<VersionedTheta<&'r R>>,
+) -> bool
+    requires fresh { IsFreshUpdater panes.now.shape panes.now.heart panes.now.learnt updater.now }
+    ensures eager { result ≡ (panes.now.shape.eager && (updater.now.hint == item_end)) }
+{
+    updater.is_eager()
 }
 
 /// Feeds each stream to a new updater of the running interval, in a thread of its own, and replies.

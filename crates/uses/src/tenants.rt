@@ -1,10 +1,10 @@
 //! Two tenants, whose items come to two desks.
-ghost use Rattle.std.specs.Prelude.{◌≡◌, ◌↔◌, ℕ, ◌<◌, ◌≤◌, ◌++◌, length, slice_get, Contains, IfOk, Some, true, false};
+ghost use Rattle.std.specs.Prelude.{◌≡◌, ◌≢◌, ◌↔◌, ℕ, ◌<◌, ◌≤◌, ◌++◌, length, slice_get, slice_index_or, Contains, IfOk, Some, true, false};
 ghost use Rattle.sk_model.specs.Limits.{most_kept};
 ghost use Rattle.sk_model.specs.Sketch.{packed_of};
 ghost use Rattle.sk_model.specs.Width.{IsItem};
 ghost use Rattle.sk_hub.specs.Updaters.{kept_of};
-ghost use Rattle.sk_tenant.specs.Calls.{theta_keeps};
+ghost use Rattle.sk_tenant.specs.Calls.{theta_keeps, theta_word};
 ghost use Rattle.sk_tenant.specs.Desks.{AreDone};
 ghost use Rattle.sk_tenant.specs.Names.{HasNoSpace};
 ghost use Rattle.uses.specs.Adds.{AreLines, adds_of, taken_for};
@@ -82,6 +82,18 @@ fn add_each(alloc: Global, desk: &mut Desk, lines: &[(u32, u64)]) -> Result<Vec<
         answers.push(desk.add(t, item))?;
     }
     Ok(answers)
+}
+
+/// Helps the hub of the tenant at place t once, unless another seat of it does, and asks for its word: that of what the
+/// updater has seen published. Nothing is kept by it, and other tenants see nothing of it.
+pub fn help_and_ask<R: Wait>(rt: &R, desk: &mut Desk, t: u32) -> u64
+    requires place { t < length desk.old.updaters }
+    ensures word { (d : _) → let u = slice_index_or desk.new.updaters t d in result ≡ theta_word u.view.numbers u.view.seen }
+    ensures kept { (d : _) → kept_of (slice_index_or desk.new.updaters t d) ≡ kept_of (slice_index_or desk.old.updaters t d) }
+    ensures others { (s : ℕ) (d : _) → t ≢ s → slice_index_or desk.new.updaters s d ≡ slice_index_or desk.old.updaters s d }
+{
+    desk.help(rt, t);
+    desk.ask(t)
 }
 
 /// Whether a tenant has this name, which has no space.

@@ -6,6 +6,7 @@ ghost use Rattle.sk_model.specs.Width.{AreItems};
 ghost use Rattle.sk_theta.specs.Kept.{StandsFor};
 
 use super::expect;
+use sk_cms::{CmsSetup, Tally};
 use sk_core::{Answer, Event, State};
 use sk_heap::HeapTheta;
 use sk_io::{MemSink, MemSource};
@@ -17,8 +18,8 @@ use std::alloc::Global;
 use std::test::Fail;
 use uses::{
     Measured, count_streams, count_two_tenants, estimate_again, estimate_items, estimate_of_both,
-    feed_and_reply, greatest_item, list_of_both, measure_text, rank_source, replay,
-    word_with_batch,
+    feed_and_reply, finish_again, greatest_item, how_often, list_of_both, measure_text,
+    rank_source, replay, word_with_batch,
 };
 
 #[tactic(auto, unfolding(sk_model::specs::Entries::items_of_entries))]
@@ -135,6 +136,24 @@ fn four_threads_count_as_one(rt: HostRuntime) -> Result<(), Fail> {
 }
 
 #[test]
+fn four_threads_say_how_often(rt: HostRuntime) -> Result<(), Fail> {
+    let alloc = rt.alloc();
+    let Ok(shape) = Shape::new(32, 4, 4, 0, false) else {
+        panic!(rt; "no shape");
+    };
+    let setup = CmsSetup {
+        rows: 4,
+        width: 4_096,
+    };
+    let streams = four_streams(alloc)?;
+    let often = how_often(&rt, alloc, &shape, setup, streams.as_slice(), 120)?;
+    // Two of the streams have it.
+    expect(&rt, often.last, Tally { n: 600, least: 2 });
+    assert!(&rt; often.meanwhile.least <= 2);
+    Ok(())
+}
+
+#[test]
 fn a_sketch_of_ones_own_finds_the_greatest(rt: HostRuntime) -> Result<(), Fail> {
     let Ok(shape) = Shape::new(2, 2, 1, 0, false) else {
         panic!(rt; "no shape");
@@ -237,9 +256,11 @@ fn four_threads_feed_an_interval(rt: HostRuntime) -> Result<(), Fail> {
     let (meanwhile, updaters) = feed_and_reply(&rt, &mut panes, updaters, streams.as_slice())?;
     // Each buffer has room for 16 items of the 150 that each thread keeps.
     assert!(&rt; 322 <= meanwhile.count && meanwhile.count <= 450);
-    let Advance::Moved(last, _updaters) = panes.advance(10, updaters) else {
+    let Advance::Moved(last, updaters) = panes.advance(10, updaters) else {
         panic!(rt; "no other interval");
     };
     expect(&rt, last.count, 450);
+    // Interval 1 has no item, and interval 0 is still one of the last two.
+    expect(&rt, finish_again(&mut panes, updaters)?.count, 450);
     Ok(())
 }

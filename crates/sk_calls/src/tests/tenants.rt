@@ -7,7 +7,9 @@ use sk_tenant::{Add, Desk, Opening, TenantStop, Tenants};
 use sk_theta::{ITEM_END, Shape};
 use std::alloc::Global;
 use std::process::Abort;
+use std::sync::Wait;
 use std::test::Fail;
+use uses::help_and_ask;
 
 fn names_of(alloc: Global, texts: &[&str]) -> Result<Vec<String>, OutOfMemory>
     ensures { IfOk result (λ names. length names.items ≡ length texts.now) }
@@ -25,6 +27,29 @@ fn add<R: Abort>(rt: &R, desk: &mut Desk, name: &[u8], item: u64) -> Add {
         panic!(rt; "no tenant has this name");
     };
     desk.add(t, item)
+}
+
+// The word of a tenant, after help.
+fn word<R: Abort + Wait>(rt: &R, desk: &mut Desk, name: &[u8]) -> u64 {
+    let Some(t) = desk.place(name) else {
+        panic!(rt; "no tenant has this name");
+    };
+    help_and_ask(rt, desk, t)
+}
+
+#[test]
+fn one_tenant_is_helped_and_asked(rt: HostRuntime) -> Result<(), Fail> {
+    let alloc = rt.alloc();
+    let shape = Shape::new(8, 1, 1, 0, false)?;
+    let Opening {
+        hosts: _,
+        mut desks,
+    } = Tenants::open(alloc, names_of(alloc, &["a", "b"])?, &shape, 4)?;
+    let desk = &mut desks[0];
+    expect(&rt, add(&rt, desk, b"a", 5), Add::Kept);
+    expect(&rt, word(&rt, desk, b"a"), 1);
+    expect(&rt, word(&rt, desk, b"b"), 0);
+    Ok(())
 }
 
 #[test]

@@ -179,6 +179,8 @@ fn a_token_meets_a_note(rt: HostRuntime) -> Result<(), Fail> {
     expect(&rt, unpack(word, 8).count, 1);
     let mut second = token.split()?;
     expect(&rt, unpack(second.ask(), 8).count, 1);
+    callers::give_note(&mut token, &mut updater);
+    expect(&rt, unpack(updater.ask(), 8).count, 1);
     Ok(())
 }
 

@@ -36,7 +36,11 @@ piece=65536 | count --raw --updaters 64 --eager no | # | 0 \
 | estimate 37769708490920306933760/4097; |
 read=0 | count --raw --updaters 1 --file text | # | 0 | estimate 37769708490920306933760/4097; |
 read=0 | count --raw --updaters 4 --file text | # | 0 | estimate 37769708490920306933760/4097; |
-read=0 | count --raw --updaters 64 --file text | # | 0 | estimate 37769708490920306933760/4097; |";
+read=0 | count --raw --updaters 64 --file text | # | 0 | estimate 37769708490920306933760/4097; |
+piece=65536 | count --raw --updaters 4 | #### | 0 | estimate 37769708490920306933760/4097; |
+piece=65536 | count --updaters 4 --k 32768 | #### | 0 | estimate 10000/1; |
+piece=65536 | count --raw --updaters 8 --propagator no | ###### | 0 \
+| estimate 37769708490920306933760/4097; |";
 
 const REFUSED: &str = "\
 | count --raw | 9223372036854775807; | 6 | | line 1: not a number;
@@ -48,14 +52,15 @@ const REFUSED: &str = "\
 | count --raw | 1,2; | 6 | | line 1: not a number;
 piece=65536 | count --k 4 | @x | 5 | | line 1: too long;
 piece=65536 | count --raw | 5;@x;x; | 5 | | line 2: too long;
-piece=65536 | count --raw | x;@x; | 6 | | line 1: not a number;";
+piece=65536 | count --raw | x;@x; | 6 | | line 1: not a number;
+piece=65536 | count --raw --updaters 4 | ####x;5; | 6 | | line 80001: not a number;";
 
 #[test]
 fn counts_that_are_fine(rt: HostRuntime) -> Result<(), Fail> {
-    check_rows(&rt, rt.alloc(), FINE, 27)
+    check_rows(&rt, rt.alloc(), FINE, 30)
 }
 
 #[test]
 fn counts_that_are_refused(rt: HostRuntime) -> Result<(), Fail> {
-    check_rows(&rt, rt.alloc(), REFUSED, 10)
+    check_rows(&rt, rt.alloc(), REFUSED, 11)
 }

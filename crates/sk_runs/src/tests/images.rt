@@ -54,6 +54,63 @@ fn joins(rt: HostRuntime) -> Result<(), Fail> {
     check_rows(&rt, rt.alloc(), JOINS, 17)
 }
 
+// The first line out of its place: of a text of no version, of version 1, and of version 2, whose hashes are from 1 to
+// 7fffffffffffffff.
+const BAD: &str = "\
+| join --left text --right none | | 9 | | file 1 line 1: bad image;
+| join --left text --right none | end 0; | 9 | | file 1 line 1: bad image;
+| join --left text --right none | theta1 k=1 seed=0;end 0; | 9 | | file 1 line 1: bad image;
+| join --left text --right none | theta2 k=1 seed=0;end 0; | 9 | | file 1 line 1: bad image;
+| join --left text --right none | theta1 k=32769 seed=0;end 0; | 9 | | file 1 line 1: bad image;
+| join --left text --right none | theta2 k=1048577 seed=0;end 0; | 9 | | file 1 line 1: bad image;
+| join --left text --right none | theta1 k=1048576 seed=0;end 0; | 9 | | file 1 line 1: bad image;
+| join --left text --right none | theta1 k=02 seed=0;end 0; | 9 | | file 1 line 1: bad image;
+| join --left text --right none | theta2 k=02 seed=0;end 0; | 9 | | file 1 line 1: bad image;
+| join --left text --right none | theta1 k=2 seed=00;end 0; | 9 | | file 1 line 1: bad image;
+| join --left text --right none | theta2 k=2 seed=4294967296;end 0; | 9 | | file 1 line 1: bad image;
+| join --left text --right none | theta1  k=2 seed=0;end 0; | 9 | | file 1 line 1: bad image;
+| join --left text --right none | theta2 k=2 seed=0 ;end 0; | 9 | | file 1 line 1: bad image;
+| join --left text --right none | theta1 k=2 seed=0^;end 0; | 9 | | file 1 line 1: bad image;
+| join --left text --right none | theta k=2 seed=0;end 0; | 9 | | file 1 line 1: bad image;
+| join --left text --right none | theta0 k=2 seed=0;end 0; | 9 | | file 1 line 1: bad image;
+| join --left text --right none | theta3 k=2 seed=0;end 0; | 9 | | file 1 line 1: bad image;
+| join --left text --right none | theta01 k=2 seed=0;end 0; | 9 | | file 1 line 1: bad image;
+| join --left text --right none | theta12 k=2 seed=0;end 0; | 9 | | file 1 line 1: bad image;
+| join --left text --right none | theta1 k=2 seed=0;000000000003; | 9 | | file 1 line 3: bad image;
+| join --left text --right none | theta1 k=2 seed=0;00000000000A;end 1; | 9 | | file 1 line 2: bad image;
+| join --left text --right none | theta1 k=2 seed=0;00000000003;end 1; | 9 | | file 1 line 2: bad image;
+| join --left text --right none | theta1 k=2 seed=0;0000000000000003;end 1; | 9 | | file 1 line 2: bad image;
+| join --left text --right none | theta1 k=2 seed=0;000000000003;000000000003;end 2; | 9 | | file 1 line 3: bad image;
+| join --left text --right none | theta1 k=2 seed=0;000000000005;000000000003;end 2; | 9 | | file 1 line 3: bad image;
+| join --left text --right none | theta1 k=2 seed=0;000000000003;000000000005;000000000006;end 3; | 9 | | file 1 line 4: bad image;
+| join --left text --right none | theta1 k=2 seed=0;000000000003;000000000005;end 3; | 9 | | file 1 line 4: bad image;
+| join --left text --right none | theta1 k=2 seed=0;000000000003;000000000005;end 2 | 9 | | file 1 line 4: bad image;
+| join --left text --right none | theta1 k=2 seed=0;000000000003;000000000005;end 2;; | 9 | | file 1 line 5: bad image;
+| join --left text --right none | theta1 k=2 seed=0;000000000003;000000000005;end 2;x | 9 | | file 1 line 5: bad image;
+| join --left text --right none | theta1 k=2 seed=0;end 0^; | 9 | | file 1 line 2: bad image;
+| join --left text --right none | theta1 k=2 seed=0;end 00; | 9 | | file 1 line 2: bad image;
+| join --left text --right none | theta2 k=2 seed=0;0000000000000003; | 9 | | file 1 line 3: bad image;
+| join --left text --right none | theta2 k=2 seed=0;000000000000000A;end 1; | 9 | | file 1 line 2: bad image;
+| join --left text --right none | theta2 k=2 seed=0;000000000000003;end 1; | 9 | | file 1 line 2: bad image;
+| join --left text --right none | theta2 k=2 seed=0;000000000003;end 1; | 9 | | file 1 line 2: bad image;
+| join --left text --right none | theta2 k=2 seed=0;0000000000000000;end 1; | 9 | | file 1 line 2: bad image;
+| join --left text --right none | theta2 k=2 seed=0;8000000000000000;end 1; | 9 | | file 1 line 2: bad image;
+| join --left text --right none | theta2 k=2 seed=0;ffffffffffffffff;end 1; | 9 | | file 1 line 2: bad image;
+| join --left text --right none | theta2 k=2 seed=0;0000000000000003;0000000000000003;end 2; | 9 | | file 1 line 3: bad image;
+| join --left text --right none | theta2 k=2 seed=0;0000000000000005;0000000000000003;end 2; | 9 | | file 1 line 3: bad image;
+| join --left text --right none | theta2 k=2 seed=0;0000000000000003;0000000000000005;0000000000000006;end 3; | 9 | | file 1 line 4: bad image;
+| join --left text --right none | theta2 k=2 seed=0;0000000000000003;0000000000000005;end 3; | 9 | | file 1 line 4: bad image;
+| join --left text --right none | theta2 k=2 seed=0;0000000000000003;0000000000000005;end 2 | 9 | | file 1 line 4: bad image;
+| join --left text --right none | theta2 k=2 seed=0;0000000000000003;0000000000000005;end 2;; | 9 | | file 1 line 5: bad image;
+| join --left text --right none | theta2 k=2 seed=0;0000000000000003;0000000000000005;end 2;x | 9 | | file 1 line 5: bad image;
+| join --left text --right none | theta2 k=2 seed=0;end 0^; | 9 | | file 1 line 2: bad image;
+| join --left text --right none | theta2 k=2 seed=0;end 00; | 9 | | file 1 line 2: bad image;";
+
+#[test]
+fn images_with_a_line_out_of_place(rt: HostRuntime) -> Result<(), Fail> {
+    check_rows(&rt, rt.alloc(), BAD, 48)
+}
+
 // Each version has limits of its own for k and for hashes, of which 0 is one in version 1 alone.
 const VERSIONS: &str = "\
 | join --left four --right five | | 0 | estimate 9223372036854775808/5; |
@@ -76,11 +133,25 @@ const VERSIONS: &str = "\
 | join --left five --right text | theta2 k=2 seed=0;0000000000000000;end 1; | 9 | | file 2 line 2: bad image;
 | join --left text --right one | theta2 k=1048577 seed=0;end 0; | 9 | | file 1 line 1: bad image;
 | join --left text --right text | theta1 k=2 seed=0;342fac623a5e;cbd8a7b341bd;end 2; | 0 \
-| estimate 281474976710656/224131386917309; |";
+| estimate 281474976710656/224131386917309; |
+| join --left text --right text | theta1 k=32768 seed=4294967295;end 0; | 0 | estimate 0/1; |
+| join --left zero --right zero | | 0 | estimate 1/1; |
+| join --left text --right text | theta1 k=2 seed=0;000000000000;000000000001;end 2; | 0 | estimate 281474976710656/1; |
+| join --left text --right text | theta2 k=1048576 seed=4294967295;end 0; | 0 | estimate 0/1; |
+| join --left text --right text | theta2 k=2 seed=0;0000000000000001;end 1; | 0 | estimate 1/1; |
+| join --left four --right four | | 0 | estimate 9223372036854775808/6; |
+| join --left text --right text | theta2 k=3 seed=0;0000000000000001;0000000000000002;7fffffffffffffff;end 3; | 0 \
+| estimate 18446744073709551616/9223372036854775807; |
+| join --left zero --right one --image | | 0 | theta1 k=2 seed=0;000000000000;000000000003;end 2; |
+| join --left one --right one --image | | 0 | theta1 k=2 seed=0;000000000003;000000000005;end 2; |
+| join --left text --right four --image | theta2 k=2 seed=0;end 0; | 0 \
+| theta2 k=2 seed=0;0000000000000004;0000000000000006;end 2; |
+| join --left one --right text | theta1 k=2 seed=1;end 0; | 11 | \
+| mixed: theta1 k=2 seed=0 and theta1 k=2 seed=1;";
 
 #[test]
 fn joins_of_both_versions(rt: HostRuntime) -> Result<(), Fail> {
-    check_rows(&rt, rt.alloc(), VERSIONS, 15)
+    check_rows(&rt, rt.alloc(), VERSIONS, 26)
 }
 
 // Each call of the shelf fails in turn, and then the output.

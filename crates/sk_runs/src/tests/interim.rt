@@ -47,7 +47,7 @@ piece=8 read=1 | count --raw --window 2 --propagator no --b 1 | 1;2;3;4; | 3 \
 | count --raw --window 2 --propagator no | 1;;2;1; | 0 \
 | at 2 estimate 1/1;at 4 estimate 2/1;estimate 2/1; |";
 
-// With a propagator an interim estimate may lack the last two buffers.
+// With a propagator an interim estimate may lack the last buffer of each updater's share.
 const RELAXED: &str = "\
 | count --raw --window 2 | 1;2;3; | 0 | at 2 estimate ?/1;estimate 3/1; |
 | count --raw --window 2 --b 1 | 1;2;3; | 0 | at 2 estimate ?/1;estimate 3/1; |

@@ -33,9 +33,21 @@ estimate 9223372036854775808/2;put;returned 2;hint 2;filtered;kept; |
 | replay | machine 2 1 1;ask 0;;ask 0; | 7 | estimate 0/1; | line 3: bad event;
 | replay | machine 2 1 1;ask 0;machine 2 1 1; | 7 | estimate 0/1; | line 3: bad event;
 | replay | machine 2 1 1;ask 0 ; | 7 | | line 2: bad event;
-| replay | machine 2 1 1;ask\t0; | 7 | | line 2: bad event;";
+| replay | machine 2 1 1;ask\t0; | 7 | | line 2: bad event;
+| replay | machine 2 1 1;split 0;note 0;join 0 2;ask 1;ask 2; | 7 | token 1;token 2;joined;estimate 0/1; \
+| line 6: bad event;
+| replay | machine 2 0 1; | 7 | | line 1: bad event;
+| replay | machine 2 1 65; | 7 | | line 1: bad event;
+| replay | machine 2 1 1_; | 7 | | line 1: bad event;
+| replay | vacant 2 2; | 0 | |
+| replay | vacant 1048576 64; | 0 | |
+| replay | vacant 1 1; | 7 | | line 1: bad event;
+| replay | vacant 1048577 1; | 7 | | line 1: bad event;
+| replay | vacant 2 65; | 7 | | line 1: bad event;
+| replay | vacant 2; | 7 | | line 1: bad event;
+| replay | vacant 2 1 1; | 7 | | line 1: bad event;";
 
-// Each event when it is enabled, and when it is not.
+// Each event when it is enabled, and when it is not, and lines that are none.
 const EVENTS: &str = "\
 | replay | machine 2 1 1;offer 0 5;offer 0 3; | 7 | kept; | line 3: bad event;
 | replay | machine 2 2 1;offer 0 9223372036854775807;offer 0 0; | 7 | kept; | line 3: bad event;
@@ -71,7 +83,29 @@ find 0;take 0;publish 0;put 0;return 0;ask 0;return 0; | 7 \
 | kept;hint 9223372036854775808;swapped;handed 1;\
 waiting;took 1;published 1;put;returned 9223372036854775808;estimate 1/1; | line 12: bad event;
 | replay | vacant 2 1;admit 0 4096;admit 0 1; | 7 | admitted; | line 3: bad event;
-| replay | vacant 2 1;admit 0 4097; | 7 | | line 2: bad event;";
+| replay | vacant 2 1;admit 0 4097; | 7 | | line 2: bad event;
+| replay | machine 2 1 1;offer 1 5; | 7 | | line 2: bad event;
+| replay | machine 2 1 1;look 1; | 7 | | line 2: bad event;
+| replay | machine 2 1 1;swap 0; | 7 | | line 2: bad event;
+| replay | machine 2 1 1;find 1; | 7 | | line 2: bad event;
+| replay | machine 2 1 1;take 0; | 7 | | line 2: bad event;
+| replay | machine 2 1 1;ask 1; | 7 | | line 2: bad event;
+| replay | machine 2 1 1;split 1; | 7 | | line 2: bad event;
+| replay | machine 2 1 1;note 1; | 7 | | line 2: bad event;
+| replay | machine 2 1 1;join 0 1; | 7 | | line 2: bad event;
+| replay | machine 2 1 1;turn 2; | 7 | | line 2: bad event;
+| replay | machine 2 1 1;; | 7 | | line 2: bad event;
+| replay | machine 2 1 1;ask; | 7 | | line 2: bad event;
+| replay | machine 2 1 1;ask__0; | 7 | | line 2: bad event;
+| replay | machine 2 1 1;ask 0_; | 7 | | line 2: bad event;
+| replay | machine 2 1 1;ask 0 0; | 7 | | line 2: bad event;
+| replay | machine 2 1 1;ASK 0; | 7 | | line 2: bad event;
+| replay | machine 2 1 1;look -1; | 7 | | line 2: bad event;
+| replay | machine 2 1 1;look 9223372036854775808; | 7 | | line 2: bad event;
+| replay | machine 2 1 1;offer 0; | 7 | | line 2: bad event;
+| replay | machine 2 1 1;offer 0 0; | 7 | | line 2: bad event;
+| replay | machine 2 1 1;offer 0 00000000000000000001; | 7 | | line 2: bad event;
+| replay | machine 2 1 1;offer 0 1 2; | 7 | | line 2: bad event;";
 
 // Of a line that is too long and one that is no event, the first decides. What was answered before
 // a fault stands.
@@ -87,12 +121,12 @@ piece=65536 room=0 | replay | machine 2 1 1; | 0 | |";
 
 #[test]
 fn schedules(rt: HostRuntime) -> Result<(), Fail> {
-    check_rows(&rt, rt.alloc(), SCHEDULES, 22)
+    check_rows(&rt, rt.alloc(), SCHEDULES, 33)
 }
 
 #[test]
 fn every_event(rt: HostRuntime) -> Result<(), Fail> {
-    check_rows(&rt, rt.alloc(), EVENTS, 27)
+    check_rows(&rt, rt.alloc(), EVENTS, 49)
 }
 
 #[test]

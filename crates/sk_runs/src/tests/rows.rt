@@ -61,7 +61,8 @@ fn streams_of(column: &str) -> Option<Streams> {
 }
 
 /// The bytes of a column: `;` stands for LF, `^` for CR, `_` for a blank, `@` for as many `x` as a
-/// line has at most, `#` for the numbers from 1 to 10,000, each twice, and `?` for a digit.
+/// line has at most, `#` for the numbers from 1 to 10,000, each twice, `~` for each once as an item of
+/// tenant a and of tenant b, and `?` for a digit.
 pub fn bytes_of(alloc: Global, column: &str, digit: u8) -> Result<Vec<u8>, Fail> {
     let mut bytes = Vec::new(alloc);
     'byte: for byte in column.bytes() {
@@ -71,16 +72,18 @@ pub fn bytes_of(alloc: Global, column: &str, digit: u8) -> Result<Vec<u8>, Fail>
             b'_' => bytes.push(b' ')?,
             b'?' => bytes.push(digit)?,
             b'@' => bytes.extend_from_slice(&vec![in alloc; b'x'; LINE_LIMIT]?)?,
-            b'#' => put_numbers(alloc, &mut bytes)?,
+            b'#' => put_numbers(alloc, &mut bytes, "", "")?,
+            b'~' => put_numbers(alloc, &mut bytes, "a ", "b ")?,
             _ => bytes.push(byte)?,
         }
     }
     Ok(bytes)
 }
 
-fn put_numbers(alloc: Global, bytes: &mut Vec<u8>) -> Result<(), Fail> {
+// The numbers from 1 to 10,000, each in two lines that begin so.
+fn put_numbers(alloc: Global, bytes: &mut Vec<u8>, first: &str, second: &str) -> Result<(), Fail> {
     'number: for number in 1..=10_000u32 {
-        let twice = format!(in alloc; "{number}\n{number}\n")?;
+        let twice = format!(in alloc; "{first}{number}\n{second}{number}\n")?;
         bytes.extend_from_slice(twice.as_bytes())?;
     }
     Ok(())

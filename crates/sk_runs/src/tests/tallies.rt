@@ -26,7 +26,9 @@ piece=65536 | tally --rows 4 --width 1000 --item a | a;@x; | 5 | | line 2: too l
 | tally --rows 3 --width 3 --item a --updaters 8 --b 1 --propagator no | a;b;c;d;e;f;g;h;i;j; | 0 \
 | n 10 item 2; |
 | tally --rows 3 --width 3 --item a --updaters 64 --b 1 --propagator no | a;b;c;d;e;f;g;h;i;j; | 0 \
-| n 10 item 2; |";
+| n 10 item 2; |
+piece=65536 | tally --rows 4 --width 65536 --item 7 --updaters 1 | #### | 0 | n 80000 item 8; |
+piece=65536 | tally --rows 4 --width 65536 --item 7 --updaters 4 | #### | 0 | n 80000 item 8; |";
 
 // With one updater and no propagator each interim count is fixed: it lacks the last two buffers.
 const WINDOWS: &str = "\
@@ -45,7 +47,7 @@ room=21 | tally --rows 4 --width 1000 --item a --b 1 --window 2 --propagator no 
 
 #[test]
 fn tallies(rt: HostRuntime) -> Result<(), Fail> {
-    check_rows(&rt, rt.alloc(), TALLIES, 21)
+    check_rows(&rt, rt.alloc(), TALLIES, 23)
 }
 
 #[test]

@@ -39,6 +39,14 @@ read=9 | tenants --names a | a x;a y; | 0 | a estimate 2/1; |
 room=0 | tenants --names a | a x; | 4 | | write fault;
 room=20 | tenants --names a,b | a x;b y; | 4 | a estimate 1/1;b est | write fault;";
 
+// Equal texts by one updater and by eight, and more lines than one stretch takes, so that lanes, their pool and the drain
+// run in threads. For k of 32,768 the estimates are exact, and for 4,096 those of one thread, worked outside.
+const LONG: &str = "\
+piece=65536 | tenants --names a,b --k 32768 --updaters 1 | ~b x; | 0 | a estimate 10000/1;b estimate 10001/1; |
+piece=65536 | tenants --names a,b --k 32768 --updaters 8 | ~b x; | 0 | a estimate 10000/1;b estimate 10001/1; |
+piece=65536 | tenants --names a,b --updaters 8 | ~~~~ | 0 \
+| a estimate 37769708490920306933760/3751311083847550720;b estimate 37769708490920306933760/3751311083847550720; |";
+
 #[test]
 fn tenants(rt: HostRuntime) -> Result<(), Fail> {
     check_rows(&rt, rt.alloc(), TENANTS, 16)
@@ -47,4 +55,9 @@ fn tenants(rt: HostRuntime) -> Result<(), Fail> {
 #[test]
 fn lines_of_no_tenant(rt: HostRuntime) -> Result<(), Fail> {
     check_rows(&rt, rt.alloc(), REFUSED, 16)
+}
+
+#[test]
+fn long_texts(rt: HostRuntime) -> Result<(), Fail> {
+    check_rows(&rt, rt.alloc(), LONG, 3)
 }

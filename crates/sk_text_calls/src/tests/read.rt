@@ -9,7 +9,6 @@ use sk_hash::hash63;
 use sk_io::{MemSource, Source};
 use sk_model::limits::SOURCE_LIMIT;
 use sk_read::{Fault, Intake, Kind, Taker, UnitTaker, Units, read_items, read_units};
-use sk_theta::Theta;
 use std::alloc::Global;
 use std::process::Abort;
 use std::test::Fail;
@@ -56,8 +55,8 @@ fn expect(
     want: Result<u64, Fault>,
     items: &[u64],
 ) {
-    assert_eq!(rt; got.0, want);
-    assert_eq!(rt; got.1.as_slice(), items);
+    super::expect(rt, got.0, want);
+    super::expect(rt, got.1.as_slice(), items);
 }
 
 fn hashes_of(alloc: Global, fields: &[&[u8]]) -> Result<Vec<u64>, Fail> {
@@ -177,7 +176,7 @@ fn long_fields(rt: HostRuntime) -> Result<(), Fail> {
         let text = long_text(alloc, len)?;
         for piece in [4096, 1_000_000] {
             let (result, taken) = read(alloc, intake(kind, column), &text, piece, &[])?;
-            assert_eq!(rt; (result, taken.len()), (want, items));
+            super::expect(&rt, (result, taken.len()), (want, items));
         }
     }
     Ok(())
@@ -209,58 +208,6 @@ fn faults_of_the_source(rt: HostRuntime) -> Result<(), Fail> {
             failing,
         )?;
         expect(&rt, got, want, items);
-    }
-    Ok(())
-}
-
-// The number k as text.
-fn put_number(alloc: Global, text: &mut Vec<u8>, k: u32) -> Result<(), Fail> {
-    let digits = format!(in alloc; "{k}")?;
-    text.extend_from_slice(digits.as_bytes())?;
-    Ok(())
-}
-
-// 400 records. Record i holds i, then a text of k = i * i % 89 in one of four forms, then a field
-// with an end of a line and a comma.
-fn many_records(alloc: Global) -> Result<Vec<u8>, Fail> {
-    let forms: [(&[u8], &[u8]); 4] = [
-        (b"w", b""),
-        (b"\"w", b"\""),
-        (b"\"w,", b"\""),
-        (b"\"w\"\"", b"\"\"\n\""),
-    ];
-    let mut text = Vec::new(alloc);
-    for i in 0..400u32 {
-        put_number(alloc, &mut text, i)?;
-        text.push(b',')?;
-        let (before, after) = forms[i as usize % 4];
-        text.extend_from_slice(before)?;
-        put_number(alloc, &mut text, i * i % 89)?;
-        text.extend_from_slice(after)?;
-        text.extend_from_slice(b",\"x\r\n,\"\r\n")?;
-    }
-    Ok(text)
-}
-
-// Python 3 counted 135 distinct second fields and 1 third field in this text, by
-// `rows = list(csv.reader(io.StringIO(text, newline='')))` and `len({row[1] for row in rows})`.
-#[test]
-fn distinct_fields(rt: HostRuntime) -> Result<(), Fail> {
-    let alloc = rt.alloc();
-    let text = many_records(alloc)?;
-    for (column, distinct) in [(1, 400), (2, 135), (3, 1)] {
-        for piece in [1, 7, 1000] {
-            let mut source = MemSource::new(text.clone()?, piece, Vec::new(alloc));
-            let mut sketch = Theta::new(alloc, 4096)?;
-            let result = read_items(
-                alloc,
-                &intake(Kind::Hash(9), column),
-                &mut source,
-                &mut sketch,
-            );
-            assert_eq!(rt; result, Ok(400));
-            assert_eq!(rt; sketch.fraction(), (distinct, 1));
-        }
     }
     Ok(())
 }
@@ -321,7 +268,7 @@ fn one_unit_alone(rt: HostRuntime) -> Result<(), Fail> {
         let mut source = MemSource::new(text.to_vec(alloc)?, 1, Vec::new(alloc));
         let mut one = One(None);
         let result = read_one(alloc, units, &mut source, &mut one);
-        assert_eq!(rt; (result, one.0), (want, len));
+        super::expect(&rt, (result, one.0), (want, len));
     }
     Ok(())
 }

@@ -28,6 +28,17 @@ pub fn meet_and_ask<C: Composable>(token: &mut Token<C>, u: &mut Updater<C>) -> 
     token.ask()
 }
 
+// What a token has seen of an updater's items begins what that has handed over: the updater sees it after a note of the
+// token.
+pub fn give_note<C: Composable>(token: &mut Token<C>, u: &mut Updater<C>)
+    requires table { u.old.table ≡ token.old.table }
+    ensures own { Begins (entries_by u.old.number token.old.view.seen) (handed_of u.old) }
+    ensures seen { Begins token.new.view.seen u.new.view.seen }
+    ensures kept { kept_of u.new ≡ kept_of u.old }
+{
+    u.meet(token.note());
+}
+
 // Once an updater is drained, each later reply of the heart is of all that it kept, and of its base.
 pub fn drain_and_ask<C: Composable, R: Wait>(
     rt: &R,

@@ -8,5 +8,5 @@ returns-clause-says g c =
     let start = c.args.taker.now in
     let end = c.read_labelled.new.taker in
     says (g.T.LineTaker.rules start) source_limit (setting (g.S.Source.left c.args.source.now) (g.T.LineTaker.written start))
-    (setting (g.S.Source.left c.read_labelled.new.source) (g.T.LineTaker.written end)) (g.T.LineTaker.went start end) c.read_labelled.result
+    (setting (g.S.Source.left c.read_labelled.new.source) (g.T.LineTaker.written end)) _ (g.T.LineTaker.went start end) c.read_labelled.result
     c.read_labelled.ensures.read c.read_labelled.ensures.count
