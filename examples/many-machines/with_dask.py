@@ -5,9 +5,9 @@
 
 With a number N it starts N processes on this machine; with an address, as in tcp://10.0.0.1:8786, it uses the
 workers there, which need sketchd on their path and see the file under the same name. Each worker makes the images of
-its parts of the file, and the images are joined two by two. OPTIONS has the options of `image`."""
+its parts of the file, and the images are joined two by two. OPTIONS has the options of `image`, but --csv and --file: a
+record may have line ends, at which a file is cut, and each worker reads its part."""
 import os, subprocess, sys, tempfile
-from distributed import Client, LocalCluster
 
 SKETCHD = os.environ.get("SKETCHD", "sketchd")
 OPTIONS = os.environ.get("OPTIONS", "").split()
@@ -63,11 +63,24 @@ def count(client, path):
 
 
 def main():
+    if not 2 <= len(sys.argv) <= 3:
+        sys.exit(__doc__)
+    for word in {"--csv", "--file"} & set(OPTIONS):
+        sys.exit(f"with_dask: OPTIONS cannot have {word}: each worker reads a part that is cut at a line end")
     path, where = os.path.abspath(sys.argv[1]), (sys.argv[2:] or ["4"])[0]
-    if where.isdigit():
-        where = LocalCluster(n_workers=int(where), threads_per_worker=1, dashboard_address=None)
-    with Client(where) as client:
-        sys.stdout.write(count(client, path))
+    if not os.path.isfile(path):
+        sys.exit(f"with_dask: {path}: no such file")
+    try:
+        from distributed import Client, LocalCluster
+    except ImportError:
+        sys.exit("with_dask: Dask is not installed: apt-get install python3-distributed")
+    try:
+        if where.isdigit():
+            where = LocalCluster(n_workers=int(where), threads_per_worker=1, dashboard_address=None)
+        with Client(where) as client:
+            sys.stdout.write(count(client, path))
+    except (OSError, RuntimeError, ValueError, subprocess.CalledProcessError) as fault:
+        sys.exit(f"with_dask: {fault}")
 
 
 if __name__ == "__main__":
