@@ -256,11 +256,26 @@ fn four_threads_feed_an_interval(rt: HostRuntime) -> Result<(), Fail> {
     let (meanwhile, updaters) = feed_and_reply(&rt, &mut panes, updaters, streams.as_slice())?;
     // Each buffer has room for 16 items of the 150 that each thread keeps.
     assert!(&rt; 322 <= meanwhile.count && meanwhile.count <= 450);
-    let Advance::Moved(last, updaters) = panes.advance(10, updaters) else {
+    let Advance::Moved(last, _updaters) = panes.advance(10, updaters) else {
         panic!(rt; "no other interval");
     };
     expect(&rt, last.count, 450);
-    // Interval 1 has no item, and interval 0 is still one of the last two.
+    Ok(())
+}
+
+#[test]
+fn the_last_interval_is_closed(rt: HostRuntime) -> Result<(), Fail> {
+    let alloc = rt.alloc();
+    let Ok(shape) = Shape::new(1_024, 16, 4, 0, false) else {
+        panic!(rt; "no shape");
+    };
+    let frame = Frame { span: 10, last: 2 };
+    let streams = four_streams(alloc)?;
+    let Started {
+        mut panes,
+        updaters,
+    } = Panes::new(&rt, alloc, shape, frame)?;
+    let (_meanwhile, updaters) = feed_and_reply(&rt, &mut panes, updaters, streams.as_slice())?;
     expect(&rt, finish_again(&mut panes, updaters)?.count, 450);
     Ok(())
 }
