@@ -1,4 +1,4 @@
-//! Factors and intervals against those of whole powers, which `tests/odds` computes without the crate.
+//! Factors and intervals against those of whole powers, which a program in Python computed without rounding.
 use crate::{Factors, Interval};
 use std::process::Abort;
 use std::test::Fail;
