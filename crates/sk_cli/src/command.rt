@@ -1,5 +1,5 @@
 // The words of a command line as what is asked.
-ghost use Rattle.std.specs.Prelude.{◌≡◌, None, IfSome};
+ghost use Rattle.std.specs.Prelude.{◌≡◌, None, IfSome, is_some};
 ghost use Rattle.std.specs.Option.{option_map, option_copied};
 ghost use Rattle.sk_cli.specs.Options.{texts_of, file_by};
 ghost use Rattle.sk_cli.specs.Command.{request_of, asked_of, asked_by, count_by, hash_by, image_by, join_by, serve_by, make_by, quantile_by, replay_by, tally_by, tenants_by, window_by, alone, OfText, IsInOrder};
@@ -180,6 +180,13 @@ impl<'a> Request<'a> {
         let file = file_in(options)?;
         Some(Request::OverText(OverText { command, file }))
     }
+}
+
+/// Whether the words are a command with its options.
+pub fn is_request(words: &[String]) -> bool
+    ensures { result ≡ is_some (request_of (texts_of words.now)) }
+{
+    Request::of(words).is_some()
 }
 
 // The command, if no word follows it.

@@ -15,6 +15,9 @@ mod values;
 mod watchers;
 mod write;
 
+pub use command::is_request;
+pub use commands::about::HELP;
+pub use options::Verb;
 pub use program::run;
 pub use remains::Remains;
 pub use sk_make::MakeSource;

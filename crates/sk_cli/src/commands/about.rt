@@ -90,6 +90,7 @@ usage:
       --last N     how many intervals an estimate is of, 2 to 64
       --b B        how many items an updater hands over at once, 1 to 4096 (64)
       --k, --seed, --file as for count
+  sketchd COMMAND --help
   sketchd --help
   sketchd --version
 
