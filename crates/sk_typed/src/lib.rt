@@ -1,4 +1,4 @@
-//! Words as people type them: `--k=8` for `--k 8`, and `count --help` or `help count` for the help of one command.
+//! Words as people type them: `--k=8` for `--k 8`, `--decimal D` for decimal numbers, and the help of one command.
 #![tactic(auto)]
 
 mod help;

@@ -1,11 +1,14 @@
 // What words stand for, as people type them.
-ghost use Rattle.std.specs.Prelude.{◌≡◌, ◌++◌, ◌∷◌, [], IfOk, OnOk, IfSome, IfNone, IsSome, flat_map};
+ghost use Rattle.std.specs.Prelude.{◌≡◌, ◌&&◌, ◌++◌, ◌∷◌, [], IfOk, OnOk, IfSome, IfNone, IsSome, is_some, flat_map, option_map};
 ghost use Rattle.sk_cli.specs.Command.{request_of};
 ghost use Rattle.sk_cli.specs.Options.{texts_of};
-ghost use Rattle.sk_typed.specs.Meanings.{Words, meaning_of, meaning, otherwise, apart, help_asked};
+ghost use Rattle.sk_model.specs.Numbers.{number_of};
+ghost use Rattle.sk_typed.specs.Meanings.{Words, meaning_of, meaning, otherwise, rounded_by, apart, help_asked, without_decimal, digits_first, found_of, writes_estimates};
 
 use crate::spelling::verb_of;
 use sk_cli::{Verb, is_request};
+use sk_decimal::Digits;
+use sk_lines::read_number;
 use sk_model::OutOfMemory;
 use std::alloc::Global;
 
@@ -14,6 +17,8 @@ use std::alloc::Global;
 pub enum Typed {
     /// Words of the program.
     Words(Vec<String>),
+    /// Words of the program, and how many digits follow the point of each number that it writes in place of a fraction.
+    Rounded(Digits, Vec<String>),
     /// A call for the help of one command.
     HelpOf(Verb),
 }
@@ -38,8 +43,25 @@ fn otherwise(alloc: Global, words: &[String]) -> Result<Typed, OutOfMemory>
 {
     match help_asked(words) {
         Some(verb) => Ok(Typed::HelpOf(verb)),
-        None => Ok(Typed::Words(taken_apart(alloc, words)?)),
+        None => rounded(alloc, taken_apart(alloc, words)?),
     }
+}
+
+// What words stand for, by what `--decimal` asks for in them.
+fn rounded(alloc: Global, parts: Vec<String>) -> Result<Typed, OutOfMemory>
+    ensures { IfOk result (λ typed. meaning_of typed ≡ rounded_by (texts_of parts.items) (without_decimal (texts_of parts.items))) }
+{
+    match without_decimal(alloc, &parts)? {
+        Some(Found { digits, words }) if are_rounded(&words) => Ok(Typed::Rounded(digits, words)),
+        _ => Ok(Typed::Words(parts)),
+    }
+}
+
+// Whether these are words of a command that writes estimates.
+fn are_rounded(words: &[String]) -> bool
+    ensures { result ≡ writes_estimates (texts_of words.now) && is_some (request_of (texts_of words.now)) }
+{
+    writes_estimates(words) && is_request(words)
 }
 
 // The command whose help two words ask for.
@@ -104,5 +126,71 @@ fn halves(word: &str) -> Option<(&str, &str)>
         word.split_once('=')
     } else {
         None
+    }
+}
+
+// How many digits are asked for, and the words without that.
+#[derive(Drop)]
+struct Found {
+    digits: Digits,
+    words: Vec<String>,
+}
+
+// How many digits `--decimal` asks for, and the words without it and its value.
+fn without_decimal(alloc: Global, words: &[String]) -> Result<Option<Found>, OutOfMemory>
+    ensures { IfOk result (λ found. option_map found_of found ≡ without_decimal (texts_of words.now)) }
+{
+    let mut rest = Vec::new(alloc);
+    let mut ahead = words;
+    'word: while let Some((word, behind)) = ahead.split_first() {
+        if word.as_str() == "--decimal" {
+            return with_digits(alloc, rest, behind);
+        }
+        rest.push(String::from_str(alloc, word)?)?;
+        ahead = behind;
+    }
+    Ok(None)
+}
+
+// The digits that the first of these words spells, and the words before the option's name with those after its value.
+fn with_digits(
+    alloc: Global,
+    before: Vec<String>,
+    behind: &[String],
+) -> Result<Option<Found>, OutOfMemory>
+    ensures { IfOk result (λ found. option_map found_of found
+        ≡ option_map (λ first. (first.0, texts_of before.items ++ first.1)) (digits_first (texts_of behind.now))) }
+{
+    let Some((value, others)) = behind.split_first() else {
+        return Ok(None);
+    };
+    let Some(digits) = digits_of(value) else {
+        return Ok(None);
+    };
+    let mut words = before;
+    'word: for word in others {
+        words.push(String::from_str(alloc, word)?)?;
+    }
+    Ok(Some(Found { digits, words }))
+}
+
+// How many digits a word asks for.
+fn digits_of(word: &str) -> Option<Digits>
+    ensures { option_map (λ digits. digits.count) result ≡ number_of 7 word.now }
+{
+    let number = read_number(word.as_bytes(), 7)?;
+    Digits::new(number as u32)
+}
+
+// Whether the first of these words is a command that writes estimates, and nothing else that is a fraction.
+fn writes_estimates(words: &[String]) -> bool
+    ensures { result ≡ writes_estimates (texts_of words.now) }
+{
+    let Some((verb, _)) = words.split_first() else {
+        return false;
+    };
+    match verb.as_str() {
+        "count" | "join" | "make" | "tenants" | "window" => true,
+        _ => false,
     }
 }

@@ -2,11 +2,9 @@
 //! `sk_cli`.
 #![tactic(auto)]
 
-ghost use Rattle.std.specs.Prelude.{◌≡◌, length, All, IsSome, IfOk};
-ghost use Rattle.sk_cli.specs.Beside.{board_places};
-
 use sk_cli::{BOARD_PLACES, Remains, Verb, board_of, run};
-use sk_io::{FileShelf, Sink, StdSink, StdSource, words_of, write_all};
+use sk_decimal::{Digits, Line, Rounding};
+use sk_io::{Door, FileShelf, Shelf, Sink, Source, StdSink, StdSource, words_of, write_all};
 use sk_model::OutOfMemory;
 use sk_net::TcpDoor;
 use sk_typed::{Typed, show_help};
@@ -15,6 +13,8 @@ use std::alloc::Global;
 use std::io::writer;
 use std::process::ExitCode;
 use std::rt::Env;
+use std::sync::Wait;
+use std::thread::Threads;
 
 const OUT_OF_MEMORY: u8 = 1;
 
@@ -45,16 +45,65 @@ fn help<O: Sink, E: Sink>(verb: Verb, out: &mut O, err: &mut E) -> u8 {
     }
 }
 
-// A watcher for each place of a board.
-fn alarms(alloc: Global) -> Result<Vec<Option<Box<dyn Watcher>>>, OutOfMemory>
-    ensures places { IfOk result (λ boxes. length boxes.items ≡ board_places) }
-    ensures live { IfOk result (λ boxes. All IsSome boxes.items) }
+// What a run reads and serves.
+#[derive(Drop)]
+struct Reads<S, F, D> {
+    input: S,
+    shelf: F,
+    door: D,
+}
+
+// Runs the program over these words.
+fn perform<R: Threads + Wait + Sync, S: Source, O: Sink, E: Sink, F: Shelf, D: Door>(
+    rt: &R,
+    alloc: Global,
+    words: &[String],
+    reads: &mut Reads<S, F, D>,
+    out: &mut O,
+    err: &mut E,
+) -> Result<u8, OutOfMemory>
+where
+    D::Link: Send,
 {
     let mut boxes: Vec<Option<Box<dyn Watcher>>> = Vec::new(alloc);
     'place: for _place in 0..BOARD_PLACES {
         boxes.push(Some(Box::new(alloc, Alarm::new())?))?;
     }
-    Ok(boxes)
+    let mut board = board_of(boxes);
+    let mut remains = Remains::none();
+    Ok(run(
+        rt,
+        alloc,
+        words,
+        &mut reads.input,
+        out,
+        err,
+        &mut reads.shelf,
+        &mut reads.door,
+        &mut board,
+        &mut remains,
+    ))
+}
+
+// The same, with this many digits after the point of each number that is written in place of a fraction.
+fn perform_rounded<R: Threads + Wait + Sync, S: Source, O: Sink + Drop, E: Sink, F: Shelf, D: Door>(
+    rt: &R,
+    alloc: Global,
+    words: &[String],
+    digits: Digits,
+    reads: &mut Reads<S, F, D>,
+    out: O,
+    err: &mut E,
+) -> Result<u8, OutOfMemory>
+where
+    D::Link: Send,
+{
+    let mut rounding = Rounding::new(out, Line::new(alloc)?, digits);
+    let status = perform(rt, alloc, words, reads, &mut rounding, err)?;
+    match rounding.finish() {
+        (_, Err(_)) if status == 0 => Ok(write_fault(err)),
+        _ => Ok(status),
+    }
 }
 
 fn main(rt: HostRuntime) -> ExitCode {
@@ -62,29 +111,21 @@ fn main(rt: HostRuntime) -> ExitCode {
     let (stdout, stderr) = (rt.stdout(), rt.stderr());
     let mut err = StdSink::new(writer(&stderr));
     let mut out = StdSink::new(writer(&stdout));
-    let words = match typed_words(&rt, alloc) {
-        Ok(Typed::Words(words)) => words,
-        Ok(Typed::HelpOf(verb)) => return ExitCode::from(help(verb, &mut out, &mut err)),
-        Err(OutOfMemory) => return ExitCode::from(out_of_memory(&mut err)),
+    let mut reads = Reads {
+        input: StdSource::new(rt.stdin()),
+        shelf: FileShelf::new(&rt),
+        door: TcpDoor::new(&rt, alloc),
     };
-    let Ok(boxes) = alarms(alloc) else {
-        return ExitCode::from(out_of_memory(&mut err));
+    let ended = match typed_words(&rt, alloc) {
+        Ok(Typed::Words(words)) => perform(&rt, alloc, &words, &mut reads, &mut out, &mut err),
+        Ok(Typed::Rounded(digits, words)) => {
+            perform_rounded(&rt, alloc, &words, digits, &mut reads, out, &mut err)
+        }
+        Ok(Typed::HelpOf(verb)) => Ok(help(verb, &mut out, &mut err)),
+        Err(OutOfMemory) => Err(OutOfMemory),
     };
-    let mut board = board_of(boxes);
-    let mut remains = Remains::none();
-    let mut input = StdSource::new(rt.stdin());
-    let mut shelf = FileShelf::new(&rt);
-    let mut door = TcpDoor::new(&rt, alloc);
-    ExitCode::from(run(
-        &rt,
-        alloc,
-        &words,
-        &mut input,
-        &mut out,
-        &mut err,
-        &mut shelf,
-        &mut door,
-        &mut board,
-        &mut remains,
-    ))
+    match ended {
+        Ok(status) => ExitCode::from(status),
+        Err(OutOfMemory) => ExitCode::from(out_of_memory(&mut err)),
+    }
 }

@@ -1,5 +1,5 @@
 use Rattle.std.proofs.Common.{◌≡◌, length, All, IsSome}
-use Rattle.sketchd.proofs.alarms.Given as goal
+use Rattle.sketchd.proofs.perform.Given as goal
 
 abbrev pub invariant-place : goal.invariant-place
 invariant-place g l = (length l.boxes.items ≡ l._place) × All IsSome l.boxes.items
